@@ -1,0 +1,11 @@
+pub mod Mark
+pub mod Ranking
+pub mod Fraction
+pub mod Score
+pub mod Order
+pub mod Extremes
+pub mod Verdict
+pub mod Name
+pub mod Placed
+pub mod Book
+pub mod Desk

@@ -1,0 +1,18 @@
+//! The plain types that all crates share, and the definitions that their contracts cite.
+#![tactic(auto)]
+
+pub mod book;
+pub mod grading;
+pub mod memory;
+pub mod name;
+pub mod placed;
+pub mod ranking;
+pub mod types;
+
+pub use book::TopicBook;
+pub use grading::mark;
+pub use memory::Memory;
+pub use name::{Name, NameFault};
+pub use placed::Placed;
+pub use ranking::Ranking;
+pub use types::{Mark, MeasureName, Totals, Verdict, verdict_of};
