@@ -1,14 +1,14 @@
 -- When ends are the extremes: bounds that hold in every completion, and are attained in some.
-use Rattle.std.proofs.Common.{◌≡◌, ◌≢◌, ◌↔◌, ℕ, zero, suc, ◌+◌, ◌*◌, ◌<◌, ◌≤◌, Bool, true, false, List, [], ◌∷◌, map, length, ℤ, pos, negsuc, ◌≤ℤ◌, ◌<ℤ◌, arith, refl, sym, subst, ap, ◌∙◌}
+use Rattle.std.proofs.Common.{◌≡◌, ◌≢◌, ◌↔◌, ℕ, zero, suc, ◌+◌, ◌*◌, ◌<◌, ◌≤◌, List, [], ◌∷◌, map, ℤ, pos, negsuc, ◌≤ℤ◌, ◌<ℤ◌, arith, refl, sym, subst, ap, ◌∙◌}
 use Rattle.std.specs.Prelude.{All}
 use Rattle.std.specs.List.{AllZip, AllByRecursion}
 use Rattle.std.proofs.Math.Nat.{mul-pos, le_of_mul-le-mul_right}
 use Rattle.std.proofs.lemmas.Int.{ints}
+use Rattle.std.proofs.lemmas.Bool.Decides.{nat_tests}
 use Rattle.std.proofs.lemmas.List.Elements.{recursion_from_All}
 use borrow.Author.Differences.{up, down, at_most_in as at_most_z}
-use Rattle.desk_model.specs.Completion.{Completion}
-use Rattle.desk_model.specs.Fraction.{Fraction, total, IsAtMost, IsAtLeast}
-use Rattle.desk_model.specs.Order.{Topic, IsCompletion, run_scores, IsAlwaysAbove, AreAlwaysEqual}
+use Rattle.desk_model.specs.Fraction.{Fraction, IsAtMost, IsAtLeast}
+use Rattle.desk_model.specs.Order.{Topic, IsAlwaysAbove, AreAlwaysEqual}
 use Rattle.desk_model.specs.Extremes.{InEvery, InSome, Ends, AreExtremes}
 use Rattle.desk_model.specs.Enclosure.{AreExactEnds}
 use Rattle.desk_model.specs.Verdict.{whole_sum, totals_of, verdict, IsExactVerdict}
@@ -78,3 +78,134 @@ positive_or (negsuc n) h = absurd (h (omega (arith, ints)))
 negative_or : (z : ℤ) → (pos 0 ≤ℤ z → ⊥) → z <ℤ pos 0
 negative_or (pos n) h = absurd (h (omega (arith, ints)))
 negative_or (negsuc n) h = omega (arith, ints)
+
+-- ---- where the extremes are whole numbers of units, their sums decide the order exactly
+pub above_exactly : (m : MeasureName) (u a b : ℕ) (topics : List Topic) (ends : List Ends) → 0 < u → a ≢ b → AreExactEnds m u topics a b ends →
+    (pos 0 <ℤ (totals_of ends).least_lo) ↔ IsAlwaysAbove m topics a b
+above_exactly m u a b topics ends unit apart h = (
+  λ positive. always_above m u a b topics _ (each m u a b _ (λ e. e.least_lo) (λ e t x. x.least_lo.so) ends topics h.extremes) positive,
+  λ above. positive_or (totals_of ends).least_lo (λ low. not_always_above m u a b apart unit topics _ (each m u a b _ (λ e. e.least_hi) (λ e t x. x.least_hi.so) ends topics h.extremes)
+      (subst (λ z. z ≤ℤ pos 0) (same_all (λ e. e.least_lo) (λ e. e.least_hi) ends h.least) low) above),
+)
+
+pub below_exactly : (m : MeasureName) (u a b : ℕ) (topics : List Topic) (ends : List Ends) → 0 < u → a ≢ b → AreExactEnds m u topics a b ends →
+    ((totals_of ends).most_hi <ℤ pos 0) ↔ IsAlwaysAbove m topics b a
+below_exactly m u a b topics ends unit apart h = (
+  λ negative. always_below m u a b topics _ (each m u a b _ (λ e. e.most_hi) (λ e t x. x.most_hi.so) ends topics h.extremes) negative,
+  λ below. negative_or (totals_of ends).most_hi (λ high. not_always_below m u a b apart unit topics _ (each m u a b _ (λ e. e.most_lo) (λ e t x. x.most_lo.so) ends topics h.extremes)
+      (subst (λ z. pos 0 ≤ℤ z) (sym (same_all (λ e. e.most_lo) (λ e. e.most_hi) ends h.most)) high) below),
+)
+
+-- the sum of the least lower ends is at most that of the greatest upper ends
+pub sums_in_order : (m : MeasureName) (u a b : ℕ) (topics : List Topic) (ends : List Ends) → HaveExtremes m u a b ends topics → (totals_of ends).least_lo ≤ℤ (totals_of ends).most_hi
+sums_in_order m u a b topics ends h =
+    let some = some_completion topics in
+    at_most_least (totals_of ends).least_lo (totals_of ends).most_hi u _ _ (total_scores-den m a topics some.0) (total_scores-den m b topics some.0)
+    (total_in_every (λ z. IsAtMost z u) (at_most_adds u) m a b _ topics some.0 (each m u a b _ (λ e. e.least_lo) (λ e t x. x.least_lo.so) ends topics h) some.1)
+    (total_in_every (λ z. IsAtLeast z u) (at_least_adds u) m a b _ topics some.0 (each m u a b _ (λ e. e.most_hi) (λ e t x. x.most_hi.so) ends topics h) some.1)
+
+-- two whole numbers, the smaller not negative and the greater not positive
+both_zero : (z w : ℤ) → z ≤ℤ w → pos 0 ≤ℤ z → w ≤ℤ pos 0 → (z ≡ pos 0) × (w ≡ pos 0)
+both_zero z w h low high = (omega (arith, ints), omega (arith, ints))
+
+no_topics : (m : MeasureName) (u a b : ℕ) (ends : List Ends) → HaveExtremes m u a b ends [] → ((totals_of ends).least_lo ≡ pos 0) × ((totals_of ends).most_hi ≡ pos 0)
+no_topics m u a b [] h = (refl, refl)
+no_topics m u a b (e ∷ es) h = absurd h
+
+equal_sums : (m : MeasureName) (u a b : ℕ) (topics : List Topic) (ends : List Ends) → a ≢ b → AreExactEnds m u topics a b ends → AreAlwaysEqual m topics a b →
+    ((totals_of ends).least_lo ≡ pos 0) × ((totals_of ends).most_hi ≡ pos 0)
+equal_sums m u a b [] ends apart h equal = no_topics m u a b ends h.extremes
+equal_sums m u a b (t ∷ ts) ends apart h equal =
+    let topics = t ∷ ts in
+    let low = equal_not_negative m u a b apart topics _ (each m u a b _ (λ e. e.least_hi) (λ e t x. x.least_hi.so) ends topics h.extremes) equal (omega arith) in
+    let high = equal_not_positive m u a b apart topics _ (each m u a b _ (λ e. e.most_lo) (λ e t x. x.most_lo.so) ends topics h.extremes) equal (omega arith) in
+    both_zero (totals_of ends).least_lo (totals_of ends).most_hi (sums_in_order m u a b topics ends h.extremes)
+    (subst (λ z. pos 0 ≤ℤ z) (sym (same_all (λ e. e.least_lo) (λ e. e.least_hi) ends h.least)) low)
+    (subst (λ z. z ≤ℤ pos 0) (same_all (λ e. e.most_lo) (λ e. e.most_hi) ends h.most) high)
+
+pub equal_exactly : (m : MeasureName) (u a b : ℕ) (topics : List Topic) (ends : List Ends) → 0 < u → a ≢ b → AreExactEnds m u topics a b ends →
+    (((totals_of ends).least_lo ≡ pos 0) × ((totals_of ends).most_hi ≡ pos 0)) ↔ AreAlwaysEqual m topics a b
+equal_exactly m u a b topics ends unit apart h = (
+  λ zero_sums. always_equal m u a b topics _ _ unit (each m u a b _ (λ e. e.least_lo) (λ e t x. x.least_lo.so) ends topics h.extremes) (each m u a b _ (λ e. e.most_hi) (λ e t x. x.most_hi.so) ends topics h.extremes)
+      (subst (λ z. pos 0 ≤ℤ z) (sym zero_sums.0) (omega (arith, ints))) (subst (λ z. z ≤ℤ pos 0) (sym zero_sums.1) (omega (arith, ints))),
+  equal_sums m u a b topics ends apart h,
+)
+
+-- ---- the verdict of two sums, each with its two ends the same
+pub record IsSigned (low high : ℤ) (v : Verdict) : Type 0 where
+  pub above : (v ≡ Above) ↔ (pos 0 <ℤ low)
+  pub below : (v ≡ Below) ↔ (high <ℤ pos 0)
+  pub equal : (v ≡ Equal) ↔ ((low ≡ pos 0) × (high ≡ pos 0))
+  pub never_close : v ≢ Close
+
+two_sums : ℤ → ℤ → Totals
+two_sums low high = record { least_lo = low; least_hi = low; most_lo = high; most_hi = high }
+
+signed_above : (low high : ℤ) → low ≤ℤ high → pos 0 <ℤ low → IsSigned low high Above
+signed_above low high h positive = record {
+  above = (λ _. positive, λ _. refl);
+  below = (λ (e : Above ≡ Below). absurd (cc), λ negative. absurd (omega (arith, ints)));
+  equal = (λ (e : Above ≡ Equal). absurd (cc), λ zeros. absurd (omega (arith, ints, zeros.0)));
+  never_close = λ (e : Above ≡ Close). cc;
+}
+
+signed_below : (low high : ℤ) → low ≤ℤ high → high <ℤ pos 0 → IsSigned low high Below
+signed_below low high h negative = record {
+  above = (λ (e : Below ≡ Above). absurd (cc), λ positive. absurd (omega (arith, ints)));
+  below = (λ _. negative, λ _. refl);
+  equal = (λ (e : Below ≡ Equal). absurd (cc), λ zeros. absurd (omega (arith, ints, zeros.1)));
+  never_close = λ (e : Below ≡ Close). cc;
+}
+
+signed_equal : (low high : ℤ) → low ≡ pos 0 → high ≡ pos 0 → IsSigned low high Equal
+signed_equal low high zero_low zero_high = record {
+  above = (λ (e : Equal ≡ Above). absurd (cc), λ positive. absurd (omega (arith, ints)));
+  below = (λ (e : Equal ≡ Below). absurd (cc), λ negative. absurd (omega (arith, ints)));
+  equal = (λ _. (zero_low, zero_high), λ _. refl);
+  never_close = λ (e : Equal ≡ Close). cc;
+}
+
+signed_open : (low high : ℤ) → low ≤ℤ pos 0 → pos 0 ≤ℤ high → (low ≡ pos 0 → high ≡ pos 0 → ⊥) → IsSigned low high Open
+signed_open low high h k other = record {
+  above = (λ (e : Open ≡ Above). absurd (cc), λ positive. absurd (omega (arith, ints)));
+  below = (λ (e : Open ≡ Below). absurd (cc), λ negative. absurd (omega (arith, ints)));
+  equal = (λ (e : Open ≡ Equal). absurd (cc), λ zeros. absurd (other zeros.0 zeros.1));
+  never_close = λ (e : Open ≡ Close). cc;
+}
+
+signed_as : (low high : ℤ) (v w : Verdict) → v ≡ w → IsSigned low high w → IsSigned low high v
+signed_as low high v w e h = subst (IsSigned low high) (sym e) h
+
+signed : (low high : ℤ) → low ≤ℤ high → IsSigned low high (verdict (two_sums low high))
+unfolding two_sums
+signed (pos zero) (pos zero) h = signed_equal (pos 0) (pos 0) refl refl
+signed (pos zero) (pos (suc n)) h = signed_as _ _ (verdict (two_sums (pos 0) (pos (suc n)))) Open (grind (arith, nat_tests)) (signed_open (pos 0) (pos (suc n)) (omega (arith, ints)) (omega (arith, ints)) (λ p q. absurd (omega (arith, ints, q))))
+signed (pos (suc m)) (pos zero) h = absurd (omega (arith, ints))
+signed (pos (suc m)) (pos (suc n)) h = signed_as _ _ (verdict (two_sums (pos (suc m)) (pos (suc n)))) Above (grind (arith, nat_tests)) (signed_above (pos (suc m)) (pos (suc n)) h (omega (arith, ints)))
+signed (pos m) (negsuc n) h = absurd (omega (arith, ints))
+signed (negsuc m) (pos zero) h = signed_open (negsuc m) (pos 0) (omega (arith, ints)) (omega (arith, ints)) (λ p q. absurd (omega (arith, ints, p)))
+signed (negsuc m) (pos (suc n)) h = signed_as _ _ (verdict (two_sums (negsuc m) (pos (suc n)))) Open (grind (arith, nat_tests)) (signed_open (negsuc m) (pos (suc n)) (omega (arith, ints)) (omega (arith, ints)) (λ p q. absurd (omega (arith, ints, p))))
+signed (negsuc m) (negsuc n) h = signed_below (negsuc m) (negsuc n) h (omega (arith, ints))
+
+-- four sums of which two and two are the same
+same_totals : (t : Totals) → t.least_lo ≡ t.least_hi → t.most_lo ≡ t.most_hi → verdict (two_sums t.least_lo t.most_hi) ≡ verdict t
+unfolding two_sums
+same_totals t e f =
+    ap (λ z. verdict (record { least_lo = t.least_lo; least_hi = z; most_lo = t.most_hi; most_hi = t.most_hi })) e
+    ∙ ap (λ z. verdict (record { least_lo = t.least_lo; least_hi = t.least_hi; most_lo = z; most_hi = t.most_hi })) (sym f)
+
+both_ways : {P Q R : Type 0} → P ↔ Q → Q ↔ R → P ↔ R
+both_ways f g = (λ p. g.0 (f.0 p), λ r. f.1 (g.1 r))
+
+pub exact_verdict : (m : MeasureName) (u a b : ℕ) (topics : List Topic) (ends : List Ends) → 0 < u → a ≢ b → AreExactEnds m u topics a b ends → IsExactVerdict m topics a b (verdict (totals_of ends))
+exact_verdict m u a b topics ends unit apart h =
+    let low = (totals_of ends).least_lo in
+    let high = (totals_of ends).most_hi in
+    let same = same_totals (totals_of ends) (same_all (λ e. e.least_lo) (λ e. e.least_hi) ends h.least) (same_all (λ e. e.most_lo) (λ e. e.most_hi) ends h.most) in
+    let s : IsSigned low high (verdict (totals_of ends)) = signed_as low high _ _ (sym same) (signed low high (sums_in_order m u a b topics ends h.extremes)) in
+    record {
+      above = both_ways s.above (above_exactly m u a b topics ends unit apart h);
+      below = both_ways s.below (below_exactly m u a b topics ends unit apart h);
+      equal = both_ways s.equal (equal_exactly m u a b topics ends unit apart h);
+      never_close = s.never_close;
+    }

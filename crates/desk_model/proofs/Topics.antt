@@ -4,7 +4,7 @@ use Rattle.std.specs.List.{AllZip}
 use Rattle.std.proofs.lemmas.Int.{ints}
 use Rattle.std.proofs.lemmas.Bool.Decides.{nat_tests}
 use Rattle.desk_model.specs.Completion.{Completion}
-use Rattle.desk_model.specs.Fraction.{Fraction, over, plus, total, mean, IsAtMost, IsAtLeast, IsBelow, IsSame}
+use Rattle.desk_model.specs.Fraction.{Fraction, over, plus, total, IsAtMost, IsAtLeast}
 use Rattle.desk_model.specs.Score.{score, reciprocal, first_true}
 use Rattle.desk_model.specs.Order.{Topic, IsCompletion, run_score, run_scores, run_mean, IsAlwaysAbove, AreAlwaysEqual}
 use Rattle.desk_model.specs.Extremes.{InEvery, InSome, InEveryScore, IsAtMostScore, IsAtLeastScore}
@@ -124,20 +124,20 @@ negative_other z h e = omega (arith, ints, h, e)
 pub always_above : (m : MeasureName) (u a b : ℕ) (topics : List Topic) (lows : List ℤ) → AreLowEnds m u topics a b lows → pos 0 <ℤ whole_sum lows → IsAlwaysAbove m topics a b
 always_above m u a b topics lows h positive = record {
   in_every = λ cs c.
-  let long_a = length-run_scores m a topics cs c in
-  let long_b = length-run_scores m b topics cs c in
-  mean_below (run_scores m b topics cs) (run_scores m a topics cs) (omega (arith, long_a, long_b)) (omega (arith, long_b, some_topic _ lows topics h (positive_other (whole_sum lows) positive)))
-  (below_from_at_most (whole_sum lows) u _ _ positive (total_in_every (λ z. IsAtMost z u) (at_most_adds u) m a b lows topics cs h c) (total_scores-den m a topics cs) (total_scores-den m b topics cs));
+      let long_a = length-run_scores m a topics cs c in
+      let long_b = length-run_scores m b topics cs c in
+      mean_below (run_scores m b topics cs) (run_scores m a topics cs) (omega (arith, long_a, long_b)) (omega (arith, long_b, some_topic _ lows topics h (positive_other (whole_sum lows) positive)))
+      (below_from_at_most (whole_sum lows) u _ _ positive (total_in_every (λ z. IsAtMost z u) (at_most_adds u) m a b lows topics cs h c) (total_scores-den m a topics cs) (total_scores-den m b topics cs));
 }
 
 -- a negative sum of upper ends: b is always above a
 pub always_below : (m : MeasureName) (u a b : ℕ) (topics : List Topic) (highs : List ℤ) → AreHighEnds m u topics a b highs → whole_sum highs <ℤ pos 0 → IsAlwaysAbove m topics b a
 always_below m u a b topics highs h negative = record {
   in_every = λ cs c.
-  let long_a = length-run_scores m a topics cs c in
-  let long_b = length-run_scores m b topics cs c in
-  mean_below (run_scores m a topics cs) (run_scores m b topics cs) (omega (arith, long_a, long_b)) (omega (arith, long_a, some_topic _ highs topics h (negative_other (whole_sum highs) negative)))
-  (below_from_at_least (whole_sum highs) u _ _ negative (total_in_every (λ z. IsAtLeast z u) (at_least_adds u) m a b highs topics cs h c) (total_scores-den m a topics cs) (total_scores-den m b topics cs));
+      let long_a = length-run_scores m a topics cs c in
+      let long_b = length-run_scores m b topics cs c in
+      mean_below (run_scores m a topics cs) (run_scores m b topics cs) (omega (arith, long_a, long_b)) (omega (arith, long_a, some_topic _ highs topics h (negative_other (whole_sum highs) negative)))
+      (below_from_at_least (whole_sum highs) u _ _ negative (total_in_every (λ z. IsAtLeast z u) (at_least_adds u) m a b highs topics cs h c) (total_scores-den m a topics cs) (total_scores-den m b topics cs));
 }
 
 -- lower ends with a sum from 0 and upper ends with a sum to 0: the two are always equal
@@ -145,10 +145,10 @@ pub always_equal : (m : MeasureName) (u a b : ℕ) (topics : List Topic) (lows h
     pos 0 ≤ℤ whole_sum lows → whole_sum highs ≤ℤ pos 0 → AreAlwaysEqual m topics a b
 always_equal m u a b topics lows highs unit h k low high = record {
   in_every = λ cs c.
-  let long_a = length-run_scores m a topics cs c in
-  let long_b = length-run_scores m b topics cs c in
-  mean_same (run_scores m a topics cs) (run_scores m b topics cs) (omega (arith, long_a, long_b))
-  (same_from_bounds (whole_sum lows) (whole_sum highs) u _ _ unit low high (total_in_every (λ z. IsAtMost z u) (at_most_adds u) m a b lows topics cs h c) (total_in_every (λ z. IsAtLeast z u) (at_least_adds u) m a b highs topics cs k c));
+      let long_a = length-run_scores m a topics cs c in
+      let long_b = length-run_scores m b topics cs c in
+      mean_same (run_scores m a topics cs) (run_scores m b topics cs) (omega (arith, long_a, long_b))
+      (same_from_bounds (whole_sum lows) (whole_sum highs) u _ _ unit low high (total_in_every (λ z. IsAtMost z u) (at_most_adds u) m a b lows topics cs h c) (total_in_every (λ z. IsAtLeast z u) (at_least_adds u) m a b highs topics cs k c));
 }
 
 -- the sums beside the difference of the means

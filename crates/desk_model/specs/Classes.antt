@@ -1,6 +1,5 @@
 -- Precision by classes of documents: those of one ranking's first k alone, taken or not where they are unjudged.
-use Rattle.std.specs.Prelude.{ℕ, Bool, true, false, not, ◌&&◌, List, [], take, count_by, ℤ, pos, ◌-ℤ◌}
-use Rattle.desk_model.specs.Mark.{mark_at}
+use Rattle.std.specs.Prelude.{ℕ, Bool, true, false, not, ◌&&◌, List, take, count_by, ℤ, pos, ◌-ℤ◌}
 use Rattle.desk_model.specs.Completion.{with_picked}
 use Rattle.desk_model.specs.Ranking.{is_in}
 use Rattle.desk_model.specs.Extremes.{Ends}

@@ -1,7 +1,8 @@
 -- The verdict of four sums.
-use Rattle.std.specs.Prelude.{◌≡◌, ◌≢◌, ◌↔◌, ℕ, List, [], ◌∷◌, map, ◌+ℤ◌, ℤ, pos, Bool, int_lt, int_le, ◌&&◌, ◌||◌, if◌then◌else◌}
+use Rattle.std.specs.Prelude.{◌≡◌, ◌≢◌, ◌↔◌, ℕ, ◌<◌, List, [], ◌∷◌, map, ◌+ℤ◌, ℤ, pos, Bool, int_lt, int_le, ◌&&◌, ◌||◌, if◌then◌else◌}
 use Rattle.std.specs.Ordering.{int_eq}
 use Rattle.desk_model.specs.Extremes.{Ends}
+use Rattle.desk_model.specs.Enclosure.{AreExactEnds}
 use Rattle.desk_model.specs.Order.{Topic, IsAlwaysAbove, AreAlwaysEqual}
 use Rattle.desk_model.specs.declared.types.MeasureName.{MeasureName}
 use Rattle.desk_model.specs.declared.types.Totals.{Totals}
@@ -34,6 +35,11 @@ verdict t =
     else if int_eq t.least_lo (pos 0) && int_eq t.most_hi (pos 0) then Equal
     else if differs t.least_hi t.most_lo then Open
     else Close
+
+-- a fact of the four sums of two different runs, where the extremes of each topic are whole numbers of units
+abbrev pub ForExactEnds : (MeasureName → List Topic → ℕ → ℕ → Totals → Type 0) → Type 0
+ForExactEnds fact =
+    (measure : MeasureName) (unit a b : ℕ) (topics : List Topic) (ends : List Ends) → 0 < unit → a ≢ b → AreExactEnds measure unit topics a b ends → fact measure topics a b (totals_of ends)
 
 -- the verdict says of two runs exactly what always holds, and is never close
 pub record IsExactVerdict (measure : MeasureName) (topics : List Topic) (a b : ℕ) (v : Verdict) : Type 0 where
