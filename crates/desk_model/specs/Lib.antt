@@ -1,10 +1,13 @@
 pub mod Mark
+pub mod Completion
 pub mod Ranking
 pub mod Fraction
 pub mod Score
 pub mod Order
 pub mod Extremes
+pub mod Enclosure
 pub mod Verdict
+pub mod Classes
 pub mod Name
 pub mod Placed
 pub mod Book

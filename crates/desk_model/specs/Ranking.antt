@@ -1,5 +1,5 @@
--- Rankings as lists of document numbers, the best first.
-use Rattle.std.specs.Prelude.{ℕ, Bool, ◌<◌, ◌≤◌, List, length, take, All, nat_eq, Option}
+-- Rankings as lists of document numbers.
+use Rattle.std.specs.Prelude.{ℕ, Bool, ◌<◌, ◌≤◌, List, length, All, nat_eq, Option}
 use Rattle.std.specs.List.{IsDistinct, list_any, position_from}
 
 -- at most 10,000 different documents of a universe

@@ -67,6 +67,13 @@ impl TopicBook {
         self.grades[doc as usize]
     }
 
+    /// The grades of all documents in the judgements file, by document.
+    pub fn grades(&self) -> &[Option<i32>]
+        ensures { result.now ≡ self.now.grades }
+    {
+        &self.grades
+    }
+
     /// The number of the document with this name, and `None` exactly where no document has it.
     pub fn find(&self, name: &[u8]) -> Option<u32>
         ensures { result ≡ number_of self.now.docs name.now }

@@ -2,7 +2,10 @@
 #![tactic(auto)]
 
 pub mod book;
+pub mod desk;
 pub mod grading;
+pub mod laws;
+pub mod marks;
 pub mod memory;
 pub mod name;
 pub mod placed;
@@ -10,7 +13,9 @@ pub mod ranking;
 pub mod types;
 
 pub use book::TopicBook;
+pub use desk::Desk;
 pub use grading::mark;
+pub use marks::Marks;
 pub use memory::Memory;
 pub use name::{Name, NameFault};
 pub use placed::Placed;

@@ -1,6 +1,6 @@
 ghost use Rattle.std.specs.Prelude.{◌≡◌, ◌↔◌, true, false, IfOk, Err};
 ghost use Rattle.std.specs.List.{list_all};
-ghost use Rattle.desk_model.specs.Name.{is_field_byte, is_name, name_cmp};
+ghost use Rattle.desk_model.specs.Name.{is_field_byte, is_name, is_same_name, name_cmp};
 
 use std::alloc::Global;
 use std::cmp::Ordering;
@@ -71,6 +71,13 @@ impl Name {
         ensures name { is_name self.now ≡ true }
     {
         &self.bytes
+    }
+
+    /// Whether other bytes are this name.
+    pub fn is_same(&self, other: &[u8]) -> bool
+        ensures { result ≡ is_same_name self.now other.now }
+    {
+        self.bytes.as_slice() == other
     }
 
     /// How the name compares with other bytes: as lists of unsigned bytes, a proper prefix being the smaller.
