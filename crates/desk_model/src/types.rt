@@ -72,3 +72,40 @@ pub fn verdict_of(totals: &Totals) -> Verdict
         Verdict::Close
     }
 }
+
+#[cfg(test)]
+mod tests {
+    use super::*;
+
+    fn totals(least_lo: i128, least_hi: i128, most_lo: i128, most_hi: i128) -> Totals {
+        Totals {
+            least_lo,
+            least_hi,
+            most_lo,
+            most_hi,
+        }
+    }
+
+    #[test]
+    fn verdict_and_its_mirror(rt: HostRuntime) {
+        let half: i128 = 500_000_000_000_000_000;
+        for (sums, want) in [
+            (totals(1, 1, 1, 1), Verdict::Above),
+            (totals(-1, -1, -1, -1), Verdict::Below),
+            (totals(1, 2, 7, 9), Verdict::Above),
+            (totals(-9, -7, -2, -1), Verdict::Below),
+            (totals(0, 0, 0, 0), Verdict::Equal),
+            (totals(-half, -half, 0, 0), Verdict::Open),
+            (totals(0, 0, half, half), Verdict::Open),
+            (totals(-half, 1 - half, half - 1, half), Verdict::Open),
+            (totals(-1, 0, 1, 2), Verdict::Open),
+            (totals(-2, -1, 0, 1), Verdict::Open),
+            (totals(0, 1, 0, 1), Verdict::Close),
+            (totals(-1, 0, -1, 0), Verdict::Close),
+            (totals(-1, 0, 0, 1), Verdict::Close),
+            (totals(-1, 1, -1, 1), Verdict::Close),
+        ] {
+            assert_eq!(rt; verdict_of(&sums), want, "of {sums:?}");
+        }
+    }
+}
