@@ -1,0 +1,139 @@
+// A shelf in memory.
+ghost use Rattle.std.specs.Prelude.{◌≡◌, ◌⊎◌, ◌<◌, ◌≤◌, ◌+◌, ◌^◌, ◌↔◌, List, Option, Some, None, true, drop, take, min, length, is_some, is_none, IsTrue, IsErr, IfOk, IfSome, OnOk, OnErr, MatchOption, option_map, slice_get};
+ghost use Rattle.std.specs.Io.{ReadsAtMost};
+ghost use Rattle.std.specs.Io.KnownBytes.{Consumes, IsAtEnd};
+ghost use Rattle.desk_outside.specs.Outside.{Rose, Lacks, Opens, TellsRest, HasCause};
+ghost use Rattle.desk_outside.specs.InMemory.{no_calls, is_listed, after_call, entries_of, held_in};
+
+use crate::calls::Calls;
+use crate::give::give;
+use crate::{Failed, Shelf};
+use std::marker::Model;
+
+/// A shelf of given files, some of whose calls fail.
+#[derive(Drop)]
+pub struct MemShelf {
+    files: Vec<(String, Vec<u8>)>,
+    // The open file, or the number of files where none is open.
+    which: usize,
+    at: usize,
+    calls: Calls,
+}
+
+impl Model for MemShelf {
+    ghost use Rattle.std.specs.Prelude.{drop, option_map, slice_get};
+    ghost use Rattle.desk_outside.specs.InMemory.{ShelfState, entries_of};
+
+    ghost Value = { ShelfState };
+
+    ghost view = { λ s. record {
+        entries = entries_of s.files.items;
+        rest = option_map (λ e. drop s.at e.1) (slice_get (entries_of s.files.items) s.which);
+        calls = s.calls;
+    } };
+}
+
+impl MemShelf {
+    /// A shelf of these files by name. Of two entries with one name the first counts. Its calls are numbered from 0,
+    /// `open` and `read` together, and those in `failing` fail.
+    pub fn new(files: Vec<(String, Vec<u8>)>, failing: Vec<u64>) -> MemShelf
+        ensures entries { result.entries ≡ entries_of files.items }
+        ensures closed { result.rest ≡ None }
+        ensures calls { result.calls ≡ no_calls failing.items }
+    {
+        let which = files.len();
+        MemShelf {
+            files,
+            which,
+            at: 0,
+            calls: Calls::new(failing),
+        }
+    }
+}
+
+fn place_of(files: &[(String, Vec<u8>)], name: &str) -> Option<usize>
+    ensures { MatchOption result (held_in (entries_of files.now) name.now ≡ None) (λ i.
+        (i < length files.now) × (held_in (entries_of files.now) name.now ≡ option_map (λ e. e.1) (slice_get (entries_of files.now) i))) }
+{
+    for (i, file) in files.iter().enumerate() {
+        if file.0.as_str() == name {
+            return Some(i);
+        }
+    }
+    None
+}
+
+// What is left of a file from a place on.
+fn left_of(files: &[(String, Vec<u8>)], place: usize, at: usize) -> &[u8]
+    requires { place < length files.now }
+    ensures left { option_map (λ e. drop at e.1) (slice_get (entries_of files.now) place) ≡ Some result.now }
+    ensures fits { at + length result.now < 2 ^ 64 }
+{
+    let bytes = files[place].1.as_slice();
+    if at < bytes.len() { &bytes[at..] } else { &[] }
+}
+
+impl Shelf for MemShelf {
+    ghost files = { λ s. Some (held_in s.entries) };
+
+    ghost rest = { λ s. s.rest };
+
+    ghost is_open = { λ s. is_some s.rest };
+
+    ghost faults = { λ s. s.calls.faults };
+
+    /// Fails exactly at a listed call, which is counted, and at a name that is not held, which alone is not.
+    fn open(&mut self, name: &str) -> Result<(), Failed>
+        ensures files { Some (held_in self.new.entries) ≡ Some (held_in self.old.entries) }
+        ensures open { OnOk result (is_some self.new.rest ≡ true) }
+        ensures content { OnOk result (Opens (Some (held_in self.old.entries)) name.now self.new.rest) }
+        ensures later { self.old.calls.faults ≤ self.new.calls.faults }
+        ensures cause { OnErr result (Rose self.old.calls.faults self.new.calls.faults ⊎ Lacks (Some (held_in self.old.entries)) name.now) }
+        ensures lacking { Lacks (Some (held_in self.old.entries)) name.now → IsErr result }
+        ensures fails { IsErr result ↔ (IsTrue (is_listed self.old.calls) ⊎ (held_in self.old.entries name.now ≡ None)) }
+        ensures rest { OnOk result (self.new.rest ≡ held_in self.old.entries name.now) }
+        ensures entries { self.new.entries ≡ self.old.entries }
+        ensures calls { self.new.calls ≡ after_call self.old.calls (is_listed self.old.calls) }
+    {
+        let fails = self.calls.is_listed();
+        self.calls.make(fails);
+        if fails {
+            return Err(Failed);
+        }
+        match place_of(&self.files, name) {
+            Some(place) => {
+                self.which = place;
+                self.at = 0;
+                Ok(())
+            }
+            None => Err(Failed),
+        }
+    }
+
+    /// Fails exactly at a listed call, and else gives as much of the open file as the room takes.
+    fn read(&mut self, room: &mut [u8]) -> Result<usize, Failed>
+        requires open { is_some self.old.rest ≡ true }
+        requires room { 0 < length room.old }
+        ensures files { Some (held_in self.new.entries) ≡ Some (held_in self.old.entries) }
+        ensures open { OnOk result (is_some self.new.rest ≡ true) }
+        ensures bound { ReadsAtMost result room.new }
+        ensures bytes { IfOk result (λ n. Consumes self.old.rest self.new.rest (take n room.new)) }
+        ensures end { IfOk result (λ n. n ≡ 0 → IsAtEnd self.new.rest) }
+        ensures tells { OnOk result (TellsRest (Some (held_in self.old.entries)) self.new.rest) }
+        ensures cause { HasCause self.old.calls.faults self.new.calls.faults result }
+        ensures fails { IsErr result ↔ IsTrue (is_listed self.old.calls) }
+        ensures count { IfOk result (λ n. IfSome self.old.rest (λ rest. n ≡ min (length rest) (length room.old))) }
+        ensures entries { self.new.entries ≡ self.old.entries }
+        ensures calls { self.new.calls ≡ after_call self.old.calls (is_listed self.old.calls) }
+    {
+        let fails = self.calls.is_listed();
+        self.calls.make(fails);
+        if fails {
+            return Err(Failed);
+        }
+        let left = left_of(&self.files, self.which, self.at);
+        let count = give(left, usize::MAX, room);
+        self.at += count;
+        Ok(count)
+    }
+}
