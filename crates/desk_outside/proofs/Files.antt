@@ -1,7 +1,7 @@
 -- The files of a shelf in memory, one by one.
-use Rattle.std.proofs.Common.{◌≡◌, ℕ, suc, ◌<◌, ◌+◌, List, [], ◌∷◌, take, drop, length, get_or, cond, true, refl, ap, sym, ◌∙◌, drop-cons}
+use Rattle.std.proofs.Common.{◌≡◌, ℕ, suc, ◌<◌, List, ◌∷◌, drop, length, get_or, cond, true, refl, ap, sym, ◌∙◌, drop-cons}
 use Rattle.std.proofs.lemmas.Option.{slice_get-map, slice_get_read}
-use Rattle.std.specs.Prelude.{Option, Some, None, nat_eq, String, string_bytes, Vec, option_map, slice_get}
+use Rattle.std.specs.Prelude.{Some, nat_eq, String, string_bytes, Vec, option_map, slice_get}
 use Rattle.std.specs.Cmp.Lexicographic.{pointwise}
 use Rattle.std.specs.declared.alloc.Global.{Global}
 use Rattle.desk_outside.specs.InMemory.{entries_of, held_in}

@@ -1,10 +1,19 @@
 // The real files and streams. They tell nothing of what they hold.
-ghost use Rattle.std.specs.Prelude.{◌≡◌, None, false, is_some};
+ghost use Rattle.std.specs.Prelude.{◌≡◌, ◌≤◌, ◌+◌, ◌-◌, ◌^◌, min, None, false, is_some};
 
 use crate::{Failed, Shelf, Sink, Source};
 use std::fs;
 use std::io::{Read, Write};
 use std::rt::Files;
+
+// A failure, once it is counted.
+fn counted(faults: &mut u64) -> Failed
+    ensures count { faults.new ≡ min (faults.old + 1) (2 ^ 64 - 1) }
+    ensures later { faults.old ≤ faults.new }
+{
+    *faults = faults.saturating_add(1);
+    Failed
+}
 
 /// The files of the system. It tells nothing of them.
 #[derive(Drop)]
@@ -45,10 +54,7 @@ impl<R: Files> Shelf for HostShelf<'_, R> {
                 self.file = Some(file);
                 Ok(())
             }
-            Err(_) => {
-                self.faults = self.faults.saturating_add(1);
-                Err(Failed)
-            }
+            Err(_) => Err(counted(&mut self.faults)),
         }
     }
 
@@ -56,10 +62,7 @@ impl<R: Files> Shelf for HostShelf<'_, R> {
         match &mut self.file {
             Some(file) => match file.read(room) {
                 Ok(count) => Ok(count),
-                Err(_) => {
-                    self.faults = self.faults.saturating_add(1);
-                    Err(Failed)
-                }
+                Err(_) => Err(counted(&mut self.faults)),
             },
             None => unreachable!(),
         }
@@ -91,10 +94,7 @@ impl<I: Read> Source for HostSource<I> {
     fn read(&mut self, room: &mut [u8]) -> Result<usize, Failed> {
         match self.reader.read(room) {
             Ok(count) => Ok(count),
-            Err(_) => {
-                self.faults = self.faults.saturating_add(1);
-                Err(Failed)
-            }
+            Err(_) => Err(counted(&mut self.faults)),
         }
     }
 }
@@ -124,10 +124,7 @@ impl<W: Write> Sink for HostSink<W> {
     fn put(&mut self, piece: &[u8]) -> Result<usize, Failed> {
         match self.writer.write(piece) {
             Ok(count) if 0 < count => Ok(count),
-            _ => {
-                self.faults = self.faults.saturating_add(1);
-                Err(Failed)
-            }
+            _ => Err(counted(&mut self.faults)),
         }
     }
 }

@@ -1,7 +1,7 @@
 // A shelf in memory.
 ghost use Rattle.std.specs.Prelude.{◌≡◌, ◌⊎◌, ◌<◌, ◌≤◌, ◌+◌, ◌^◌, ◌↔◌, List, Option, Some, None, true, drop, take, min, length, is_some, is_none, IsTrue, IsErr, IfOk, IfSome, OnOk, OnErr, MatchOption, option_map, slice_get};
 ghost use Rattle.std.specs.Io.{ReadsAtMost};
-ghost use Rattle.std.specs.Io.KnownBytes.{Consumes, IsAtEnd};
+ghost use Rattle.std.specs.Io.KnownBytes.{prepend_known, IsAtEnd};
 ghost use Rattle.desk_outside.specs.Outside.{Rose, Lacks, Opens, TellsRest, HasCause};
 ghost use Rattle.desk_outside.specs.InMemory.{no_calls, is_listed, after_call, entries_of, held_in};
 
@@ -27,9 +27,9 @@ impl Model for MemShelf {
     ghost Value = { ShelfState };
 
     ghost view = { λ s. record {
-        entries = entries_of s.files.items;
-        rest = option_map (λ e. drop s.at e.1) (slice_get (entries_of s.files.items) s.which);
-        calls = s.calls;
+      entries = entries_of s.files.items;
+      rest = option_map (λ e. drop s.at e.1) (slice_get (entries_of s.files.items) s.which);
+      calls = s.calls;
     } };
 }
 
@@ -84,12 +84,9 @@ impl Shelf for MemShelf {
 
     /// Fails exactly at a listed call, which is counted, and at a name that is not held, which alone is not.
     fn open(&mut self, name: &str) -> Result<(), Failed>
-        ensures files { Some (held_in self.new.entries) ≡ Some (held_in self.old.entries) }
         ensures open { OnOk result (is_some self.new.rest ≡ true) }
-        ensures content { OnOk result (Opens (Some (held_in self.old.entries)) name.now self.new.rest) }
         ensures later { self.old.calls.faults ≤ self.new.calls.faults }
-        ensures cause { OnErr result (Rose self.old.calls.faults self.new.calls.faults ⊎ Lacks (Some (held_in self.old.entries)) name.now) }
-        ensures lacking { Lacks (Some (held_in self.old.entries)) name.now → IsErr result }
+        ensures cause { OnErr result (Rose self.old.calls.faults self.new.calls.faults ⊎ (held_in self.old.entries name.now ≡ None)) }
         ensures fails { IsErr result ↔ (IsTrue (is_listed self.old.calls) ⊎ (held_in self.old.entries name.now ≡ None)) }
         ensures rest { OnOk result (self.new.rest ≡ held_in self.old.entries name.now) }
         ensures entries { self.new.entries ≡ self.old.entries }
@@ -114,12 +111,10 @@ impl Shelf for MemShelf {
     fn read(&mut self, room: &mut [u8]) -> Result<usize, Failed>
         requires open { is_some self.old.rest ≡ true }
         requires room { 0 < length room.old }
-        ensures files { Some (held_in self.new.entries) ≡ Some (held_in self.old.entries) }
         ensures open { OnOk result (is_some self.new.rest ≡ true) }
         ensures bound { ReadsAtMost result room.new }
-        ensures bytes { IfOk result (λ n. Consumes self.old.rest self.new.rest (take n room.new)) }
+        ensures bytes { IfOk result (λ n. self.old.rest ≡ prepend_known (take n room.new) self.new.rest) }
         ensures end { IfOk result (λ n. n ≡ 0 → IsAtEnd self.new.rest) }
-        ensures tells { OnOk result (TellsRest (Some (held_in self.old.entries)) self.new.rest) }
         ensures cause { HasCause self.old.calls.faults self.new.calls.faults result }
         ensures fails { IsErr result ↔ IsTrue (is_listed self.old.calls) }
         ensures count { IfOk result (λ n. IfSome self.old.rest (λ rest. n ≡ min (length rest) (length room.old))) }

@@ -1,6 +1,5 @@
 // A sink in memory.
 ghost use Rattle.std.specs.Prelude.{◌≡◌, ◌⊎◌, ◌<◌, ◌≤◌, ◌-◌, ◌↔◌, ◌++◌, [], IsTrue, true, false, IsOk, IsErr, IfOk, OnOk, OnErr, Some, min, take, length};
-ghost use Rattle.std.specs.Io.KnownBytes.{append_known};
 ghost use Rattle.desk_outside.specs.Outside.{HasCause};
 ghost use Rattle.desk_outside.specs.InMemory.{no_calls, is_listed, after_call, FailsNext};
 
@@ -74,8 +73,8 @@ impl Sink for MemSink {
         requires { 0 < length piece.now }
         ensures some { IfOk result (λ n. 0 < n) }
         ensures bound { IfOk result (λ n. n ≤ length piece.now) }
-        ensures bytes { IfOk result (λ n. Some self.new.received ≡ append_known (Some self.old.received) (take n piece.now)) }
-        ensures err { OnErr result (Some self.new.received ≡ Some self.old.received) }
+        ensures bytes { IfOk result (λ n. self.new.received ≡ self.old.received ++ take n piece.now) }
+        ensures err { OnErr result (self.new.received ≡ self.old.received) }
         ensures cause { HasCause self.old.calls.faults self.new.calls.faults result }
         ensures fails { IsErr result ↔ FailsNext self.old }
         ensures count { IfOk result (λ n. n ≡ min (min (length piece.now) self.old.piece) (self.old.room - length self.old.received)) }

@@ -1,7 +1,6 @@
 // A source in memory.
-ghost use Rattle.std.specs.Prelude.{◌≡◌, ◌<◌, ◌≤◌, ◌↔◌, ◌++◌, IsTrue, IsErr, IfOk, OnErr, Some, min, take, length};
+ghost use Rattle.std.specs.Prelude.{◌≡◌, ◌<◌, ◌≤◌, ◌↔◌, ◌++◌, [], IsTrue, IsErr, IfOk, OnErr, Some, min, take, length};
 ghost use Rattle.std.specs.Io.{ReadsAtMost};
-ghost use Rattle.std.specs.Io.KnownBytes.{prepend_known, IsAtEnd};
 ghost use Rattle.desk_outside.specs.Outside.{HasCause};
 ghost use Rattle.desk_outside.specs.InMemory.{no_calls, is_listed, after_call};
 
@@ -56,9 +55,9 @@ impl Source for MemSource {
     fn read(&mut self, room: &mut [u8]) -> Result<usize, Failed>
         requires { 0 < length room.old }
         ensures bound { ReadsAtMost result room.new }
-        ensures bytes { IfOk result (λ n. Some self.old.rest ≡ prepend_known (take n room.new) (Some self.new.rest)) }
-        ensures end { IfOk result (λ n. n ≡ 0 → IsAtEnd (Some self.new.rest)) }
-        ensures err { OnErr result (Some self.new.rest ≡ Some self.old.rest) }
+        ensures bytes { IfOk result (λ n. self.old.rest ≡ take n room.new ++ self.new.rest) }
+        ensures end { IfOk result (λ n. n ≡ 0 → self.new.rest ≡ []) }
+        ensures err { OnErr result (self.new.rest ≡ self.old.rest) }
         ensures cause { HasCause self.old.calls.faults self.new.calls.faults result }
         ensures fails { IsErr result ↔ IsTrue (is_listed self.old.calls) }
         ensures count { IfOk result (λ n. n ≡ min (min (length self.old.rest) self.old.piece) (length room.old)) }

@@ -1,4 +1,4 @@
-use Rattle.std.proofs.Common.{◌≡◌, ◌≤◌, ap, sym, ◌∙◌, arith, length, drop, get_or, subst}
+use Rattle.std.proofs.Common.{◌≤◌, ap, sym, ◌∙◌, arith, length, drop, subst}
 use Rattle.std.specs.Prelude.{option_map, Some}
 use Rattle.std.proofs.lemmas.List.{drop_all}
 use Rattle.desk_outside.proofs.Files.{entry_at}

@@ -1,4 +1,4 @@
-use Rattle.std.proofs.Common.{◌≡◌, ap, sym, ◌∙◌, arith, length, true}
+use Rattle.std.proofs.Common.{◌≡◌, ap, sym, ◌∙◌, arith, true}
 use Rattle.std.specs.Prelude.{option_map, nat_eq, string_bytes}
 use Rattle.std.specs.Cmp.Lexicographic.{pointwise}
 use Rattle.desk_outside.proofs.Files.{held_at, entry_at}
