@@ -1,5 +1,5 @@
 // Calls that are numbered from 0, some of which fail, and a count of those that did.
-ghost use Rattle.std.specs.Prelude.{◌≡◌, ◌≤◌, true, false, IsTrue};
+ghost use Rattle.std.specs.Prelude.{◌≡◌, ◌≤◌};
 ghost use Rattle.desk_outside.specs.InMemory.{no_calls, is_listed, after_call};
 
 use std::marker::Model;

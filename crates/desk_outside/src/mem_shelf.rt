@@ -1,8 +1,8 @@
 // A shelf in memory.
-ghost use Rattle.std.specs.Prelude.{◌≡◌, ◌⊎◌, ◌<◌, ◌≤◌, ◌+◌, ◌^◌, ◌↔◌, List, Option, Some, None, true, drop, take, min, length, is_some, is_none, IsTrue, IsErr, IfOk, IfSome, OnOk, OnErr, MatchOption, option_map, slice_get};
+ghost use Rattle.std.specs.Prelude.{◌≡◌, ◌⊎◌, ◌<◌, ◌≤◌, ◌+◌, ◌^◌, ◌↔◌, Some, None, true, drop, take, min, length, is_some, IsTrue, IsErr, IfOk, IfSome, OnOk, OnErr, MatchOption, option_map, slice_get};
 ghost use Rattle.std.specs.Io.{ReadsAtMost};
 ghost use Rattle.std.specs.Io.KnownBytes.{prepend_known, IsAtEnd};
-ghost use Rattle.desk_outside.specs.Outside.{Rose, Lacks, Opens, TellsRest, HasCause};
+ghost use Rattle.desk_outside.specs.Outside.{Rose, HasCause};
 ghost use Rattle.desk_outside.specs.InMemory.{no_calls, is_listed, after_call, entries_of, held_in};
 
 use crate::calls::Calls;
@@ -10,25 +10,30 @@ use crate::give::give;
 use crate::{Failed, Shelf};
 use std::marker::Model;
 
+// The open file's place among the files, and how many of its bytes were read.
+#[derive(Clone, Copy)]
+struct Reading {
+    file: usize,
+    at: usize,
+}
+
 /// A shelf of given files, some of whose calls fail.
 #[derive(Drop)]
 pub struct MemShelf {
     files: Vec<(String, Vec<u8>)>,
-    // The open file, or the number of files where none is open.
-    which: usize,
-    at: usize,
+    reading: Option<Reading>,
     calls: Calls,
 }
 
 impl Model for MemShelf {
-    ghost use Rattle.std.specs.Prelude.{drop, option_map, slice_get};
+    ghost use Rattle.std.specs.Prelude.{drop, option_map, option_and_then, slice_get};
     ghost use Rattle.desk_outside.specs.InMemory.{ShelfState, entries_of};
 
     ghost Value = { ShelfState };
 
     ghost view = { λ s. record {
       entries = entries_of s.files.items;
-      rest = option_map (λ e. drop s.at e.1) (slice_get (entries_of s.files.items) s.which);
+      rest = option_and_then (λ r. option_map (λ e. drop r.at e.1) (slice_get (entries_of s.files.items) r.file)) s.reading;
       calls = s.calls;
     } };
 }
@@ -41,16 +46,15 @@ impl MemShelf {
         ensures closed { result.rest ≡ None }
         ensures calls { result.calls ≡ no_calls failing.items }
     {
-        let which = files.len();
         MemShelf {
             files,
-            which,
-            at: 0,
+            reading: None,
             calls: Calls::new(failing),
         }
     }
 }
 
+// The first file of this name.
 fn place_of(files: &[(String, Vec<u8>)], name: &str) -> Option<usize>
     ensures { MatchOption result (held_in (entries_of files.now) name.now ≡ None) (λ i.
         (i < length files.now) × (held_in (entries_of files.now) name.now ≡ option_map (λ e. e.1) (slice_get (entries_of files.now) i))) }
@@ -98,9 +102,8 @@ impl Shelf for MemShelf {
             return Err(Failed);
         }
         match place_of(&self.files, name) {
-            Some(place) => {
-                self.which = place;
-                self.at = 0;
+            Some(file) => {
+                self.reading = Some(Reading { file, at: 0 });
                 Ok(())
             }
             None => Err(Failed),
@@ -126,9 +129,15 @@ impl Shelf for MemShelf {
         if fails {
             return Err(Failed);
         }
-        let left = left_of(&self.files, self.which, self.at);
-        let count = give(left, usize::MAX, room);
-        self.at += count;
-        Ok(count)
+        match self.reading {
+            Some(Reading { file, at }) => {
+                let left = left_of(&self.files, file, at);
+                let count = give(left, left.len(), room);
+                let at = at + count;
+                self.reading = Some(Reading { file, at });
+                Ok(count)
+            }
+            None => unreachable!(),
+        }
     }
 }

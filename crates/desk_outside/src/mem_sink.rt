@@ -1,7 +1,7 @@
 // A sink in memory.
-ghost use Rattle.std.specs.Prelude.{◌≡◌, ◌⊎◌, ◌<◌, ◌≤◌, ◌-◌, ◌↔◌, ◌++◌, [], IsTrue, true, false, IsOk, IsErr, IfOk, OnOk, OnErr, Some, min, take, length};
+ghost use Rattle.std.specs.Prelude.{◌≡◌, ◌<◌, ◌≤◌, ◌-◌, ◌↔◌, ◌++◌, [], true, false, IsErr, IfOk, OnOk, OnErr, Some, min, take, length};
 ghost use Rattle.desk_outside.specs.Outside.{HasCause};
-ghost use Rattle.desk_outside.specs.InMemory.{no_calls, is_listed, after_call, FailsNext};
+ghost use Rattle.desk_outside.specs.InMemory.{no_calls, after_call, FailsNext};
 
 use crate::calls::Calls;
 use crate::{Failed, Memory, Sink};
