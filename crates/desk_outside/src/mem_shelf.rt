@@ -57,7 +57,9 @@ impl MemShelf {
 // The first file of this name.
 fn place_of(files: &[(String, Vec<u8>)], name: &str) -> Option<usize>
     ensures { MatchOption result (held_in (entries_of files.now) name.now ≡ None) (λ i.
-        (i < length files.now) × (held_in (entries_of files.now) name.now ≡ option_map (λ e. e.1) (slice_get (entries_of files.now) i))) }
+        (i < length files.now)
+        × (held_in (entries_of files.now) name.now
+        ≡ option_map (λ e. e.1) (slice_get (entries_of files.now) i))) }
 {
     for (i, file) in files.iter().enumerate() {
         if file.0.as_str() == name {
@@ -90,8 +92,10 @@ impl Shelf for MemShelf {
     fn open(&mut self, name: &str) -> Result<(), Failed>
         ensures open { OnOk result (is_some self.new.rest ≡ true) }
         ensures later { self.old.calls.faults ≤ self.new.calls.faults }
-        ensures cause { OnErr result (Rose self.old.calls.faults self.new.calls.faults ⊎ (held_in self.old.entries name.now ≡ None)) }
-        ensures fails { IsErr result ↔ (IsTrue (is_listed self.old.calls) ⊎ (held_in self.old.entries name.now ≡ None)) }
+        ensures cause { OnErr result (Rose self.old.calls.faults self.new.calls.faults
+            ⊎ (held_in self.old.entries name.now ≡ None)) }
+        ensures fails { IsErr result ↔ (IsTrue (is_listed self.old.calls)
+            ⊎ (held_in self.old.entries name.now ≡ None)) }
         ensures rest { OnOk result (self.new.rest ≡ held_in self.old.entries name.now) }
         ensures entries { self.new.entries ≡ self.old.entries }
         ensures calls { self.new.calls ≡ after_call self.old.calls (is_listed self.old.calls) }

@@ -77,7 +77,8 @@ impl Sink for MemSink {
         ensures err { OnErr result (self.new.received ≡ self.old.received) }
         ensures cause { HasCause self.old.calls.faults self.new.calls.faults result }
         ensures fails { IsErr result ↔ FailsNext self.old }
-        ensures count { IfOk result (λ n. n ≡ min (min (length piece.now) self.old.piece) (self.old.room - length self.old.received)) }
+        ensures count { IfOk result (λ n. n ≡ min (min (length piece.now) self.old.piece)
+            (self.old.room - length self.old.received)) }
         ensures room { self.new.room ≡ self.old.room }
         ensures piece { self.new.piece ≡ self.old.piece }
         ensures counted { OnErr result (self.new.calls ≡ after_call self.old.calls true) }
