@@ -1,0 +1,3 @@
+pub mod Floors
+pub mod Agreement
+pub mod Splitting
