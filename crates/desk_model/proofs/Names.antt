@@ -1,15 +1,12 @@
 -- Looking a name up among names that ascend.
-use Rattle.std.proofs.Common.{◌≡◌, ◌≢◌, ℕ, zero, suc, ◌+◌, ◌<◌, ◌≤◌, Bool, true, false, cond, nat_eq, List, [], ◌∷◌, length, get_or, map, Option, Some, None, Result, Ok, Err, refl, ap, sym, subst, ◌∙◌, arith}
+use Rattle.std.proofs.Common.{◌≡◌, ℕ, zero, suc, ◌+◌, ◌<◌, ◌≤◌, true, false, List, [], ◌∷◌, length, get_or, map, Some, None, Ok, Err, refl, ap, sym, ◌∙◌, arith}
 use Rattle.std.specs.List.{AllByRecursion, position_from}
-use Rattle.std.specs.Cmp.{IsTotalOrder}
-use Rattle.std.specs.Cmp.Lexicographic.{slice_cmp, pointwise, lists_ties}
-use Rattle.std.specs.List.Sorted.{IsStrictlySortedBy, IsNonDecreasingBy, IsSearchInRange, IsBinarySearchResult}
+use Rattle.std.specs.Cmp.Lexicographic.{lists_ties}
+use Rattle.std.specs.List.Sorted.{IsStrictlySortedBy, IsNonDecreasingBy, IsBinarySearchResult}
 use Rattle.std.specs.Ordering.{nat_cmp, ordering_index, ordering_reverse, is_lt, is_eq}
-use Rattle.std.specs.declared.cmp.Ordering.{Ordering}
-use Rattle.std.specs.declared.cmp.Ordering.TheVariants.{Less, Equal, Greater}
+use Rattle.std.specs.declared.cmp.Ordering.TheVariants.{Less}
 use Rattle.std.proofs.lemmas.Cmp.{nat_list_cmp_total, alike_right}
 use Rattle.std.proofs.lemmas.Bool.Decides.{nat_tests}
-use Rattle.std.proofs.lemmas.List.Elements.{All-from_recursion}
 use Rattle.std.proofs.lemmas.List.Sorted.{searchable_from_sorted}
 use Rattle.desk_model.specs.Name.{name_cmp, is_same_name, number_of, AreAscending}
 
@@ -59,8 +56,8 @@ module _ {X : Type 0} (key : X → List ℕ) where
     found_number at lt equal =
         let here : is_same_name (key (get_or xs at d)) name ≡ true = same_by_cmp (key (get_or xs at d)) name ∙ ap is_eq (equal d) in
         position_at 0 xs name at d lt here (λ k below.
-            same_by_cmp (key (get_or xs k d)) name ∙ ap is_eq (sym (alike_right nat_list_cmp_total (key (get_or xs at d)) name (key (get_or xs k d)) (equal d)) ∙ ascending_far xs k at d up below lt))
-          ∙ ap Some (omega arith)
+        same_by_cmp (key (get_or xs k d)) name ∙ ap is_eq (sym (alike_right nat_list_cmp_total (key (get_or xs at d)) name (key (get_or xs k d)) (equal d)) ∙ ascending_far xs k at d up below lt))
+        ∙ ap Some (omega arith)
 
     -- one that finds a gap finds that no key is the name
     pub no_number : (at : ℕ) → at ≤ length xs → IsBinarySearchResult (λ (x : X). name_cmp (key x) name) xs (Err at) → number_of (map key xs) name ≡ None

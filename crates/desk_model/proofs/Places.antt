@@ -1,15 +1,13 @@
 -- Documents with their ranks, in order of the ranks and ascending by document.
-use Rattle.std.proofs.Common.{◌≡◌, ◌≢◌, ℕ, zero, suc, ◌+◌, ◌<◌, ◌≤◌, Bool, true, false, cond, nat_eq, List, [], ◌∷◌, ◌++◌, length, get_or, Option, Some, None, Result, Ok, Err, refl, ap, sym, subst, ◌∙◌, arith}
+use Rattle.std.proofs.Common.{◌≡◌, ◌≢◌, ℕ, zero, suc, ◌+◌, ◌<◌, ◌≤◌, Bool, true, false, cond, nat_eq, List, [], ◌∷◌, ◌++◌, length, get_or, Option, Some, None, Ok, Err, refl, ap, sym, ◌∙◌, arith}
 use Rattle.std.specs.List.{AllByRecursion, Contains, IsDistinct, position_from}
-use Rattle.std.specs.List.Sorted.{IsPermutation, IsNonDecreasingBy, IsSearchInRange, IsBinarySearchResult}
+use Rattle.std.specs.List.Sorted.{IsPermutation, IsNonDecreasingBy, IsBinarySearchResult}
 use Rattle.std.specs.Ordering.{nat_cmp, ordering_index}
 use Rattle.std.proofs.lemmas.Cmp.{ranked}
 use Rattle.std.proofs.lemmas.Bool.Decides.{nat_tests}
-use Rattle.std.proofs.lemmas.Grind.{common_steps}
 use Rattle.std.proofs.lemmas.List.Elements.{All-from_recursion, recursion_from_All, Contains-get_or}
 use Rattle.std.proofs.lemmas.Map.Keys.{IsDistinct-IsPermutation, IsDistinct-head, IsDistinct-tail}
 use Rattle.std.proofs.lemmas.List.Sorted.{Contains-permutation, IsPermutation-sym, IsNonDecreasingBy-from_default}
-use Rattle.desk_model.specs.Ranking.{rank}
 use Rattle.desk_model.specs.Placed.{lookup, IsAscending, placed_from, KeepsPlaces}
 use Rattle.desk_model.specs.declared.placed.Placed.{Placed}
 
@@ -115,12 +113,13 @@ lookup-permuted xs ys moved up doc = go (lookup xs doc) refl
 -- entries with different documents in order of their documents ascend
 pub ascending_from : (es : List Placed) → IsDistinct same_doc es → IsNonDecreasingBy (λ (p : Placed). p.doc) es → IsAscending es
 ascending_from [] h up = tt
-ascending_from (e ∷ es) h up =
-    (recursion_from_All (λ (f : Placed). e.doc < f.doc) es (λ k d lt.
-        let le : e.doc ≤ (get_or es k d).doc = up 0 (suc k) d (omega arith) (omega arith) in
-        let apart : nat_eq e.doc (get_or es k d).doc ≡ false = All-from_recursion (λ (f : Placed). nat_eq e.doc f.doc ≡ false) es (IsDistinct-head same_doc e es h) k d lt in
-        grind (arith, nat_tests)),
-    ascending_from es (IsDistinct-tail same_doc e es h) (λ i j d le lt. up (suc i) (suc j) d (omega arith) (omega arith)))
+ascending_from (e ∷ es) h up = (
+  recursion_from_All (λ (f : Placed). e.doc < f.doc) es (λ k d lt.
+      let le : e.doc ≤ (get_or es k d).doc = up 0 (suc k) d (omega arith) (omega arith) in
+      let apart : nat_eq e.doc (get_or es k d).doc ≡ false = All-from_recursion (λ (f : Placed). nat_eq e.doc f.doc ≡ false) es (IsDistinct-head same_doc e es h) k d lt in
+      grind (arith, nat_tests)),
+  ascending_from es (IsDistinct-tail same_doc e es h) (λ i j d le lt. up (suc i) (suc j) d (omega arith) (omega arith)),
+)
 
 flips : (x y : Placed) → same_doc x y ≡ same_doc y x
 flips x y = grind (arith, nat_tests)

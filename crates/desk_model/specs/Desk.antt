@@ -1,8 +1,8 @@
 -- The desk: topics with their universes, and what each run retrieved on each topic.
-use Rattle.std.specs.Prelude.{◌≡◌, ℕ, ◌+◌, ◌*◌, ◌/◌, ◌-◌, ◌<◌, ◌≤◌, Bool, true, All, List, [], ◌∷◌, length, map, take, slice_index_or, Option, ℤ}
+use Rattle.std.specs.Prelude.{◌≡◌, ℕ, ◌*◌, ◌/◌, ◌-◌, ◌<◌, ◌≤◌, Bool, true, All, List, [], length, map, take, slice_index_or}
 use Rattle.std.specs.List.{AllZip, IsDistinct, enumerate_from, list_any}
 use Rattle.desk_model.specs.Name.{is_name, is_same_name, AreAscending}
-use Rattle.desk_model.specs.Book.{Book, IsBook, file_grade_of}
+use Rattle.desk_model.specs.Book.{Book, IsBook}
 use Rattle.desk_model.specs.Ranking.{IsRanking, is_in}
 use Rattle.desk_model.specs.Mark.{mark_of}
 use Rattle.desk_model.specs.Order.{Topic}

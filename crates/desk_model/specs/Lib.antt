@@ -12,3 +12,4 @@ pub mod Name
 pub mod Placed
 pub mod Book
 pub mod Desk
+pub mod MeasureText

@@ -87,3 +87,17 @@ impl Name {
         self.bytes.as_slice().cmp(other)
     }
 }
+
+#[cfg(test)]
+mod tests {
+    use super::*;
+    use std::test::Fail;
+
+    #[test]
+    fn a_name_keeps_its_bytes(rt: HostRuntime) -> Result<(), Fail> {
+        let name = Name::new(rt.alloc(), b"FBIS3-1")?;
+        assert_eq!(rt; name.as_bytes(), b"FBIS3-1".as_slice());
+        assert!(rt; Name::new(rt.alloc(), b"two words").is_err());
+        Ok(())
+    }
+}

@@ -1,4 +1,4 @@
-use Rattle.std.proofs.Common.{◌≡◌, [], ◌∷◌, ◌++◌, map, take, ap, ◌∙◌}
+use Rattle.std.proofs.Common.{[], ◌∷◌, take}
 use Rattle.std.specs.Prelude.{Vec}
 use Rattle.std.specs.declared.alloc.Global.{Global}
 use Rattle.std.proofs.lemmas.List.{map-append}
@@ -10,7 +10,11 @@ use Rattle.desk_model.proofs.marks.file_topics.Goals as goal
 pub loop-t-preserved : goal.loop-t-preserved
 loop-t-preserved c =
     let topics = c.args.desk.now.topics in
-    rw (c.in_ok-push.ensures.items, take-there topics c.loop-t.t c.topic.result.now c.topic.ensures,
+    rw (
+      c.in_ok-push.ensures.items,
+      take-there topics c.loop-t.t c.topic.result.now c.topic.ensures,
       map-append (λ (each : Vec Mark Global). each.items) c.loop-t.topics.items (c.in_ok-marks_of_topic.field-0 ∷ []),
       map-append (file_marks c.args.level) (take c.loop-t.t topics) (c.topic.result.now ∷ []),
-      c.loop-t.invariant, c.in_ok-marks_of_topic.ensures)
+      c.loop-t.invariant,
+      c.in_ok-marks_of_topic.ensures,
+    )

@@ -1,8 +1,6 @@
-use Rattle.std.proofs.Common.{◌≡◌, ◌+◌, ◌++◌, ◌∷◌, [], ℕ, take, length, get_or, arith, ap, ◌∙◌}
+use Rattle.std.proofs.Common.{◌≡◌, ◌+◌, take, length, get_or, arith}
 use Rattle.std.proofs.lemmas.List.{take_more}
 use Rattle.std.proofs.lemmas.Grind.{common_steps}
-use Rattle.desk_model.specs.Placed.{placed_from}
-use Rattle.desk_model.specs.declared.placed.Placed.{Placed}
 use Rattle.desk_model.proofs.Places.{placed_from-push}
 use Rattle.desk_model.proofs.ranking.placed.Goals as goal
 

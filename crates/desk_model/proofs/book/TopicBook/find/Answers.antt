@@ -1,7 +1,7 @@
-use Rattle.std.proofs.Common.{◌≡◌, [], rules, sym, map, ◌∙◌}
+use Rattle.std.proofs.Common.{[], rules, sym, map}
 use Rattle.std.proofs.lemmas.Fn.{always_returns_same}
 use Rattle.std.proofs.lemmas.List.{map-id}
-use Rattle.desk_model.specs.Name.{name_cmp, number_of, AreAscending}
+use Rattle.desk_model.specs.Name.{name_cmp, AreAscending}
 use Rattle.desk_model.specs.declared.name.Name.{Name}
 use Rattle.desk_model.proofs.Names.{found_number, no_number}
 use Rattle.desk_model.proofs.book.TopicBook.find.Goals as goal

@@ -1,4 +1,4 @@
-use Rattle.std.proofs.Common.{◌≡◌, ◌∙◌}
+use Rattle.std.proofs.Common.{◌∙◌}
 use Rattle.std.proofs.lemmas.Iterator.Adapters.{position_from-zero}
 use Rattle.desk_model.specs.Name.{is_same_name}
 use Rattle.desk_model.proofs.desk.Desk.find_run.Goals as goal

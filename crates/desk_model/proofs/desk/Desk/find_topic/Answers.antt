@@ -1,6 +1,6 @@
-use Rattle.std.proofs.Common.{◌≡◌, [], None, rules, sym, map, ◌∙◌}
+use Rattle.std.proofs.Common.{[], rules, sym, map}
 use Rattle.std.proofs.lemmas.Fn.{always_returns_same}
-use Rattle.desk_model.specs.Name.{name_cmp, number_of, AreAscending}
+use Rattle.desk_model.specs.Name.{name_cmp, AreAscending}
 use Rattle.desk_model.specs.Book.{Book}
 use Rattle.desk_model.proofs.Names.{found_number, no_number}
 use Rattle.desk_model.proofs.desk.Desk.find_topic.Goals as goal

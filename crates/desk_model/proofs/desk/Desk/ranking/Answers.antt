@@ -1,10 +1,10 @@
-use Rattle.std.proofs.Common.{◌≡◌, ◌<◌, [], length, get_or, map, refl, sym, ap, ◌∙◌, arith}
+use Rattle.std.proofs.Common.{◌≡◌, ◌<◌, [], length, get_or, refl, ap, ◌∙◌, arith}
 use Rattle.std.specs.Prelude.{slice_get}
 use Rattle.std.proofs.lemmas.List.{get_or_default}
 use Rattle.std.proofs.lemmas.Grind.{common_steps}
 use Rattle.desk_model.specs.Book.{Book}
 use Rattle.desk_model.specs.Ranking.{IsRanking}
-use Rattle.desk_model.specs.Desk.{Desk, IsDesk, ranking_of}
+use Rattle.desk_model.specs.Desk.{IsDesk, ranking_of}
 use Rattle.desk_model.proofs.Nested.{inner, length-rankings, ranking_over, if_some}
 use Rattle.desk_model.proofs.desk.Desk.ranking.Goals as goal
 
