@@ -9,3 +9,6 @@ pub mod walk;
 
 pub use ends::{Ends, EndsFault};
 pub use walk::extremes;
+
+#[cfg(test)]
+mod tests;
