@@ -1,0 +1,6 @@
+//! The printed texts of the desk.
+#![tactic(auto)]
+
+mod means;
+
+pub use means::parts;

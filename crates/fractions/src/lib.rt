@@ -1,0 +1,6 @@
+//! Spans.
+#![tactic(auto)]
+
+pub mod ends;
+
+pub use ends::Span;
