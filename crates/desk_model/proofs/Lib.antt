@@ -7,3 +7,4 @@ pub mod PrecisionEnds
 pub mod Places
 pub mod Names
 pub mod Nested
+pub mod PairPlace

@@ -1,6 +1,3 @@
-ghost use Rattle.std.specs.Prelude.{◌≡◌, ◌+◌, ◌<◌, ◌≤◌, List, length, slice_index_or, ◌∷◌};
-ghost use Rattle.desk_model.specs.Pairs.{pairs_of, pairs_from};
-
 /// The places of the two runs of a pair, from 0, the first before the second.
 #[derive(Clone, Copy, PartialEq, Eq, Debug)]
 pub struct PairPlaces {
@@ -9,20 +6,21 @@ pub struct PairPlaces {
 }
 
 impl PairPlaces {
-    ghost use Rattle.desk_model.specs.PairPlaces.{IsPlaced};
+    ghost use Rattle.std.specs.Prelude.{◌≡◌, ◌+◌, ◌<◌, ◌≤◌};
+    ghost use Rattle.desk_model.specs.Pairs.{places_after};
 
     /// The first pair.
-    pub fn start() -> PairPlaces
-        ensures all { (X : Type 0) (xs : List X) → pairs_from result.first result.second xs ≡ pairs_of xs }
-    {
-        PairPlaces {
-            first: 0,
-            second: 1,
-        }
-    }
+    pub const START: PairPlaces = PairPlaces {
+        first: 0,
+        second: 1,
+    };
 
-    /// The pair after this one.
+    /// The pair after this one among so many runs.
     pub fn next(self, runs: u32) -> PairPlaces
+        requires order { self.first < self.second }
+        requires within { self.second < runs }
+        requires few { runs ≤ 256 }
+        ensures { result ≡ places_after runs self }
     {
         if self.second + 1 < runs {
             PairPlaces {

@@ -4,11 +4,11 @@ use Rattle.std.specs.Int.{int_div_euclid}
 use Rattle.fractions.specs.declared.ends.Span.{Span}
 
 -- the floor and the ceiling of n over d
-abbrev pub floor_of : ℤ → ℤ → ℤ
-floor_of n d = int_div_euclid n d
+abbrev pub floor_of : ℤ → ℕ → ℤ
+floor_of n d = int_div_euclid n (pos d)
 
-abbrev pub ceiling_of : ℤ → ℤ → ℤ
-ceiling_of n d = neg_ℤ (int_div_euclid (neg_ℤ n) d)
+abbrev pub ceiling_of : ℤ → ℕ → ℤ
+ceiling_of n d = neg_ℤ (int_div_euclid (neg_ℤ n) (pos d))
 
 -- the six digits of a number of millionths below one
 abbrev pub six_digits : ℕ → List ℕ
@@ -24,7 +24,7 @@ decimal_text (pos n) = millionths n
 decimal_text (negsuc n) = 45 ∷ millionths (suc n)
 
 -- a lower end rounded down to millionths, and an upper end rounded up, each a sum over a number of parts
-abbrev pub ends_text : ℤ → ℤ → ℤ → List ℕ
+abbrev pub ends_text : ℕ → ℤ → ℤ → List ℕ
 ends_text parts lo hi = decimal_text (floor_of (lo *ℤ pos 1000000) parts) ++ 32 ∷ decimal_text (ceiling_of (hi *ℤ pos 1000000) parts)
 
 -- from -10^30 to 10^30

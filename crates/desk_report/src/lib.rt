@@ -2,5 +2,6 @@
 #![tactic(auto)]
 
 mod means;
+mod table;
 
-pub use means::parts;
+pub use table::{pair_line, table_text};
