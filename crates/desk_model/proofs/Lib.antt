@@ -8,3 +8,4 @@ pub mod Places
 pub mod Names
 pub mod Nested
 pub mod Decimals
+pub mod PairPlace

@@ -13,3 +13,4 @@ pub mod Placed
 pub mod Book
 pub mod Desk
 pub mod MeasureText
+pub mod Pairs
