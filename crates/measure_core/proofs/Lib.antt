@@ -1,3 +1,4 @@
 pub mod Turned
 pub mod Exact
 pub mod RunBounds
+pub mod Narrow

@@ -1,5 +1,5 @@
 -- What a maker says of a measure that it made: its numbers are those of the name that was asked for.
-use Rattle.std.specs.Prelude.{◌≡◌, ℕ, ◌^◌, List, pos}
+use Rattle.std.specs.Prelude.{◌≡◌, ℕ, ◌+◌, ◌*◌, ◌^◌, List, length, pos, ◌+ℤ◌, ◌≤ℤ◌}
 use Rattle.desk_model.specs.Extremes.{Ends, AreExtremes, AreBounds}
 use Rattle.desk_model.specs.declared.types.Mark.{Mark}
 use Rattle.desk_model.specs.declared.types.MeasureName.{MeasureName}
@@ -38,3 +38,13 @@ pub record AreNumbersOf (name : MeasureName) (cell : List Mark → List ℕ → 
 pub record IsMadeFor (name measured : MeasureName) (cell : List Mark → List ℕ → List ℕ → Cell) (bounds : List Mark → List ℕ → Span) : Type 0 where
   pub named : measured ≡ name
   pub numbers : AreNumbersOf name cell bounds
+
+-- how far apart the two ends of a least or greatest difference may be, in units of the measure
+abbrev pub width_of : MeasureName → List ℕ → List ℕ → ℕ
+width_of (Biased top bottom) a b = let n = length a + length b + 1 in 8 * (n * n)
+width_of _ a b = 1
+
+-- both pairs of ends are at most that far apart
+pub record AreNarrow (measure : MeasureName) (a b : List ℕ) (ends : Ends) : Type 0 where
+  pub least : ends.least_hi ≤ℤ (ends.least_lo +ℤ pos (width_of measure a b))
+  pub most : ends.most_hi ≤ℤ (ends.most_lo +ℤ pos (width_of measure a b))

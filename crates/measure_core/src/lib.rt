@@ -2,6 +2,7 @@
 #![tactic(auto)]
 
 pub mod cell;
+pub mod laws;
 pub mod maker;
 pub mod measure;
 pub mod steps;
