@@ -27,11 +27,6 @@ pub trait Measure: Drop {
     /// What `bounds` answers.
     ghost bounds_of: { Self → List M → List ℕ → S };
 
-    /// The laws: cells enclose the difference and bounds the score in every completion; the least and
-    /// the most case are completions whose differences lie in their spans; exchanged runs have the
-    /// mirror image; and all numbers have stated sizes.
-    ghost laws: { (m : Self) → IsMeasure (measured m) → MeetsLaws (measured m) (cell_of m) (bounds_of m) };
-
     /// The name of the measure.
     fn name(&self) -> MeasureName
         ensures name { result ≡ measured self.now }
@@ -86,4 +81,9 @@ pub trait Measure: Drop {
         requires met { AreMet marks.now a.now b.now }
         requires known { doc < length marks.now }
         ensures { result ≡ weight_of (measured self.now) marks.now a.now b.now doc };
+
+    /// The laws: cells enclose the difference and bounds the score in every completion; the least and
+    /// the most case are completions whose differences lie in their spans; exchanged runs have the
+    /// mirror image; and all numbers have stated sizes.
+    ghost laws: { (m : Self) → IsMeasure (measured m) → MeetsLaws (measured m) (cell_of m) (bounds_of m) };
 }
