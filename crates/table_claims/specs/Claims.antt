@@ -19,13 +19,13 @@ use Rattle.desk_report.specs.Table.{table_text}
 use Rattle.table_claims.specs.Received.{whole_lines}
 
 -- the desk has a run of this name, and a fact holds of its number
-pub record HoldsOfRun (desk : Desk) (name : List ℕ) (fact : ℕ → Type 0) : Type 0 where
+pub record HoldsByName (desk : Desk) (name : List ℕ) (fact : ℕ → Type 0) : Type 0 where
   pub run : ℕ
   pub named : slice_get desk.runs run ≡ Some name
   pub holds : fact run
 
 -- the desk has two runs of these names, and a fact holds of their numbers
-pub record HoldsOfRuns (desk : Desk) (first second : List ℕ) (fact : ℕ → ℕ → Type 0) : Type 0 where
+pub record HoldsByNames (desk : Desk) (first second : List ℕ) (fact : ℕ → ℕ → Type 0) : Type 0 where
   pub a : ℕ
   pub b : ℕ
   pub named_first : slice_get desk.runs a ≡ Some first
@@ -69,17 +69,17 @@ IsRunLine line run low high = fields_of line ≡ codes "run" ∷ run ∷ low ∷
 -- what a line claims of two runs or of one is true
 pub record IsTrueLine (name : MeasureName) (desk : Desk) (marks : List (List Mark)) (line : List ℕ) : Type 0 where
   pub above : (first second low high : List ℕ) → IsPairLine line first (codes "above") second low high →
-      HoldsOfRuns desk first second (λ a b. IsAlwaysAbove name (topics_under desk marks) a b)
+      HoldsByNames desk first second (λ a b. IsAlwaysAbove name (topics_under desk marks) a b)
   pub below : (first second low high : List ℕ) → IsPairLine line first (codes "below") second low high →
-      HoldsOfRuns desk first second (λ a b. IsAlwaysAbove name (topics_under desk marks) b a)
+      HoldsByNames desk first second (λ a b. IsAlwaysAbove name (topics_under desk marks) b a)
   pub equal : (first second low high : List ℕ) → IsPairLine line first (codes "equal") second low high →
-      HoldsOfRuns desk first second (AreAlwaysEqual name (topics_under desk marks))
+      HoldsByNames desk first second (AreAlwaysEqual name (topics_under desk marks))
   pub exact : (k : ℕ) → name ≡ Precision k → (first word second low high : List ℕ) → IsPairLine line first word second low high →
-      HoldsOfRuns desk first second (SaysExactly name (topics_under desk marks) word)
+      HoldsByNames desk first second (SaysExactly name (topics_under desk marks) word)
   pub pair_bounds : (first word second low high : List ℕ) → IsPairLine line first word second low high →
-      HoldsOfRuns desk first second (EnclosesDifference name (topics_under desk marks) low high)
+      HoldsByNames desk first second (EnclosesDifference name (topics_under desk marks) low high)
   pub run_bounds : (run low high : List ℕ) → IsRunLine line run low high →
-      HoldsOfRun desk run (EnclosesMean name (topics_under desk marks) low high)
+      HoldsByName desk run (EnclosesMean name (topics_under desk marks) low high)
 
 -- a fact of each whole line of any front of a table, whose numbers are those of a measure's name over a desk and its marks
 abbrev pub ForEachLine : (MeasureName → Desk → List (List Mark) → List ℕ → Type 0) → Type 0
