@@ -1,7 +1,7 @@
 //! The sums over all topics of a measure's cells and bounds.
 ghost use Rattle.std.specs.Prelude.{◌≡◌, ◌+◌, ◌<◌, length};
 ghost use Rattle.desk_model.specs.Desk.{AreMarksOf, topics_under};
-ghost use Rattle.desk_model.specs.MeasureText.{IsMeasure};
+ghost use Rattle.measure_laws.specs.Measures.{IsMeasure};
 ghost use Rattle.pair_table.specs.Sums.{pair_sums, run_sums};
 
 use desk_model::{Desk, Marks, Totals};

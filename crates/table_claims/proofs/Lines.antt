@@ -120,7 +120,7 @@ fields_pair first said second low high wf ws wg wl wh =
     regroup f w s r = simp append_assoc
 
 -- a line that is whole and true
-abbrev IsSound : MeasureName → Desk → List (List Mark) → List ℕ → Type 0
+abbrev pub IsSound : MeasureName → Desk → List (List Mark) → List ℕ → Type 0
 IsSound name desk marks line = AreInLine line × IsTrueLine name desk marks line
 
 -- a line that is no pair line is true where what it claims of one run is
@@ -168,7 +168,7 @@ module _ (name : MeasureName) (desk : Desk) (marks : List (List Mark)) where
   )
 
   -- a run of the desk whose name is a word
-  abbrev IsNamed : ℕ → List ℕ → Type 0
+  abbrev pub IsNamed : ℕ → List ℕ → Type 0
   IsNamed run text = (slice_get desk.runs run ≡ Some text) × IsWord text
 
   -- ---- the line of a run
@@ -185,7 +185,7 @@ module _ (name : MeasureName) (desk : Desk) (marks : List (List Mark)) where
         printed_high s.hi parts x (over 0 1) some (subst (λ u. IsAtLeastScore s.hi u x) (sym same) (h.high cs is));
   }
 
-  run_sound : (parts run : ℕ) (text : List ℕ) (s : Span) → 0 < parts → parts ≡ unit_of name * length (topics_under desk marks) → IsNamed run text → HoldsOfRun name (topics_under desk marks) run s →
+  pub run_sound : (parts run : ℕ) (text : List ℕ) (s : Span) → 0 < parts → parts ≡ unit_of name * length (topics_under desk marks) → IsNamed run text → HoldsOfRun name (topics_under desk marks) run s →
       IsSound name desk marks (run_line parts text s)
   run_sound parts run text s some same named h =
       let lo : List ℕ = decimal_text (floor_of (s.lo *ℤ pos 1000000) parts) in
@@ -220,14 +220,14 @@ module _ (name : MeasureName) (desk : Desk) (marks : List (List Mark)) where
   }
 
   -- what holds of the pair on a line
-  abbrev HoldsOnLine : ℕ → ℕ → Totals → Type 0
+  abbrev pub HoldsOnLine : ℕ → ℕ → Totals → Type 0
   HoldsOnLine a b t = HoldsOfPair name (topics_under desk marks) a b t × ((k : ℕ) → name ≡ Precision k → IsExactVerdict name (topics_under desk marks) a b (verdict t))
 
   -- a fact of the runs that a pair line names
   named_runs : (a b : ℕ) (x y first second : List ℕ) (fact : ℕ → ℕ → Type 0) → slice_get desk.runs a ≡ Some x → slice_get desk.runs b ≡ Some y → x ≡ first → y ≡ second → fact a b → HoldsByNames desk first second fact
   named_runs a b x y first second fact p q e f h = record { a = a; b = b; named_first = p ∙ ap Some e; named_second = q ∙ ap Some f; holds = h }
 
-  pair_sound : (parts a b : ℕ) (x y : List ℕ) (t : Totals) → 0 < parts → parts ≡ unit_of name * length (topics_under desk marks) → IsNamed a x → IsNamed b y → HoldsOnLine a b t →
+  pub pair_sound : (parts a b : ℕ) (x y : List ℕ) (t : Totals) → 0 < parts → parts ≡ unit_of name * length (topics_under desk marks) → IsNamed a x → IsNamed b y → HoldsOnLine a b t →
       IsSound name desk marks (pair_line parts x y t)
   pair_sound parts a b x y t some same na nb h =
       let lo : List ℕ = decimal_text (floor_of (t.least_lo *ℤ pos 1000000) parts) in
