@@ -1,0 +1,39 @@
+-- The numbers of a table by the measure's name alone.
+use Rattle.std.specs.Prelude.{◌≡◌, ℕ, List, length}
+use Rattle.std.specs.List.{AllZip}
+use Rattle.desk_model.specs.Desk.{Desk, topics_under}
+use Rattle.desk_model.specs.Extremes.{Ends}
+use Rattle.desk_model.specs.Order.{Topic}
+use Rattle.desk_model.specs.Pairs.{pairs_of}
+use Rattle.desk_model.specs.Verdict.{totals_of}
+use Rattle.desk_model.specs.declared.types.Mark.{Mark}
+use Rattle.desk_model.specs.declared.types.MeasureName.{MeasureName}
+use Rattle.desk_model.specs.declared.types.Totals.{Totals}
+use Rattle.fractions.specs.declared.span.Span.{Span}
+use Rattle.measure_core.specs.Made.{HasEnds, HasBounds}
+use Rattle.pair_table.specs.Sums.{run_numbers, span_sum}
+
+-- these ends, one for each topic, are those that the name has for two runs
+abbrev pub AreEndsOf : MeasureName → List Topic → ℕ → ℕ → List Ends → Type 0
+AreEndsOf name topics a b ends = AllZip (λ e topic. HasEnds name topic.marks (topic.ranking a) (topic.ranking b) e) ends topics
+
+-- these bounds, one for each topic, are those that the name has for a run
+abbrev pub AreBoundsOf : MeasureName → List Topic → ℕ → List Span → Type 0
+AreBoundsOf name topics run spans = AllZip (λ s topic. HasBounds name topic.marks (topic.ranking run) s) spans topics
+
+-- the sums of two runs are those of the name's ends
+pub record ArePairNumbers (name : MeasureName) (topics : List Topic) (a b : ℕ) (totals : Totals) : Type 0 where
+  pub ends : List Ends
+  pub named : AreEndsOf name topics a b ends
+  pub summed : totals ≡ totals_of ends
+
+-- the sums of a run's bounds are those of the name's bounds
+pub record AreRunNumbers (name : MeasureName) (topics : List Topic) (run : ℕ) (bounds : Span) : Type 0 where
+  pub spans : List Span
+  pub named : AreBoundsOf name topics run spans
+  pub summed : bounds ≡ span_sum spans
+
+-- bounds for each run and sums for each pair are the numbers of a name over a desk and its marks
+pub record AreNumbersIn (name : MeasureName) (desk : Desk) (marks : List (List Mark)) (bounds : List Span) (totals : List Totals) : Type 0 where
+  pub runs : AllZip (λ run span. AreRunNumbers name (topics_under desk marks) run span) (run_numbers (length desk.runs)) bounds
+  pub pairs : AllZip (λ pair sums. ArePairNumbers name (topics_under desk marks) pair.0 pair.1 sums) (pairs_of (run_numbers (length desk.runs))) totals

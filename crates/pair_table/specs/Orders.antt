@@ -1,0 +1,54 @@
+-- What the numbers of a table say of the means of its runs.
+use Rattle.std.specs.Prelude.{◌≡◌, ℕ, ◌*◌, List, length, map, sum, pos, neg_ℤ, ◌≤ℤ◌, ◌⊎◌}
+use Rattle.std.specs.List.{AllZip}
+use Rattle.desk_model.specs.Completion.{Completion}
+use Rattle.desk_model.specs.Desk.{Desk, IsDesk, AreMarksOf, topics_under}
+use Rattle.desk_model.specs.Extremes.{IsAtMostScore, IsAtLeastScore}
+use Rattle.desk_model.specs.Fraction.{IsAtMost, IsAtLeast}
+use Rattle.desk_model.specs.Order.{Topic, IsCompletion, run_mean, IsAlwaysAbove, AreAlwaysEqual}
+use Rattle.desk_model.specs.Pairs.{pairs_of}
+use Rattle.desk_model.specs.Verdict.{verdict}
+use Rattle.desk_model.specs.declared.types.Mark.{Mark}
+use Rattle.desk_model.specs.declared.types.MeasureName.{MeasureName}
+use Rattle.desk_model.specs.declared.types.Totals.{Totals}
+use Rattle.desk_model.specs.declared.types.Verdict.TheVariants.{Above, Below, Equal, Close}
+use Rattle.fractions.specs.declared.span.Span.{Span}
+use Rattle.measure_laws.specs.Measures.{IsMeasure, unit_of}
+use Rattle.measure_core.specs.Made.{width_of}
+use Rattle.pair_table.specs.Sums.{run_numbers}
+use Rattle.pair_table.specs.Numbers.{AreNumbersIn}
+
+-- in every completion the order of two means is that of the verdict, and unit times topics times their difference lies from least_lo to most_hi
+pub record HoldsOfPair (measure : MeasureName) (topics : List Topic) (a b : ℕ) (t : Totals) : Type 0 where
+  pub above : verdict t ≡ Above → IsAlwaysAbove measure topics a b
+  pub below : verdict t ≡ Below → IsAlwaysAbove measure topics b a
+  pub equal : verdict t ≡ Equal → AreAlwaysEqual measure topics a b
+  pub least : (cs : List Completion) → IsCompletion topics cs →
+      IsAtMost t.least_lo (unit_of measure * length topics) (run_mean measure a topics cs) (run_mean measure b topics cs)
+  pub most : (cs : List Completion) → IsCompletion topics cs →
+      IsAtLeast t.most_hi (unit_of measure * length topics) (run_mean measure a topics cs) (run_mean measure b topics cs)
+
+-- in every completion unit times topics times the run's mean lies within the summed bounds
+pub record HoldsOfRun (measure : MeasureName) (topics : List Topic) (run : ℕ) (s : Span) : Type 0 where
+  pub low : (cs : List Completion) → IsCompletion topics cs → IsAtMostScore s.lo (unit_of measure * length topics) (run_mean measure run topics cs)
+  pub high : (cs : List Completion) → IsCompletion topics cs → IsAtLeastScore s.hi (unit_of measure * length topics) (run_mean measure run topics cs)
+
+-- how far apart the two ends of a least or greatest difference may be, summed over all topics
+abbrev pub total_width : MeasureName → List Topic → ℕ → ℕ → ℕ
+total_width measure topics a b = sum (map (λ (topic : Topic). width_of measure (topic.ranking a) (topic.ranking b)) topics)
+
+-- the least sum is not above zero and that near to it, or the greatest is not below zero and that near to it
+abbrev pub IsNearZero : ℕ → Totals → Type 0
+IsNearZero width t = ((neg_ℤ (pos width) ≤ℤ t.least_lo) × (t.least_lo ≤ℤ pos 0)) ⊎ ((pos 0 ≤ℤ t.most_hi) × (t.most_hi ≤ℤ pos width))
+
+-- a fact of the sums of each pair of runs, where these are the numbers of a measure's name over a desk and its marks
+abbrev pub ForEachPair : (MeasureName → List Topic → ℕ → ℕ → Totals → Type 0) → Type 0
+ForEachPair fact =
+    (name : MeasureName) (desk : Desk) (marks : List (List Mark)) (bounds : List Span) (totals : List Totals) → IsMeasure name → IsDesk desk → AreMarksOf desk marks → AreNumbersIn name desk marks bounds totals →
+    AllZip (λ pair sums. fact name (topics_under desk marks) pair.0 pair.1 sums) (pairs_of (run_numbers (length desk.runs))) totals
+
+-- a fact of the summed bounds of each run
+abbrev pub ForEachRun : (MeasureName → List Topic → ℕ → Span → Type 0) → Type 0
+ForEachRun fact =
+    (name : MeasureName) (desk : Desk) (marks : List (List Mark)) (bounds : List Span) (totals : List Totals) → IsMeasure name → IsDesk desk → AreMarksOf desk marks → AreNumbersIn name desk marks bounds totals →
+    AllZip (λ run span. fact name (topics_under desk marks) run span) (run_numbers (length desk.runs)) bounds

@@ -1,0 +1,61 @@
+//! Laws of tables, each the contract of a function that does nothing.
+ghost use Rattle.std.specs.Prelude.{◌≡◌, ◌≢◌, ◌<◌, ℕ, List, length};
+ghost use Rattle.std.specs.List.{AllZip};
+ghost use Rattle.desk_model.specs.Desk.{Desk, IsDesk, AreMarksOf, topics_under};
+ghost use Rattle.desk_model.specs.Pairs.{pairs_of};
+ghost use Rattle.desk_model.specs.Verdict.{verdict, IsExactVerdict};
+ghost use Rattle.desk_model.specs.declared.types.Mark.{Mark};
+ghost use Rattle.desk_model.specs.declared.types.MeasureName.{MeasureName};
+ghost use Rattle.desk_model.specs.declared.types.MeasureName.TheVariants.{Precision};
+ghost use Rattle.desk_model.specs.declared.types.Totals.{Totals};
+ghost use Rattle.desk_model.specs.declared.types.Verdict.TheVariants.{Close};
+ghost use Rattle.fractions.specs.declared.span.Span.{Span};
+ghost use Rattle.measure_laws.specs.Measures.{IsMeasure, IsExactMeasure};
+ghost use Rattle.measure_core.specs.Laws.{MeetsLaws};
+ghost use Rattle.measure_core.specs.Made.{AreNumbersOf};
+ghost use Rattle.measure_core.specs.declared.cell.Cell.{Cell};
+ghost use Rattle.pair_table.specs.Sums.{run_numbers, pair_sums, all_pair_sums, all_run_sums};
+ghost use Rattle.pair_table.specs.Kept.{AreSumsOf};
+ghost use Rattle.pair_table.specs.Numbers.{AreNumbersIn};
+ghost use Rattle.pair_table.specs.Orders.{HoldsOfPair, HoldsOfRun, total_width, IsNearZero, ForEachPair, ForEachRun};
+
+/// A table of a measure whose cells and bounds are a name's has the numbers of that name, and no two
+/// tables of one name, desk and marks differ.
+pub fn tables_have_named_numbers()
+    ensures named { (name : MeasureName) (cell : List Mark → List ℕ → List ℕ → Cell) (bounds : List Mark → List ℕ → Span)
+        (desk : Desk) (marks : List (List Mark)) → AreNumbersOf name cell bounds → IsDesk desk → AreMarksOf desk marks →
+        AreNumbersIn name desk marks (all_run_sums bounds (topics_under desk marks) (length desk.runs))
+        (all_pair_sums cell (topics_under desk marks) (length desk.runs)) }
+    ensures determined { (name : MeasureName) (desk : Desk) (marks : List (List Mark)) (b c : List Span) (t u : List Totals) →
+        AreNumbersIn name desk marks b t → AreNumbersIn name desk marks c u → (b ≡ c) × (t ≡ u) }
+{}
+
+/// A verdict that is not open or close holds in every completion, and the sums enclose unit times
+/// topics times the difference of two means, and the bounds that of one mean.
+pub fn numbers_hold_in_every_completion()
+    ensures pairs { ForEachPair HoldsOfPair }
+    ensures runs { ForEachRun HoldsOfRun }
+{}
+
+/// Under precision a verdict says exactly what always holds, and is never close.
+pub fn precision_is_exact()
+    ensures { ForEachPair (λ name topics a b sums.
+        (k : ℕ) → name ≡ Precision k → IsExactVerdict name topics a b (verdict sums)) }
+{}
+
+/// A verdict is close only where a sum is near zero: for precision, recall, R-precision and reciprocal
+/// rank by the number of topics at most, and for rank-biased precision by `8 * (n_a + n_b + 1)^2` for
+/// each topic, where the rankings have n_a and n_b documents.
+pub fn close_is_near_zero()
+    ensures near { ForEachPair (λ name topics a b sums. verdict sums ≡ Close → IsNearZero (total_width name topics a b) sums) }
+    ensures exact { ForEachPair (λ name topics a b sums. IsExactMeasure name → verdict sums ≡ Close → IsNearZero (length topics) sums) }
+{}
+
+/// The sums of two runs in a table of a measure that meets its laws are those of its cells, in either
+/// order of the runs.
+pub fn sums_are_exact_in_both_orders()
+    ensures { (name : MeasureName) (cell : List Mark → List ℕ → List ℕ → Cell) (bounds : List Mark → List ℕ → Span)
+        (desk : Desk) (marks : List (List Mark)) (i j : ℕ) (sums : Totals) →
+        MeetsLaws name cell bounds → IsDesk desk → AreMarksOf desk marks →
+        AreSumsOf (length desk.runs) (all_pair_sums cell (topics_under desk marks) (length desk.runs)) i j sums → sums ≡ pair_sums cell (topics_under desk marks) i j }
+{}

@@ -1,0 +1,8 @@
+//! The table of all pairs of runs, proved once for every measure.
+#![tactic(auto)]
+
+pub mod laws;
+pub mod sums;
+pub mod table;
+
+pub use table::Table;

@@ -1,0 +1,5 @@
+pub mod Spelling
+pub mod Texts
+pub mod Rounding
+pub mod Pairing
+pub mod Lines

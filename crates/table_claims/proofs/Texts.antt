@@ -1,0 +1,77 @@
+-- Printed numbers, names and words are words.
+use Rattle.std.proofs.Common.{◌≡◌, ℕ, zero, suc, ◌+◌, ◌/◌, ◌%◌, ◌<◌, ◌≤◌, List, [], ◌∷◌, length, drop, cond, true, false, arith, rules, ℤ, pos, negsuc, length-append}
+use Rattle.std.specs.Prelude.{Bool, ◌&&◌, ◌==◌, not, nat_lt, nat_le, nat_eq, codes, decimal}
+use Rattle.std.specs.List.{list_all}
+use Rattle.std.specs.Fmt.{digits, digits_onto, digit_glyph}
+use Rattle.std.proofs.lemmas.Bool.{and_parts, leb-true}
+use Rattle.desk_model.specs.Name.{is_name, is_field_byte}
+use Rattle.desk_model.specs.MeasureText.{measure_text}
+use Rattle.desk_model.specs.declared.types.MeasureName.{MeasureName}
+use Rattle.desk_model.specs.declared.types.MeasureName.TheVariants.{Precision, Recall, RPrecision, Reciprocal, Biased}
+use Rattle.desk_model.specs.declared.types.Verdict.{Verdict}
+use Rattle.desk_model.specs.declared.types.Verdict.TheVariants.{Above, Below, Equal, Open, Close}
+use Rattle.desk_report.specs.Means.{six_digits, millionths, decimal_text}
+use Rattle.desk_report.specs.Table.{word_of}
+use Rattle.table_claims.proofs.Spelling.{AreInk, IsWord, ink-append}
+
+glyph_ink : (d : ℕ) → 32 < digit_glyph false d
+glyph_ink d = by_test (nat_lt d 10)
+  where
+    by_test : (t : Bool) → 32 < cond t (48 + d) (87 + d)
+    by_test true = omega arith
+    by_test false = omega arith
+
+digits_ink : (k n : ℕ) (acc : List ℕ) → AreInk acc → AreInk (digits_onto k 10 false n acc)
+digits_ink zero n acc h = h
+digits_ink (suc k) n acc h =
+    let more : AreInk (digit_glyph false (n % 10) ∷ acc) = (glyph_ink (n % 10), h) in
+    either (n / 10 == 0) _ _ more (digits_ink k (n / 10) _ more)
+  where
+    either : (t : Bool) (v w : List ℕ) → AreInk v → AreInk w → AreInk (cond t v w)
+    either true v w p q = p
+    either false v w p q = q
+
+pub decimal_ink : (n : ℕ) → AreInk (decimal n)
+unfolding digits
+decimal_ink n = digits_ink 64 n [] tt
+
+rest_ink : (w : List ℕ) → AreInk w → AreInk (drop 1 w)
+rest_ink [] h = tt
+rest_ink (b ∷ bs) h = h.1
+
+millionths_word : (n : ℕ) → IsWord (millionths n)
+millionths_word n = record {
+  filled = omega (arith, length-append (decimal (n / 1000000)) (46 ∷ six_digits (n % 1000000)));
+  ink = ink-append (decimal (n / 1000000)) (46 ∷ six_digits (n % 1000000)) (decimal_ink (n / 1000000)) (omega arith, rest_ink (decimal (1000000 + n % 1000000)) (decimal_ink (1000000 + n % 1000000)));
+}
+
+pub decimal_text_word : (z : ℤ) → IsWord (decimal_text z)
+decimal_text_word (pos n) = millionths_word n
+decimal_text_word (negsuc n) = record { filled = omega arith; ink = (omega arith, (millionths_word (suc n)).ink) }
+
+pub measure_ink : (name : MeasureName) → AreInk (measure_text name)
+measure_ink (Precision k) = ink-append (codes "P_") (decimal k) (search rules) (decimal_ink k)
+measure_ink (Recall k) = ink-append (codes "recall_") (decimal k) (search rules) (decimal_ink k)
+measure_ink RPrecision = search rules
+measure_ink Reciprocal = search rules
+measure_ink (Biased top bottom) = ink-append (codes "rbp_0.") (drop 1 (decimal (bottom + top))) (search rules) (rest_ink (decimal (bottom + top)) (decimal_ink (bottom + top)))
+
+field_bytes_ink : (w : List ℕ) → list_all is_field_byte w ≡ true → AreInk w
+field_bytes_ink [] h = tt
+field_bytes_ink (b ∷ bs) h =
+    let parts = and_parts (is_field_byte b) (list_all is_field_byte bs) h in
+    let above : 33 ≤ b = leb-true 33 b (and_parts (nat_le 33 b) (not (nat_eq b 127)) parts.0).0 in
+    (omega (arith, above), field_bytes_ink bs parts.1)
+
+pub name_word : (w : List ℕ) → is_name w ≡ true → IsWord w
+name_word w h =
+    let parts = and_parts (nat_le 1 (length w)) (nat_le (length w) 255 && list_all is_field_byte w) h in
+    let some : 1 ≤ length w = leb-true 1 (length w) parts.0 in
+    record { filled = omega (arith, some); ink = field_bytes_ink w (and_parts (nat_le (length w) 255) (list_all is_field_byte w) parts.1).1 }
+
+pub verdict_word : (v : Verdict) → IsWord (word_of v)
+verdict_word Above = record { filled = omega arith; ink = search rules }
+verdict_word Below = record { filled = omega arith; ink = search rules }
+verdict_word Equal = record { filled = omega arith; ink = search rules }
+verdict_word Open = record { filled = omega arith; ink = search rules }
+verdict_word Close = record { filled = omega arith; ink = search rules }

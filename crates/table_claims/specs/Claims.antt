@@ -1,0 +1,89 @@
+-- What the lines of a printed table claim.
+use Rattle.std.specs.Prelude.{◌≡◌, ◌≢◌, ◌↔◌, ℕ, List, [], ◌∷◌, slice_get, Some, codes, ℤ, All, take, pos}
+use Rattle.desk_text.specs.Lines.{fields_of}
+use Rattle.desk_model.specs.Completion.{Completion}
+use Rattle.desk_model.specs.Desk.{Desk, IsDesk, AreMarksOf, topics_under}
+use Rattle.desk_model.specs.Extremes.{IsAtMostScore, IsAtLeastScore}
+use Rattle.desk_model.specs.Fraction.{IsAtMost, IsAtLeast}
+use Rattle.desk_model.specs.MeasureText.{IsMeasure}
+use Rattle.desk_model.specs.Order.{Topic, IsCompletion, run_mean, IsAlwaysAbove, AreAlwaysEqual}
+use Rattle.desk_model.specs.declared.types.Mark.{Mark}
+use Rattle.desk_model.specs.declared.types.MeasureName.{MeasureName}
+use Rattle.desk_model.specs.declared.types.MeasureName.TheVariants.{Precision}
+use Rattle.desk_model.specs.declared.types.Totals.{Totals}
+use Rattle.fractions.specs.declared.span.Span.{Span}
+use Rattle.measure_laws.specs.Measures.{unit_of}
+use Rattle.pair_table.specs.Numbers.{AreNumbersIn}
+use Rattle.desk_report.specs.Means.{decimal_text}
+use Rattle.desk_report.specs.Table.{table_text}
+use Rattle.table_claims.specs.Received.{whole_lines}
+
+-- the desk has a run of this name, and a fact holds of its number
+pub record HoldsByName (desk : Desk) (name : List ℕ) (fact : ℕ → Type 0) : Type 0 where
+  pub run : ℕ
+  pub named : slice_get desk.runs run ≡ Some name
+  pub holds : fact run
+
+-- the desk has two runs of these names, and a fact holds of their numbers
+pub record HoldsByNames (desk : Desk) (first second : List ℕ) (fact : ℕ → ℕ → Type 0) : Type 0 where
+  pub a : ℕ
+  pub b : ℕ
+  pub named_first : slice_get desk.runs a ≡ Some first
+  pub named_second : slice_get desk.runs b ≡ Some second
+  pub holds : fact a b
+
+-- a word says exactly what always holds of two runs, and is `open` where none of the three orders does
+pub record SaysExactly (name : MeasureName) (topics : List Topic) (word : List ℕ) (a b : ℕ) : Type 0 where
+  pub above : (word ≡ codes "above") ↔ IsAlwaysAbove name topics a b
+  pub below : (word ≡ codes "below") ↔ IsAlwaysAbove name topics b a
+  pub equal : (word ≡ codes "equal") ↔ AreAlwaysEqual name topics a b
+  pub undecided : (word ≡ codes "open") ↔ ((IsAlwaysAbove name topics a b → ⊥) × (IsAlwaysAbove name topics b a → ⊥) × (AreAlwaysEqual name topics a b → ⊥))
+  pub never_close : word ≢ codes "close"
+
+-- two texts are decimals, in millionths, between which the mean of a minus that of b lies in every completion
+pub record EnclosesDifference (name : MeasureName) (topics : List Topic) (low high : List ℕ) (a b : ℕ) : Type 0 where
+  pub least : ℤ
+  pub most : ℤ
+  pub low_text : low ≡ decimal_text least
+  pub high_text : high ≡ decimal_text most
+  pub from_least : (cs : List Completion) → IsCompletion topics cs → IsAtMost least 1000000 (run_mean name a topics cs) (run_mean name b topics cs)
+  pub to_most : (cs : List Completion) → IsCompletion topics cs → IsAtLeast most 1000000 (run_mean name a topics cs) (run_mean name b topics cs)
+
+-- two texts are decimals, in millionths, between which the mean of a run lies in every completion
+pub record EnclosesMean (name : MeasureName) (topics : List Topic) (low high : List ℕ) (run : ℕ) : Type 0 where
+  pub least : ℤ
+  pub most : ℤ
+  pub low_text : low ≡ decimal_text least
+  pub high_text : high ≡ decimal_text most
+  pub from_least : (cs : List Completion) → IsCompletion topics cs → IsAtMostScore least 1000000 (run_mean name run topics cs)
+  pub to_most : (cs : List Completion) → IsCompletion topics cs → IsAtLeastScore most 1000000 (run_mean name run topics cs)
+
+-- the line is `pair FIRST WORD SECOND LOW HIGH`
+abbrev pub IsPairLine : List ℕ → List ℕ → List ℕ → List ℕ → List ℕ → List ℕ → Type 0
+IsPairLine line first word second low high = fields_of line ≡ codes "pair" ∷ first ∷ word ∷ second ∷ low ∷ high ∷ []
+
+-- the line is `run NAME LOW HIGH`
+abbrev pub IsRunLine : List ℕ → List ℕ → List ℕ → List ℕ → Type 0
+IsRunLine line run low high = fields_of line ≡ codes "run" ∷ run ∷ low ∷ high ∷ []
+
+-- what a line claims of two runs or of one is true
+pub record IsTrueLine (name : MeasureName) (desk : Desk) (marks : List (List Mark)) (line : List ℕ) : Type 0 where
+  pub above : (first second low high : List ℕ) → IsPairLine line first (codes "above") second low high →
+      HoldsByNames desk first second (λ a b. IsAlwaysAbove name (topics_under desk marks) a b)
+  pub below : (first second low high : List ℕ) → IsPairLine line first (codes "below") second low high →
+      HoldsByNames desk first second (λ a b. IsAlwaysAbove name (topics_under desk marks) b a)
+  pub equal : (first second low high : List ℕ) → IsPairLine line first (codes "equal") second low high →
+      HoldsByNames desk first second (AreAlwaysEqual name (topics_under desk marks))
+  pub exact : (k : ℕ) → name ≡ Precision k → (first word second low high : List ℕ) → IsPairLine line first word second low high →
+      HoldsByNames desk first second (SaysExactly name (topics_under desk marks) word)
+  pub pair_bounds : (first word second low high : List ℕ) → IsPairLine line first word second low high →
+      HoldsByNames desk first second (EnclosesDifference name (topics_under desk marks) low high)
+  pub run_bounds : (run low high : List ℕ) → IsRunLine line run low high →
+      HoldsByName desk run (EnclosesMean name (topics_under desk marks) low high)
+
+-- a fact of each whole line of any front of a table, whose numbers are those of a measure's name over a desk and its marks
+abbrev pub ForEachLine : (MeasureName → Desk → List (List Mark) → List ℕ → Type 0) → Type 0
+ForEachLine fact =
+    (name : MeasureName) (desk : Desk) (marks : List (List Mark)) (level received : ℕ) (bounds : List Span) (totals : List Totals) →
+    IsMeasure name → IsDesk desk → AreMarksOf desk marks → AreNumbersIn name desk marks bounds totals →
+    All (fact name desk marks) (whole_lines (take received (table_text desk name level (pos (unit_of name)) bounds totals)))
