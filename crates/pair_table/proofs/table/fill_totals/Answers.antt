@@ -1,0 +1,42 @@
+use Rattle.std.proofs.Common.{rules, ◌≡◌, ◌≢◌, ◌+◌, ◌*◌, ◌<◌, ◌≤◌, All, length, map, slice_get, Some, IfOk, OnOk, OnErr, ℕ, ◌-◌, ◌/◌, ◌%◌, Bool, true, false, nat_eq, nat_lt, List, [], ◌∷◌, ◌++◌, slice_index_or, slice_set, bit_and, bit_or, Fits, w8, w32, w64, Bor, MutBor}
+use Rattle.desk_model.specs.Desk.{AreMarksOf, topics_under, pair_count}
+use Rattle.desk_model.specs.Pairs.{pairs_of}
+use Rattle.desk_model.specs.Verdict.{verdict}
+use Rattle.desk_model.specs.declared.types.Totals.{Totals as Sums}
+use Rattle.measure_laws.specs.Measures.{IsMeasure}
+use Rattle.fractions.specs.Ends.{IsShort}
+use Rattle.pair_table.specs.Sums.{run_numbers, all_pair_sums, all_run_sums, turned}
+use Rattle.pair_table.specs.Kept.{AreSumsOf, AreNear}
+use Rattle.pair_table.proofs.table.fill_totals.Goals as goal
+
+-- src/table.rt:103:5
+pub loop-place-init : goal.loop-place-init
+loop-place-init g c = ?
+
+-- src/table.rt:104:25
+pub sum_cells-requires-clause-first : goal.sum_cells-requires-clause-first
+sum_cells-requires-clause-first g c = ?
+
+-- src/table.rt:104:25
+pub sum_cells-requires-clause-second : goal.sum_cells-requires-clause-second
+sum_cells-requires-clause-second g c = ?
+
+-- src/table.rt:105:9
+pub next-at-requires-clause-order : goal.next-at-requires-clause-order
+next-at-requires-clause-order g c = ?
+
+-- src/table.rt:105:9
+pub next-at-requires-clause-within : goal.next-at-requires-clause-within
+next-at-requires-clause-within g c = ?
+
+-- src/table.rt:103:5
+pub loop-place-preserved : goal.loop-place-preserved
+loop-place-preserved g c = ?
+
+-- src/table.rt:88:1
+pub returns-clause-totals : goal.returns-clause-totals
+returns-clause-totals g c = ?
+
+-- src/table.rt:88:1
+pub returns-clause-steps : goal.returns-clause-steps
+returns-clause-steps g c = ?
