@@ -5,3 +5,5 @@ pub mod Verdicts
 pub mod Orders
 pub mod Named
 pub mod Turned
+pub mod Filling
+pub mod PairNumbers

@@ -1,6 +1,9 @@
 -- Lists side by side, and the pairs of a list.
 use Rattle.std.proofs.Common.{◌≡◌, ℕ, zero, suc, ◌+◌, ◌<◌, ◌≤◌, List, [], ◌∷◌, ◌++◌, map, length, get_or, refl, ap, sym, ◌∙◌, arith}
 use Rattle.std.specs.List.{AllZip, AllByRecursion, Contains, zip, range_with_len}
+use Rattle.std.specs.Prelude.{slice_get, Some}
+use Rattle.std.proofs.lemmas.Option.{slice_get_within, get_or_from_slice_get}
+use Rattle.std.proofs.lemmas.Slice.Zip.{get_or-zip, length-zip}
 use Rattle.desk_model.specs.Pairs.{pairs_of}
 
 -- another relation, where something is known of each element of the second list
@@ -98,3 +101,11 @@ made_beside {A = A} {B = B} P f (z ∷ xs) x y h (zero, lt, is) =
     let second : f z ≡ y = ap (λ (p : A × B). p.1) is in
     (sym second ∙ ap f first, rw (← first) h.0)
 made_beside P f (z ∷ xs) x y h (suc k, lt, is) = made_beside P f xs x y h.1 (k, omega arith, is)
+
+-- elements at one place of two lists stand beside each other
+pub beside : {A B : Type 0} (xs : List A) (ys : List B) (k : ℕ) (x : A) (y : B) → length ys ≡ length xs → slice_get xs k ≡ Some x → y ≡ get_or ys k y → Contains (zip xs ys) (x, y)
+beside xs ys k x y same there is =
+    let in_xs : k < length xs = slice_get_within xs k x there in
+    let in_ys : k < length ys = omega (arith, in_xs, same) in
+    (k, omega (arith, in_xs, in_ys, length-zip xs ys),
+     get_or-zip xs ys k (x, y) in_xs in_ys ∙ ap (λ v. (v, get_or ys k y)) (get_or_from_slice_get xs k x x there) ∙ ap (λ v. (x, v)) (sym is))
