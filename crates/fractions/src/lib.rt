@@ -3,6 +3,8 @@
 
 pub mod powers;
 pub mod span;
+#[cfg(test)]
+mod tests;
 
 pub use powers::Powers;
 pub use span::{Span, span_of};

@@ -16,7 +16,8 @@ use Rattle.desk_model.proofs.Counts.{IsDistinct-take}
 use Rattle.desk_model.proofs.PrecisionEnds.{front_within}
 use Rattle.desk_model.proofs.Exact.{at_most_least}
 use Rattle.measure_laws.specs.Cases.{least_truth, HasLeastTails}
-use Rattle.measure_laws.specs.Measures.{unit_of, IsMeasure, IsExactMeasure}
+use Rattle.desk_model.specs.MeasureText.{IsMeasure}
+use Rattle.measure_laws.specs.Measures.{unit_of, IsExactMeasure}
 use Rattle.measure_laws.specs.Shares.{IsModest}
 use Rattle.measure_laws.proofs.RecallEnds.{count_le_universe}
 use Rattle.measure_laws.proofs.LeastEnds.{least_ends}

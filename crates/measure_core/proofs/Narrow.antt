@@ -9,7 +9,8 @@ use Rattle.desk_model.specs.declared.types.Mark.{Mark}
 use Rattle.desk_model.specs.declared.types.MeasureName.{MeasureName}
 use Rattle.desk_model.specs.declared.types.MeasureName.TheVariants.{Precision, Recall, RPrecision, Reciprocal, Biased}
 use Rattle.desk_model.proofs.Topics.{score-den}
-use Rattle.measure_laws.specs.Measures.{IsMeasure, IsExactMeasure, unit_of}
+use Rattle.desk_model.specs.MeasureText.{IsMeasure}
+use Rattle.measure_laws.specs.Measures.{IsExactMeasure, unit_of}
 use Rattle.measure_laws.specs.Cases.{least_truth}
 use Rattle.measure_laws.specs.Shares.{AreNear, biased_least_lo, biased_least_hi, biased_ends}
 use Rattle.measure_laws.proofs.Unique.{extremes_unique, precision_ends_are}

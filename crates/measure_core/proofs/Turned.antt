@@ -5,7 +5,8 @@ use Rattle.desk_model.specs.Fraction.{IsAtMost, IsAtLeast}
 use Rattle.desk_model.specs.Extremes.{InEvery}
 use Rattle.desk_model.specs.declared.types.Mark.{Mark}
 use Rattle.desk_model.specs.declared.types.MeasureName.{MeasureName}
-use Rattle.measure_laws.specs.Measures.{IsMeasure, unit_of}
+use Rattle.desk_model.specs.MeasureText.{IsMeasure}
+use Rattle.measure_laws.specs.Measures.{unit_of}
 use Rattle.measure_laws.specs.Cases.{least_truth}
 use Rattle.measure_laws.proofs.Mirror.{neg_twice, at_most_turned, at_least_turned, every_turned}
 use Rattle.measure_laws.proofs.LeastCases.{least_truth-Completes}

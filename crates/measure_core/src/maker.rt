@@ -1,5 +1,5 @@
 ghost use Rattle.std.specs.Prelude.{IfOk};
-ghost use Rattle.measure_laws.specs.Measures.{IsMeasure};
+ghost use Rattle.desk_model.specs.MeasureText.{IsMeasure};
 ghost use Rattle.measure_core.specs.Made.{IsMadeFor};
 
 use crate::measure::Measure;

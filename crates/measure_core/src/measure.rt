@@ -1,7 +1,8 @@
 ghost use Rattle.std.specs.Prelude.{◌≡◌, ℕ, ◌+◌, ◌<◌, List, length, pos, IfOk};
 ghost use Rattle.desk_model.specs.declared.types.Mark.{Mark as M};
 ghost use Rattle.desk_model.specs.declared.types.MeasureName.{MeasureName as N};
-ghost use Rattle.measure_laws.specs.Measures.{IsMeasure, unit_of};
+ghost use Rattle.desk_model.specs.MeasureText.{IsMeasure};
+ghost use Rattle.measure_laws.specs.Measures.{unit_of};
 ghost use Rattle.measure_laws.specs.Cases.{least_truth};
 ghost use Rattle.measure_laws.specs.Weights.{weight_of};
 ghost use Rattle.measure_core.specs.declared.cell.Cell.{Cell as C};

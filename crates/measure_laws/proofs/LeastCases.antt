@@ -15,7 +15,8 @@ use Rattle.measure_laws.specs.Ranks.{comes_before}
 use Rattle.measure_laws.specs.Cases.{recall_pick, least_truth}
 use Rattle.measure_laws.specs.ReciprocalCase.{is_choice, reciprocal_choice}
 use Rattle.measure_laws.specs.RprecCase.{greedy_pick, rprec_count}
-use Rattle.measure_laws.specs.Measures.{IsMeasure, IsExactMeasure}
+use Rattle.desk_model.specs.MeasureText.{IsMeasure}
+use Rattle.measure_laws.specs.Measures.{IsExactMeasure}
 use Rattle.measure_laws.proofs.RecallEnds.{recall_least_case}
 use Rattle.measure_laws.proofs.ReciprocalEnds.{reciprocal_least_case}
 use Rattle.measure_laws.proofs.RprecEnds.{rprec_least_case}

@@ -1,10 +1,10 @@
 -- One step of the walk over two lists that ascend by document.
-use Rattle.std.proofs.Common.{◌≡◌, ℕ, ◌+◌, ◌<◌, ◌≤◌, Bool, true, false, nat_eq, nat_lt, List, [], ◌∷◌, length, Option, Some, None, arith, refl, ap, ◌∙◌, sym, subst}
+use Rattle.std.proofs.Common.{◌≡◌, ℕ, ◌<◌, ◌≤◌, Bool, true, false, nat_eq, nat_lt, List, [], ◌∷◌, length, Option, Some, None, arith, refl, ap, ◌∙◌, sym, subst}
 use Rattle.std.specs.Prelude.{if◌then◌else◌}
 use Rattle.std.specs.List.{AllByRecursion}
 use Rattle.std.proofs.lemmas.Bool.Decides.{nat_tests}
 use Rattle.desk_model.specs.Placed.{lookup, IsAscending}
-use Rattle.measure_laws.specs.Pairs.{next_pair, after}
+use Rattle.measure_laws.specs.Pairs.{next_pair, after, Taken, Stepped}
 use Rattle.desk_model.specs.declared.placed.Placed.{Placed}
 use Rattle.measure_laws.specs.declared.pairs.Pair.{Pair}
 
@@ -19,14 +19,6 @@ absent_below d (e ∷ es) h = ap (λ b. if b then Some e.rank else lookup es d) 
 pub further : (d c : ℕ) (es : List Placed) → d ≤ c → AllByRecursion (λ (e : Placed). c < e.doc) es → AllByRecursion (λ (e : Placed). d < e.doc) es
 further d c [] h k = tt
 further d c (e ∷ es) h k = (omega (arith, k.0), further d c es h k.1)
-
--- what a list says of a document that comes first in it, and of the documents around
-pub record Taken (es : List Placed) (doc : ℕ) (rank : Option ℕ) : Type 0 where
-  pub here : rank ≡ lookup es doc
-  pub below : (d : ℕ) → d < doc → lookup es d ≡ None
-  pub above : (d : ℕ) → doc < d → lookup (after es doc) d ≡ lookup es d
-  pub rest : AllByRecursion (λ (e : Placed). doc < e.doc) (after es doc)
-  pub ascending : IsAscending (after es doc)
 
 same_test : (n : ℕ) → nat_eq n n ≡ true
 same_test n = grind (arith, nat_tests)
@@ -70,13 +62,6 @@ within_after n doc (x ∷ xs) h = at (nat_eq x.doc doc)
     at : (b : Bool) → AllByRecursion (λ (e : Placed). e.doc < n) (if b then xs else x ∷ xs)
     at true = h.1
     at false = h
-
--- the pair that comes first in two lists: its ranks in both, and what is left
-pub record Stepped (xs ys : List Placed) (p : Pair) : Type 0 where
-  pub first : Taken xs p.doc p.first
-  pub second : Taken ys p.doc p.second
-  pub fewer : length (after xs p.doc) + length (after ys p.doc) < length xs + length ys
-  pub known : (n : ℕ) → AllByRecursion (λ (e : Placed). e.doc < n) xs → AllByRecursion (λ (e : Placed). e.doc < n) ys → p.doc < n
 
 shorter_head : (x : Placed) (xs : List Placed) → length (after (x ∷ xs) x.doc) ≡ length xs
 shorter_head x xs = ap (λ (b : Bool). length (if b then xs else x ∷ xs)) (same_test x.doc)

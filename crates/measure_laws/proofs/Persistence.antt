@@ -10,7 +10,7 @@ use Rattle.desk_model.specs.declared.types.Mark.{Mark}
 use Rattle.desk_model.specs.declared.types.MeasureName.TheVariants.{Biased}
 use Rattle.desk_model.proofs.Completions.{with_picked-Completes}
 use Rattle.measure_laws.specs.Ranks.{comes_before}
-use Rattle.measure_laws.specs.Measures.{IsPersistence}
+use Rattle.desk_model.specs.MeasureText.{IsPersistence}
 use Rattle.measure_laws.specs.Powers.{low_weight, high_weight}
 use Rattle.measure_laws.specs.Shares.{ForPersistence, ForRun, AreNear, IsModest, biased_truth, biased_least_lo, biased_least_hi, biased_bound_lo, biased_bound_hi}
 use Rattle.measure_laws.specs.Cases.{HasLeastTails}
@@ -27,8 +27,8 @@ parts top bottom h = omega arith
 
 pub least_encloses : ForPersistence (λ top bottom marks a b. InEvery (Biased top bottom) marks a b (IsAtMost (biased_least_lo top bottom marks a b) (10 ^ 18)))
 least_encloses top bottom marks a b p ra rb truth tail_a tail_b c =
-    subst (λ (n : ℕ). IsAtMost (biased_least_lo top n marks a b) (10 ^ 18) (biased top n (map truth a ++ tail_a)) (biased top n (map truth b ++ tail_b))) (parts top bottom p.below)
-    (biased_low top (bottom - top) marks a b p.positive (omega (arith, p.below)) ra rb truth tail_a tail_b c)
+    subst (λ (n : ℕ). IsAtMost (biased_least_lo top n marks a b) (10 ^ 18) (biased top n (map truth a ++ tail_a)) (biased top n (map truth b ++ tail_b))) (parts top bottom p.below_one)
+    (biased_low top (bottom - top) marks a b p.positive (omega (arith, p.below_one)) ra rb truth tail_a tail_b c)
 
 pub most_encloses : ForPersistence (λ top bottom marks a b. InEvery (Biased top bottom) marks a b (IsAtLeast (neg_ℤ (biased_least_lo top bottom marks b a)) (10 ^ 18)))
 most_encloses top bottom marks a b p ra rb = every_turned (Biased top bottom) (10 ^ 18) marks a b (biased_least_lo top bottom marks b a) (least_encloses top bottom marks b a p rb ra)
@@ -38,10 +38,10 @@ pub least_case_below : ForPersistence (λ top bottom marks a b. (tail_a tail_b :
     IsAtLeast (biased_least_hi top bottom marks a b) (10 ^ 18) (biased top bottom (map (biased_truth marks a b) a ++ tail_a)) (biased top bottom (map (biased_truth marks a b) b ++ tail_b)))
 least_case_below top bottom marks a b p ra rb tail_a tail_b tails =
     let truth = biased_truth marks a b in
-    let apart : 0 < bottom - top = omega (arith, p.below) in
-    let few : top + (bottom - top) ≤ 1000000 = omega (arith, p.below, persistence-small top bottom p) in
+    let apart : 0 < bottom - top = omega (arith, p.below_one) in
+    let few : top + (bottom - top) ≤ 1000000 = omega (arith, p.below_one, persistence-small top bottom p) in
     let high : IsAtLeast (biased_least_hi top bottom marks a b) (10 ^ 18) (biased top bottom (map truth a ++ [])) (biased top bottom (map truth b ++ tail_b)) =
-    subst (λ (n : ℕ). IsAtLeast (biased_least_hi top n marks a b) (10 ^ 18) (biased top n (map truth a ++ [])) (biased top n (map truth b ++ tail_b))) (parts top bottom p.below)
+    subst (λ (n : ℕ). IsAtLeast (biased_least_hi top n marks a b) (10 ^ 18) (biased top n (map truth a ++ [])) (biased top n (map truth b ++ tail_b))) (parts top bottom p.below_one)
     (biased_high top (bottom - top) marks a b p.positive apart few ra rb tail_b tails.1) in
     subst (λ (t : List Bool). IsAtLeast (biased_least_hi top bottom marks a b) (10 ^ 18) (biased top bottom (map truth a ++ t)) (biased top bottom (map truth b ++ tail_b))) (sym tails.0) high
 
@@ -51,32 +51,32 @@ biased-Completes marks a b = with_picked-Completes marks (λ doc. comes_before (
 
 pub run_low_encloses : ForRun (λ top bottom marks a. InEveryScore (Biased top bottom) marks a (IsAtMostScore (pos (biased_bound_lo top bottom marks a)) (10 ^ 18)))
 run_low_encloses top bottom marks a p ra truth tail c =
-    subst (λ (n : ℕ). IsAtMost (pos (biased_bound_lo top n marks a)) (10 ^ 18) (biased top n (map truth a ++ tail)) (over 0 1)) (parts top bottom p.below)
-    (run_low top (bottom - top) marks a p.positive (omega (arith, p.below)) ra truth tail c)
+    subst (λ (n : ℕ). IsAtMost (pos (biased_bound_lo top n marks a)) (10 ^ 18) (biased top n (map truth a ++ tail)) (over 0 1)) (parts top bottom p.below_one)
+    (run_low top (bottom - top) marks a p.positive (omega (arith, p.below_one)) ra truth tail c)
 
 pub run_high_encloses : ForRun (λ top bottom marks a. InEveryScore (Biased top bottom) marks a (IsAtLeastScore (pos (biased_bound_hi top bottom marks a)) (10 ^ 18)))
 run_high_encloses top bottom marks a p ra truth tail c =
-    subst (λ (n : ℕ). IsAtLeast (pos (biased_bound_hi top n marks a)) (10 ^ 18) (biased top n (map truth a ++ tail)) (over 0 1)) (parts top bottom p.below)
-    (run_high top (bottom - top) marks a p.positive (omega (arith, p.below)) ra truth tail c)
+    subst (λ (n : ℕ). IsAtLeast (pos (biased_bound_hi top n marks a)) (10 ^ 18) (biased top n (map truth a ++ tail)) (over 0 1)) (parts top bottom p.below_one)
+    (run_high top (bottom - top) marks a p.positive (omega (arith, p.below_one)) ra truth tail c)
 
 pub ends_near : ForPersistence (λ top bottom marks a b. AreNear a b (biased_least_lo top bottom marks a b) (biased_least_hi top bottom marks a b))
-ends_near top bottom marks a b p ra rb = biased_width top bottom marks a b (omega (arith, p.below)) (omega (arith, p.below)) ra rb
+ends_near top bottom marks a b p ra rb = biased_width top bottom marks a b (omega (arith, p.below_one)) (omega (arith, p.below_one)) ra rb
 
 pub lo_modest : ForPersistence (λ top bottom marks a b. IsModest (biased_least_lo top bottom marks a b))
-lo_modest top bottom marks a b p ra rb = least_lo_modest top bottom marks a b (omega (arith, p.below)) (omega (arith, p.below)) ra rb
+lo_modest top bottom marks a b p ra rb = least_lo_modest top bottom marks a b (omega (arith, p.below_one)) (omega (arith, p.below_one)) ra rb
 
 pub hi_modest : ForPersistence (λ top bottom marks a b. IsModest (biased_least_hi top bottom marks a b))
-hi_modest top bottom marks a b p ra rb = least_hi_modest top bottom marks a b (omega (arith, p.below)) (omega (arith, p.below)) ra rb
+hi_modest top bottom marks a b p ra rb = least_hi_modest top bottom marks a b (omega (arith, p.below_one)) (omega (arith, p.below_one)) ra rb
 
 pub bounds_small : ForRun (λ top bottom marks a. (biased_bound_lo top bottom marks a ≤ 10 ^ 18) × (biased_bound_hi top bottom marks a ≤ 10 ^ 18))
-bounds_small top bottom marks a p ra = (bound_lo-most top bottom marks a (omega (arith, p.below)) (omega (arith, p.below)), omega arith)
+bounds_small top bottom marks a p ra = (bound_lo-most top bottom marks a (omega (arith, p.below_one)) (omega (arith, p.below_one)), omega arith)
 
 -- what is left after 10^24 places is less than one part of S
 pub tail_little : (top bottom n : ℕ) → IsPersistence top bottom → n ≡ 10 ^ 24 → 10 ^ 18 * top ^ n < bottom ^ n
 tail_little top bottom n p e =
-    let apart : 0 < bottom - top = omega (arith, p.below) in
-    let few : top + (bottom - top) ≤ 1000000 = omega (arith, p.below, persistence-small top bottom p) in
-    subst (λ (m : ℕ). 10 ^ 18 * top ^ n < m ^ n) (parts top bottom p.below) (little_left top (bottom - top) n e p.positive apart few)
+    let apart : 0 < bottom - top = omega (arith, p.below_one) in
+    let few : top + (bottom - top) ≤ 1000000 = omega (arith, p.below_one, persistence-small top bottom p) in
+    subst (λ (m : ℕ). 10 ^ 18 * top ^ n < m ^ n) (parts top bottom p.below_one) (little_left top (bottom - top) n e p.positive apart few)
 
 -- the weights of a rank enclose S times (b - a) * a^(rank - 1) over b^rank
 pub rank_low : (a b i : ℕ) → a < b → 1 ≤ i → low_weight a b (Some i) * b ^ i ≤ 10 ^ 18 * ((b - a) * a ^ (i - 1))

@@ -6,7 +6,8 @@ use Rattle.std.specs.Int.{abs_diff}
 use Rattle.desk_model.specs.Ranking.{rank}
 use Rattle.measure_laws.specs.Fronts.{only_second}
 use Rattle.measure_laws.specs.Classes.{judged_count}
-use Rattle.measure_laws.specs.Measures.{IsMeasure, unit_of, IsPersistence}
+use Rattle.desk_model.specs.MeasureText.{IsMeasure, IsPersistence}
+use Rattle.measure_laws.specs.Measures.{unit_of}
 use Rattle.measure_laws.specs.Weights.{weight_of, reciprocal_weight, one_side_weight}
 use Rattle.measure_laws.specs.Powers.{ceil_div, low_power, low_weight, high_power, high_weight}
 use Rattle.desk_model.specs.declared.types.Mark.{Mark}
@@ -58,7 +59,7 @@ weight-most (Recall k) marks a b doc h = one_or_none (only_second k a b doc || o
 weight-most RPrecision marks a b doc h = one_or_none (only_second (max 1 (judged_count marks)) a b doc || only_second (max 1 (judged_count marks)) b a doc)
 weight-most Reciprocal marks a b doc h = abs_diff-most _ _ (10 ^ 18) (reciprocal_weight-most (rank a doc)) (reciprocal_weight-most (rank b doc))
 weight-most (Biased top bottom) marks a b doc h =
-    abs_diff-most _ _ (10 ^ 18) (low_weight-most top bottom (rank a doc) (omega (arith, h.below))) (low_weight-most top bottom (rank b doc) (omega (arith, h.below)))
+    abs_diff-most _ _ (10 ^ 18) (low_weight-most top bottom (rank a doc) (omega (arith, h.below_one))) (low_weight-most top bottom (rank b doc) (omega (arith, h.below_one)))
 
 pub weight-even : (m : MeasureName) (marks : List Mark) (a b : List ℕ) (doc : ℕ) → weight_of m marks b a doc ≡ weight_of m marks a b doc
 weight-even (Precision k) marks a b doc = one_side-even k a b doc
@@ -90,4 +91,4 @@ high_weight-most a b (Some r) p h = omega (arith, part_up_most (high_power a b (
 
 -- the bottom of a persistence is at most a million
 pub persistence-small : (top bottom : ℕ) → IsPersistence top bottom → bottom ≤ 1000000
-persistence-small top bottom h = let few : 10 ^ h.decimals ≤ 10 ^ 6 = pow-le-pow_right (lit≤ tt) h.few_decimals in omega (arith, h.bottom_is, few)
+persistence-small top bottom h = let few : 10 ^ h.decimals ≤ 10 ^ 6 = pow-le-pow_right (lit≤ tt) h.few in omega (arith, h.power, few)

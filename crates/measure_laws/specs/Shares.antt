@@ -6,7 +6,7 @@ use Rattle.desk_model.specs.Ranking.{IsRanking, rank}
 use Rattle.desk_model.specs.Score.{gained}
 use Rattle.desk_model.specs.Verdict.{whole_sum}
 use Rattle.desk_model.specs.Extremes.{Ends}
-use Rattle.measure_laws.specs.Measures.{IsPersistence}
+use Rattle.desk_model.specs.MeasureText.{IsPersistence}
 use Rattle.measure_laws.specs.Ranks.{comes_before}
 use Rattle.measure_laws.specs.Powers.{low_power, high_power, low_weight, high_weight}
 use Rattle.desk_model.specs.declared.types.Mark.{Mark}

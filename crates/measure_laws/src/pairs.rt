@@ -1,9 +1,10 @@
-ghost use Rattle.std.specs.Prelude.{◌≡◌, ◌+◌, ◌<◌, length};
-ghost use Rattle.measure_laws.specs.Pairs.{next_pair, after};
+ghost use Rattle.std.specs.Prelude.{◌≡◌, ◌↔◌, [], None, IfSome};
+ghost use Rattle.desk_model.specs.Placed.{IsAscending};
+ghost use Rattle.measure_laws.specs.Pairs.{next_pair, after, Stepped};
 
 use desk_model::Placed;
 
-/// A document with its rank in each of two runs.
+/// A document's number with its rank in each of two runs, from 1, where it is there.
 #[derive(Clone, Copy, PartialEq, Eq, Debug)]
 pub struct Pair {
     pub doc: u32,
@@ -11,9 +12,14 @@ pub struct Pair {
     pub second: Option<u32>,
 }
 
-/// The first document of two lists that ascend by document, with its rank in each.
+/// The first document of two lists that ascend by document, with its rank in each, and `None`
+/// exactly where both are empty.
 pub fn next_pair(first: &[Placed], second: &[Placed]) -> Option<Pair>
-    ensures { result ≡ next_pair first.now second.now }
+    requires first { IsAscending first.now }
+    requires second { IsAscending second.now }
+    ensures value { result ≡ next_pair first.now second.now }
+    ensures pair { IfSome result (λ pair. Stepped first.now second.now pair) }
+    ensures end { (result ≡ None) ↔ ((first.now ≡ []) × (second.now ≡ [])) }
 {
     match (first, second) {
         ([], []) => None,

@@ -18,7 +18,8 @@ use Rattle.desk_model.specs.declared.types.Totals.{Totals}
 use Rattle.desk_model.specs.declared.types.Verdict.TheVariants.{Close}
 use Rattle.desk_model.proofs.Topics.{always_above, always_below, always_equal, difference_low, difference_high, mean_low, mean_high}
 use Rattle.desk_model.proofs.Exact.{exact_verdict}
-use Rattle.measure_laws.specs.Measures.{IsMeasure, IsExactMeasure, unit_of}
+use Rattle.desk_model.specs.MeasureText.{IsMeasure}
+use Rattle.measure_laws.specs.Measures.{IsExactMeasure, unit_of}
 use Rattle.measure_laws.proofs.Persistence.{least_encloses, most_encloses, run_low_encloses, run_high_encloses}
 use Rattle.measure_laws.proofs.Weights.{unit-size}
 use Rattle.fractions.specs.declared.span.Span.{Span}

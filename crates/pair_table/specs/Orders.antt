@@ -13,7 +13,8 @@ use Rattle.desk_model.specs.declared.types.MeasureName.{MeasureName}
 use Rattle.desk_model.specs.declared.types.Totals.{Totals}
 use Rattle.desk_model.specs.declared.types.Verdict.TheVariants.{Above, Below, Equal, Close}
 use Rattle.fractions.specs.declared.span.Span.{Span}
-use Rattle.measure_laws.specs.Measures.{IsMeasure, unit_of}
+use Rattle.desk_model.specs.MeasureText.{IsMeasure}
+use Rattle.measure_laws.specs.Measures.{unit_of}
 use Rattle.measure_core.specs.Made.{width_of}
 use Rattle.pair_table.specs.Sums.{run_numbers}
 use Rattle.pair_table.specs.Numbers.{AreNumbersIn}

@@ -1,7 +1,7 @@
 //! The sums over all topics of a measure's cells and bounds.
 ghost use Rattle.std.specs.Prelude.{◌≡◌, ◌+◌, ◌<◌, length, slice_get, Some};
 ghost use Rattle.desk_model.specs.Desk.{AreMarksOf, topics_under};
-ghost use Rattle.measure_laws.specs.Measures.{IsMeasure};
+ghost use Rattle.desk_model.specs.MeasureText.{IsMeasure};
 ghost use Rattle.fractions.specs.Ends.{IsShort};
 ghost use Rattle.measure_core.specs.Laws.{SpanIsModest, CellIsModest};
 ghost use Rattle.measure_core.specs.Made.{ends_of};

@@ -3,7 +3,7 @@ ghost use Rattle.desk_model.specs.Desk.{AreMarksOf, topics_under, pair_count};
 ghost use Rattle.desk_model.specs.Pairs.{pairs_of};
 ghost use Rattle.desk_model.specs.Verdict.{verdict};
 ghost use Rattle.desk_model.specs.declared.types.Totals.{Totals as Sums};
-ghost use Rattle.measure_laws.specs.Measures.{IsMeasure};
+ghost use Rattle.desk_model.specs.MeasureText.{IsMeasure};
 ghost use Rattle.fractions.specs.Ends.{IsShort};
 ghost use Rattle.pair_table.specs.Sums.{run_numbers, all_pair_sums, all_run_sums, turned};
 ghost use Rattle.pair_table.specs.Kept.{AreSumsOf, AreNear};
