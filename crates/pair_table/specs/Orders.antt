@@ -1,6 +1,6 @@
 -- What the numbers of a table say of the means of its runs.
-use Rattle.std.specs.Prelude.{◌≡◌, ℕ, ◌*◌, List, length, map, sum, pos, neg_ℤ, ◌≤ℤ◌, ◌⊎◌}
-use Rattle.std.specs.List.{AllZip}
+use Rattle.std.specs.Prelude.{◌≡◌, ℕ, ◌*◌, List, length, pos, neg_ℤ, ◌≤ℤ◌, ◌⊎◌}
+use Rattle.std.specs.List.{AllZip, sum_by}
 use Rattle.desk_model.specs.Completion.{Completion}
 use Rattle.desk_model.specs.Desk.{Desk, IsDesk, AreMarksOf, topics_under}
 use Rattle.desk_model.specs.Extremes.{IsAtMostScore, IsAtLeastScore}
@@ -13,7 +13,8 @@ use Rattle.desk_model.specs.declared.types.MeasureName.{MeasureName}
 use Rattle.desk_model.specs.declared.types.Totals.{Totals}
 use Rattle.desk_model.specs.declared.types.Verdict.TheVariants.{Above, Below, Equal, Close}
 use Rattle.fractions.specs.declared.span.Span.{Span}
-use Rattle.measure_laws.specs.Measures.{IsMeasure, unit_of}
+use Rattle.desk_model.specs.MeasureText.{IsMeasure}
+use Rattle.measure_laws.specs.Measures.{unit_of}
 use Rattle.measure_core.specs.Made.{width_of}
 use Rattle.pair_table.specs.Sums.{run_numbers}
 use Rattle.pair_table.specs.Numbers.{AreNumbersIn}
@@ -35,7 +36,7 @@ pub record HoldsOfRun (measure : MeasureName) (topics : List Topic) (run : ℕ) 
 
 -- how far apart the two ends of a least or greatest difference may be, summed over all topics
 abbrev pub total_width : MeasureName → List Topic → ℕ → ℕ → ℕ
-total_width measure topics a b = sum (map (λ (topic : Topic). width_of measure (topic.ranking a) (topic.ranking b)) topics)
+total_width measure topics a b = sum_by (λ (topic : Topic). width_of measure (topic.ranking a) (topic.ranking b)) topics
 
 -- the least sum is not above zero and that near to it, or the greatest is not below zero and that near to it
 abbrev pub IsNearZero : ℕ → Totals → Type 0

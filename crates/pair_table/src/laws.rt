@@ -10,7 +10,8 @@ ghost use Rattle.desk_model.specs.declared.types.MeasureName.TheVariants.{Precis
 ghost use Rattle.desk_model.specs.declared.types.Totals.{Totals};
 ghost use Rattle.desk_model.specs.declared.types.Verdict.TheVariants.{Close};
 ghost use Rattle.fractions.specs.declared.span.Span.{Span};
-ghost use Rattle.measure_laws.specs.Measures.{IsMeasure, IsExactMeasure};
+ghost use Rattle.desk_model.specs.MeasureText.{IsMeasure};
+ghost use Rattle.measure_laws.specs.Measures.{IsExactMeasure};
 ghost use Rattle.measure_core.specs.Laws.{MeetsLaws};
 ghost use Rattle.measure_core.specs.Made.{AreNumbersOf};
 ghost use Rattle.measure_core.specs.declared.cell.Cell.{Cell};

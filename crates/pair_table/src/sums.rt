@@ -1,15 +1,58 @@
 //! The sums over all topics of a measure's cells and bounds.
-ghost use Rattle.std.specs.Prelude.{◌≡◌, ◌+◌, ◌<◌, length};
+ghost use Rattle.std.specs.Prelude.{◌≡◌, ◌+◌, ◌<◌, length, slice_get, Some};
 ghost use Rattle.desk_model.specs.Desk.{AreMarksOf, topics_under};
-ghost use Rattle.measure_laws.specs.Measures.{IsMeasure};
-ghost use Rattle.pair_table.specs.Sums.{pair_sums, run_sums};
+ghost use Rattle.desk_model.specs.MeasureText.{IsMeasure};
+ghost use Rattle.fractions.specs.Ends.{IsShort};
+ghost use Rattle.measure_core.specs.Laws.{SpanIsModest, CellIsModest};
+ghost use Rattle.measure_core.specs.Made.{ends_of};
+ghost use Rattle.pair_table.specs.Sums.{cell_ends, pair_sums, run_spans, run_sums};
+ghost use Rattle.pair_table.specs.Kept.{AreNear};
 
 use desk_model::{Desk, Marks, Totals};
 use fractions::Span;
-use measure_core::{Measure, Steps};
+use measure_core::{Cell, Measure, Steps};
 use std::sync::ledger::Ledger;
 
 const NOTHING: Span = Span { lo: 0, hi: 0 };
+
+/// The cell of two runs on a topic, by their numbers. It is one step.
+fn cell_at<M: Measure, L: Ledger>(
+    measure: &M,
+    desk: &Desk,
+    marks: &Marks,
+    first: u32,
+    second: u32,
+    topic: u32,
+    steps: &mut Steps<L>,
+) -> Cell
+    requires measure { IsMeasure (M.measured measure.now) }
+    requires marks { AreMarksOf desk.now marks.now }
+    requires first { first < length desk.now.runs }
+    requires second { second < length desk.now.runs }
+    requires topic { topic < length desk.now.topics }
+    ensures cell { slice_get (cell_ends (M.cell_of measure.now) (topics_under desk.now marks.now) first second) topic ≡ Some (ends_of result) }
+    ensures modest { CellIsModest result }
+    ensures step { steps.new ≡ steps.old + 1 }
+{
+    // The laws speak of the topics of a desk.
+    let _topics = desk.topic_count();
+    let a = desk.ranking(first, topic);
+    let b = desk.ranking(second, topic);
+    measure.cell(a, b, marks.topic(topic), steps)
+}
+
+/// The bounds of a run on a topic, by their numbers.
+fn bounds_at<M: Measure>(measure: &M, desk: &Desk, marks: &Marks, run: u32, topic: u32) -> Span
+    requires measure { IsMeasure (M.measured measure.now) }
+    requires marks { AreMarksOf desk.now marks.now }
+    requires run { run < length desk.now.runs }
+    requires topic { topic < length desk.now.topics }
+    ensures bounds { slice_get (run_spans (M.bounds_of measure.now) (topics_under desk.now marks.now) run) topic ≡ Some result }
+    ensures modest { SpanIsModest result }
+{
+    let _topics = desk.topic_count();
+    measure.bounds(desk.ranking(run, topic), marks.topic(topic))
+}
 
 /// The sums of two runs, by their numbers. It is one step for each topic.
 pub fn sum_cells<M: Measure, L: Ledger>(
@@ -25,14 +68,13 @@ pub fn sum_cells<M: Measure, L: Ledger>(
     requires first { first < length desk.now.runs }
     requires second { second < length desk.now.runs }
     ensures sums { result ≡ pair_sums (M.cell_of measure.now) (topics_under desk.now marks.now) first second }
+    ensures near { AreNear result }
     ensures steps { steps.new ≡ steps.old + length desk.now.topics }
 {
     let mut least = NOTHING;
     let mut most = NOTHING;
     for topic in 0..desk.topic_count() {
-        let a = desk.ranking(first, topic);
-        let b = desk.ranking(second, topic);
-        let cell = measure.cell(a, b, marks.topic(topic), steps);
+        let cell = cell_at(measure, desk, marks, first, second, topic, steps);
         least = least.add(cell.least);
         most = most.add(cell.most);
     }
@@ -49,12 +91,12 @@ pub fn sum_bounds<M: Measure>(measure: &M, desk: &Desk, marks: &Marks, run: u32)
     requires measure { IsMeasure (M.measured measure.now) }
     requires marks { AreMarksOf desk.now marks.now }
     requires run { run < length desk.now.runs }
-    ensures { result ≡ run_sums (M.bounds_of measure.now) (topics_under desk.now marks.now) run }
+    ensures sums { result ≡ run_sums (M.bounds_of measure.now) (topics_under desk.now marks.now) run }
+    ensures near { IsShort result }
 {
     let mut sums = NOTHING;
     for topic in 0..desk.topic_count() {
-        let bounds = measure.bounds(desk.ranking(run, topic), marks.topic(topic));
-        sums = sums.add(bounds);
+        sums = sums.add(bounds_at(measure, desk, marks, run, topic));
     }
     sums
 }

@@ -3,7 +3,7 @@ ghost use Rattle.desk_model.specs.Desk.{AreMarksOf, topics_under, pair_count};
 ghost use Rattle.desk_model.specs.Pairs.{pairs_of};
 ghost use Rattle.desk_model.specs.Verdict.{verdict};
 ghost use Rattle.desk_model.specs.declared.types.Totals.{Totals as Sums};
-ghost use Rattle.measure_laws.specs.Measures.{IsMeasure};
+ghost use Rattle.desk_model.specs.MeasureText.{IsMeasure};
 ghost use Rattle.fractions.specs.Ends.{IsShort};
 ghost use Rattle.pair_table.specs.Sums.{run_numbers, all_pair_sums, all_run_sums, turned};
 ghost use Rattle.pair_table.specs.Kept.{AreSumsOf, AreNear};
@@ -96,6 +96,7 @@ fn fill_totals<M: Measure, L: Ledger>(
     requires marks { AreMarksOf desk.now marks.now }
     requires count { length totals.old ≡ length (pairs_of (run_numbers (length desk.now.runs))) }
     ensures totals { totals.new ≡ all_pair_sums (M.cell_of measure.now) (topics_under desk.now marks.now) (length desk.now.runs) }
+    ensures near { All AreNear totals.new }
     ensures steps { steps.new ≡ steps.old + length totals.old * length desk.now.topics }
 {
     let runs = desk.run_count();
@@ -110,7 +111,8 @@ fn fill_bounds<M: Measure>(bounds: &mut [Span], measure: &M, desk: &Desk, marks:
     requires measure { IsMeasure (M.measured measure.now) }
     requires marks { AreMarksOf desk.now marks.now }
     requires count { length bounds.old ≡ length desk.now.runs }
-    ensures { bounds.new ≡ all_run_sums (M.bounds_of measure.now) (topics_under desk.now marks.now) (length desk.now.runs) }
+    ensures bounds { bounds.new ≡ all_run_sums (M.bounds_of measure.now) (topics_under desk.now marks.now) (length desk.now.runs) }
+    ensures near { All IsShort bounds.new }
 {
     for run in 0..desk.run_count() {
         bounds[run as usize] = sum_bounds(measure, desk, marks, run);

@@ -1,0 +1,208 @@
+-- What the numbers of a name say of means.
+use Rattle.std.proofs.Common.{◌≡◌, ◌≢◌, ℕ, zero, suc, ◌+◌, ◌*◌, ◌^◌, ◌<◌, ◌≤◌, List, [], ◌∷◌, map, length, ℤ, pos, neg_ℤ, ◌+ℤ◌, ◌≤ℤ◌, ◌<ℤ◌, refl, ap, sym, ◌∙◌, subst, arith}
+use Rattle.std.specs.List.{AllZip, AllByRecursion, sum_by}
+use Rattle.std.proofs.lemmas.List.Sums.{sum_by-cons}
+use Rattle.std.proofs.lemmas.Int.{ints}
+use Rattle.std.proofs.lemmas.List.Elements.{All-from_recursion}
+use Rattle.desk_model.specs.Desk.{Desk, IsDesk, AreMarksOf, topics_under}
+use Rattle.desk_model.specs.Fraction.{IsAtMost, IsAtLeast}
+use Rattle.desk_model.specs.Extremes.{InEvery, InEveryScore, IsAtMostScore, IsAtLeastScore, Ends}
+use Rattle.desk_model.specs.Enclosure.{AreLowEnds, AreHighEnds, AreExactEnds}
+use Rattle.desk_model.specs.Order.{Topic}
+use Rattle.desk_model.specs.Pairs.{pairs_of}
+use Rattle.desk_model.specs.Verdict.{verdict, whole_sum, totals_of, IsExactVerdict}
+use Rattle.desk_model.specs.declared.types.Mark.{Mark}
+use Rattle.desk_model.specs.declared.types.MeasureName.{MeasureName}
+use Rattle.desk_model.specs.declared.types.MeasureName.TheVariants.{Precision, Recall, RPrecision, Reciprocal, Biased}
+use Rattle.desk_model.specs.declared.types.Totals.{Totals}
+use Rattle.desk_model.specs.declared.types.Verdict.TheVariants.{Close}
+use Rattle.desk_model.proofs.Topics.{always_above, always_below, always_equal, difference_low, difference_high, mean_low, mean_high}
+use Rattle.desk_model.proofs.Exact.{exact_verdict}
+use Rattle.desk_model.specs.MeasureText.{IsMeasure}
+use Rattle.measure_laws.specs.Measures.{IsExactMeasure, unit_of}
+use Rattle.measure_laws.proofs.Persistence.{least_encloses, most_encloses, run_low_encloses, run_high_encloses}
+use Rattle.measure_laws.proofs.Weights.{unit-size}
+use Rattle.fractions.specs.declared.span.Span.{Span}
+use Rattle.measure_core.specs.Laws.{AreMet, IsMet}
+use Rattle.measure_core.specs.Made.{HasEnds, HasBounds, AreNarrow, width_of}
+use Rattle.measure_core.proofs.Narrow.{ends_narrow, precision_whole}
+use Rattle.pair_table.specs.Sums.{run_numbers, span_sum}
+use Rattle.pair_table.specs.Numbers.{AreEndsOf, ArePairNumbers, AreRunNumbers, AreNumbersIn}
+use Rattle.pair_table.specs.Orders.{HoldsOfPair, HoldsOfRun, total_width, IsNearZero, ForEachPair, ForEachRun}
+use Rattle.pair_table.proofs.DeskTopics.{topics_met, topics_met_one}
+use Rattle.pair_table.proofs.Zips.{zip_then, zip_by, zip_mapped, all_first, all_in_range, IsPairBelow, pairs_below}
+use Rattle.pair_table.proofs.Verdicts.{above_says, below_says, equal_says, close_says}
+
+-- the outer ends of a name enclose
+record Enclose (name : MeasureName) (marks : List Mark) (a b : List ℕ) (e : Ends) : Type 0 where
+  low : InEvery name marks a b (IsAtMost e.least_lo (unit_of name))
+  high : InEvery name marks a b (IsAtLeast e.most_hi (unit_of name))
+
+ends_enclose : (name : MeasureName) (marks : List Mark) (a b : List ℕ) (e : Ends) → IsMeasure name → AreMet marks a b → HasEnds name marks a b e → Enclose name marks a b e
+ends_enclose (Precision k) marks a b e valid met h = record { low = h.least_lo.so; high = h.most_hi.so }
+ends_enclose (Recall k) marks a b e valid met h = record { low = h.least_lo.so; high = h.most_hi.so }
+ends_enclose RPrecision marks a b e valid met h = record { low = h.least_lo.so; high = h.most_hi.so }
+ends_enclose Reciprocal marks a b e valid met h = record { low = h.least_lo.so; high = h.most_hi.so }
+ends_enclose (Biased top bottom) marks a b e valid met h =
+    subst (Enclose (Biased top bottom) marks a b) (sym h) (record {
+      low = least_encloses top bottom marks a b valid met.first met.second;
+      high = most_encloses top bottom marks a b valid met.first met.second;
+    })
+
+record EncloseOne (name : MeasureName) (marks : List Mark) (a : List ℕ) (s : Span) : Type 0 where
+  low : InEveryScore name marks a (IsAtMostScore s.lo (unit_of name))
+  high : InEveryScore name marks a (IsAtLeastScore s.hi (unit_of name))
+
+bounds_enclose : (name : MeasureName) (marks : List Mark) (a : List ℕ) (s : Span) → IsMeasure name → IsMet marks a → HasBounds name marks a s → EncloseOne name marks a s
+bounds_enclose (Precision k) marks a s valid met h = record { low = h.low.so; high = h.high.so }
+bounds_enclose (Recall k) marks a s valid met h = record { low = h.low.so; high = h.high.so }
+bounds_enclose RPrecision marks a s valid met h = record { low = h.low.so; high = h.high.so }
+bounds_enclose Reciprocal marks a s valid met h = record { low = h.low.so; high = h.high.so }
+bounds_enclose (Biased top bottom) marks a s valid met h =
+    subst (EncloseOne (Biased top bottom) marks a) (sym h) (record {
+      low = run_low_encloses top bottom marks a valid met.ranking;
+      high = run_high_encloses top bottom marks a valid met.ranking;
+    })
+
+abbrev pub MetBy : ℕ → ℕ → Topic → Type 0
+MetBy a b topic = AreMet topic.marks (topic.ranking a) (topic.ranking b)
+
+-- ---- one pair
+module _ (name : MeasureName) (valid : IsMeasure name) (topics : List Topic) (a b : ℕ) (met : AllByRecursion (MetBy a b) topics) (ends : List Ends) (named : AreEndsOf name topics a b ends) where
+  lows : AreLowEnds name (unit_of name) topics a b (map (λ (e : Ends). e.least_lo) ends)
+  lows = zip_mapped (λ (e : Ends). e.least_lo) _ ends topics
+      (zip_then (λ (e : Ends) (topic : Topic). HasEnds name topic.marks (topic.ranking a) (topic.ranking b) e)
+      (λ (e : Ends) (topic : Topic). InEvery name topic.marks (topic.ranking a) (topic.ranking b) (IsAtMost e.least_lo (unit_of name))) (MetBy a b)
+      (λ e topic m h. (ends_enclose name topic.marks (topic.ranking a) (topic.ranking b) e valid m h).low) ends topics met named)
+
+  highs : AreHighEnds name (unit_of name) topics a b (map (λ (e : Ends). e.most_hi) ends)
+  highs = zip_mapped (λ (e : Ends). e.most_hi) _ ends topics
+      (zip_then (λ (e : Ends) (topic : Topic). HasEnds name topic.marks (topic.ranking a) (topic.ranking b) e)
+      (λ (e : Ends) (topic : Topic). InEvery name topic.marks (topic.ranking a) (topic.ranking b) (IsAtLeast e.most_hi (unit_of name))) (MetBy a b)
+      (λ e topic m h. (ends_enclose name topic.marks (topic.ranking a) (topic.ranking b) e valid m h).high) ends topics met named)
+
+  ends_hold : HoldsOfPair name topics a b (totals_of ends)
+  ends_hold =
+      let t : Totals = totals_of ends in
+      let unit = unit-size name valid in
+      record {
+        above = λ v. always_above name (unit_of name) a b topics _ lows (above_says t v);
+        below = λ v. always_below name (unit_of name) a b topics _ highs (below_says t v);
+        equal = λ v. let zeros = equal_says t v in
+            always_equal name (unit_of name) a b topics _ _ (omega (arith, unit)) lows highs (subst (λ z. pos 0 ≤ℤ z) (sym zeros.0) (omega (arith, ints))) (subst (λ z. z ≤ℤ pos 0) (sym zeros.1) (omega (arith, ints)));
+        least = difference_low name (unit_of name) a b topics _ lows;
+        most = difference_high name (unit_of name) a b topics _ highs;
+      }
+
+  narrow : AllZip (λ (e : Ends) (topic : Topic). AreNarrow name (topic.ranking a) (topic.ranking b) e) ends topics
+  narrow = zip_then (λ (e : Ends) (topic : Topic). HasEnds name topic.marks (topic.ranking a) (topic.ranking b) e)
+      (λ (e : Ends) (topic : Topic). AreNarrow name (topic.ranking a) (topic.ranking b) e) (MetBy a b)
+      (λ e topic m h. ends_narrow name topic.marks (topic.ranking a) (topic.ranking b) e valid m h) ends topics met named
+
+width_adds : (n m : ℕ) (lo hi los his : ℤ) → hi ≤ℤ (lo +ℤ pos n) → his ≤ℤ (los +ℤ pos m) → (hi +ℤ his) ≤ℤ ((lo +ℤ los) +ℤ pos (n + m))
+width_adds n m lo hi los his h k = omega (arith, ints)
+
+sums_narrow : (name : MeasureName) (a b : ℕ) (low high : Ends → ℤ) (ends : List Ends) (topics : List Topic) →
+    AllZip (λ (e : Ends) (topic : Topic). high e ≤ℤ (low e +ℤ pos (width_of name (topic.ranking a) (topic.ranking b)))) ends topics →
+    whole_sum (map high ends) ≤ℤ (whole_sum (map low ends) +ℤ pos (total_width name topics a b))
+sums_narrow name a b low high [] [] h = omega (arith, ints)
+sums_narrow name a b low high [] (t ∷ ts) h = absurd h
+sums_narrow name a b low high (e ∷ es) [] h = absurd h
+sums_narrow name a b low high (e ∷ es) (t ∷ ts) h =
+    let width = λ (topic : Topic). width_of name (topic.ranking a) (topic.ranking b) in
+    subst (λ (n : ℕ). (high e +ℤ whole_sum (map high es)) ≤ℤ ((low e +ℤ whole_sum (map low es)) +ℤ pos n)) (sym (sum_by-cons width t ts))
+    (width_adds (width t) (total_width name ts a b) (low e) (high e) (whole_sum (map low es)) (whole_sum (map high es)) h.0 (sums_narrow name a b low high es ts h.1))
+
+always : {A : Type 0} (xs : List A) → AllByRecursion (λ (x : A). Unit {0}) xs
+always [] = tt
+always (x ∷ xs) = (tt, always xs)
+
+ends_close : (name : MeasureName) → IsMeasure name → (topics : List Topic) (a b : ℕ) → AllByRecursion (MetBy a b) topics → (ends : List Ends) → AreEndsOf name topics a b ends →
+    verdict (totals_of ends) ≡ Close → IsNearZero (total_width name topics a b) (totals_of ends)
+ends_close name valid topics a b met ends named =
+    let close = narrow name valid topics a b met ends named in
+    let N = λ (e : Ends) (topic : Topic). AreNarrow name (topic.ranking a) (topic.ranking b) e in
+    close_says (totals_of ends) (total_width name topics a b)
+    (sums_narrow name a b (λ (e : Ends). e.least_lo) (λ (e : Ends). e.least_hi) ends topics
+    (zip_then N (λ (e : Ends) (topic : Topic). e.least_hi ≤ℤ (e.least_lo +ℤ pos (width_of name (topic.ranking a) (topic.ranking b)))) (λ (t : Topic). Unit {0}) (λ e topic _ h. h.least) ends topics (always topics) close))
+    (sums_narrow name a b (λ (e : Ends). e.most_lo) (λ (e : Ends). e.most_hi) ends topics
+    (zip_then N (λ (e : Ends) (topic : Topic). e.most_hi ≤ℤ (e.most_lo +ℤ pos (width_of name (topic.ranking a) (topic.ranking b)))) (λ (t : Topic). Unit {0}) (λ e topic _ h. h.most) ends topics (always topics) close))
+
+-- the widths of the measures with exact ends are one unit
+width_one : (name : MeasureName) → IsExactMeasure name → (a b : List ℕ) → width_of name a b ≡ 1
+width_one (Precision k) exact a b = refl
+width_one (Recall k) exact a b = refl
+width_one RPrecision exact a b = refl
+width_one Reciprocal exact a b = refl
+width_one (Biased top bottom) exact a b = absurd exact
+
+one_each : (name : MeasureName) → IsExactMeasure name → (topics : List Topic) (a b : ℕ) → total_width name topics a b ≡ length topics
+one_each name exact [] a b = refl
+one_each name exact (t ∷ ts) a b =
+    let first : width_of name (t.ranking a) (t.ranking b) ≡ 1 = width_one name exact (t.ranking a) (t.ranking b) in
+    let rest : total_width name ts a b ≡ length ts = one_each name exact ts a b in
+    let split = sum_by-cons (λ (topic : Topic). width_of name (topic.ranking a) (topic.ranking b)) t ts in
+    omega (arith, first, rest, split)
+
+-- ends under precision
+ends_exact : (k : ℕ) → IsMeasure (Precision k) → (topics : List Topic) (a b : ℕ) → a ≢ b → AllByRecursion (MetBy a b) topics → (ends : List Ends) → AreEndsOf (Precision k) topics a b ends →
+    IsExactVerdict (Precision k) topics a b (verdict (totals_of ends))
+ends_exact k valid topics a b apart met ends named =
+    let R = λ (e : Ends) (topic : Topic). HasEnds (Precision k) topic.marks (topic.ranking a) (topic.ranking b) e in
+    exact_verdict (Precision k) k a b topics ends (omega (arith, valid)) apart (record {
+      extremes = named;
+      least = All-from_recursion (λ (e : Ends). e.least_lo ≡ e.least_hi) ends (all_first R (MetBy a b) (λ (e : Ends). e.least_lo ≡ e.least_hi) (λ e topic m h. (precision_whole k topic.marks (topic.ranking a) (topic.ranking b) e valid m h).0) ends topics met named);
+      most = All-from_recursion (λ (e : Ends). e.most_lo ≡ e.most_hi) ends (all_first R (MetBy a b) (λ (e : Ends). e.most_lo ≡ e.most_hi) (λ e topic m h. (precision_whole k topic.marks (topic.ranking a) (topic.ranking b) e valid m h).1) ends topics met named);
+    })
+
+-- ---- one run
+bounds_hold : (name : MeasureName) → IsMeasure name → (topics : List Topic) (run : ℕ) → AllByRecursion (λ (topic : Topic). IsMet topic.marks (topic.ranking run)) topics → (s : Span) → AreRunNumbers name topics run s → HoldsOfRun name topics run s
+bounds_hold name valid topics run met s h =
+    let M = λ (topic : Topic). IsMet topic.marks (topic.ranking run) in
+    let R = λ (x : Span) (topic : Topic). HasBounds name topic.marks (topic.ranking run) x in
+    subst (HoldsOfRun name topics run) (sym h.summed) (record {
+      low = mean_low name (unit_of name) run topics _ (zip_mapped (λ (x : Span). x.lo) _ h.spans topics
+          (zip_then R (λ (x : Span) (topic : Topic). InEveryScore name topic.marks (topic.ranking run) (IsAtMostScore x.lo (unit_of name))) M
+          (λ x topic m k. (bounds_enclose name topic.marks (topic.ranking run) x valid m k).low) h.spans topics met h.named));
+      high = mean_high name (unit_of name) run topics _ (zip_mapped (λ (x : Span). x.hi) _ h.spans topics
+          (zip_then R (λ (x : Span) (topic : Topic). InEveryScore name topic.marks (topic.ranking run) (IsAtLeastScore x.hi (unit_of name))) M
+          (λ x topic m k. (bounds_enclose name topic.marks (topic.ranking run) x valid m k).high) h.spans topics met h.named));
+    })
+
+-- ---- all pairs and all runs
+for_each_pair : (fact : MeasureName → List Topic → ℕ → ℕ → Totals → Type 0) →
+    ((name : MeasureName) (topics : List Topic) (a b : ℕ) (ends : List Ends) → IsMeasure name → a ≢ b → AllByRecursion (MetBy a b) topics → AreEndsOf name topics a b ends → fact name topics a b (totals_of ends)) →
+    ForEachPair fact
+for_each_pair fact f name desk marks bounds totals valid is_desk known h =
+    let topics = topics_under desk marks in
+    let n = length desk.runs in
+    zip_by (λ (pair : ℕ × ℕ) (t : Totals). ArePairNumbers name topics pair.0 pair.1 t) (λ (pair : ℕ × ℕ) (t : Totals). fact name topics pair.0 pair.1 t) (IsPairBelow n)
+    (λ pair t p k. subst (fact name topics pair.0 pair.1) (sym k.summed)
+        (f name topics pair.0 pair.1 k.ends valid (λ e. omega (arith, p.order, e)) (topics_met desk marks is_desk known pair.0 pair.1 (omega (arith, p.order, p.below)) p.below) k.named))
+    (pairs_of (run_numbers n)) totals (pairs_below n) h.pairs
+
+pub pairs_hold : ForEachPair HoldsOfPair
+pairs_hold = for_each_pair HoldsOfPair (λ name topics a b ends valid apart met named. ends_hold name valid topics a b met ends named)
+
+pub runs_hold : ForEachRun HoldsOfRun
+runs_hold name desk marks bounds totals valid is_desk known h =
+    let topics = topics_under desk marks in
+    let n = length desk.runs in
+    zip_by (λ (run : ℕ) (s : Span). AreRunNumbers name topics run s) (λ (run : ℕ) (s : Span). HoldsOfRun name topics run s) (λ run. run < n)
+    (λ run s lt k. bounds_hold name valid topics run (topics_met_one desk marks is_desk known run lt) s k)
+    (run_numbers n) bounds (all_in_range (λ run. run < n) 0 n (λ t _ lt. omega (arith, lt))) h.runs
+
+pub pairs_exact : ForEachPair (λ name topics a b sums. (k : ℕ) → name ≡ Precision k → IsExactVerdict name topics a b (verdict sums))
+pairs_exact = for_each_pair (λ name topics a b sums. (k : ℕ) → name ≡ Precision k → IsExactVerdict name topics a b (verdict sums))
+    (λ name topics a b ends valid apart met named k e.
+        subst (λ (m : MeasureName). IsMeasure m → AreEndsOf m topics a b ends → IsExactVerdict m topics a b (verdict (totals_of ends))) (sym e)
+        (λ v h. ends_exact k v topics a b apart met ends h) valid named)
+
+pub pairs_close : ForEachPair (λ name topics a b sums. verdict sums ≡ Close → IsNearZero (total_width name topics a b) sums)
+pairs_close = for_each_pair (λ name topics a b sums. verdict sums ≡ Close → IsNearZero (total_width name topics a b) sums)
+    (λ name topics a b ends valid apart met named. ends_close name valid topics a b met ends named)
+
+pub pairs_close_exact : ForEachPair (λ name topics a b sums. IsExactMeasure name → verdict sums ≡ Close → IsNearZero (length topics) sums)
+pairs_close_exact = for_each_pair (λ name topics a b sums. IsExactMeasure name → verdict sums ≡ Close → IsNearZero (length topics) sums)
+    (λ name topics a b ends valid apart met named exact v.
+        subst (λ (n : ℕ). IsNearZero n (totals_of ends)) (one_each name exact topics a b) (ends_close name valid topics a b met ends named v))

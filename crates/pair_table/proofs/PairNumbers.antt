@@ -1,0 +1,158 @@
+-- The pairs of the numbers of runs: how many there are, which number each has, and going over them.
+use Rattle.std.proofs.Common.{◌≡◌, ℕ, zero, suc, ◌+◌, ◌-◌, ◌*◌, ◌/◌, ◌<◌, ◌≤◌, Bool, true, false, List, [], ◌∷◌, ◌++◌, length, drop, map, Option, Some, None, refl, ap, sym, ◌∙◌, length-drop, arith}
+use Rattle.std.specs.Prelude.{slice_get, nat_lt}
+use Rattle.std.specs.List.{range_with_len}
+use Rattle.std.specs.Option.{option_map}
+use Rattle.std.proofs.lemmas.Bool.Decides.{nat_tests}
+use Rattle.std.proofs.lemmas.Option.{slice_get-map}
+use Rattle.std.proofs.lemmas.List.FromFn.{length-range_with_len}
+use Rattle.desk_model.specs.Desk.{pair_count}
+use Rattle.desk_model.specs.Pairs.{pairs_of, pairs_from, places_after}
+use Rattle.desk_model.specs.declared.pairs.PairPlaces.{PairPlaces}
+use Rattle.desk_model.proofs.PairPlace.{ArePlaces, pairs_from-start, pairs_from-next, pairs_from-end, places_after-placed}
+use Rattle.pair_table.specs.Sums.{run_numbers}
+use Rattle.pair_table.proofs.DeskTopics.{length-mapped}
+
+-- the number at a place of a range
+pub numbered : (start n i : ℕ) → i < n → slice_get (range_with_len start n) i ≡ Some (start + i)
+numbered start zero i h = absurd (omega arith)
+numbered start (suc n) zero h = let e : start ≡ start + zero = omega arith in ap (λ (m : ℕ). Some m) e
+numbered start (suc n) (suc i) h = let e : start + 1 + i ≡ start + suc i = omega arith in numbered (start + 1) n i (omega arith) ∙ ap (λ (m : ℕ). Some m) e
+
+pub number_at : (n i : ℕ) → i < n → slice_get (run_numbers n) i ≡ Some i
+number_at n i h = let e : 0 + i ≡ i = omega arith in numbered 0 n i h ∙ ap (λ (m : ℕ). Some m) e
+
+pub length-run_numbers : (n : ℕ) → length (run_numbers n) ≡ n
+length-run_numbers n = length-range_with_len 0 n
+
+-- ---- how many pairs there are
+length-joined : {X : Type 0} (xs ys : List X) → length (xs ++ ys) ≡ length xs + length ys
+length-joined [] ys = omega arith
+length-joined (x ∷ xs) ys = let rest = length-joined xs ys in omega (arith, rest)
+
+length-first : (start n : ℕ) → length {A = ℕ × ℕ} (map (λ (y : ℕ). (start, y)) (range_with_len (start + 1) n)) ≡ n
+length-first start n = length-mapped (λ (y : ℕ). (start, y)) (range_with_len (start + 1) n) ∙ length-range_with_len (start + 1) n
+
+length-more : (start n : ℕ) → length (pairs_of (range_with_len start (suc n))) ≡ n + length (pairs_of (range_with_len (start + 1) n))
+length-more start n =
+    length-joined (map (λ (y : ℕ). (start, y)) (range_with_len (start + 1) n)) (pairs_of (range_with_len (start + 1) n))
+    ∙ ap (λ (m : ℕ). m + length (pairs_of (range_with_len (start + 1) n))) (length-first start n)
+
+twice : (start n : ℕ) → length (pairs_of (range_with_len start (suc n))) * 2 ≡ suc n * n
+twice start zero = refl
+twice start (suc n) =
+    let rest : length (pairs_of (range_with_len (start + 1) (suc n))) * 2 ≡ suc n * n = twice (start + 1) n in
+    let more : length (pairs_of (range_with_len start (suc (suc n)))) ≡ suc n + length (pairs_of (range_with_len (start + 1) (suc n))) = length-more start (suc n) in
+    let product : suc (suc n) * suc n ≡ suc n * n + 2 * suc n = omega arith in
+    omega (arith, rest, more, product)
+
+half : (m n : ℕ) → m * 2 ≡ n → n / 2 ≡ m
+half m n h = omega (arith, h)
+
+pub length-pairs : (n : ℕ) → length (pairs_of (run_numbers n)) ≡ pair_count n
+length-pairs zero = refl
+length-pairs (suc n) = let less : suc n - 1 ≡ n = omega arith in sym (ap (λ (m : ℕ). suc n * m / 2) less ∙ half (length (pairs_of (run_numbers (suc n)))) (suc n * n) (twice 0 n))
+
+-- ---- the number of a pair
+get_past : {X : Type 0} (xs ys : List X) (i : ℕ) → slice_get (xs ++ ys) (length xs + i) ≡ slice_get ys i
+get_past [] ys i = let e : 0 + i ≡ i = omega arith in ap (slice_get ys) e
+get_past (x ∷ xs) ys i = let e : suc (length xs) + i ≡ suc (length xs + i) = omega arith in ap (slice_get (x ∷ xs ++ ys)) e ∙ get_past xs ys i
+
+get_first : {X : Type 0} (xs ys : List X) (i : ℕ) (x : X) → slice_get xs i ≡ Some x → slice_get (xs ++ ys) i ≡ Some x
+get_first [] ys i x e = absurd (cc)
+get_first (y ∷ xs) ys zero x e = e
+get_first (y ∷ xs) ys (suc i) x e = get_first xs ys i x e
+
+-- the pairs of the runs before one
+before : ℕ → ℕ → ℕ
+before n zero = 0
+before zero (suc i) = 0
+before (suc n) (suc i) = n + before n i
+
+pair_there : (start n i gap : ℕ) → i + gap + 1 < n → slice_get (pairs_of (range_with_len start n)) (before n i + gap) ≡ Some (start + i, start + i + gap + 1)
+unfolding before
+pair_there start zero i gap h = absurd (omega arith)
+pair_there start (suc n) zero gap h =
+    let place : 0 + gap ≡ gap = omega arith in
+    let first : start ≡ start + zero = omega arith in
+    let second : start + 1 + gap ≡ start + zero + gap + 1 = omega arith in
+    ap (slice_get (pairs_of (range_with_len start (suc n)))) place
+    ∙ get_first (map (λ (y : ℕ). (start, y)) (range_with_len (start + 1) n)) (pairs_of (range_with_len (start + 1) n)) gap (start, start + 1 + gap)
+    (slice_get-map (λ (y : ℕ). (start, y)) (range_with_len (start + 1) n) gap ∙ ap (option_map (λ (y : ℕ). (start, y))) (numbered (start + 1) n gap (omega (arith, h))))
+    ∙ ap (λ (m : ℕ). Some (m, start + 1 + gap)) first ∙ ap (λ (m : ℕ). Some (start + zero, m)) second
+pair_there start (suc n) (suc i) gap h =
+    let row : List (ℕ × ℕ) = map (λ (y : ℕ). (start, y)) (range_with_len (start + 1) n) in
+    let rest : List (ℕ × ℕ) = pairs_of (range_with_len (start + 1) n) in
+    let long : length row ≡ n = length-first start n in
+    let place : n + before n i + gap ≡ length row + (before n i + gap) = omega (arith, long) in
+    let first : start + 1 + i ≡ start + suc i = omega arith in
+    let second : start + 1 + i + gap + 1 ≡ start + suc i + gap + 1 = omega arith in
+    ap (slice_get (row ++ rest)) place ∙ get_past row rest (before n i + gap) ∙ pair_there (start + 1) n i gap (omega (arith, h))
+    ∙ ap (λ (m : ℕ). Some (m, start + 1 + i + gap + 1)) first ∙ ap (λ (m : ℕ). Some (start + suc i, m)) second
+
+before_twice : (i rest : ℕ) → before (i + suc rest) i * 2 ≡ i * (i + 2 * rest + 1)
+unfolding before
+before_twice zero rest = omega arith
+before_twice (suc i) rest =
+    let earlier : before (i + suc rest) i * 2 ≡ i * (i + 2 * rest + 1) = before_twice i rest in
+    let shift : suc i + suc rest ≡ suc (i + suc rest) = omega arith in
+    let sum : before (suc i + suc rest) (suc i) ≡ i + suc rest + before (i + suc rest) i = ap (λ (m : ℕ). before m (suc i)) shift in
+    let product : suc i * (suc i + 2 * rest + 1) ≡ i * (i + 2 * rest + 1) + 2 * (i + suc rest) = omega arith in
+    omega (arith, earlier, sum, product)
+
+-- the number of a pair, by the formula
+pub pair_numbered : (n i j : ℕ) → i < j → j < n → slice_get (pairs_of (run_numbers n)) (i * (2 * n - i - 1) / 2 + (j - i - 1)) ≡ Some (i, j)
+pair_numbered n i j order within =
+    let rest : ℕ = n - i - 1 in
+    let whole : n ≡ i + suc rest = omega (arith, order, within) in
+    let factor : 2 * n - i - 1 ≡ i + 2 * rest + 1 = omega (arith, order, within) in
+    let row : i * (2 * n - i - 1) / 2 ≡ before n i =
+    ap (λ (m : ℕ). i * m / 2) factor ∙ half (before (i + suc rest) i) (i * (i + 2 * rest + 1)) (before_twice i rest) ∙ ap (λ (m : ℕ). before m i) (sym whole) in
+    let gap : ℕ = j - i - 1 in
+    let first : 0 + i ≡ i = omega arith in
+    let second : 0 + i + gap + 1 ≡ j = omega (arith, order) in
+    ap (λ (m : ℕ). slice_get (pairs_of (run_numbers n)) (m + gap)) row ∙ pair_there 0 n i gap (omega (arith, order, within))
+    ∙ ap (λ (m : ℕ). Some (m, 0 + i + gap + 1)) first ∙ ap (λ (m : ℕ). Some (i, m)) second
+
+-- ---- going over the pairs
+there_from : {X : Type 0} (xs : List X) (i : ℕ) (x : X) (rest : List X) → drop i xs ≡ x ∷ rest → (slice_get xs i ≡ Some x) × (drop (i + 1) xs ≡ rest)
+there_from [] zero x rest e = absurd (cc)
+there_from [] (suc i) x rest e = absurd (cc)
+there_from (y ∷ xs) zero x rest e = let p : y ≡ x = cc in let q : xs ≡ rest = cc in (ap Some p, q)
+there_from (y ∷ xs) (suc i) x rest e =
+    let later = there_from xs i x rest e in
+    let step : suc i + 1 ≡ suc (i + 1) = omega arith in
+    (later.0, ap (λ n. drop n (y ∷ xs)) step ∙ later.1)
+
+-- the pair with a number stands at the places, and so do those after it
+pub record IsAt (n i : ℕ) (at : PairPlaces) : Type 0 where
+  pub left : drop i (pairs_of (run_numbers n)) ≡ pairs_from at (run_numbers n)
+  pub placed : ArePlaces n at
+
+pub at_start : (n : ℕ) (at : PairPlaces) → 0 < n → at.first ≡ 0 → at.second ≡ 1 → IsAt n 0 at
+at_start n at some f s = record {
+  left = sym (pairs_from-start (run_numbers n) at f s);
+  placed = record { order = omega (arith, f, s); within = omega (arith, s, some); last = λ e. omega (arith, e, f, s) };
+}
+
+pub at_within : (n i : ℕ) (at : PairPlaces) → IsAt n i at → i < length (pairs_of (run_numbers n)) → at.second < n
+at_within n i at h lt = go (nat_lt at.second n) refl
+  where
+    long : length (run_numbers n) ≡ n
+    long = length-run_numbers n
+
+    go : (b : Bool) → nat_lt at.second n ≡ b → at.second < n
+    go true t = grind (arith, nat_tests)
+    go false t =
+        let end : at.second ≡ length (run_numbers n) = grind (arith, nat_tests, h.placed.within, long) in
+        let none : drop i (pairs_of (run_numbers n)) ≡ [] = h.left ∙ pairs_from-end (run_numbers n) at (rw long h.placed) end in
+        absurd (omega (arith, length-drop i (pairs_of (run_numbers n)), ap length none))
+
+pub at_next : (n i : ℕ) (at : PairPlaces) → IsAt n i at → i < length (pairs_of (run_numbers n)) → (slice_get (pairs_of (run_numbers n)) i ≡ Some (at.first, at.second)) × IsAt n (i + 1) (places_after n at)
+at_next n i at h lt =
+    let long : length (run_numbers n) ≡ n = length-run_numbers n in
+    let within : at.second < n = at_within n i at h lt in
+    let next : pairs_from at (run_numbers n) ≡ (at.first, at.second) ∷ pairs_from (places_after (length (run_numbers n)) at) (run_numbers n) =
+    pairs_from-next (run_numbers n) at at.first at.second (rw long h.placed) (number_at n at.first (omega (arith, within, h.placed.order))) (number_at n at.second within) in
+    let split = there_from (pairs_of (run_numbers n)) i (at.first, at.second) _ (h.left ∙ next) in
+    (split.0, record { left = split.1 ∙ ap (λ (m : ℕ). pairs_from (places_after m at) (run_numbers n)) long; placed = places_after-placed n at h.placed within })

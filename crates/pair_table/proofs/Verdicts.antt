@@ -1,0 +1,125 @@
+-- What a verdict says of four sums.
+use Rattle.std.proofs.Common.{◌≡◌, ℕ, zero, suc, ◌+◌, ◌<◌, ◌≤◌, Bool, true, false, ℤ, pos, negsuc, neg_ℤ, ◌+ℤ◌, ◌≤ℤ◌, ◌<ℤ◌, ◌⊎◌, inl, inr, refl, ap, sym, ◌∙◌, arith}
+use Rattle.std.specs.Prelude.{int_lt, int_le, ◌&&◌, ◌||◌, if◌then◌else◌}
+use Rattle.std.specs.Ordering.{int_eq}
+use Rattle.std.proofs.lemmas.Int.{ints}
+use Rattle.std.proofs.lemmas.Bool.Decides.{nat_tests, Decides-int_eq}
+use Rattle.desk_model.specs.Verdict.{verdict, differs}
+use Rattle.desk_model.specs.declared.types.Totals.{Totals}
+use Rattle.desk_model.specs.declared.types.Verdict.{Verdict}
+use Rattle.desk_model.specs.declared.types.Verdict.TheVariants.{Above, Below, Equal, Open, Close}
+use Rattle.pair_table.specs.Orders.{IsNearZero}
+
+positive : (z : ℤ) → int_lt (pos 0) z ≡ true → pos 0 <ℤ z
+positive (pos n) h = let k : 0 < n = grind (arith, nat_tests, h) in omega (arith, ints)
+positive (negsuc n) h = absurd (cc)
+
+not_positive : (z : ℤ) → int_lt (pos 0) z ≡ false → z ≤ℤ pos 0
+not_positive (pos n) h = let k : n ≤ 0 = grind (arith, nat_tests, h) in omega (arith, ints)
+not_positive (negsuc n) h = omega (arith, ints)
+
+negative : (z : ℤ) → int_lt z (pos 0) ≡ true → z <ℤ pos 0
+negative (pos n) h = absurd (grind (arith, nat_tests, h))
+negative (negsuc n) h = omega (arith, ints)
+
+not_negative : (z : ℤ) → int_lt z (pos 0) ≡ false → pos 0 ≤ℤ z
+not_negative (pos n) h = omega (arith, ints)
+not_negative (negsuc n) h = absurd (cc)
+
+below_zero : (z : ℤ) → int_le (pos 0) z ≡ false → z <ℤ pos 0
+below_zero (pos n) h = absurd (grind (arith, nat_tests, h))
+below_zero (negsuc n) h = omega (arith, ints)
+
+zero_is : (z : ℤ) → int_eq z (pos 0) ≡ true → z ≡ pos 0
+zero_is (pos n) h = let k : n ≡ 0 = grind (arith, nat_tests, h) in ap pos k
+zero_is (negsuc n) h = absurd (cc)
+
+-- the first of four tests
+choose : Bool → Bool → Bool → Bool → Verdict
+choose above below equal open_ = if above then Above else if below then Below else if equal then Equal else if open_ then Open else Close
+
+chosen_above : (a b e o : Bool) → choose a b e o ≡ Above → a ≡ true
+unfolding choose
+chosen_above true b e o h = refl
+chosen_above false true e o h = absurd (cc)
+chosen_above false false true o h = absurd (cc)
+chosen_above false false false true h = absurd (cc)
+chosen_above false false false false h = absurd (cc)
+
+chosen_below : (a b e o : Bool) → choose a b e o ≡ Below → b ≡ true
+unfolding choose
+chosen_below true b e o h = absurd (cc)
+chosen_below false true e o h = refl
+chosen_below false false true o h = absurd (cc)
+chosen_below false false false true h = absurd (cc)
+chosen_below false false false false h = absurd (cc)
+
+chosen_equal : (a b e o : Bool) → choose a b e o ≡ Equal → e ≡ true
+unfolding choose
+chosen_equal true b e o h = absurd (cc)
+chosen_equal false true e o h = absurd (cc)
+chosen_equal false false true o h = refl
+chosen_equal false false false true h = absurd (cc)
+chosen_equal false false false false h = absurd (cc)
+
+chosen_close : (a b e o : Bool) → choose a b e o ≡ Close → (a ≡ false) × (b ≡ false) × (o ≡ false)
+unfolding choose
+chosen_close true b e o h = absurd (cc)
+chosen_close false true e o h = absurd (cc)
+chosen_close false false true o h = absurd (cc)
+chosen_close false false false true h = absurd (cc)
+chosen_close false false false false h = (refl, refl, refl)
+
+both_true : (a b : Bool) → (a && b) ≡ true → (a ≡ true) × (b ≡ true)
+both_true true true h = (refl, refl)
+both_true true false h = absurd (cc)
+both_true false b h = absurd (cc)
+
+neither : (a b c : Bool) → ((a && b) || c) ≡ false → a ≡ true → b ≡ false
+neither true true c h t = absurd (cc)
+neither true false c h t = refl
+neither false b c h t = absurd (cc)
+
+module _ (t : Totals) where
+  abbrev above_at : Bool
+  above_at = int_lt (pos 0) t.least_lo
+
+  abbrev below_at : Bool
+  below_at = int_lt t.most_hi (pos 0)
+
+  abbrev equal_at : Bool
+  equal_at = int_eq t.least_lo (pos 0) && int_eq t.most_hi (pos 0)
+
+  abbrev open_at : Bool
+  open_at = differs t.least_hi t.most_lo
+
+  pub above_says : verdict t ≡ Above → pos 0 <ℤ t.least_lo
+  unfolding choose
+  above_says h = positive t.least_lo (chosen_above above_at below_at equal_at open_at h)
+
+  pub below_says : verdict t ≡ Below → t.most_hi <ℤ pos 0
+  unfolding choose
+  below_says h = negative t.most_hi (chosen_below above_at below_at equal_at open_at h)
+
+  pub equal_says : verdict t ≡ Equal → (t.least_lo ≡ pos 0) × (t.most_hi ≡ pos 0)
+  unfolding choose
+  equal_says h =
+      let both = both_true (int_eq t.least_lo (pos 0)) (int_eq t.most_hi (pos 0)) (chosen_equal above_at below_at equal_at open_at h) in
+      (zero_is t.least_lo both.0, zero_is t.most_hi both.1)
+
+  -- where the ends of the least sum, and those of the greatest, are that near to each other
+  pub close_says : (width : ℕ) → t.least_hi ≤ℤ (t.least_lo +ℤ pos width) → t.most_hi ≤ℤ (t.most_lo +ℤ pos width) → verdict t ≡ Close → IsNearZero width t
+  unfolding choose
+  close_says width least most h =
+      let no = chosen_close above_at below_at equal_at open_at h in
+      let low : t.least_lo ≤ℤ pos 0 = not_positive t.least_lo no.0 in
+      let high : pos 0 ≤ℤ t.most_hi = not_negative t.most_hi no.1 in
+      go (int_lt t.least_hi (pos 0)) refl low high no.2
+    where
+      go : (b : Bool) → int_lt t.least_hi (pos 0) ≡ b → t.least_lo ≤ℤ pos 0 → pos 0 ≤ℤ t.most_hi → differs t.least_hi t.most_lo ≡ false → IsNearZero width t
+      go true e low high shut =
+          let under : t.most_lo <ℤ pos 0 = below_zero t.most_lo (neither (int_lt t.least_hi (pos 0)) (int_le (pos 0) t.most_lo) _ shut e) in
+          inr (high, omega (arith, ints))
+      go false e low high shut =
+          let over : pos 0 ≤ℤ t.least_hi = not_negative t.least_hi e in
+          inl (omega (arith, ints), low)
