@@ -1,0 +1,10 @@
+//! The rows of a qrels file, and what every reader of rows shares: the faults, the limits and the definitions of a file's rows.
+#![tactic(auto)]
+
+mod fault;
+mod limits;
+
+pub use fault::{FileFault, LineFault};
+pub use limits::{
+    GREATEST_GRADE, LEAST_GRADE, LONGEST_NAME, MOST_NAME_BYTES, MOST_QRELS_ROWS, MOST_TOPICS,
+};
