@@ -1,2 +1,5 @@
 pub mod Reading
-pub mod Qrels
+pub mod Names
+pub mod Rows
+pub mod Grouped
+

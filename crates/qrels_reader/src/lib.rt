@@ -2,9 +2,14 @@
 #![tactic(auto)]
 
 mod fault;
+mod judgements;
 mod limits;
+mod name_set;
+mod names;
+mod qrels;
 
 pub use fault::{FileFault, LineFault};
 pub use limits::{
     GREATEST_GRADE, LEAST_GRADE, LONGEST_NAME, MOST_NAME_BYTES, MOST_QRELS_ROWS, MOST_TOPICS,
 };
+pub use qrels::Qrels;

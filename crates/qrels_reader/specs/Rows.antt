@@ -8,8 +8,6 @@ use Rattle.desk_text.specs.declared.line.TheConstants.{LONGEST_LINE}
 use Rattle.qrels_reader.specs.Reading.{field, is_long, and_then, unless, rows_of}
 use Rattle.qrels_reader.specs.declared.fault.LineFault.{LineFault}
 use Rattle.qrels_reader.specs.declared.fault.LineFault.TheVariants.{LineTooLong, BadByte, BadFieldCount, NameTooLong, BadGrade, RepeatedDocument, TooManyTopics, TooManyRows, TooManyNameBytes}
-use Rattle.qrels_reader.specs.declared.fault.FileFault.{FileFault}
-use Rattle.qrels_reader.specs.declared.fault.FileFault.TheVariants.{NoTopics}
 use Rattle.qrels_reader.specs.declared.limits.TheConstants.{MOST_TOPICS, MOST_QRELS_ROWS, MOST_NAME_BYTES, LEAST_GRADE, GREATEST_GRADE}
 
 -- a row: the document of a topic and its grade
@@ -73,21 +71,3 @@ row_faults rows row =
 -- the row of a line after the rows before it, or the line's first fault
 abbrev pub read_row : List Row → List ℕ → Result (Option Row) LineFault
 read_row rows line = and_then (unless (form_faults line) (row_of line)) (λ row. unless (row_faults rows row) (Some row))
-
--- a document and its grade
-pub record Judged : Type 0 where
-  pub document : List ℕ
-  pub grade : ℤ
-
--- a topic and its documents, in the order of the file
-pub record Topic : Type 0 where
-  pub name : List ℕ
-  pub documents : List Judged
-
--- the rows, grouped by their topics
-abbrev pub grouped : List Row → List Topic
-grouped rows = map (λ topic. record { name = topic; documents = map (λ row. record { document = row.document; grade = row.grade }) (rows_on topic rows) }) (topics_of rows)
-
--- what the bytes of a qrels file say: its rows, grouped by their topics, or its first refusal
-abbrev pub qrels_of : List ℕ → Result (List Topic) FileFault
-qrels_of bytes = and_then (rows_of read_row bytes) (λ rows. if length rows == 0 then Err NoTopics else Ok (grouped rows))

@@ -1,0 +1,3 @@
+pub mod Cutting
+pub mod Mapped
+pub mod Zipped
