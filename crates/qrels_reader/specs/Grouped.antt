@@ -1,10 +1,13 @@
 -- The rows of a qrels file, grouped by their topics.
-use Rattle.std.specs.Prelude.{ℕ, zero, suc, Bool, ◌==◌, List, [], ◌∷◌, ◌++◌, if◌then◌else◌, Result, Ok, Err, length, map, sum_by, slice_get, ℤ}
+use Rattle.std.specs.Prelude.{ℕ, zero, suc, ◌+◌, Bool, ◌&&◌, not, ◌==◌, nat_lt, nat_le, List, [], ◌∷◌, ◌++◌, if◌then◌else◌, Result, Ok, Err, length, map, sum_by, slice_get, ℤ}
 use Rattle.std.specs.List.{list_any}
 use Rattle.std.specs.Option.{option_map_or}
 use Rattle.std.specs.Str.{bytes_eq}
 use Rattle.qrels_reader.specs.Reading.{and_then, rows_of}
 use Rattle.qrels_reader.specs.Rows.{Row, topics_of, rows_on, read_row}
+use Rattle.qrels_reader.specs.declared.fault.LineFault.{LineFault}
+use Rattle.qrels_reader.specs.declared.fault.LineFault.TheVariants.{RepeatedDocument, TooManyTopics, TooManyRows, TooManyNameBytes}
+use Rattle.qrels_reader.specs.declared.limits.TheConstants.{MOST_TOPICS, MOST_QRELS_ROWS, MOST_NAME_BYTES}
 use Rattle.qrels_reader.specs.declared.fault.FileFault.{FileFault}
 use Rattle.qrels_reader.specs.declared.fault.FileFault.TheVariants.{NoTopics}
 
@@ -61,3 +64,23 @@ abbrev pub with_document : List Topic → ℕ → Judged → List Topic
 with_document [] t judged = []
 with_document (topic ∷ topics) zero judged = record { name = topic.name; documents = topic.documents ++ judged ∷ [] } ∷ topics
 with_document (topic ∷ topics) (suc t) judged = topic ∷ with_document topics t judged
+
+-- topics with a row added: to its topic, or as a new topic at the end
+abbrev pub with_row_on : List Topic → Row → List Topic
+with_row_on [] row = record { name = row.topic; documents = judged_of row ∷ [] } ∷ []
+with_row_on (topic ∷ topics) row =
+    if bytes_eq row.topic topic.name then record { name = topic.name; documents = topic.documents ++ judged_of row ∷ [] } ∷ topics else topic ∷ with_row_on topics row
+
+-- the documents of a topic, by its name
+abbrev pub documents_on : List ℕ → List Topic → List Judged
+documents_on name [] = []
+documents_on name (topic ∷ topics) = if bytes_eq name topic.name then topic.documents else documents_on name topics
+
+-- what is wrong with a row after the rows of these topics, in the order in which it is told
+abbrev pub faults_after : List Topic → Row → List (Bool × LineFault)
+faults_after topics row =
+    (list_any (λ judged. bytes_eq row.document judged.document) (documents_on row.topic topics), RepeatedDocument)
+    ∷ (not (is_topic row.topic topics) && nat_le MOST_TOPICS (length topics), TooManyTopics)
+    ∷ (nat_le MOST_QRELS_ROWS (row_count topics), TooManyRows)
+    ∷ (nat_lt MOST_NAME_BYTES (name_bytes_in topics + length row.document), TooManyNameBytes)
+    ∷ []
