@@ -25,6 +25,10 @@ abbrev pub unless : {A F : Type 0} → List (Bool × F) → A → Result A F
 unless [] a = Ok a
 unless (t ∷ ts) a = if t.0 then Err t.1 else unless ts a
 
+-- nothing is wrong, or the first of the tests that holds tells the fault
+abbrev pub checked : {F : Type 0} → List (Bool × F) → Result (Unit {0}) F
+checked tests = unless tests (tt {0})
+
 -- the rows with one more at their end, where there is one
 abbrev pub with_row : {R : Type 0} → List R → Option R → List R
 with_row rows None = rows

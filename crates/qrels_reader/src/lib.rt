@@ -4,9 +4,11 @@
 mod fault;
 mod judgements;
 mod limits;
+mod line;
 mod name_set;
 mod names;
 mod qrels;
+mod reader;
 
 pub use fault::{FileFault, LineFault};
 pub use limits::{
