@@ -6,3 +6,4 @@ pub mod Grouping
 pub mod Places
 pub mod Chains
 pub mod Grades
+pub mod Progress

@@ -1,12 +1,11 @@
 -- Names in the order in which they first stand.
-use Rattle.std.proofs.Common.{◌≡◌, ℕ, List, [], ◌∷◌, ◌++◌, true, false, true≢false, cond, refl, ap, ap₂, sym, subst, ◌∙◌, arith}
+use Rattle.std.proofs.Common.{◌≡◌, ℕ, List, [], ◌∷◌, ◌++◌, true, false, true≢false, cond, refl, ap, sym, ◌∙◌}
 use Rattle.std.specs.Prelude.{Bool, not, ◌||◌, filter}
 use Rattle.std.specs.List.{list_any}
 use Rattle.std.specs.Str.{bytes_eq}
 use Rattle.std.specs.Cmp.{IsEquivalence}
 use Rattle.std.specs.Cmp.Lexicographic.{same_text}
 use Rattle.std.proofs.lemmas.Cmp.{nat_list_eq_equiv}
-use Rattle.std.proofs.lemmas.Map.Steps.{list_any_congr}
 use Rattle.qrels_reader.specs.Rows.{first_seen}
 
 pub laws : IsEquivalence bytes_eq
@@ -43,7 +42,7 @@ filter-add_name y n [] = by (bytes_eq y n)
 filter-add_name y n (z ∷ zs) =
     filter-cond (others y) (bytes_eq n z) (z ∷ zs) (z ∷ add_name zs n)
     ∙ filtered (bytes_eq n z) (bytes_eq y z) (bytes_eq y n) z n (filter (others y) zs) (filter (others y) (add_name zs n)) refl
-        (λ e. laws.symm y n ∙ laws.congr n z y e ∙ laws.symm z y) (filter-add_name y n zs)
+    (λ e. laws.symm y n ∙ laws.congr n z y e ∙ laws.symm z y) (filter-add_name y n zs)
 
 -- one more name
 pub first_seen-append : (xs : List (List ℕ)) (n : List ℕ) → first_seen (xs ++ n ∷ []) ≡ add_name (first_seen xs) n

@@ -8,6 +8,7 @@ mod line;
 mod name_set;
 mod names;
 mod qrels;
+mod read;
 mod reader;
 
 pub use fault::{FileFault, LineFault};
@@ -15,3 +16,4 @@ pub use limits::{
     GREATEST_GRADE, LEAST_GRADE, LONGEST_NAME, MOST_NAME_BYTES, MOST_QRELS_ROWS, MOST_TOPICS,
 };
 pub use qrels::Qrels;
+pub use read::read_qrels;

@@ -124,7 +124,12 @@ impl Qrels {
     }
 
     // One more document of a topic.
-    pub(crate) fn add_document(&mut self, t: usize, document: &[u8], grade: i16) -> Result<(), AllocError>
+    pub(crate) fn add_document(
+        &mut self,
+        t: usize,
+        document: &[u8],
+        grade: i16,
+    ) -> Result<(), AllocError>
         requires topic { t < length self.old }
         requires rows { row_count self.old + 1 < 2 ^ 32 }
         requires names { name_bytes_in self.old + length document.now < 2 ^ 32 }

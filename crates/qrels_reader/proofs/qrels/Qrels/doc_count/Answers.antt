@@ -1,5 +1,5 @@
-use Rattle.std.proofs.Common.{◌≡◌, ◌<◌, ◌≤◌, length, ap, sym, subst, ◌∙◌, arith, refl}
-use Rattle.qrels_reader.specs.Grouped.{documents_at, row_count}
+use Rattle.std.proofs.Common.{◌≡◌, ◌<◌, length, ap, sym, ◌∙◌, arith, refl}
+use Rattle.qrels_reader.specs.Grouped.{documents_at}
 use Rattle.qrels_reader.proofs.Zipped.{length-topics_in, held, part-le}
 use Rattle.qrels_reader.proofs.qrels.Qrels.doc_count.Goals as goal
 

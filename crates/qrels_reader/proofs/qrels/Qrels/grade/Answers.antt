@@ -1,7 +1,7 @@
-use Rattle.std.proofs.Common.{◌≡◌, ◌<◌, length, ap, sym, subst, ◌∙◌, arith, rules, w16, w32}
+use Rattle.std.proofs.Common.{◌<◌, length, ap, sym, subst, ◌∙◌, arith, rules, w16, w32}
 use Rattle.std.specs.Prelude.{slice_get, option_map, Some, FitsSigned}
 use Rattle.std.proofs.lemmas.Int.{to_z-of_z}
-use Rattle.qrels_reader.specs.Grouped.{Judged, documents_at}
+use Rattle.qrels_reader.specs.Grouped.{Judged}
 use Rattle.qrels_reader.proofs.Zipped.{length-topics_in, held, has_place}
 use Rattle.qrels_reader.proofs.qrels.Qrels.grade.Goals as goal
 

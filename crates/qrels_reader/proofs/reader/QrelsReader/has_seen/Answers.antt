@@ -1,9 +1,9 @@
-use Rattle.std.proofs.Common.{◌≡◌, ◌<◌, length, false, sym, ap, ◌∙◌}
+use Rattle.std.proofs.Common.{sym, ap, ◌∙◌}
 use Rattle.std.specs.List.{list_any}
 use Rattle.std.specs.Str.{bytes_eq}
-use Rattle.qrels_reader.specs.Grouped.{Judged, documents_at, documents_on}
+use Rattle.qrels_reader.specs.Grouped.{Judged}
 use Rattle.qrels_reader.specs.Reader.{row_said}
-use Rattle.qrels_reader.proofs.Places.{IsAt, at_place, any-seen, no_place, documents_on-none}
+use Rattle.qrels_reader.proofs.Places.{at_place, any-seen, no_place, documents_on-none}
 use Rattle.qrels_reader.proofs.reader.QrelsReader.has_seen.Goals as goal
 
 pub returns-in-Some : goal.returns-in-Some
