@@ -53,10 +53,19 @@ unless-err (t ∷ tests) a c fault e = by t.0 (unless-err tests a c fault) e
     by true rest e = (let k : t.1 ≡ fault = cc in ap Err k)
     by false rest e = rest e
 
--- where nothing is wrong the first test fails, and nothing is wrong by the others
-pub unless-first : {A F : Type 0} (d : Bool) (f : F) (rest : List (Bool × F)) (a b : A) → unless ((d, f) ∷ rest) a ≡ Ok b → (d ≡ false) × (unless rest a ≡ Ok b)
-unless-first true f rest a b e = absurd (cc)
-unless-first false f rest a b e = (refl, e)
+-- no test holds
+abbrev pub NoneHolds : {F : Type 0} → List (Bool × F) → Type 0
+NoneHolds [] = Unit {0}
+NoneHolds (t ∷ tests) = (t.0 ≡ false) × NoneHolds tests
+
+-- where nothing is wrong no test holds
+pub none_holds : {A F : Type 0} (tests : List (Bool × F)) (a b : A) → unless tests a ≡ Ok b → NoneHolds tests
+none_holds [] a b e = tt
+none_holds (t ∷ tests) a b e = by (none_holds tests a b) t.0 refl e
+  where
+    by : (unless tests a ≡ Ok b → NoneHolds tests) → (d : Bool) → t.0 ≡ d → cond d (Err t.1) (unless tests a) ≡ Ok b → (t.0 ≡ false) × NoneHolds tests
+    by rest true f e = absurd (cc)
+    by rest false f e = (f, rest e)
 
 -- a line that is blank
 pub read_blank : (number : ℕ) (rows : List Row) (line : List ℕ) (ts : List Topic) → is_blank line ≡ true → ts ≡ grouped rows → ReadsLine number rows line (Ok tt) ts

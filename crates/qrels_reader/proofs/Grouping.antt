@@ -70,7 +70,7 @@ names-grouped rows = by (topics_of rows)
     by [] = refl
     by (n ∷ ns) = ap (λ xs. n ∷ xs) (by ns)
 
-has_topic-topics : (name : List ℕ) (rows : List Row) → list_any (bytes_eq name) (topics_of rows) ≡ has_topic name rows
+pub has_topic-topics : (name : List ℕ) (rows : List Row) → list_any (bytes_eq name) (topics_of rows) ≡ has_topic name rows
 has_topic-topics name rows =
     list_any-first_seen name (map (λ row. row.topic) rows) ∙ sym (list_any-map (bytes_eq name) (λ (row : Row). row.topic) rows)
 
@@ -171,3 +171,6 @@ row_faults-grouped rows row =
     ∙ ap (λ x. table row (list_any (λ judged. bytes_eq row.document judged.document) (documents_on row.topic (grouped rows))) x (length (topics_of rows)) (length rows) (name_bytes_of rows)) (sym b)
     ∙ ap (λ x. table row (list_any (λ judged. bytes_eq row.document judged.document) (documents_on row.topic (grouped rows))) (is_topic row.topic (grouped rows)) x (length rows) (name_bytes_of rows)) (sym c)
     ∙ ap₂ (table row (list_any (λ judged. bytes_eq row.document judged.document) (documents_on row.topic (grouped rows))) (is_topic row.topic (grouped rows)) (length (grouped rows))) (sym d) (sym e)
+
+pub length-grouped : (rows : List Row) → length (grouped rows) ≡ length (topics_of rows)
+length-grouped rows = length-map (topics_of rows) (topic_of rows)

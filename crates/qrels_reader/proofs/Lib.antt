@@ -7,3 +7,5 @@ pub mod Places
 pub mod Chains
 pub mod Grades
 pub mod Progress
+pub mod FieldNames
+pub mod Right

@@ -2,6 +2,7 @@
 #![tactic(auto)]
 
 mod fault;
+mod groups;
 mod judgements;
 mod limits;
 mod line;

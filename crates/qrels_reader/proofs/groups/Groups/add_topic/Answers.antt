@@ -3,7 +3,7 @@ use Rattle.std.specs.List.{list_any}
 use Rattle.std.specs.Str.{bytes_eq}
 use Rattle.qrels_reader.specs.Grouped.{names_of}
 use Rattle.qrels_reader.proofs.Zipped.{names-topics_in, TopicAdded, topic_added}
-use Rattle.qrels_reader.proofs.qrels.Qrels.add_topic.Goals as goal
+use Rattle.qrels_reader.proofs.groups.Groups.add_topic.Goals as goal
 
 pub add-requires : goal.add-requires
 add-requires c =

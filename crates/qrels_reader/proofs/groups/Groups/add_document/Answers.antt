@@ -4,7 +4,7 @@ use Rattle.std.proofs.lemmas.Int.{to_z-of_z}
 use Rattle.std.proofs.lemmas.List.{get_or_default}
 use Rattle.qrels_reader.specs.Grouped.{Judged, bytes_in, name_bytes_in, with_document}
 use Rattle.qrels_reader.proofs.Zipped.{length-topics_in, held, part-le, DocumentAdded, document_added}
-use Rattle.qrels_reader.proofs.qrels.Qrels.add_document.Goals as goal
+use Rattle.qrels_reader.proofs.groups.Groups.add_document.Goals as goal
 
 pub index_mut-judgements-requires : goal.index_mut-judgements-requires
 index_mut-judgements-requires c =

@@ -3,7 +3,7 @@ use Rattle.std.specs.Prelude.{slice_get, option_map, Some, FitsSigned}
 use Rattle.std.proofs.lemmas.Int.{to_z-of_z}
 use Rattle.qrels_reader.specs.Grouped.{Judged}
 use Rattle.qrels_reader.proofs.Zipped.{length-topics_in, held, has_place}
-use Rattle.qrels_reader.proofs.qrels.Qrels.grade.Goals as goal
+use Rattle.qrels_reader.proofs.groups.Groups.grade.Goals as goal
 
 pub index-requires : goal.index-requires
 index-requires c =

@@ -3,7 +3,7 @@ use Rattle.std.specs.List.{list_any}
 use Rattle.std.specs.Str.{bytes_eq}
 use Rattle.qrels_reader.specs.Grouped.{names_of}
 use Rattle.qrels_reader.proofs.Zipped.{names-topics_in}
-use Rattle.qrels_reader.proofs.qrels.Qrels.has_topic.Goals as goal
+use Rattle.qrels_reader.proofs.groups.Groups.has_topic.Goals as goal
 
 pub returns : goal.returns
 returns c =

@@ -2,7 +2,7 @@ use Rattle.std.proofs.Common.{ap, sym, ◌∙◌, position}
 use Rattle.std.specs.Str.{bytes_eq}
 use Rattle.qrels_reader.specs.Grouped.{names_of}
 use Rattle.qrels_reader.proofs.Zipped.{names-topics_in}
-use Rattle.qrels_reader.proofs.qrels.Qrels.place.Goals as goal
+use Rattle.qrels_reader.proofs.groups.Groups.place.Goals as goal
 
 pub returns : goal.returns
 returns c =

@@ -1,7 +1,7 @@
 use Rattle.std.proofs.Common.{◌≡◌, ◌<◌, length, ap, sym, ◌∙◌, arith, refl}
 use Rattle.qrels_reader.specs.Grouped.{documents_at}
 use Rattle.qrels_reader.proofs.Zipped.{length-topics_in, held, part-le}
-use Rattle.qrels_reader.proofs.qrels.Qrels.doc_count.Goals as goal
+use Rattle.qrels_reader.proofs.groups.Groups.doc_count.Goals as goal
 
 pub index-requires : goal.index-requires
 index-requires c =

@@ -2,7 +2,7 @@ use Rattle.std.proofs.Common.{◌<◌, length, ap, subst, ◌∙◌, arith}
 use Rattle.std.specs.Prelude.{slice_get, option_map}
 use Rattle.qrels_reader.specs.Grouped.{Judged}
 use Rattle.qrels_reader.proofs.Zipped.{length-topics_in, held, has_place}
-use Rattle.qrels_reader.proofs.qrels.Qrels.doc_name.Goals as goal
+use Rattle.qrels_reader.proofs.groups.Groups.doc_name.Goals as goal
 
 pub index-requires : goal.index-requires
 index-requires c =

@@ -2,7 +2,7 @@ use Rattle.std.proofs.Common.{length, ap, sym, ◌∙◌, arith}
 use Rattle.std.specs.Prelude.{slice_get}
 use Rattle.qrels_reader.specs.Grouped.{names_of}
 use Rattle.qrels_reader.proofs.Zipped.{length-topics_in, names-topics_in}
-use Rattle.qrels_reader.proofs.qrels.Qrels.topic_name.Goals as goal
+use Rattle.qrels_reader.proofs.groups.Groups.topic_name.Goals as goal
 
 pub get-requires : goal.get-requires
 get-requires c =
