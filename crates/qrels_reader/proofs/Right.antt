@@ -1,7 +1,7 @@
 -- What holds of rows that were read.
 use Rattle.std.proofs.Common.{◌≡◌, ℕ, zero, suc, ◌+◌, ◌<◌, ◌≤◌, List, [], ◌∷◌, ◌++◌, length, get_or, true, false, true≢false, cond, refl, ap, ap₂, sym, subst, ◌∙◌, arith, length-append}
 use Rattle.std.specs.Prelude.{Bool, not, ◌&&◌, ◌||◌, ◌==◌, map, filter, All, Option, Some, None, Result, Ok, Err, nat_lt, nat_le, is_none}
-use Rattle.std.specs.List.{list_any}
+use Rattle.std.specs.List.{list_any, IsDistinct as AllDiffer}
 use Rattle.std.specs.Str.{bytes_eq}
 use Rattle.std.specs.Result.{result_map_both}
 use Rattle.std.proofs.lemmas.Bool.{ltb-false, leb-false, eqb-true}
@@ -15,10 +15,11 @@ use Rattle.qrels_reader.specs.declared.fault.FileFault.TheVariants.{Line}
 use Rattle.qrels_reader.specs.declared.fault.LineFault.{LineFault}
 use Rattle.qrels_reader.specs.declared.limits.TheConstants.{MOST_TOPICS, MOST_QRELS_ROWS, MOST_NAME_BYTES}
 use Rattle.qrels_reader.specs.Reading.{unless, and_then, field, is_long, read_line, with_row}
-use Rattle.qrels_reader.specs.Rows.{Row, first_seen, topics_of, rows_on, has_topic, name_bytes_of, row_of, form_faults, row_faults, read_row}
+use Rattle.qrels_reader.specs.Rows.{Row, first_seen, topics_of, rows_on, has_topic, has_document, name_bytes_of, row_of, form_faults, row_faults, read_row}
 use Rattle.qrels_reader.specs.Grouped.{Judged, Topic, judged_of, topic_of, grouped, names_of, row_count, IsQrels}
-use Rattle.qrels_reader.proofs.Seen.{others, add_name, first_seen-append, or-false}
-use Rattle.qrels_reader.proofs.Grouping.{names-grouped, has_topic-topics, row_count-grouped, name_bytes_in-grouped, length-grouped}
+use Rattle.qrels_reader.proofs.Mapped.{list_any-map}
+use Rattle.qrels_reader.proofs.Seen.{same, others, add_name, first_seen-append, or-false, IsDistinct, IsDistinct-first_seen, IsDistinct-push, all_differ}
+use Rattle.qrels_reader.proofs.Grouping.{names-grouped, has_topic-topics, row_count-grouped, name_bytes_in-grouped, length-grouped, rows_on-append, append-nil}
 use Rattle.qrels_reader.proofs.FieldNames.{is_name-field}
 use Rattle.qrels_reader.proofs.Chains.{none_holds}
 
@@ -31,9 +32,10 @@ pub record AreRight (rows : List Row) : Type 0 where
   pub topics : length (topics_of rows) ≤ MOST_TOPICS
   pub count : length rows ≤ MOST_QRELS_ROWS
   pub bytes : name_bytes_of rows ≤ MOST_NAME_BYTES
+  pub documents : (name : List ℕ) → IsDistinct (map (λ row. row.document) (rows_on name rows))
 
 pub none_right : AreRight []
-none_right = record { named = λ k d lt. absurd (omega arith); topics = omega arith; count = omega arith; bytes = omega arith }
+none_right = record { named = λ k d lt. absurd (omega arith); topics = omega arith; count = omega arith; bytes = omega arith; documents = λ name. tt }
 
 length-add_name : (ns : List (List ℕ)) (n : List ℕ) → length (add_name ns n) ≡ length ns + cond (list_any (bytes_eq n) ns) 0 1
 length-add_name [] n = refl
@@ -52,6 +54,19 @@ few_topics : (known : Bool) (n : ℕ) → n ≤ MOST_TOPICS → (not known && na
 few_topics true n le e = omega arith
 few_topics false n le e = let lt = leb-false MOST_TOPICS n e in omega arith
 
+documents_more : (rows : List Row) (row : Row) (name : List ℕ) → IsDistinct (map (λ row. row.document) (rows_on name rows)) → has_document row.topic row.document rows ≡ false → IsDistinct (map (λ row. row.document) (rows_on name (rows ++ row ∷ [])))
+documents_more rows row name distinct new = by (bytes_eq name row.topic) refl
+  where
+    absent : bytes_eq name row.topic ≡ true → list_any (bytes_eq row.document) (map (λ row. row.document) (rows_on name rows)) ≡ false
+    absent e =
+        sym (list_any-map (bytes_eq row.document) (λ (r : Row). r.document) (rows_on name rows))
+        ∙ ap (λ n. list_any (λ (r : Row). bytes_eq row.document r.document) (rows_on n rows)) (same name row.topic e) ∙ new
+    by : (b : Bool) → bytes_eq name row.topic ≡ b → IsDistinct (map (λ row. row.document) (rows_on name (rows ++ row ∷ [])))
+    by true e =
+        subst IsDistinct (sym (ap (map (λ (r : Row). r.document)) (rows_on-append name rows row true e) ∙ map-append (λ (r : Row). r.document) (rows_on name rows) (row ∷ [])))
+          (IsDistinct-push (map (λ row. row.document) (rows_on name rows)) row.document distinct (absent e))
+    by false e = subst IsDistinct (sym (ap (map (λ (r : Row). r.document)) (rows_on-append name rows row false e ∙ append-nil (rows_on name rows)))) distinct
+
 -- one more row that is right
 pub right_more : (rows : List Row) (row : Row) → AreRight rows → IsNamed row → {A : Type 0} (a b : A) → unless (row_faults rows row) a ≡ Ok b → AreRight (rows ++ row ∷ [])
 right_more rows row right named a b e =
@@ -64,6 +79,7 @@ right_more rows row right named a b e =
       topics = omega (arith, length-topics_of rows row, few);
       count = omega (arith, length-append rows (row ∷ []), room);
       bytes = omega (arith, sum_by-append (λ (r : Row). length r.document) rows (row ∷ []), short);
+      documents = λ name. documents_more rows row name (right.documents name) fine.0;
     }
 
 mapped : {A F G : Type 0} (f : F → G) (r : Result A F) (a : A) → result_map_both (λ x. x) f r ≡ Ok a → r ≡ Ok a
@@ -139,12 +155,19 @@ pub is_qrels : (rows : List Row) → AreRight rows → 0 < row_count (grouped ro
 is_qrels rows right some = record {
   some_topic = at_least (grouped rows) some;
   named = names_right rows right.named;
+  distinct = subst (AllDiffer bytes_eq) (sym (names-grouped rows)) (all_differ (topics_of rows) (IsDistinct-first_seen (map (λ row. row.topic) rows)));
   documents = documents_right rows right.named;
+  distinct_documents = All-map (λ (topic : Topic). AllDiffer bytes_eq (map (λ (j : Judged). j.document) topic.documents)) (topic_of rows) (topics_of rows) (λ k d lt. differ (get_or (topics_of rows) k d));
   topics = omega (arith, length-grouped rows, right.topics);
   rows = omega (arith, row_count-grouped rows, right.count);
   name_bytes = omega (arith, name_bytes_in-grouped rows, right.bytes);
 }
   where
+    documents-judged : (rs : List Row) → map (λ (j : Judged). j.document) (map judged_of rs) ≡ map (λ row. row.document) rs
+    documents-judged [] = refl
+    documents-judged (r ∷ rs) = ap (λ xs. r.document ∷ xs) (documents-judged rs)
+    differ : (name : List ℕ) → AllDiffer bytes_eq (map (λ (j : Judged). j.document) (map judged_of (rows_on name rows)))
+    differ name = subst (AllDiffer bytes_eq) (sym (documents-judged (rows_on name rows))) (all_differ (map (λ row. row.document) (rows_on name rows)) (right.documents name))
     at_least : (ts : List Topic) → 0 < row_count ts → 0 < length ts
     at_least [] h = absurd (omega arith)
     at_least (t ∷ ts) h = omega arith

@@ -1,5 +1,7 @@
 // The rows of a qrels file that was read.
-ghost use Rattle.std.specs.Prelude.{◌≡◌, ◌≤◌, ◌<◌, length, option_map, slice_get, Some, true};
+ghost use Rattle.std.specs.Prelude.{◌≡◌, ◌≤◌, ◌<◌, length, map, option_map, slice_get, Some, true};
+ghost use Rattle.std.specs.List.{IsDistinct};
+ghost use Rattle.std.specs.Str.{bytes_eq};
 ghost use Rattle.desk_model.specs.Name.{is_name};
 ghost use Rattle.qrels_reader.specs.Grouped.{is_topic, names_of, documents_at, row_count, name_bytes_in, IsQrels};
 ghost use Rattle.qrels_reader.specs.declared.limits.TheConstants.{MOST_TOPICS, MOST_QRELS_ROWS, MOST_NAME_BYTES};
@@ -8,8 +10,8 @@ use crate::groups::Groups;
 use std::marker::Model;
 
 /// The rows of a qrels file: its topics, and the documents of each topic with their grades. Topics, and the documents of one
-/// topic, are numbered from 0 in the order in which they first stood in the file. There is at least one topic, and topics and
-/// documents have names.
+/// topic, are numbered from 0 in the order in which they first stood in the file. There is at least one topic; topics, and
+/// the documents of one topic, have different names.
 #[derive(Drop)]
 pub struct Qrels {
     groups: Groups,
@@ -38,6 +40,7 @@ impl Qrels {
     pub fn topics(&self) -> usize
         ensures count { result ≡ length self.now }
         ensures some { 0 < result }
+        ensures distinct { IsDistinct bytes_eq (names_of self.now) }
         ensures most { result ≤ MOST_TOPICS }
     {
         self.groups.topics()
@@ -80,6 +83,7 @@ impl Qrels {
         requires { t < length self.now }
         ensures count { result ≡ length (documents_at self.now t) }
         ensures within { result ≤ row_count self.now }
+        ensures distinct { IsDistinct bytes_eq (map (λ d. d.document) (documents_at self.now t)) }
     {
         self.groups.doc_count(t)
     }
