@@ -1,0 +1,6 @@
+pub mod Text
+pub mod Value
+pub mod Key
+pub mod Spelling
+pub mod KeyLaws
+pub mod Significand
