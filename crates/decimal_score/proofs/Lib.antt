@@ -3,3 +3,4 @@ pub mod KeyOrder
 pub mod Digits
 pub mod Sizes
 pub mod Readings
+pub mod Answer

@@ -13,6 +13,7 @@ use Rattle.std.proofs.Math.Seq.{drop-append-add}
 use Rattle.std.proofs.Math.ListN.{drop_of_length-le}
 use Rattle.decimal_score.specs.Text.{signed, IsSign, IsMantissa, IsExponent, Parts, HasParts}
 use Rattle.decimal_score.specs.Spelling.{is_mark, AreParts}
+use Rattle.decimal_score.specs.Reading.{mantissa_of, power_of, cut_parts}
 
 digits_by_recursion : (ds : List ℕ) → AllDigits 10 ds → AllByRecursion IsAsciiDigit ds
 digits_by_recursion [] h = h
@@ -117,21 +118,6 @@ power_cut text all some =
           )
       | inr whole ↦ ([], (inr (refl, rw whole.1 refl), whole.0 ∙ sym (append-nil front)))
     ]
-
--- the parts of a text that is cut at its marks
-abbrev pub mantissa_of : List ℕ → List ℕ
-mantissa_of text = before_first (is_mark 101 69) (without_leading_sign text)
-
-abbrev pub power_of : List ℕ → List ℕ
-power_of text = after_first (is_mark 101 69) (without_leading_sign text)
-
-abbrev pub cut_parts : List ℕ → Parts
-cut_parts text = record {
-  is_negative = starts_with_minus text;
-  whole = before_first (is_mark 46 46) (mantissa_of text);
-  fraction = after_first (is_mark 46 46) (mantissa_of text);
-  exponent = signed (starts_with_minus (power_of text)) (digits_value 10 (without_leading_sign (power_of text)));
-}
 
 -- what a score's text has
 pub record IsDigitText (text : List ℕ) : Type 0 where

@@ -4,3 +4,4 @@ pub mod Key
 pub mod Spelling
 pub mod KeyLaws
 pub mod Significand
+pub mod Reading

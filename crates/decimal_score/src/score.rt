@@ -3,6 +3,7 @@ ghost use Rattle.std.proofs.Common.{rules};
 ghost use Rattle.std.specs.Cmp.Rules.{comparing};
 ghost use Rattle.std.specs.Ordering.{int_cmp, int_eq};
 ghost use Rattle.decimal_score.specs.declared.score.ScoreFault.{ScoreFault};
+ghost use Rattle.decimal_score.specs.Reading.{score_of};
 ghost use Rattle.decimal_score.specs.Value.{ReadsAs, IsPlace};
 
 use crate::key;
@@ -121,6 +122,7 @@ fn is_place(place: i128) -> bool
 /// The score that a text spells. Digits that are all 0 spell zero at any length and with any
 /// exponent; of the faults of other texts, the first in the order of `ScoreFault` is told.
 pub fn read_score(text: &[u8]) -> Result<Score, ScoreFault>
+    ensures value { result ≡ score_of text.now }
     ensures reads { ReadsAs text.now result }
     ensures only { (answer : Result ℤ ScoreFault) → ReadsAs text.now answer → answer ≡ result }
 {

@@ -1,22 +1,40 @@
-use Rattle.std.proofs.Common.{ap, ◌∙◌, arith, rules, inl, inr, IsTrue}
+use Rattle.std.proofs.Common.{sym, ap, ◌∙◌, arith, rules, inl, inr, IsTrue}
 use Rattle.std.specs.Str.Parse.{digits_value}
 use Rattle.std.proofs.lemmas.Int.{ints}
 use Rattle.decimal_score.specs.Spelling.{parts_of}
 use Rattle.decimal_score.specs.Value.{scaled}
-use Rattle.decimal_score.proofs.Readings.{added, one_reading, too_long_text, far_text, near_text, significant, insignificant}
+use Rattle.decimal_score.proofs.Answer.{answer_is}
+use Rattle.decimal_score.proofs.Readings.{added, too_long_text, far_text, near_text, significant, insignificant}
 use Rattle.decimal_score.proofs.score.read_score.Goals as goal
+
+pub returns-in_default-clause-reads : goal.returns-in_default-clause-reads
+returns-in_default-clause-reads c = c.in_default.ensures.none
+
+pub returns-in_default-clause-value : goal.returns-in_default-clause-value
+returns-in_default-clause-value c = answer_is c.args.text.now _ (returns-in_default-clause-reads c)
+
+pub returns-in_default-clause-only : goal.returns-in_default-clause-only
+returns-in_default-clause-only c answer h = answer_is c.args.text.now answer h ∙ sym (returns-in_default-clause-value c)
 
 pub returns-in_default-significand_of-clause-reads : goal.returns-in_default-significand_of-clause-reads
 returns-in_default-significand_of-clause-reads c =
     too_long_text c.args.text.now (parts_of c.in-Some.spelling) c.in-Some.ensures.some c.in_default-significand_of.ensures.long
 
+pub returns-in_default-significand_of-clause-value : goal.returns-in_default-significand_of-clause-value
+returns-in_default-significand_of-clause-value c = answer_is c.args.text.now _ (returns-in_default-significand_of-clause-reads c)
+
 pub returns-in_default-significand_of-clause-only : goal.returns-in_default-significand_of-clause-only
-returns-in_default-significand_of-clause-only c answer h =
-    one_reading c.args.text.now answer _ h (too_long_text c.args.text.now (parts_of c.in-Some.spelling) c.in-Some.ensures.some c.in_default-significand_of.ensures.long)
+returns-in_default-significand_of-clause-only c answer h = answer_is c.args.text.now answer h ∙ sym (returns-in_default-significand_of-clause-value c)
+
+pub returns-then-significand-eq0-clause-reads : goal.returns-then-significand-eq0-clause-reads
+returns-then-significand-eq0-clause-reads c =
+    inl (insignificant c.args.text.now (parts_of c.in-Some.spelling) _ _ c.in-Some.ensures.some c.in-Some-significand_of.ensures.some (search rules), c.zero.ensures)
+
+pub returns-then-significand-eq0-clause-value : goal.returns-then-significand-eq0-clause-value
+returns-then-significand-eq0-clause-value c = answer_is c.args.text.now _ (returns-then-significand-eq0-clause-reads c)
 
 pub returns-then-significand-eq0-clause-only : goal.returns-then-significand-eq0-clause-only
-returns-then-significand-eq0-clause-only c answer h =
-    one_reading c.args.text.now answer _ h (inl (insignificant c.args.text.now (parts_of c.in-Some.spelling) _ _ c.in-Some.ensures.some c.in-Some-significand_of.ensures.some (search rules), c.zero.ensures))
+returns-then-significand-eq0-clause-only c answer h = answer_is c.args.text.now answer h ∙ sym (returns-then-significand-eq0-clause-value c)
 
 pub returns-then-not-is_place-clause-reads : goal.returns-then-not-is_place-clause-reads
 returns-then-not-is_place-clause-reads c =
@@ -28,9 +46,11 @@ returns-then-not-is_place-clause-reads c =
     c.in-Some-significand_of.ensures.short c.in-Some-significand_of.ensures.near c.exponent_of-exponent.ensures.value
     (λ here. let yes : IsTrue c.is_place.result = c.is_place.ensures.1 (omega (arith, ints, here.0), omega (arith, ints, here.1)) in cc)
 
+pub returns-then-not-is_place-clause-value : goal.returns-then-not-is_place-clause-value
+returns-then-not-is_place-clause-value c = answer_is c.args.text.now _ (returns-then-not-is_place-clause-reads c)
+
 pub returns-then-not-is_place-clause-only : goal.returns-then-not-is_place-clause-only
-returns-then-not-is_place-clause-only c answer h =
-    one_reading c.args.text.now answer _ h (returns-then-not-is_place-clause-reads c)
+returns-then-not-is_place-clause-only c answer h = answer_is c.args.text.now answer h ∙ sym (returns-then-not-is_place-clause-value c)
 
 pub returns-clause-reads : goal.returns-clause-reads
 returns-clause-reads c =
@@ -44,5 +64,8 @@ returns-clause-reads c =
     c.in-Some-significand_of.ensures.short c.in-Some-significand_of.ensures.near c.exponent_of-exponent.ensures.value
     here (c.new.ensures ∙ ap (scaled spelling.is_negative s.digits) sum))
 
+pub returns-clause-value : goal.returns-clause-value
+returns-clause-value c = answer_is c.args.text.now _ (returns-clause-reads c)
+
 pub returns-clause-only : goal.returns-clause-only
-returns-clause-only c answer h = one_reading c.args.text.now answer _ h (returns-clause-reads c)
+returns-clause-only c answer h = answer_is c.args.text.now answer h ∙ sym (returns-clause-value c)
