@@ -1,0 +1,5 @@
+pub mod Pieces
+pub mod Digits
+pub mod FieldLemmas
+pub mod Marking
+pub mod DigitLists

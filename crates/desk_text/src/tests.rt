@@ -1,0 +1,43 @@
+// What is meant by lines, fields and digits, by examples.
+use super::*;
+
+#[test]
+fn cuts_lines(rt: HostRuntime) {
+    let text = b"one\n\ntwo";
+    let first = next_line(text, 0);
+    assert_eq!(rt; (first.start, first.end, first.next), (0, 3, 4));
+    let blank = next_line(text, first.next);
+    assert_eq!(rt; (blank.start, blank.end, blank.next), (4, 4, 5));
+    let last = next_line(text, blank.next);
+    assert_eq!(rt; (last.start, last.end, last.next), (5, 8, 8));
+}
+
+#[test]
+fn finds_fields(rt: HostRuntime) {
+    let line = b" 401\t0 \tFBIS3-1  1\r";
+    let Ok(found) = fields(line) else {
+        panic!(rt; "no byte of this line is bad");
+    };
+    assert_eq!(rt; found.count(), 4);
+    assert_eq!(rt; found.text(line, 2), b"FBIS3-1".as_slice());
+    assert!(rt; is_blank(b" \t\r") && !is_blank(line));
+    assert!(rt; matches!(fields(b"a\0b\x7f"), Err(BadByte { at: 1 })));
+}
+
+#[test]
+fn reads_numbers(rt: HostRuntime) {
+    let mut padded = [b'0'; 4001];
+    padded[4000] = b'1';
+    assert_eq!(rt; whole(&padded, -1000, 1000), Some(1));
+    assert_eq!(rt; whole(b"-1000", -1000, 1000), Some(-1000));
+    assert_eq!(rt; whole(b"+7", -1000, 1000), Some(7));
+    assert_eq!(rt; whole(b"1001", -1000, 1000), None);
+    assert_eq!(rt; whole(b"-", -1000, 1000), None);
+    assert_eq!(rt;
+        whole(b"-9223372036854775808", i64::MIN, i64::MAX),
+        Some(i64::MIN)
+    );
+    assert_eq!(rt; whole(b"9223372036854775808", i64::MIN, i64::MAX), None);
+    assert_eq!(rt; plain(b"0", 10), Some(0));
+    assert_eq!(rt; plain(b"010", 10), None);
+}

@@ -1,0 +1,94 @@
+-- Faults that are looked for one after the other.
+use Rattle.std.proofs.Common.{◌≡◌, ℕ, ◌+◌, ◌<◌, ◌≤◌, List, [], ◌∷◌, ◌++◌, length, true, false, true≢false, cond, refl, ap, ap₂, sym, subst, ◌∙◌, arith, inl, inr, ◌⊎◌}
+use Rattle.std.specs.Prelude.{Bool, not, ◌||◌, ◌&&◌, ◌==◌, Option, Some, None, option_map, is_some, is_none, Result, Ok, Err, OnOk, IfErr, nat_lt, nat_le, position}
+use Rattle.std.specs.List.{list_any}
+use Rattle.std.specs.Result.{result_map_both}
+use Rattle.std.specs.Str.{bytes_eq}
+use Rattle.desk_text.specs.Lines.{is_bad, is_blank, fields_of}
+use Rattle.desk_text.specs.declared.line.TheConstants.{LONGEST_LINE}
+use Rattle.qrels_reader.specs.declared.fault.LineFault.{LineFault}
+use Rattle.qrels_reader.specs.declared.fault.LineFault.TheVariants.{LineTooLong, BadByte, BadFieldCount, NameTooLong, BadGrade, RepeatedDocument, TooManyTopics, TooManyRows, TooManyNameBytes}
+use Rattle.qrels_reader.specs.declared.fault.FileFault.{FileFault}
+use Rattle.qrels_reader.specs.declared.fault.FileFault.TheVariants.{Line, Memory}
+use Rattle.qrels_reader.specs.declared.limits.TheConstants.{MOST_TOPICS, MOST_QRELS_ROWS, MOST_NAME_BYTES}
+use Rattle.qrels_reader.specs.Reading.{unless, checked, and_then, field, is_long, read_line, with_row}
+use Rattle.qrels_reader.specs.Rows.{Row, row_of, grade_of, form_faults, row_faults, read_row}
+use Rattle.qrels_reader.specs.Grouped.{Judged, Topic, grouped, faults_after, with_row_on, documents_on, is_topic, row_count, name_bytes_in}
+use Rattle.qrels_reader.specs.Reader.{ReadsLine}
+use Rattle.qrels_reader.proofs.Grouping.{grouped-append, row_faults-grouped}
+
+-- what the tests of a line's form give
+pub form_is : (line : List ℕ) (a b c d e : Bool) → nat_lt LONGEST_LINE (length line) ≡ a → list_any is_bad line ≡ b → not (length (fields_of line) == 4) ≡ c → (is_long (field line 0) || is_long (field line 2)) ≡ d → is_none (grade_of line) ≡ e
+    → unless (form_faults line) (row_of line) ≡ unless ((a, LineTooLong) ∷ (b, BadByte) ∷ (c, BadFieldCount) ∷ (d, NameTooLong) ∷ (e, BadGrade) ∷ []) (row_of line)
+form_is line a b c d e p q r s t = λ i. unless ((p i, LineTooLong) ∷ (q i, BadByte) ∷ (r i, BadFieldCount) ∷ (s i, NameTooLong) ∷ (t i, BadGrade) ∷ []) (row_of line)
+
+-- and those of a row
+pub row_is : (ts : List Topic) (row : Row) (a b c d : Bool) → list_any (λ judged. bytes_eq row.document judged.document) (documents_on row.topic ts) ≡ a → (not (is_topic row.topic ts) && nat_le MOST_TOPICS (length ts)) ≡ b
+    → nat_le MOST_QRELS_ROWS (row_count ts) ≡ c → nat_lt MOST_NAME_BYTES (name_bytes_in ts + length row.document) ≡ d
+    → checked (faults_after ts row) ≡ unless ((a, RepeatedDocument) ∷ (b, TooManyTopics) ∷ (c, TooManyRows) ∷ (d, TooManyNameBytes) ∷ []) (tt {0})
+row_is ts row a b c d p q r s = λ i. unless ((p i, RepeatedDocument) ∷ (q i, TooManyTopics) ∷ (r i, TooManyRows) ∷ (s i, TooManyNameBytes) ∷ []) (tt {0})
+
+pub is_some-from : {A B : Type 0} (o : Option A) (f : A → B) (x : B) → Some x ≡ option_map f o → is_some o ≡ true
+is_some-from None f x e = absurd (cc)
+is_some-from (Some y) f x e = refl
+
+pub is_none-from : {A B : Type 0} (o : Option A) (f : A → B) → None ≡ option_map f o → is_some o ≡ false
+is_none-from None f e = refl
+is_none-from (Some y) f e = absurd (cc)
+
+-- the faults do not depend on what is wanted where there is none
+pub unless-ok : {A B F : Type 0} (tests : List (Bool × F)) (a b : A) (c : B) → unless tests a ≡ Ok b → unless tests c ≡ Ok c
+unless-ok [] a b c e = refl
+unless-ok {F} (t ∷ tests) a b c e = by t.0 (unless-ok tests a b c) e
+  where
+    by : (d : Bool) → (unless tests a ≡ Ok b → unless tests c ≡ Ok c) → cond d (Err t.1) (unless tests a) ≡ Ok b → cond d (Err t.1) (unless tests c) ≡ Ok c
+    by true rest e = absurd (cc)
+    by false rest e = rest e
+
+pub unless-err : {A B F : Type 0} (tests : List (Bool × F)) (a : A) (c : B) (fault : F) → unless tests a ≡ Err fault → unless tests c ≡ Err fault
+unless-err [] a c fault e = absurd (cc)
+unless-err (t ∷ tests) a c fault e = by t.0 (unless-err tests a c fault) e
+  where
+    by : (d : Bool) → (unless tests a ≡ Err fault → unless tests c ≡ Err fault) → cond d (Err t.1) (unless tests a) ≡ Err fault → cond d (Err t.1) (unless tests c) ≡ Err fault
+    by true rest e = (let k : t.1 ≡ fault = cc in ap Err k)
+    by false rest e = rest e
+
+-- where nothing is wrong the first test fails, and nothing is wrong by the others
+pub unless-first : {A F : Type 0} (d : Bool) (f : F) (rest : List (Bool × F)) (a b : A) → unless ((d, f) ∷ rest) a ≡ Ok b → (d ≡ false) × (unless rest a ≡ Ok b)
+unless-first true f rest a b e = absurd (cc)
+unless-first false f rest a b e = (refl, e)
+
+-- a line that is blank
+pub read_blank : (number : ℕ) (rows : List Row) (line : List ℕ) (ts : List Topic) → is_blank line ≡ true → ts ≡ grouped rows → ReadsLine number rows line (Ok tt) ts
+read_blank number rows line ts b e = (None, ap (λ b. cond b (Ok None) (result_map_both (λ row. row) (Line number) (read_row rows line))) b, e)
+
+filled : (number : ℕ) (rows : List Row) (line : List ℕ) → is_blank line ≡ false → read_line read_row number rows line ≡ result_map_both (λ row. row) (Line number) (read_row rows line)
+filled number rows line b = ap (λ b. cond b (Ok None) (result_map_both (λ row. row) (Line number) (read_row rows line))) b
+
+-- a line whose form is wrong
+pub read_misformed : (number : ℕ) (rows : List Row) (line : List ℕ) (fault : LineFault) (ts : List Topic) → is_blank line ≡ false → unless (form_faults line) (row_of line) ≡ Err fault → ReadsLine number rows line (Err (Line number fault)) ts
+read_misformed number rows line fault ts b e =
+    inr (filled number rows line b ∙ ap (λ r. result_map_both (λ row. row) (Line number) (and_then r (λ row. unless (row_faults rows row) (Some row)))) e)
+
+-- a line of the right form
+pub read_formed : (number : ℕ) (rows : List Row) (line : List ℕ) (row : Row) (ts ts' : List Topic) (answer : Result (Unit {0}) FileFault) → is_blank line ≡ false → ts ≡ grouped rows → unless (form_faults line) (row_of line) ≡ Ok row
+    → OnOk answer (checked (faults_after ts row) ≡ Ok (tt {0})) → OnOk answer (ts' ≡ with_row_on ts row)
+    → IfErr answer (λ e. (e ≡ Memory) ⊎ ((fault : LineFault) × (checked (faults_after ts row) ≡ Err fault) × (e ≡ Line number fault))) → ReadsLine number rows line answer ts'
+read_formed number rows line row ts ts' (Ok done) b e f right added wrong =
+    let same : faults_after ts row ≡ row_faults rows row = ap (λ ts. faults_after ts row) e ∙ sym (row_faults-grouped rows row) in
+    let fine : unless (row_faults rows row) (Some row) ≡ Ok (Some row) = ap (λ tests. unless tests (Some row)) (sym same) ∙ unless-ok (faults_after ts row) (tt {0}) (tt {0}) (Some row) right in
+    (Some row,
+      filled number rows line b ∙ ap (λ r. result_map_both (λ row. row) (Line number) (and_then r (λ row. unless (row_faults rows row) (Some row)))) f ∙ ap (result_map_both (λ row. row) (Line number)) fine,
+      added ∙ ap (λ ts. with_row_on ts row) e ∙ sym (grouped-append rows row))
+read_formed number rows line row ts ts' (Err fault) b e f right added wrong = elim wrong [
+  | inl w ↦ inl w
+  | inr w ↦
+      let same : faults_after ts row ≡ row_faults rows row = ap (λ ts. faults_after ts row) e ∙ sym (row_faults-grouped rows row) in
+      let found : unless (row_faults rows row) (Some row) ≡ Err w.0 = ap (λ tests. unless tests (Some row)) (sym same) ∙ unless-err (faults_after ts row) (tt {0}) (Some row) w.0 w.1 in
+      inr (filled number rows line b ∙ ap (λ r. result_map_both (λ row. row) (Line number) (and_then r (λ row. unless (row_faults rows row) (Some row)))) f
+        ∙ ap (result_map_both (λ row. row) (Line number)) found ∙ ap Err (sym w.2))
+]
+
+pub on_ok : {A E P Q : Type 0} (r : Result A E) → (P → Q) → OnOk r P → OnOk r Q
+on_ok (Ok a) f p = f p
+on_ok (Err e) f p = tt

@@ -1,0 +1,145 @@
+-- Documents with their grades, and topics with their documents, which are kept in two lists.
+use Rattle.std.proofs.Common.{◌≡◌, ℕ, zero, suc, ◌+◌, ◌<◌, ◌≤◌, List, [], ◌∷◌, ◌++◌, length, get_or, set, refl, ap, ap₂, sym, subst, ◌∙◌, arith}
+use Rattle.std.specs.Prelude.{Option, Some, None, map, option_map, sum_by, slice_get, unwrap_or, ℤ}
+use Rattle.std.specs.Option.{option_map_or}
+use Rattle.std.proofs.lemmas.Option.{slice_get-map, unwrap_or-slice_get}
+use Rattle.std.proofs.lemmas.List.{get_or_default, length-append, length-set}
+use Rattle.std.proofs.lemmas.List.Sums.{sum_by-cons, sum_by-append}
+use Rattle.qrels_reader.specs.Grouped.{Judged, Topic, names_of, documents_at, row_count, bytes_in, name_bytes_in, with_document}
+use Rattle.qrels_reader.specs.Names.{judged_in, topics_in, IsCounted}
+
+pub documents-judged_in : (ds : List (List ℕ)) (gs : List ℤ) → length ds ≡ length gs → map (λ judged. judged.document) (judged_in ds gs) ≡ ds
+documents-judged_in [] gs e = refl
+documents-judged_in (d ∷ ds) [] e = absurd (omega arith)
+documents-judged_in (d ∷ ds) (g ∷ gs) e = ap (λ xs. d ∷ xs) (documents-judged_in ds gs (omega arith))
+
+pub grades-judged_in : (ds : List (List ℕ)) (gs : List ℤ) → length ds ≡ length gs → map (λ judged. judged.grade) (judged_in ds gs) ≡ gs
+grades-judged_in [] [] e = refl
+grades-judged_in [] (g ∷ gs) e = absurd (omega arith)
+grades-judged_in (d ∷ ds) [] e = absurd (omega arith)
+grades-judged_in (d ∷ ds) (g ∷ gs) e = ap (λ xs. g ∷ xs) (grades-judged_in ds gs (omega arith))
+
+pub length-judged_in : (ds : List (List ℕ)) (gs : List ℤ) → length ds ≡ length gs → length (judged_in ds gs) ≡ length gs
+length-judged_in [] [] e = refl
+length-judged_in [] (g ∷ gs) e = absurd (omega arith)
+length-judged_in (d ∷ ds) [] e = absurd (omega arith)
+length-judged_in (d ∷ ds) (g ∷ gs) e = ap suc (length-judged_in ds gs (omega arith))
+
+pub judged_in-append : (ds : List (List ℕ)) (gs : List ℤ) (d : List ℕ) (g : ℤ) → length ds ≡ length gs → judged_in (ds ++ d ∷ []) (gs ++ g ∷ []) ≡ judged_in ds gs ++ record { document = d; grade = g } ∷ []
+judged_in-append [] [] d g e = refl
+judged_in-append [] (x ∷ gs) d g e = absurd (omega arith)
+judged_in-append (y ∷ ds) [] d g e = absurd (omega arith)
+judged_in-append (y ∷ ds) (x ∷ gs) d g e = ap (λ xs. record { document = y; grade = x } ∷ xs) (judged_in-append ds gs d g (omega arith))
+
+pub bytes_in-judged_in : (ds : List (List ℕ)) (gs : List ℤ) → length ds ≡ length gs → bytes_in (judged_in ds gs) ≡ sum_by length ds
+bytes_in-judged_in [] gs e = refl
+bytes_in-judged_in (d ∷ ds) [] e = absurd (omega arith)
+bytes_in-judged_in (d ∷ ds) (g ∷ gs) e =
+    sum_by-cons (λ judged. length judged.document) (record { document = d; grade = g }) (judged_in ds gs)
+    ∙ ap (λ n. length d + n) (bytes_in-judged_in ds gs (omega arith)) ∙ sym (sum_by-cons length d ds)
+
+pub names-topics_in : (ns : List (List ℕ)) (js : List (List Judged)) → length ns ≡ length js → names_of (topics_in ns js) ≡ ns
+names-topics_in [] js e = refl
+names-topics_in (n ∷ ns) [] e = absurd (omega arith)
+names-topics_in (n ∷ ns) (j ∷ js) e = ap (λ xs. n ∷ xs) (names-topics_in ns js (omega arith))
+
+pub length-topics_in : (ns : List (List ℕ)) (js : List (List Judged)) → length ns ≡ length js → length (topics_in ns js) ≡ length ns
+length-topics_in [] js e = refl
+length-topics_in (n ∷ ns) [] e = absurd (omega arith)
+length-topics_in (n ∷ ns) (j ∷ js) e = ap suc (length-topics_in ns js (omega arith))
+
+pub topics_in-append : (ns : List (List ℕ)) (js : List (List Judged)) (n : List ℕ) (j : List Judged) → length ns ≡ length js → topics_in (ns ++ n ∷ []) (js ++ j ∷ []) ≡ topics_in ns js ++ record { name = n; documents = j } ∷ []
+topics_in-append [] [] n j e = refl
+topics_in-append [] (y ∷ js) n j e = absurd (omega arith)
+topics_in-append (x ∷ ns) [] n j e = absurd (omega arith)
+topics_in-append (x ∷ ns) (y ∷ js) n j e = ap (λ xs. record { name = x; documents = y } ∷ xs) (topics_in-append ns js n j (omega arith))
+
+-- the documents of a topic are those that stand in its place
+pub documents_at-topics_in : (ns : List (List ℕ)) (js : List (List Judged)) (t : ℕ) → length ns ≡ length js → documents_at (topics_in ns js) t ≡ get_or js t []
+documents_at-topics_in [] [] t e = refl
+documents_at-topics_in [] (j ∷ js) t e = absurd (omega arith)
+documents_at-topics_in (n ∷ ns) [] t e = absurd (omega arith)
+documents_at-topics_in (n ∷ ns) (j ∷ js) zero e = refl
+documents_at-topics_in (n ∷ ns) (j ∷ js) (suc t) e = documents_at-topics_in ns js t (omega arith)
+
+-- a document that is put into its place is one more of its topic
+pub topics_in-set : (ns : List (List ℕ)) (js : List (List Judged)) (t : ℕ) (x : List Judged) (d : Judged) → length ns ≡ length js → x ≡ get_or js t [] ++ d ∷ [] → topics_in ns (set js t x) ≡ with_document (topics_in ns js) t d
+topics_in-set [] js t x d e f = refl
+topics_in-set (n ∷ ns) [] t x d e f = absurd (omega arith)
+topics_in-set (n ∷ ns) (j ∷ js) zero x d e f = ap (λ y. record { name = n; documents = y } ∷ topics_in ns js) f
+topics_in-set (n ∷ ns) (j ∷ js) (suc t) x d e f = ap (λ ts. record { name = n; documents = j } ∷ ts) (topics_in-set ns js t x d (omega arith) f)
+
+-- what is counted over the documents of each topic
+module _ (count : List Judged → ℕ) where
+  pub part-le : (ts : List Topic) (t : ℕ) → count [] ≡ 0 → count (documents_at ts t) ≤ sum_by (λ topic. count topic.documents) ts
+  part-le [] t e = omega arith
+  part-le (x ∷ ts) zero e = omega (arith, sum_by-cons (λ (topic : Topic). count topic.documents) x ts)
+  part-le (x ∷ ts) (suc t) e = omega (arith, sum_by-cons (λ (topic : Topic). count topic.documents) x ts, part-le ts t e)
+
+  pub counted-more : (ts : List Topic) (t : ℕ) (d : Judged) (k : ℕ) → ((js : List Judged) → count (js ++ d ∷ []) ≡ count js + k) → t < length ts → sum_by (λ topic. count topic.documents) (with_document ts t d) ≡ sum_by (λ topic. count topic.documents) ts + k
+  counted-more [] t d k more lt = absurd (omega arith)
+  counted-more (x ∷ ts) zero d k more lt =
+      let after = sum_by-cons (λ (topic : Topic). count topic.documents) (record { name = x.name; documents = x.documents ++ d ∷ [] }) ts in
+      let before = sum_by-cons (λ (topic : Topic). count topic.documents) x ts in
+      omega (arith, more x.documents)
+  counted-more (x ∷ ts) (suc t) d k more lt =
+      let after = sum_by-cons (λ (topic : Topic). count topic.documents) x (with_document ts t d) in
+      let before = sum_by-cons (λ (topic : Topic). count topic.documents) x ts in
+      omega (arith, counted-more ts t d k more (omega arith))
+
+-- a topic that has a document is there
+pub has_place : (ts : List Topic) (t i : ℕ) → i < length (documents_at ts t) → t < length ts
+has_place [] t i lt = absurd (omega arith)
+has_place (x ∷ ts) zero i lt = omega arith
+has_place (x ∷ ts) (suc t) i lt = let h = has_place ts t i lt in omega arith
+
+-- the documents that stand in a topic's place are the topic's
+pub held : (ns : List (List ℕ)) (js : List (List Judged)) (ts : List Topic) (t : ℕ) (x : List Judged) → length ns ≡ length js → topics_in ns js ≡ ts → t < length js → x ≡ get_or js t x → documents_at ts t ≡ x
+held ns js ts t x e f lt g = ap (λ ts. documents_at ts t) (sym f) ∙ documents_at-topics_in ns js t e ∙ get_or_default js t [] x lt ∙ sym g
+
+-- one more topic
+pub record TopicAdded (ns : List (List ℕ)) (js : List (List Judged)) (ns' : List (List ℕ)) (js' : List (List Judged)) (rows bytes : ℕ) (name : List ℕ) : Type 0 where
+  pub is_counted : IsCounted ns' js' rows bytes
+  pub topics : topics_in ns' js' ≡ topics_in ns js ++ record { name = name; documents = [] } ∷ []
+
+pub topic_added : (ns : List (List ℕ)) (js : List (List Judged)) (ns' : List (List ℕ)) (js' : List (List Judged)) (rows bytes : ℕ) (name : List ℕ) → IsCounted ns js rows bytes → ns' ≡ ns ++ name ∷ [] → js' ≡ js ++ [] ∷ [] → TopicAdded ns js ns' js' rows bytes name
+topic_added ns js ns' js' rows bytes name counted e f =
+    let topics = ap₂ topics_in e f ∙ topics_in-append ns js name [] counted.matched in
+    let new : Topic = record { name = name; documents = [] } in
+    let sizes = ap length e in
+    let sizes' = ap length f in
+    record {
+      is_counted = record {
+        matched = omega (arith, sizes, sizes', length-append ns (name ∷ []), length-append js ([] ∷ []), counted.matched);
+        rows_counted =
+            let r = ap row_count topics in
+            omega (arith, r, sum_by-append (λ (topic : Topic). length topic.documents) (topics_in ns js) (new ∷ []), counted.rows_counted);
+        bytes_counted =
+            let r = ap name_bytes_in topics in
+            omega (arith, r, sum_by-append (λ (topic : Topic). bytes_in topic.documents) (topics_in ns js) (new ∷ []), counted.bytes_counted);
+      };
+      topics = topics;
+    }
+
+-- one more document
+pub record DocumentAdded (ns : List (List ℕ)) (js js' : List (List Judged)) (rows bytes t : ℕ) (d : Judged) : Type 0 where
+  pub is_counted : IsCounted ns js' (rows + 1) (bytes + length d.document)
+  pub topics : topics_in ns js' ≡ with_document (topics_in ns js) t d
+
+pub document_added : (ns : List (List ℕ)) (js js' : List (List Judged)) (rows bytes t : ℕ) (x : List Judged) (d : Judged) → IsCounted ns js rows bytes → t < length js → js' ≡ set js t x → x ≡ get_or js t [] ++ d ∷ [] → DocumentAdded ns js js' rows bytes t d
+document_added ns js js' rows bytes t x d counted lt e f =
+    let topics = ap (topics_in ns) e ∙ topics_in-set ns js t x d counted.matched f in
+    let there : t < length (topics_in ns js) = omega (arith, length-topics_in ns js counted.matched, counted.matched) in
+    let size = ap length e in
+    record {
+      is_counted = record {
+        matched = omega (arith, size, length-set js t x, counted.matched);
+        rows_counted =
+            let r = ap row_count topics in
+            omega (arith, r, counted-more length (topics_in ns js) t d 1 (λ ds. length-append ds (d ∷ [])) there, counted.rows_counted);
+        bytes_counted =
+            let r = ap name_bytes_in topics in
+            omega (arith, r, counted-more bytes_in (topics_in ns js) t d (length d.document) (λ ds. omega (arith, sum_by-append (λ (judged : Judged). length judged.document) ds (d ∷ []))) there, counted.bytes_counted);
+      };
+      topics = topics;
+    }

@@ -1,0 +1,17 @@
+//! The rows of a qrels file, and what every reader of rows shares: the faults, the limits and the definitions of a file's rows.
+#![tactic(auto)]
+
+mod fault;
+mod judgements;
+mod limits;
+mod line;
+mod name_set;
+mod names;
+mod qrels;
+mod reader;
+
+pub use fault::{FileFault, LineFault};
+pub use limits::{
+    GREATEST_GRADE, LEAST_GRADE, LONGEST_NAME, MOST_NAME_BYTES, MOST_QRELS_ROWS, MOST_TOPICS,
+};
+pub use qrels::Qrels;
