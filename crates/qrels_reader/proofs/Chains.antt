@@ -1,6 +1,6 @@
 -- Faults that are looked for one after the other.
-use Rattle.std.proofs.Common.{◌≡◌, ℕ, ◌+◌, ◌<◌, ◌≤◌, List, [], ◌∷◌, ◌++◌, length, true, false, true≢false, cond, refl, ap, ap₂, sym, subst, ◌∙◌, arith, inl, inr, ◌⊎◌}
-use Rattle.std.specs.Prelude.{Bool, not, ◌||◌, ◌&&◌, ◌==◌, Option, Some, None, option_map, is_some, is_none, Result, Ok, Err, OnOk, IfErr, nat_lt, nat_le, position}
+use Rattle.std.proofs.Common.{◌≡◌, ℕ, ◌+◌, List, [], ◌∷◌, length, true, false, cond, refl, ap, sym, ◌∙◌, inl, inr, ◌⊎◌}
+use Rattle.std.specs.Prelude.{Bool, not, ◌||◌, ◌&&◌, ◌==◌, Option, Some, None, option_map, is_some, is_none, Result, Ok, Err, OnOk, IfErr, nat_lt, nat_le}
 use Rattle.std.specs.List.{list_any}
 use Rattle.std.specs.Result.{result_map_both}
 use Rattle.std.specs.Str.{bytes_eq}
@@ -11,9 +11,9 @@ use Rattle.qrels_reader.specs.declared.fault.LineFault.TheVariants.{LineTooLong,
 use Rattle.qrels_reader.specs.declared.fault.FileFault.{FileFault}
 use Rattle.qrels_reader.specs.declared.fault.FileFault.TheVariants.{Line, Memory}
 use Rattle.qrels_reader.specs.declared.limits.TheConstants.{MOST_TOPICS, MOST_QRELS_ROWS, MOST_NAME_BYTES}
-use Rattle.qrels_reader.specs.Reading.{unless, checked, and_then, field, is_long, read_line, with_row}
+use Rattle.qrels_reader.specs.Reading.{unless, checked, and_then, field, is_long, read_line}
 use Rattle.qrels_reader.specs.Rows.{Row, row_of, grade_of, form_faults, row_faults, read_row}
-use Rattle.qrels_reader.specs.Grouped.{Judged, Topic, grouped, faults_after, with_row_on, documents_on, is_topic, row_count, name_bytes_in}
+use Rattle.qrels_reader.specs.Grouped.{Topic, grouped, faults_after, with_row_on, documents_on, is_topic, row_count, name_bytes_in}
 use Rattle.qrels_reader.specs.Reader.{ReadsLine}
 use Rattle.qrels_reader.proofs.Grouping.{grouped-append, row_faults-grouped}
 
@@ -53,10 +53,19 @@ unless-err (t ∷ tests) a c fault e = by t.0 (unless-err tests a c fault) e
     by true rest e = (let k : t.1 ≡ fault = cc in ap Err k)
     by false rest e = rest e
 
--- where nothing is wrong the first test fails, and nothing is wrong by the others
-pub unless-first : {A F : Type 0} (d : Bool) (f : F) (rest : List (Bool × F)) (a b : A) → unless ((d, f) ∷ rest) a ≡ Ok b → (d ≡ false) × (unless rest a ≡ Ok b)
-unless-first true f rest a b e = absurd (cc)
-unless-first false f rest a b e = (refl, e)
+-- no test holds
+abbrev pub NoneHolds : {F : Type 0} → List (Bool × F) → Type 0
+NoneHolds [] = Unit {0}
+NoneHolds (t ∷ tests) = (t.0 ≡ false) × NoneHolds tests
+
+-- where nothing is wrong no test holds
+pub none_holds : {A F : Type 0} (tests : List (Bool × F)) (a b : A) → unless tests a ≡ Ok b → NoneHolds tests
+none_holds [] a b e = tt
+none_holds (t ∷ tests) a b e = by (none_holds tests a b) t.0 refl e
+  where
+    by : (unless tests a ≡ Ok b → NoneHolds tests) → (d : Bool) → t.0 ≡ d → cond d (Err t.1) (unless tests a) ≡ Ok b → (t.0 ≡ false) × NoneHolds tests
+    by rest true f e = absurd (cc)
+    by rest false f e = (f, rest e)
 
 -- a line that is blank
 pub read_blank : (number : ℕ) (rows : List Row) (line : List ℕ) (ts : List Topic) → is_blank line ≡ true → ts ≡ grouped rows → ReadsLine number rows line (Ok tt) ts
@@ -76,17 +85,18 @@ pub read_formed : (number : ℕ) (rows : List Row) (line : List ℕ) (row : Row)
     → IfErr answer (λ e. (e ≡ Memory) ⊎ ((fault : LineFault) × (checked (faults_after ts row) ≡ Err fault) × (e ≡ Line number fault))) → ReadsLine number rows line answer ts'
 read_formed number rows line row ts ts' (Ok done) b e f right added wrong =
     let same : faults_after ts row ≡ row_faults rows row = ap (λ ts. faults_after ts row) e ∙ sym (row_faults-grouped rows row) in
-    let fine : unless (row_faults rows row) (Some row) ≡ Ok (Some row) = ap (λ tests. unless tests (Some row)) (sym same) ∙ unless-ok (faults_after ts row) (tt {0}) (tt {0}) (Some row) right in
-    (Some row,
+    let fine : unless (row_faults rows row) (Some row) ≡ Ok (Some row) = ap (λ tests. unless tests (Some row)) (sym same) ∙ unless-ok (faults_after ts row) (tt {0}) (tt {0}) (Some row) right in (
+      Some row,
       filled number rows line b ∙ ap (λ r. result_map_both (λ row. row) (Line number) (and_then r (λ row. unless (row_faults rows row) (Some row)))) f ∙ ap (result_map_both (λ row. row) (Line number)) fine,
-      added ∙ ap (λ ts. with_row_on ts row) e ∙ sym (grouped-append rows row))
+      added ∙ ap (λ ts. with_row_on ts row) e ∙ sym (grouped-append rows row),
+    )
 read_formed number rows line row ts ts' (Err fault) b e f right added wrong = elim wrong [
   | inl w ↦ inl w
   | inr w ↦
       let same : faults_after ts row ≡ row_faults rows row = ap (λ ts. faults_after ts row) e ∙ sym (row_faults-grouped rows row) in
       let found : unless (row_faults rows row) (Some row) ≡ Err w.0 = ap (λ tests. unless tests (Some row)) (sym same) ∙ unless-err (faults_after ts row) (tt {0}) (Some row) w.0 w.1 in
       inr (filled number rows line b ∙ ap (λ r. result_map_both (λ row. row) (Line number) (and_then r (λ row. unless (row_faults rows row) (Some row)))) f
-        ∙ ap (result_map_both (λ row. row) (Line number)) found ∙ ap Err (sym w.2))
+      ∙ ap (result_map_both (λ row. row) (Line number)) found ∙ ap Err (sym w.2))
 ]
 
 pub on_ok : {A E P Q : Type 0} (r : Result A E) → (P → Q) → OnOk r P → OnOk r Q

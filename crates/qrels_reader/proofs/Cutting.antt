@@ -1,6 +1,6 @@
 -- Names that are cut out of bytes.
 use Rattle.std.proofs.Common.{◌≡◌, ℕ, zero, suc, ◌+◌, ◌-◌, ◌<◌, ◌≤◌, List, [], ◌∷◌, ◌++◌, length, get_or, take, drop, refl, ap, ap₂, sym, subst, ◌∙◌, arith, length-append, length-take, length-drop}
-use Rattle.std.specs.Prelude.{Some, Option, sum_by, slice_get, slice_range}
+use Rattle.std.specs.Prelude.{Some, sum_by, slice_get, slice_range}
 use Rattle.std.proofs.Math.Seq.{drop-append_seam}
 use Rattle.std.proofs.lemmas.List.{take_all, drop-append-le, take-append-le}
 use Rattle.std.proofs.lemmas.List.Sums.{sum_by-cons}
@@ -59,7 +59,7 @@ cut-append start [] bytes name end c e =
 cut-append start (first ∷ ends) bytes name end c e =
     let w = starts_within first ends bytes c.1 in
     let part : slice_range (bytes ++ name) start first ≡ slice_range bytes start first =
-        ap (take (first - start)) (drop-append-le start bytes name (omega (arith, c.0))) ∙ take-append-le (first - start) (drop start bytes) name (omega (arith, length-drop start bytes)) in
+    ap (take (first - start)) (drop-append-le start bytes name (omega (arith, c.0))) ∙ take-append-le (first - start) (drop start bytes) name (omega (arith, length-drop start bytes)) in
     ap₂ (λ x xs. x ∷ xs) part (cut-append first ends bytes name end c.1 e)
 
 pub IsCut-append : (start : ℕ) (ends bytes name : List ℕ) (end : ℕ) → IsCut start ends bytes → end ≡ length bytes + length name → IsCut start (ends ++ end ∷ []) (bytes ++ name)

@@ -1,6 +1,6 @@
 -- The bounds of a number that was read.
-use Rattle.std.proofs.Common.{◌≡◌, List, ℕ, true, false, cond, refl, ap, sym, subst, ◌∙◌}
-use Rattle.std.specs.Prelude.{Bool, ◌&&◌, Some, None, Option, T, ℤ, ◌≤ℤ◌, int_le}
+use Rattle.std.proofs.Common.{◌≡◌, List, ℕ, true, false, cond, refl, sym, subst}
+use Rattle.std.specs.Prelude.{Bool, ◌&&◌, Some, None, T, ℤ, ◌≤ℤ◌, int_le}
 use Rattle.std.proofs.lemmas.Bool.{and_parts}
 use Rattle.desk_text.specs.Numbers.{is_digits, after_sign, signed_value, whole_of}
 

@@ -1,14 +1,14 @@
 -- Rows that are grouped by their topics, one after the other.
-use Rattle.std.proofs.Common.{◌≡◌, ℕ, zero, suc, ◌+◌, ◌<◌, List, [], ◌∷◌, ◌++◌, length, true, false, true≢false, cond, refl, ap, ap₂, sym, subst, ◌∙◌, arith}
-use Rattle.std.specs.Prelude.{Bool, not, ◌||◌, ◌&&◌, map, filter, sum_by, Option, Some, None, option_map, position, nat_lt, nat_le}
-use Rattle.std.specs.List.{list_any, position_or_len}
+use Rattle.std.proofs.Common.{◌≡◌, ℕ, ◌+◌, List, [], ◌∷◌, ◌++◌, length, true, false, cond, refl, ap, ap₂, sym, subst, ◌∙◌, arith}
+use Rattle.std.specs.Prelude.{Bool, not, ◌||◌, ◌&&◌, map, filter, sum_by, nat_lt, nat_le}
+use Rattle.std.specs.List.{list_any}
 use Rattle.std.specs.Str.{bytes_eq}
 use Rattle.std.proofs.lemmas.List.{length-map, length-append, map-append, append_assoc}
 use Rattle.std.proofs.lemmas.List.Elements.{filter-append}
 use Rattle.std.proofs.lemmas.List.Sums.{sum_by-cons, sum_by-append}
 use Rattle.std.proofs.lemmas.Map.Steps.{list_any_congr}
 use Rattle.qrels_reader.specs.Rows.{Row, first_seen, topics_of, rows_on, has_topic, has_document, name_bytes_of, row_faults}
-use Rattle.qrels_reader.specs.Grouped.{Judged, Topic, judged_of, topic_of, grouped, names_of, is_topic, documents_at, documents_on, row_count, bytes_in, name_bytes_in, with_document, with_row_on, faults_after}
+use Rattle.qrels_reader.specs.Grouped.{Judged, Topic, judged_of, topic_of, grouped, names_of, is_topic, documents_on, row_count, bytes_in, name_bytes_in, with_row_on, faults_after}
 use Rattle.qrels_reader.specs.declared.fault.LineFault.{LineFault}
 use Rattle.qrels_reader.specs.declared.fault.LineFault.TheVariants.{RepeatedDocument, TooManyTopics, TooManyRows, TooManyNameBytes}
 use Rattle.qrels_reader.specs.declared.limits.TheConstants.{MOST_TOPICS, MOST_QRELS_ROWS, MOST_NAME_BYTES}
@@ -16,11 +16,11 @@ use Rattle.qrels_reader.proofs.Mapped.{list_any-map}
 use Rattle.qrels_reader.proofs.Seen.{laws, same, add_name, first_seen-append, IsDistinct, list_any-first_seen, IsDistinct-first_seen, or-false}
 
 -- what a row adds to the rows of a topic
-rows_on-append : (name : List ℕ) (rows : List Row) (row : Row) (b : Bool) → bytes_eq name row.topic ≡ b → rows_on name (rows ++ row ∷ []) ≡ rows_on name rows ++ cond b (row ∷ []) []
+pub rows_on-append : (name : List ℕ) (rows : List Row) (row : Row) (b : Bool) → bytes_eq name row.topic ≡ b → rows_on name (rows ++ row ∷ []) ≡ rows_on name rows ++ cond b (row ∷ []) []
 rows_on-append name rows row b e =
     filter-append (λ (r : Row). bytes_eq name r.topic) rows (row ∷ []) ∙ ap (λ b. rows_on name rows ++ cond b (row ∷ []) []) e
 
-append-nil : {A : Type 0} (xs : List A) → xs ++ [] ≡ xs
+pub append-nil : {A : Type 0} (xs : List A) → xs ++ [] ≡ xs
 append-nil [] = refl
 append-nil (x ∷ xs) = ap (λ ys. x ∷ ys) (append-nil xs)
 
@@ -70,7 +70,7 @@ names-grouped rows = by (topics_of rows)
     by [] = refl
     by (n ∷ ns) = ap (λ xs. n ∷ xs) (by ns)
 
-has_topic-topics : (name : List ℕ) (rows : List Row) → list_any (bytes_eq name) (topics_of rows) ≡ has_topic name rows
+pub has_topic-topics : (name : List ℕ) (rows : List Row) → list_any (bytes_eq name) (topics_of rows) ≡ has_topic name rows
 has_topic-topics name rows =
     list_any-first_seen name (map (λ row. row.topic) rows) ∙ sym (list_any-map (bytes_eq name) (λ (row : Row). row.topic) rows)
 
@@ -83,7 +83,7 @@ grouped-append rows row =
     ap (λ ns. map (topic_of (rows ++ row ∷ [])) (first_seen ns)) (map-append (λ (r : Row). r.topic) rows (row ∷ []))
     ∙ ap (map (topic_of (rows ++ row ∷ []))) (first_seen-append (map (λ r. r.topic) rows) row.topic)
     ∙ names_grouped rows row (topics_of rows) (IsDistinct-first_seen (map (λ r. r.topic) rows))
-        (λ e. filter_none (λ (r : Row). bytes_eq row.topic r.topic) rows (sym (has_topic-topics row.topic rows) ∙ e))
+    (λ e. filter_none (λ (r : Row). bytes_eq row.topic r.topic) rows (sym (has_topic-topics row.topic rows) ∙ e))
 
 on_names : (name : List ℕ) (rows : List Row) (ns : List (List ℕ)) → documents_on name (map (topic_of rows) ns) ≡ cond (list_any (bytes_eq name) ns) (map judged_of (rows_on name rows)) []
 on_names name rows [] = refl
@@ -135,7 +135,7 @@ module _ (count : List Judged → ℕ) (weight : Row → ℕ) (none : count [] �
   counted_on done [] e = subst (λ rows. sum_by (λ topic. count topic.documents) (grouped rows) ≡ sum_by weight rows) (sym (append-nil done)) e
   counted_on done (row ∷ rest) e =
       let step : sum_by (λ topic. count topic.documents) (grouped (done ++ row ∷ [])) ≡ sum_by (λ topic. count topic.documents) (grouped done) + weight row =
-          ap (sum_by (λ (topic : Topic). count topic.documents)) (grouped-append done row) ∙ counted-with_row_on (grouped done) row in
+      ap (sum_by (λ (topic : Topic). count topic.documents)) (grouped-append done row) ∙ counted-with_row_on (grouped done) row in
       let one : sum_by (λ topic. count topic.documents) (grouped (done ++ row ∷ [])) ≡ sum_by weight (done ++ row ∷ []) = omega (arith, step, sum_by-append weight done (row ∷ []), e) in
       subst (λ rows. sum_by (λ topic. count topic.documents) (grouped rows) ≡ sum_by weight rows) (append_assoc done (row ∷ []) rest) (counted_on (done ++ row ∷ []) rest one)
 
@@ -171,3 +171,6 @@ row_faults-grouped rows row =
     ∙ ap (λ x. table row (list_any (λ judged. bytes_eq row.document judged.document) (documents_on row.topic (grouped rows))) x (length (topics_of rows)) (length rows) (name_bytes_of rows)) (sym b)
     ∙ ap (λ x. table row (list_any (λ judged. bytes_eq row.document judged.document) (documents_on row.topic (grouped rows))) (is_topic row.topic (grouped rows)) x (length rows) (name_bytes_of rows)) (sym c)
     ∙ ap₂ (table row (list_any (λ judged. bytes_eq row.document judged.document) (documents_on row.topic (grouped rows))) (is_topic row.topic (grouped rows)) (length (grouped rows))) (sym d) (sym e)
+
+pub length-grouped : (rows : List Row) → length (grouped rows) ≡ length (topics_of rows)
+length-grouped rows = length-map (topics_of rows) (topic_of rows)

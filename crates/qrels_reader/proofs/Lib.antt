@@ -6,3 +6,6 @@ pub mod Grouping
 pub mod Places
 pub mod Chains
 pub mod Grades
+pub mod Progress
+pub mod FieldNames
+pub mod Right

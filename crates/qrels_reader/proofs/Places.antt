@@ -1,5 +1,5 @@
 -- The place of a topic among the topics.
-use Rattle.std.proofs.Common.{◌≡◌, ℕ, zero, suc, ◌+◌, ◌<◌, ◌≤◌, List, [], ◌∷◌, ◌++◌, length, get_or, set, true, false, true≢false, cond, refl, ap, ap₂, sym, subst, ◌∙◌, arith, inl, inr, ◌⊎◌}
+use Rattle.std.proofs.Common.{◌≡◌, ℕ, zero, suc, ◌+◌, ◌<◌, ◌≤◌, List, [], ◌∷◌, ◌++◌, length, get_or, set, true, false, cond, refl, ap, ap₂, sym, subst, ◌∙◌, arith, inl, inr, ◌⊎◌}
 use Rattle.std.specs.Prelude.{Bool, not, ◌||◌, map, Option, Some, None, option_map, position, nat_lt, is_some}
 use Rattle.std.specs.List.{list_any, position_or_len}
 use Rattle.std.specs.Str.{bytes_eq}
@@ -67,10 +67,10 @@ pub at_place : (ts : List Topic) (row : Row) (t : ℕ) → place_of row.topic ts
 at_place [] row t e = absurd (let k : None ≡ Some t = e in cc)
 at_place (x ∷ ts) row t e = elim (located (bytes_eq row.topic) x.name (names_of ts) t e) [
   | inl w ↦ subst (IsAt (x ∷ ts) row) (sym w.1) (record {
-      within = omega arith;
-      documents = sym (ap (λ b. cond b x.documents (documents_on row.topic ts)) w.0);
-      put = sym (ap (λ b. cond b (record { name = x.name; documents = x.documents ++ judged_of row ∷ [] } ∷ ts) (x ∷ with_row_on ts row)) w.0);
-    })
+    within = omega arith;
+    documents = sym (ap (λ b. cond b x.documents (documents_on row.topic ts)) w.0);
+    put = sym (ap (λ b. cond b (record { name = x.name; documents = x.documents ++ judged_of row ∷ [] } ∷ ts) (x ∷ with_row_on ts row)) w.0);
+  })
   | inr w ↦
       let rest = at_place ts row w.place w.found in
       subst (IsAt (x ∷ ts) row) (sym w.next) (record {
@@ -120,7 +120,7 @@ pub any-seen : (ts : List Topic) (seen : List (List (List ℕ))) (t : ℕ) (x : 
 any-seen ts seen t x document e lt f =
     let size = ap length e in
     let names : x ≡ map (λ judged. judged.document) (documents_at ts t) =
-        f ∙ get_or_default seen t x [] (omega (arith, size, length-map ts (λ (topic : Topic). map (λ judged. judged.document) topic.documents))) ∙ ap (λ xs. get_or xs t []) e ∙ get_or-documents_seen ts t in
+    f ∙ get_or_default seen t x [] (omega (arith, size, length-map ts (λ (topic : Topic). map (λ judged. judged.document) topic.documents))) ∙ ap (λ xs. get_or xs t []) e ∙ get_or-documents_seen ts t in
     ap (list_any (bytes_eq document)) names ∙ sym (list_any-map (bytes_eq document) (λ (judged : Judged). judged.document) (documents_at ts t))
 
 -- a document that is put into its topic is seen there
@@ -128,5 +128,5 @@ pub seen_more : (ts : List Topic) (seen : List (List (List ℕ))) (t : ℕ) (x x
 seen_more ts seen t x x' judged e lt f g =
     let size = ap length e in
     let here : x ≡ get_or (documents_seen ts) t [] =
-        f ∙ get_or_default seen t x [] (omega (arith, size, length-map ts (λ (topic : Topic). map (λ judged. judged.document) topic.documents))) ∙ ap (λ xs. get_or xs t []) e in
+    f ∙ get_or_default seen t x [] (omega (arith, size, length-map ts (λ (topic : Topic). map (λ judged. judged.document) topic.documents))) ∙ ap (λ xs. get_or xs t []) e in
     ap₂ (λ xs y. set xs t y) e (g ∙ ap (λ xs. xs ++ judged.document ∷ []) here) ∙ sym (documents_seen-with_document ts t judged)

@@ -1,12 +1,11 @@
 -- Names in the order in which they first stand.
-use Rattle.std.proofs.Common.{◌≡◌, ℕ, List, [], ◌∷◌, ◌++◌, true, false, true≢false, cond, refl, ap, ap₂, sym, subst, ◌∙◌, arith}
+use Rattle.std.proofs.Common.{◌≡◌, ℕ, List, [], ◌∷◌, ◌++◌, true, false, true≢false, cond, refl, ap, sym, ◌∙◌}
 use Rattle.std.specs.Prelude.{Bool, not, ◌||◌, filter}
-use Rattle.std.specs.List.{list_any}
+use Rattle.std.specs.List.{list_any, AllByRecursion, IsDistinct as AllDiffer}
 use Rattle.std.specs.Str.{bytes_eq}
 use Rattle.std.specs.Cmp.{IsEquivalence}
 use Rattle.std.specs.Cmp.Lexicographic.{same_text}
 use Rattle.std.proofs.lemmas.Cmp.{nat_list_eq_equiv}
-use Rattle.std.proofs.lemmas.Map.Steps.{list_any_congr}
 use Rattle.qrels_reader.specs.Rows.{first_seen}
 
 pub laws : IsEquivalence bytes_eq
@@ -43,7 +42,7 @@ filter-add_name y n [] = by (bytes_eq y n)
 filter-add_name y n (z ∷ zs) =
     filter-cond (others y) (bytes_eq n z) (z ∷ zs) (z ∷ add_name zs n)
     ∙ filtered (bytes_eq n z) (bytes_eq y z) (bytes_eq y n) z n (filter (others y) zs) (filter (others y) (add_name zs n)) refl
-        (λ e. laws.symm y n ∙ laws.congr n z y e ∙ laws.symm z y) (filter-add_name y n zs)
+    (λ e. laws.symm y n ∙ laws.congr n z y e ∙ laws.symm z y) (filter-add_name y n zs)
 
 -- one more name
 pub first_seen-append : (xs : List (List ℕ)) (n : List ℕ) → first_seen (xs ++ n ∷ []) ≡ add_name (first_seen xs) n
@@ -116,3 +115,28 @@ IsDistinct-filter p (z ∷ zs) d = by (IsDistinct-filter p zs d.1) (p z)
 pub IsDistinct-first_seen : (xs : List (List ℕ)) → IsDistinct (first_seen xs)
 IsDistinct-first_seen [] = tt
 IsDistinct-first_seen (x ∷ xs) = (none-others x (first_seen xs), IsDistinct-filter (others x) (first_seen xs) (IsDistinct-first_seen xs))
+
+none_equal : (x : List ℕ) (xs : List (List ℕ)) → list_any (bytes_eq x) xs ≡ false → AllByRecursion (λ y. bytes_eq x y ≡ false) xs
+none_equal x [] e = tt
+none_equal x (y ∷ ys) e =
+    let parts = or-false (bytes_eq x y) (list_any (bytes_eq x) ys) e in
+    (parts.0, none_equal x ys parts.1)
+
+-- the same, in the words of the library
+pub all_differ : (xs : List (List ℕ)) → IsDistinct xs → AllDiffer bytes_eq xs
+unfolding AllDiffer
+all_differ [] d = tt
+all_differ (x ∷ xs) d = (none_equal x xs d.0, all_differ xs d.1)
+
+any-push : (x n : List ℕ) (xs : List (List ℕ)) → list_any (bytes_eq x) xs ≡ false → bytes_eq x n ≡ false → list_any (bytes_eq x) (xs ++ n ∷ []) ≡ false
+any-push x n [] e f = ap (λ b. b || false) f
+any-push x n (y ∷ ys) e f =
+    let parts = or-false (bytes_eq x y) (list_any (bytes_eq x) ys) e in
+    ap (λ b. b || list_any (bytes_eq x) (ys ++ n ∷ [])) parts.0 ∙ any-push x n ys parts.1 f
+
+-- one more name that is not there yet
+pub IsDistinct-push : (xs : List (List ℕ)) (n : List ℕ) → IsDistinct xs → list_any (bytes_eq n) xs ≡ false → IsDistinct (xs ++ n ∷ [])
+IsDistinct-push [] n d e = (refl, tt)
+IsDistinct-push (x ∷ xs) n d e =
+    let parts = or-false (bytes_eq n x) (list_any (bytes_eq n) xs) e in
+    (any-push x n xs d.0 (laws.symm x n ∙ parts.0), IsDistinct-push xs n d.1 parts.1)

@@ -1,8 +1,6 @@
 -- Documents with their grades, and topics with their documents, which are kept in two lists.
-use Rattle.std.proofs.Common.{◌≡◌, ℕ, zero, suc, ◌+◌, ◌<◌, ◌≤◌, List, [], ◌∷◌, ◌++◌, length, get_or, set, refl, ap, ap₂, sym, subst, ◌∙◌, arith}
-use Rattle.std.specs.Prelude.{Option, Some, None, map, option_map, sum_by, slice_get, unwrap_or, ℤ}
-use Rattle.std.specs.Option.{option_map_or}
-use Rattle.std.proofs.lemmas.Option.{slice_get-map, unwrap_or-slice_get}
+use Rattle.std.proofs.Common.{◌≡◌, ℕ, zero, suc, ◌+◌, ◌<◌, ◌≤◌, List, [], ◌∷◌, ◌++◌, length, get_or, set, refl, ap, ap₂, sym, ◌∙◌, arith}
+use Rattle.std.specs.Prelude.{map, sum_by, ℤ}
 use Rattle.std.proofs.lemmas.List.{get_or_default, length-append, length-set}
 use Rattle.std.proofs.lemmas.List.Sums.{sum_by-cons, sum_by-append}
 use Rattle.qrels_reader.specs.Grouped.{Judged, Topic, names_of, documents_at, row_count, bytes_in, name_bytes_in, with_document}

@@ -1,8 +1,9 @@
 -- The rows of a qrels file, grouped by their topics.
-use Rattle.std.specs.Prelude.{ℕ, zero, suc, ◌+◌, Bool, ◌&&◌, not, ◌==◌, nat_lt, nat_le, List, [], ◌∷◌, ◌++◌, if◌then◌else◌, Result, Ok, Err, length, map, sum_by, slice_get, ℤ}
-use Rattle.std.specs.List.{list_any}
+use Rattle.std.specs.Prelude.{◌≡◌, ◌<◌, ◌≤◌, true, All, ℕ, zero, suc, ◌+◌, Bool, ◌&&◌, not, ◌==◌, nat_lt, nat_le, List, [], ◌∷◌, ◌++◌, if◌then◌else◌, Result, Ok, Err, length, map, sum_by, slice_get, ℤ}
+use Rattle.std.specs.List.{list_any, IsDistinct}
 use Rattle.std.specs.Option.{option_map_or}
 use Rattle.std.specs.Str.{bytes_eq}
+use Rattle.desk_model.specs.Name.{is_name}
 use Rattle.qrels_reader.specs.Reading.{and_then, rows_of}
 use Rattle.qrels_reader.specs.Rows.{Row, topics_of, rows_on, read_row}
 use Rattle.qrels_reader.specs.declared.fault.LineFault.{LineFault}
@@ -84,3 +85,15 @@ faults_after topics row =
     ∷ (nat_le MOST_QRELS_ROWS (row_count topics), TooManyRows)
     ∷ (nat_lt MOST_NAME_BYTES (name_bytes_in topics + length row.document), TooManyNameBytes)
     ∷ []
+
+-- what holds of the topics of a file that was read: there is one at least, they and the documents of each have names that differ, and the
+-- limits hold
+pub record IsQrels (file : List Topic) : Type 0 where
+  pub some_topic : 0 < length file
+  pub named : All (λ name. is_name name ≡ true) (names_of file)
+  pub distinct : IsDistinct bytes_eq (names_of file)
+  pub documents : All (λ topic. All (λ judged. is_name judged.document ≡ true) topic.documents) file
+  pub distinct_documents : All (λ topic. IsDistinct bytes_eq (map (λ judged. judged.document) topic.documents)) file
+  pub topics : length file ≤ MOST_TOPICS
+  pub rows : row_count file ≤ MOST_QRELS_ROWS
+  pub name_bytes : name_bytes_in file ≤ MOST_NAME_BYTES

@@ -3,4 +3,3 @@ pub mod Names
 pub mod Rows
 pub mod Grouped
 pub mod Reader
-

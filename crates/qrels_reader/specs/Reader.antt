@@ -23,7 +23,7 @@ place_of name topics = position (bytes_eq name) (names_of topics)
 
 -- the documents that were seen are those of the topics
 abbrev pub IsTracked : QrelsReader → Type 0
-IsTracked reader = reader.seen.items ≡ documents_seen reader.qrels
+IsTracked reader = reader.seen.items ≡ documents_seen reader.groups
 
 -- a line was read after some rows: the topics are those of these rows and the line's, or the answer is the line's fault, or memory was wanting
 abbrev pub ReadsLine : ℕ → List Row → List ℕ → Result (Unit {0}) FileFault → List Topic → Type 0

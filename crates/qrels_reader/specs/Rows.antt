@@ -1,11 +1,11 @@
 -- The rows of a qrels file.
-use Rattle.std.specs.Prelude.{ℕ, ◌+◌, Bool, ◌&&◌, ◌||◌, not, ◌==◌, List, [], ◌∷◌, if◌then◌else◌, Option, Some, is_none, unwrap_or, Result, Ok, Err, nat_lt, nat_le, length, map, filter, sum_by, ℤ, pos}
+use Rattle.std.specs.Prelude.{ℕ, ◌+◌, Bool, ◌&&◌, ◌||◌, not, ◌==◌, List, [], ◌∷◌, Option, Some, is_none, unwrap_or, Result, nat_lt, nat_le, length, map, filter, sum_by, ℤ, pos}
 use Rattle.std.specs.List.{list_any}
 use Rattle.std.specs.Str.{bytes_eq}
 use Rattle.desk_text.specs.Lines.{is_bad, fields_of}
 use Rattle.desk_text.specs.Numbers.{whole_of}
 use Rattle.desk_text.specs.declared.line.TheConstants.{LONGEST_LINE}
-use Rattle.qrels_reader.specs.Reading.{field, is_long, and_then, unless, rows_of}
+use Rattle.qrels_reader.specs.Reading.{field, is_long, and_then, unless}
 use Rattle.qrels_reader.specs.declared.fault.LineFault.{LineFault}
 use Rattle.qrels_reader.specs.declared.fault.LineFault.TheVariants.{LineTooLong, BadByte, BadFieldCount, NameTooLong, BadGrade, RepeatedDocument, TooManyTopics, TooManyRows, TooManyNameBytes}
 use Rattle.qrels_reader.specs.declared.limits.TheConstants.{MOST_TOPICS, MOST_QRELS_ROWS, MOST_NAME_BYTES, LEAST_GRADE, GREATEST_GRADE}

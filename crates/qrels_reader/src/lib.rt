@@ -2,12 +2,14 @@
 #![tactic(auto)]
 
 mod fault;
+mod groups;
 mod judgements;
 mod limits;
 mod line;
 mod name_set;
 mod names;
 mod qrels;
+mod read;
 mod reader;
 
 pub use fault::{FileFault, LineFault};
@@ -15,3 +17,4 @@ pub use limits::{
     GREATEST_GRADE, LEAST_GRADE, LONGEST_NAME, MOST_NAME_BYTES, MOST_QRELS_ROWS, MOST_TOPICS,
 };
 pub use qrels::Qrels;
+pub use read::read_qrels;

@@ -1,81 +1,81 @@
 // The rows of a qrels file that was read.
-ghost use Rattle.std.specs.Prelude.{◌≡◌, ◌≤◌, ◌+◌, ◌^◌, ◌<◌, [], ◌∷◌, ◌++◌, length, position, option_map, slice_get, Some, OnOk, false};
+ghost use Rattle.std.specs.Prelude.{◌≡◌, ◌≤◌, ◌<◌, length, map, option_map, slice_get, Some, true};
+ghost use Rattle.std.specs.List.{IsDistinct};
 ghost use Rattle.std.specs.Str.{bytes_eq};
-ghost use Rattle.qrels_reader.specs.Grouped.{is_topic, names_of, documents_at, row_count, name_bytes_in, with_document, bytes_in};
+ghost use Rattle.desk_model.specs.Name.{is_name};
+ghost use Rattle.qrels_reader.specs.Grouped.{is_topic, names_of, documents_at, row_count, name_bytes_in, IsQrels};
+ghost use Rattle.qrels_reader.specs.declared.limits.TheConstants.{MOST_TOPICS, MOST_QRELS_ROWS, MOST_NAME_BYTES};
 
-use crate::judgements::Judgements;
-use crate::name_set::NameSet;
-use std::alloc::{AllocError, Global};
+use crate::groups::Groups;
 use std::marker::Model;
 
 /// The rows of a qrels file: its topics, and the documents of each topic with their grades. Topics, and the documents of one
-/// topic, are numbered from 0 in the order in which they first stood in the file.
+/// topic, are numbered from 0 in the order in which they first stood in the file. There is at least one topic; topics, and
+/// the documents of one topic, have different names.
 #[derive(Drop)]
 pub struct Qrels {
-    topics: NameSet,
-    judgements: Vec<Judgements>,
-    rows: u32,
-    name_bytes: u32,
+    groups: Groups,
 }
 
 impl Model for Qrels {
-    ghost use Rattle.std.specs.Prelude.{◌≡◌, List, length};
-    ghost use Rattle.qrels_reader.specs.Grouped.{Topic};
-    ghost use Rattle.qrels_reader.specs.Names.{topics_in, IsCounted};
+    ghost use Rattle.std.specs.Prelude.{List};
+    ghost use Rattle.qrels_reader.specs.Grouped.{Topic, IsQrels};
 
     ghost Value = { List Topic };
 
-    ghost view = { λ q. topics_in q.topics q.judgements.items };
+    ghost view = { λ q. q.groups };
 
-    ghost invariant = { λ q. IsCounted q.topics q.judgements.items q.rows q.name_bytes };
+    ghost invariant = { λ q. IsQrels q.groups };
 }
 
 impl Qrels {
-    pub(crate) fn new(alloc: Global) -> Qrels
-        ensures { result ≡ [] }
+    pub(crate) fn new(groups: Groups) -> Qrels
+        requires { IsQrels groups }
+        ensures { result ≡ groups }
     {
-        Qrels {
-            topics: NameSet::new(alloc),
-            judgements: Vec::new(alloc),
-            rows: 0,
-            name_bytes: 0,
-        }
+        Qrels { groups }
     }
 
     /// How many topics there are.
     pub fn topics(&self) -> usize
-        ensures { result ≡ length self.now }
+        ensures count { result ≡ length self.now }
+        ensures some { 0 < result }
+        ensures distinct { IsDistinct bytes_eq (names_of self.now) }
+        ensures most { result ≤ MOST_TOPICS }
     {
-        self.topics.len()
+        self.groups.topics()
     }
 
     /// How many rows the file has.
     pub fn rows(&self) -> u32
-        ensures { result ≡ row_count self.now }
+        ensures count { result ≡ row_count self.now }
+        ensures most { result ≤ MOST_QRELS_ROWS }
     {
-        self.rows
+        self.groups.rows()
     }
 
     /// The bytes of the document names of all rows together.
     pub fn name_bytes(&self) -> u32
-        ensures { result ≡ name_bytes_in self.now }
+        ensures count { result ≡ name_bytes_in self.now }
+        ensures most { result ≤ MOST_NAME_BYTES }
     {
-        self.name_bytes
+        self.groups.name_bytes()
     }
 
     /// Whether a row is on this topic.
     pub fn has_topic(&self, name: &[u8]) -> bool
         ensures { result ≡ is_topic name.now self.now }
     {
-        self.topics.contains(name)
+        self.groups.has_topic(name)
     }
 
     /// The name of topic `t`.
     pub fn topic_name(&self, t: usize) -> &[u8]
         requires { t < length self.now }
-        ensures { slice_get (names_of self.now) t ≡ Some result.now }
+        ensures bytes { slice_get (names_of self.now) t ≡ Some result.now }
+        ensures name { is_name result.now ≡ true }
     {
-        self.topics.get(t)
+        self.groups.topic_name(t)
     }
 
     /// How many documents topic `t` has.
@@ -83,16 +83,18 @@ impl Qrels {
         requires { t < length self.now }
         ensures count { result ≡ length (documents_at self.now t) }
         ensures within { result ≤ row_count self.now }
+        ensures distinct { IsDistinct bytes_eq (map (λ d. d.document) (documents_at self.now t)) }
     {
-        self.judgements[t].len()
+        self.groups.doc_count(t)
     }
 
     /// The name of document `i` of topic `t`.
     pub fn doc_name(&self, t: usize, i: usize) -> &[u8]
         requires { i < length (documents_at self.now t) }
-        ensures { option_map (λ d. d.document) (slice_get (documents_at self.now t) i) ≡ Some result.now }
+        ensures bytes { option_map (λ d. d.document) (slice_get (documents_at self.now t) i) ≡ Some result.now }
+        ensures name { is_name result.now ≡ true }
     {
-        self.judgements[t].document(i)
+        self.groups.doc_name(t, i)
     }
 
     /// The grade of document `i` of topic `t`, as it was read.
@@ -100,40 +102,6 @@ impl Qrels {
         requires { i < length (documents_at self.now t) }
         ensures { option_map (λ d. d.grade) (slice_get (documents_at self.now t) i) ≡ Some result }
     {
-        i32::from(self.judgements[t].grade(i))
-    }
-
-    // The number of a topic.
-    pub(crate) fn place(&self, name: &[u8]) -> Option<usize>
-        ensures { result ≡ position (bytes_eq name.now) (names_of self.now) }
-    {
-        self.topics.place(name)
-    }
-
-    // A topic with no document.
-    pub(crate) fn add_topic(&mut self, alloc: Global, name: &[u8]) -> Result<(), AllocError>
-        requires { is_topic name.now self.old ≡ false }
-        ensures { OnOk result (self.new ≡ self.old ++ record { name = name.now; documents = [] } ∷ []) }
-    {
-        self.judgements.reserve(1)?;
-        self.topics.add(alloc, name)?;
-        match self.judgements.push(Judgements::new(alloc)) {
-            Ok(()) => Ok(()),
-            Err(_) => unreachable!(),
-        }
-    }
-
-    // One more document of a topic.
-    pub(crate) fn add_document(&mut self, t: usize, document: &[u8], grade: i16) -> Result<(), AllocError>
-        requires topic { t < length self.old }
-        requires rows { row_count self.old + 1 < 2 ^ 32 }
-        requires names { name_bytes_in self.old + length document.now < 2 ^ 32 }
-        ensures { OnOk result (self.new ≡ with_document self.old t (record { document = document.now; grade = grade })) }
-    {
-        let judgements = &mut self.judgements[t];
-        judgements.push(document, grade)?;
-        self.rows += 1;
-        self.name_bytes += document.len() as u32;
-        Ok(())
+        self.groups.grade(t, i)
     }
 }

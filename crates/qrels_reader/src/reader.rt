@@ -4,10 +4,11 @@ ghost use Rattle.std.specs.List.{list_any};
 ghost use Rattle.std.specs.Str.{bytes_eq};
 ghost use Rattle.qrels_reader.specs.Reading.{checked};
 ghost use Rattle.qrels_reader.specs.Rows.{Row};
-ghost use Rattle.qrels_reader.specs.Grouped.{faults_after, with_row_on, documents_on, documents_at, with_document, judged_of, row_count, name_bytes_in, grouped};
+ghost use Rattle.qrels_reader.specs.Grouped.{faults_after, with_row_on, documents_on, documents_at, with_document, judged_of, row_count, name_bytes_in, grouped, IsQrels};
 ghost use Rattle.qrels_reader.specs.Reader.{row_said, place_of, IsTracked, ReadsLine};
 
 use crate::fault::{FileFault, LineFault};
+use crate::groups::Groups;
 use crate::limits::{MOST_NAME_BYTES, MOST_QRELS_ROWS, MOST_TOPICS};
 use crate::line::{RowText, row_text};
 use crate::name_set::NameSet;
@@ -19,7 +20,7 @@ use std::alloc::{AllocError, Global};
 #[derive(Drop)]
 pub struct QrelsReader {
     alloc: Global,
-    qrels: Qrels,
+    groups: Groups,
     // The documents of each topic, in which repeated ones are found.
     seen: Vec<NameSet>,
     lines: u64,
@@ -27,13 +28,13 @@ pub struct QrelsReader {
 
 impl QrelsReader {
     pub fn new(alloc: Global) -> QrelsReader
-        ensures none { result.qrels ≡ [] }
+        ensures none { result.groups ≡ [] }
         ensures tracked { IsTracked result }
         ensures lines { result.lines ≡ 0 }
     {
         QrelsReader {
             alloc,
-            qrels: Qrels::new(alloc),
+            groups: Groups::new(alloc),
             seen: Vec::new(alloc),
             lines: 0,
         }
@@ -43,7 +44,7 @@ impl QrelsReader {
     pub fn feed(&mut self, line: &[u8]) -> Result<(), FileFault>
         requires tracked { IsTracked self.old }
         requires lines { self.old.lines + 1 < 2 ^ 64 }
-        ensures read { (rows : List Row) → self.old.qrels ≡ grouped rows → ReadsLine (self.old.lines + 1) rows line.now result self.new.qrels }
+        ensures read { (rows : List Row) → self.old.groups ≡ grouped rows → ReadsLine (self.old.lines + 1) rows line.now result self.new.groups }
         ensures tracked { OnOk result (IsTracked self.new) }
         ensures lines { OnOk result (self.new.lines ≡ self.old.lines + 1) }
     {
@@ -62,25 +63,26 @@ impl QrelsReader {
 
     /// What was read.
     pub fn finish(self) -> Result<Qrels, FileFault>
-        ensures { result ≡ (if row_count self.qrels == 0 then Err FileFault.NoTopics else Ok self.qrels) }
+        requires { 0 < row_count self.groups → IsQrels self.groups }
+        ensures { result ≡ (if row_count self.groups == 0 then Err FileFault.NoTopics else Ok self.groups) }
     {
-        if self.qrels.rows() == 0 {
+        if self.groups.rows() == 0 {
             return Err(FileFault::NoTopics);
         }
-        Ok(self.qrels)
+        Ok(Qrels::new(self.groups))
     }
 
     // A row of the line that was read last.
     fn add(&mut self, row: &RowText<'_>) -> Result<(), FileFault>
         requires { IsTracked self.old }
-        ensures right { OnOk result (checked (faults_after self.old.qrels (row_said row.now)) ≡ Ok (tt {0})) }
-        ensures added { OnOk result (self.new.qrels ≡ with_row_on self.old.qrels (row_said row.now)) }
+        ensures right { OnOk result (checked (faults_after self.old.groups (row_said row.now)) ≡ Ok (tt {0})) }
+        ensures added { OnOk result (self.new.groups ≡ with_row_on self.old.groups (row_said row.now)) }
         ensures tracked { OnOk result (IsTracked self.new) }
         ensures lines { OnOk result (self.new.lines ≡ self.old.lines) }
         ensures wrong { IfErr result (λ e. (e ≡ FileFault.Memory)
-            ⊎ ((fault : LineFault) × (checked (faults_after self.old.qrels (row_said row.now)) ≡ Err fault) × (e ≡ FileFault.Line self.old.lines fault))) }
+            ⊎ ((fault : LineFault) × (checked (faults_after self.old.groups (row_said row.now)) ≡ Err fault) × (e ≡ FileFault.Line self.old.lines fault))) }
     {
-        let place = self.qrels.place(row.topic);
+        let place = self.groups.place(row.topic);
         match self.check(place, row) {
             Ok(()) => {
                 self.put(place, row)?;
@@ -96,19 +98,19 @@ impl QrelsReader {
     // What is wrong with a row after those that were read, where its topic has a place.
     fn check(&self, place: Option<usize>, row: &RowText<'_>) -> Result<(), LineFault>
         requires tracked { IsTracked self.now }
-        requires place { place ≡ place_of row.now.topic.now self.now.qrels }
-        ensures { result ≡ checked (faults_after self.now.qrels (row_said row.now)) }
+        requires place { place ≡ place_of row.now.topic.now self.now.groups }
+        ensures { result ≡ checked (faults_after self.now.groups (row_said row.now)) }
     {
         if self.has_seen(place, row) {
             return Err(LineFault::RepeatedDocument);
         }
-        if place.is_none() && self.qrels.topics() >= MOST_TOPICS {
+        if place.is_none() && self.groups.topics() >= MOST_TOPICS {
             return Err(LineFault::TooManyTopics);
         }
-        if self.qrels.rows() >= MOST_QRELS_ROWS {
+        if self.groups.rows() >= MOST_QRELS_ROWS {
             return Err(LineFault::TooManyRows);
         }
-        if self.qrels.name_bytes() as usize + row.document.len() > MOST_NAME_BYTES as usize {
+        if self.groups.name_bytes() as usize + row.document.len() > MOST_NAME_BYTES as usize {
             return Err(LineFault::TooManyNameBytes);
         }
         Ok(())
@@ -117,8 +119,8 @@ impl QrelsReader {
     // Whether the row's document stood in its topic.
     fn has_seen(&self, place: Option<usize>, row: &RowText<'_>) -> bool
         requires tracked { IsTracked self.now }
-        requires place { place ≡ place_of row.now.topic.now self.now.qrels }
-        ensures { result ≡ list_any (λ judged. bytes_eq row.now.document.now judged.document) (documents_on row.now.topic.now self.now.qrels) }
+        requires place { place ≡ place_of row.now.topic.now self.now.groups }
+        ensures { result ≡ list_any (λ judged. bytes_eq row.now.document.now judged.document) (documents_on row.now.topic.now self.now.groups) }
     {
         match place {
             Some(t) => self.seen[t].contains(row.document),
@@ -129,19 +131,19 @@ impl QrelsReader {
     // A row that is right.
     fn put(&mut self, place: Option<usize>, row: &RowText<'_>) -> Result<(), AllocError>
         requires tracked { IsTracked self.old }
-        requires place { place ≡ place_of row.now.topic.now self.old.qrels }
-        requires new { list_any (λ judged. bytes_eq row.now.document.now judged.document) (documents_on row.now.topic.now self.old.qrels) ≡ false }
-        requires rows { row_count self.old.qrels + 1 < 2 ^ 32 }
-        requires names { name_bytes_in self.old.qrels + length row.now.document.now < 2 ^ 32 }
-        ensures added { OnOk result (self.new.qrels ≡ with_row_on self.old.qrels (row_said row.now)) }
+        requires place { place ≡ place_of row.now.topic.now self.old.groups }
+        requires new { list_any (λ judged. bytes_eq row.now.document.now judged.document) (documents_on row.now.topic.now self.old.groups) ≡ false }
+        requires rows { row_count self.old.groups + 1 < 2 ^ 32 }
+        requires names { name_bytes_in self.old.groups + length row.now.document.now < 2 ^ 32 }
+        ensures added { OnOk result (self.new.groups ≡ with_row_on self.old.groups (row_said row.now)) }
         ensures tracked { OnOk result (IsTracked self.new) }
         ensures lines { OnOk result (self.new.lines ≡ self.old.lines) }
     {
         match place {
             Some(t) => self.put_at(t, row),
             None => {
-                let t = self.qrels.topics();
-                self.qrels.add_topic(self.alloc, row.topic)?;
+                let t = self.groups.topics();
+                self.groups.add_topic(self.alloc, row.topic)?;
                 self.seen.push(NameSet::new(self.alloc))?;
                 self.put_at(t, row)
             }
@@ -151,15 +153,15 @@ impl QrelsReader {
     // A row whose topic has a place.
     fn put_at(&mut self, t: usize, row: &RowText<'_>) -> Result<(), AllocError>
         requires tracked { IsTracked self.old }
-        requires topic { t < length self.old.qrels }
-        requires new { list_any (λ judged. bytes_eq row.now.document.now judged.document) (documents_at self.old.qrels t) ≡ false }
-        requires rows { row_count self.old.qrels + 1 < 2 ^ 32 }
-        requires names { name_bytes_in self.old.qrels + length row.now.document.now < 2 ^ 32 }
-        ensures added { OnOk result (self.new.qrels ≡ with_document self.old.qrels t (judged_of (row_said row.now))) }
+        requires topic { t < length self.old.groups }
+        requires new { list_any (λ judged. bytes_eq row.now.document.now judged.document) (documents_at self.old.groups t) ≡ false }
+        requires rows { row_count self.old.groups + 1 < 2 ^ 32 }
+        requires names { name_bytes_in self.old.groups + length row.now.document.now < 2 ^ 32 }
+        ensures added { OnOk result (self.new.groups ≡ with_document self.old.groups t (judged_of (row_said row.now))) }
         ensures tracked { OnOk result (IsTracked self.new) }
         ensures lines { OnOk result (self.new.lines ≡ self.old.lines) }
     {
-        self.qrels.add_document(t, row.document, row.grade)?;
+        self.groups.add_document(t, row.document, row.grade)?;
         let seen = &mut self.seen[t];
         seen.add(self.alloc, row.document)
     }

@@ -1,6 +1,5 @@
-use Rattle.std.proofs.Common.{◌≡◌, ◌≤◌, ◌<◌, length, get_or, true, false, refl, sym, ap, ap₂, ◌∙◌, arith, inl, inr, w16, w64, to_z, of_z}
-use Rattle.std.specs.Prelude.{Bool, not, ◌||◌, ◌==◌, nat_lt, is_none, Some, None, Ok, ℤ, ◌≤ℤ◌, unwrap_or, pos}
-use Rattle.std.specs.List.{list_any}
+use Rattle.std.proofs.Common.{◌≡◌, length, true, false, refl, sym, ap, ap₂, ◌∙◌, arith, inl, inr, w16, w64, to_z, of_z}
+use Rattle.std.specs.Prelude.{not, ◌||◌, is_none, Some, Ok, ◌≤ℤ◌, unwrap_or, pos}
 use Rattle.std.proofs.lemmas.Bool.{lt-ltb, le-ltb, eq-eqb, ne_eqb}
 use Rattle.std.proofs.lemmas.Int.{ints}
 use Rattle.desk_text.specs.Lines.{is_bad, fields_of}
@@ -26,7 +25,7 @@ returns-then-count-ne4 c =
     let line = c.args.line.now in
     let number = c.in-Ok.ensures.ok.number in
     sym (form_is line false false true _ _ (le-ltb LONGEST_LINE (length line) (omega arith)) (sym (is_some-position is_bad line) ∙ is_none-from _ _ c.in-Ok.ensures.bad)
-      (ap not (ne_eqb (length (fields_of line)) 4 (λ e. c.if-count-ne4.true (c.count.ensures ∙ number ∙ e)))) refl refl)
+    (ap not (ne_eqb (length (fields_of line)) 4 (λ e. c.if-count-ne4.true (c.count.ensures ∙ number ∙ e)))) refl refl)
 
 pub returns-then-topic-gt-LONGEST_NAME : goal.returns-then-topic-gt-LONGEST_NAME
 returns-then-topic-gt-LONGEST_NAME c =
@@ -49,7 +48,7 @@ returns-in_default-whole c =
     let good = sym (is_some-position is_bad line) ∙ is_none-from _ _ c.in-Ok.ensures.bad in
     let four = ap not (eq-eqb (length (fields_of line)) 4 (sym number ∙ sym c.count.ensures ∙ c.if-count-ne4.false)) in
     let names : (is_long (field line 0) || is_long (field line 2)) ≡ false =
-        ap₂ (λ a b. a || b) (ap is_long (sym c.text-topic.ensures) ∙ le-ltb 255 (length c.text-topic.result.now) (omega arith)) (ap is_long (sym c.text-document.ensures) ∙ le-ltb 255 (length c.text-document.result.now) (omega arith)) in
+    ap₂ (λ a b. a || b) (ap is_long (sym c.text-topic.ensures) ∙ le-ltb 255 (length c.text-topic.result.now) (omega arith)) (ap is_long (sym c.text-document.ensures) ∙ le-ltb 255 (length c.text-document.result.now) (omega arith)) in
     let grade : grade_of line ≡ c.whole.result = sym (c.whole.ensures ∙ ap (whole_of LEAST_GRADE GREATEST_GRADE) c.text.ensures) in
     sym (form_is line false false false false true short good four names (ap is_none (grade ∙ c.in_default-whole.is)))
 
@@ -61,7 +60,7 @@ returns c =
     let good = sym (is_some-position is_bad line) ∙ is_none-from _ _ c.in-Ok.ensures.bad in
     let four = ap not (eq-eqb (length (fields_of line)) 4 (sym number ∙ sym c.count.ensures ∙ c.if-count-ne4.false)) in
     let names : (is_long (field line 0) || is_long (field line 2)) ≡ false =
-        ap₂ (λ a b. a || b) (ap is_long (sym c.text-topic.ensures) ∙ le-ltb 255 (length c.text-topic.result.now) (omega arith)) (ap is_long (sym c.text-document.ensures) ∙ le-ltb 255 (length c.text-document.result.now) (omega arith)) in
+    ap₂ (λ a b. a || b) (ap is_long (sym c.text-topic.ensures) ∙ le-ltb 255 (length c.text-topic.result.now) (omega arith)) (ap is_long (sym c.text-document.ensures) ∙ le-ltb 255 (length c.text-document.result.now) (omega arith)) in
     let grade : grade_of line ≡ c.whole.result = sym (c.whole.ensures ∙ ap (whole_of LEAST_GRADE GREATEST_GRADE) c.text.ensures) in
     let found : grade_of line ≡ Some c.in-Some.grade = grade ∙ c.in-Some.is in
     let within = whole_of_within LEAST_GRADE GREATEST_GRADE c.in-Some.grade (field line 3) found in
@@ -69,5 +68,5 @@ returns c =
     let most : c.in-Some.grade ≤ℤ GREATEST_GRADE = within.1 in
     let kept : to_z w16 (of_z w16 (to_z w64 (of_z w64 c.in-Some.grade))) ≡ c.in-Some.grade = omega (arith, ints) in
     let row : row_said (record { topic = c.text-topic.result; document = c.text-document.result; grade = to_z w16 (of_z w16 (to_z w64 (of_z w64 c.in-Some.grade))) }) ≡ row_of line =
-        λ i. record { topic = c.text-topic.ensures i; document = c.text-document.ensures i; grade = (kept ∙ sym (ap (λ o. unwrap_or o (pos 0)) found)) i } in
+    λ i. record { topic = c.text-topic.ensures i; document = c.text-document.ensures i; grade = (kept ∙ sym (ap (λ o. unwrap_or o (pos 0)) found)) i } in
     ap Ok row ∙ sym (form_is line false false false false false short good four names (ap is_none found))

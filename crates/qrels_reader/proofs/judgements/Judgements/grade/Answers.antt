@@ -1,4 +1,4 @@
-use Rattle.std.proofs.Common.{◌≡◌, length, sym, ap, ◌∙◌, arith, rules, get_or, refl, w16}
+use Rattle.std.proofs.Common.{length, sym, ap, ◌∙◌, arith, rules, refl, w16}
 use Rattle.std.specs.Prelude.{slice_get, option_map, Some, FitsSigned}
 use Rattle.std.proofs.lemmas.Int.{to_z-of_z}
 use Rattle.std.proofs.lemmas.Option.{slice_get-map, slice_get_read}

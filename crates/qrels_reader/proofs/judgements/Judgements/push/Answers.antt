@@ -9,7 +9,7 @@ use Rattle.qrels_reader.proofs.judgements.Judgements.push.Goals as goal
 pub push-requires : goal.push-requires
 push-requires c =
     let n : sum_by length c.self.inside.documents ≡ bytes_in c.args.self.now =
-        sym (bytes_in-judged_in c.self.inside.documents c.self.inside.grades.items c.self.invariant) ∙ ap bytes_in c.self.view_is in
+    sym (bytes_in-judged_in c.self.inside.documents c.self.inside.grades.items c.self.invariant) ∙ ap bytes_in c.self.view_is in
     omega (arith, n)
 
 pub returns-clause-ok : goal.returns-clause-ok

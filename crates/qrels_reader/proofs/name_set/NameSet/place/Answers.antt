@@ -1,4 +1,4 @@
-use Rattle.std.proofs.Common.{sym, ap, ◌∙◌, position}
+use Rattle.std.proofs.Common.{ap, ◌∙◌, position}
 use Rattle.std.specs.List.{list_any}
 use Rattle.std.specs.Str.{bytes_eq}
 use Rattle.qrels_reader.proofs.Mapped.{list_any-map, position-map}

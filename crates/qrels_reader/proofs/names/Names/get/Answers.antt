@@ -1,4 +1,4 @@
-use Rattle.std.proofs.Common.{◌≡◌, ◌<◌, ◌≤◌, length, get_or, sym, ap, ap₂, ◌∙◌, arith}
+use Rattle.std.proofs.Common.{◌≡◌, ◌<◌, length, get_or, sym, ap, ap₂, ◌∙◌, arith}
 use Rattle.std.specs.Prelude.{slice_get, slice_range, Some}
 use Rattle.std.proofs.lemmas.Grind.{get_or_default_zero}
 use Rattle.qrels_reader.specs.Names.{start_at}
@@ -34,5 +34,5 @@ returns c =
     let start : c.start_of-start.result ≡ start_at 0 ends c.args.i = c.start_of-start.ensures ∙ ap (λ es. start_at 0 es c.args.i) c.deref.ensures.value in
     let end : c.index.result.now ≡ get_or ends c.args.i 0 = c.index.ensures ∙ get_or_default_zero ends c.args.i _ lt in
     let piece : c.part.result.now ≡ slice_range bytes (start_at 0 ends c.args.i) (get_or ends c.args.i 0) =
-        c.part.ensures ∙ ap (λ bs. slice_range bs c.start_of-start.result c.index.result.now) c.deref-2.ensures.value ∙ ap₂ (slice_range bytes) start end in
+    c.part.ensures ∙ ap (λ bs. slice_range bs c.start_of-start.result c.index.result.now) c.deref-2.ensures.value ∙ ap₂ (slice_range bytes) start end in
     sym (ap (λ names. slice_get names c.args.i) c.self.view_is) ∙ slice_get-cut 0 ends bytes c.args.i lt ∙ ap Some (sym piece)

@@ -1,4 +1,4 @@
-use Rattle.std.proofs.Common.{◌≡◌, ◌+◌, ◌<◌, ◌≤◌, length, true, false, refl, sym, ap, ap₂, ◌∙◌, arith}
+use Rattle.std.proofs.Common.{◌≡◌, ◌+◌, length, true, false, refl, sym, ap, ◌∙◌, arith}
 use Rattle.std.specs.Prelude.{not, ◌&&◌, is_some, nat_le}
 use Rattle.std.specs.Str.{bytes_eq}
 use Rattle.std.proofs.Math.Bool.{and-false}
@@ -13,7 +13,7 @@ use Rattle.qrels_reader.proofs.reader.QrelsReader.check.Goals.{else-is_none-via-
 
 pub returns-then-topics-ge-MOST_TOPICS : goal.returns-then-topics-ge-MOST_TOPICS
 returns-then-topics-ge-MOST_TOPICS c =
-    let topics = c.args.self.now.qrels in
+    let topics = c.args.self.now.groups in
     let row = row_said c.args.row.now in
     let new = sym c.has_seen.ensures ∙ c.if-has_seen.false in
     let known : is_topic row.topic topics ≡ is_some c.args.place = sym (is_some-position (bytes_eq row.topic) (names_of topics)) ∙ ap is_some (sym c.requires.place) in
@@ -21,7 +21,7 @@ returns-then-topics-ge-MOST_TOPICS c =
 
 pub returns-then-rows-ge-MOST_QRELS_ROWS : goal.returns-then-rows-ge-MOST_QRELS_ROWS
 returns-then-rows-ge-MOST_QRELS_ROWS c =
-    let topics = c.args.self.now.qrels in
+    let topics = c.args.self.now.groups in
     let row = row_said c.args.row.now in
     let new = sym c.has_seen.ensures ∙ c.if-has_seen.false in
     let known : is_topic row.topic topics ≡ is_some c.args.place = sym (is_some-position (bytes_eq row.topic) (names_of topics)) ∙ ap is_some (sym c.requires.place) in
@@ -33,7 +33,7 @@ returns-then-rows-ge-MOST_QRELS_ROWS c =
 
 pub returns-then-name_bytes-row : goal.returns-then-name_bytes-row
 returns-then-name_bytes-row c =
-    let topics = c.args.self.now.qrels in
+    let topics = c.args.self.now.groups in
     let row = row_said c.args.row.now in
     let new = sym c.has_seen.ensures ∙ c.if-has_seen.false in
     let known : is_topic row.topic topics ≡ is_some c.args.place = sym (is_some-position (bytes_eq row.topic) (names_of topics)) ∙ ap is_some (sym c.requires.place) in
@@ -45,7 +45,7 @@ returns-then-name_bytes-row c =
 
 pub returns : goal.returns
 returns c =
-    let topics = c.args.self.now.qrels in
+    let topics = c.args.self.now.groups in
     let row = row_said c.args.row.now in
     let new = sym c.has_seen.ensures ∙ c.if-has_seen.false in
     let known : is_topic row.topic topics ≡ is_some c.args.place = sym (is_some-position (bytes_eq row.topic) (names_of topics)) ∙ ap is_some (sym c.requires.place) in

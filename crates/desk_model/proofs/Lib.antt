@@ -1,0 +1,11 @@
+pub mod Fractions
+pub mod Counts
+pub mod Completions
+pub mod Topics
+pub mod Exact
+pub mod PrecisionEnds
+pub mod Places
+pub mod Names
+pub mod Nested
+pub mod Decimals
+pub mod PairPlace

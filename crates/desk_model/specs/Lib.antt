@@ -1,0 +1,16 @@
+pub mod Mark
+pub mod Completion
+pub mod Ranking
+pub mod Fraction
+pub mod Score
+pub mod Order
+pub mod Extremes
+pub mod Enclosure
+pub mod Verdict
+pub mod Classes
+pub mod Name
+pub mod Placed
+pub mod Book
+pub mod Desk
+pub mod MeasureText
+pub mod Pairs

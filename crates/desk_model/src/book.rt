@@ -1,0 +1,87 @@
+ghost use Rattle.std.specs.Prelude.{◌≡◌, ◌<◌, ◌≤◌, length, map, slice_get, Some};
+ghost use Rattle.desk_model.specs.Name.{number_of};
+
+use crate::name::Name;
+use std::marker::Model;
+
+/// A topic: the names of its documents, its universe, and what the judgements file says of each.
+#[derive(Debug, Drop)]
+pub struct TopicBook {
+    name: Name,
+    docs: Vec<Name>,
+    grades: Vec<Option<i32>>,
+}
+
+impl Model for TopicBook {
+    ghost use Rattle.desk_model.specs.Book.{Book, IsBook};
+
+    ghost Value = { Book };
+
+    ghost view = { λ b. record { name = b.name; docs = b.docs.items; grades = b.grades.items } };
+
+    ghost invariant = { λ b. IsBook (record { name = b.name; docs = b.docs.items; grades = b.grades.items }) };
+}
+
+impl TopicBook {
+    ghost use Rattle.desk_model.specs.Book.{IsBook, file_grade_of};
+
+    /// A topic with these documents, ascending by name, and the grade of each in the judgements file: `None` where
+    /// the file does not list it. Documents are numbered from 0 in that order.
+    pub fn new(name: Name, docs: Vec<Name>, grades: Vec<Option<i32>>) -> TopicBook
+        requires { IsBook (record { name = name; docs = docs.items; grades = grades.items }) }
+        ensures { result ≡ record { name = name; docs = docs.items; grades = grades.items } }
+    {
+        TopicBook { name, docs, grades }
+    }
+
+    /// The topic's name.
+    pub fn name(&self) -> &[u8]
+        ensures name { result.now ≡ self.now.name }
+        ensures book { IsBook self.now }
+    {
+        let _ = &self.docs;
+        self.name.as_bytes()
+    }
+
+    /// The number of documents in the universe.
+    pub fn doc_count(&self) -> u32
+        ensures count { result ≡ length self.now.docs }
+        ensures book { IsBook self.now }
+    {
+        self.docs.len() as u32
+    }
+
+    /// The name of a document by its number.
+    pub fn doc_name(&self, doc: u32) -> &[u8]
+        requires { doc < length self.now.docs }
+        ensures { slice_get self.now.docs doc ≡ Some result.now }
+    {
+        self.docs[doc as usize].as_bytes()
+    }
+
+    /// The grade of a document in the judgements file, and `None` exactly where the file does not list it.
+    pub fn file_grade(&self, doc: u32) -> Option<i32>
+        requires { doc < length self.now.docs }
+        ensures { result ≡ file_grade_of self.now doc }
+    {
+        self.grades[doc as usize]
+    }
+
+    /// The grades of all documents in the judgements file, by document.
+    pub fn grades(&self) -> &[Option<i32>]
+        ensures { result.now ≡ self.now.grades }
+    {
+        &self.grades
+    }
+
+    /// The number of the document with this name, and `None` exactly where no document has it.
+    pub fn find(&self, name: &[u8]) -> Option<u32>
+        ensures { result ≡ number_of self.now.docs name.now }
+    {
+        let docs: &[Name] = &self.docs;
+        match docs.binary_search_by(|each| each.compare(name)) {
+            Ok(at) => Some(at as u32),
+            Err(_) => None,
+        }
+    }
+}

@@ -1,0 +1,80 @@
+//! Laws of completions, each the contract of a function that does nothing.
+ghost use Rattle.std.specs.Prelude.{◌≡◌, ◌↔◌, ℕ, ◌*◌, ◌<◌, true, false, List, length, ℤ, pos, ◌≤ℤ◌, ◌<ℤ◌};
+ghost use Rattle.desk_model.specs.Completion.{Completion};
+ghost use Rattle.desk_model.specs.Ranking.{IsRanking};
+ghost use Rattle.desk_model.specs.Fraction.{IsAtMost, IsAtLeast};
+ghost use Rattle.desk_model.specs.Order.{Topic, IsCompletion, run_mean, IsAlwaysAbove, AreAlwaysEqual};
+ghost use Rattle.desk_model.specs.Extremes.{IsAtMostScore, IsAtLeastScore, AreExtremes, AreBounds};
+ghost use Rattle.desk_model.specs.Enclosure.{AreLowEnds, AreHighEnds, AreLowBounds, AreHighBounds};
+ghost use Rattle.desk_model.specs.Verdict.{whole_sum, verdict, ForExactEnds, IsExactVerdict};
+ghost use Rattle.desk_model.specs.Classes.{precision_ends, front_count};
+ghost use Rattle.desk_model.specs.declared.types.Mark.{Mark};
+ghost use Rattle.desk_model.specs.declared.types.MeasureName.{MeasureName};
+ghost use Rattle.desk_model.specs.declared.types.MeasureName.TheVariants.{Precision};
+
+/// There is always a completion of the judgements.
+pub fn completion_exists()
+    ensures { (topics : List Topic) → (cs : List Completion) × IsCompletion topics cs }
+{}
+
+/// The order of two means from ends of each topic's difference, for every measure: lower ends with a
+/// positive sum put a above b, upper ends with a negative sum put b above a, and lower ends with a
+/// sum from 0 and upper ends with a sum to 0 make the two equal, in every completion.
+pub fn sums_decide_order()
+    ensures above { (measure : MeasureName) (unit a b : ℕ) (topics : List Topic) (lows : List ℤ) →
+        AreLowEnds measure unit topics a b lows →
+        pos 0 <ℤ whole_sum lows → IsAlwaysAbove measure topics a b }
+    ensures below { (measure : MeasureName) (unit a b : ℕ) (topics : List Topic) (highs : List ℤ) →
+        AreHighEnds measure unit topics a b highs →
+        whole_sum highs <ℤ pos 0 → IsAlwaysAbove measure topics b a }
+    ensures equal { (measure : MeasureName) (unit a b : ℕ) (topics : List Topic) (lows highs : List ℤ) →
+        0 < unit → AreLowEnds measure unit topics a b lows → AreHighEnds measure unit topics a b highs →
+        pos 0 ≤ℤ whole_sum lows → whole_sum highs ≤ℤ pos 0 → AreAlwaysEqual measure topics a b }
+{}
+
+/// The sum of lower ends is at most, and the sum of upper ends at least, unit times the number of
+/// topics times the difference of two means, in every completion.
+pub fn sums_enclose_difference()
+    ensures low { (measure : MeasureName) (unit a b : ℕ) (topics : List Topic) (lows : List ℤ) →
+        AreLowEnds measure unit topics a b lows → (cs : List Completion) → IsCompletion topics cs →
+        IsAtMost (whole_sum lows) (unit * length topics)
+        (run_mean measure a topics cs) (run_mean measure b topics cs) }
+    ensures high { (measure : MeasureName) (unit a b : ℕ) (topics : List Topic) (highs : List ℤ) →
+        AreHighEnds measure unit topics a b highs → (cs : List Completion) → IsCompletion topics cs →
+        IsAtLeast (whole_sum highs) (unit * length topics)
+        (run_mean measure a topics cs) (run_mean measure b topics cs) }
+{}
+
+/// The sum of lower bounds is at most, and the sum of upper bounds at least, unit times the number of
+/// topics times the mean of one run, in every completion.
+pub fn sums_enclose_mean()
+    ensures low { (measure : MeasureName) (unit run : ℕ) (topics : List Topic) (lows : List ℤ) →
+        AreLowBounds measure unit topics run lows → (cs : List Completion) → IsCompletion topics cs →
+        IsAtMostScore (whole_sum lows) (unit * length topics) (run_mean measure run topics cs) }
+    ensures high { (measure : MeasureName) (unit run : ℕ) (topics : List Topic) (highs : List ℤ) →
+        AreHighBounds measure unit topics run highs → (cs : List Completion) → IsCompletion topics cs →
+        IsAtLeastScore (whole_sum highs) (unit * length topics) (run_mean measure run topics cs) }
+{}
+
+/// Where the extremes of each topic are whole numbers of units, the signs of their sums say exactly
+/// what always holds of two different runs, and so does the verdict, which is never close.
+pub fn exact_ends_decide_order()
+    ensures above { ForExactEnds (λ measure topics a b sums.
+        (pos 0 <ℤ sums.least_lo) ↔ IsAlwaysAbove measure topics a b) }
+    ensures below { ForExactEnds (λ measure topics a b sums.
+        (sums.most_hi <ℤ pos 0) ↔ IsAlwaysAbove measure topics b a) }
+    ensures equal { ForExactEnds (λ measure topics a b sums.
+        ((sums.least_lo ≡ pos 0) × (sums.most_hi ≡ pos 0)) ↔ AreAlwaysEqual measure topics a b) }
+    ensures verdict { ForExactEnds (λ measure topics a b sums.
+        IsExactVerdict measure topics a b (verdict sums)) }
+{}
+
+/// Under precision the extremes of a topic and the bounds of a run are counts of documents, each
+/// attained in a completion.
+pub fn precision_is_counted()
+    ensures extremes { (k : ℕ) (marks : List Mark) (a b : List ℕ) → 0 < k →
+        IsRanking (length marks) a → IsRanking (length marks) b →
+        AreExtremes (Precision k) k marks a b (precision_ends k marks a b) }
+    ensures bounds { (k : ℕ) (marks : List Mark) (a : List ℕ) → 0 < k → IsRanking (length marks) a →
+        AreBounds (Precision k) k marks a (pos (front_count false k marks a)) (pos (front_count true k marks a)) }
+{}

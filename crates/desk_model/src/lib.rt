@@ -1,0 +1,27 @@
+//! The plain types that all crates share, and the definitions that their contracts cite.
+#![tactic(auto)]
+
+pub mod book;
+pub mod desk;
+pub mod grading;
+pub mod laws;
+pub mod marks;
+pub mod measure_text;
+pub mod memory;
+pub mod name;
+pub mod pairs;
+pub mod placed;
+pub mod ranking;
+pub mod types;
+
+pub use book::TopicBook;
+pub use desk::Desk;
+pub use grading::mark;
+pub use marks::Marks;
+pub use measure_text::{UnknownMeasure, measure_of_text_is_unique, read_measure};
+pub use memory::Memory;
+pub use name::{Name, NameFault};
+pub use pairs::PairPlaces;
+pub use placed::Placed;
+pub use ranking::Ranking;
+pub use types::{Mark, MeasureName, Totals, Verdict, verdict_of};

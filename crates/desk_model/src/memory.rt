@@ -1,0 +1,3 @@
+/// Memory was wanting.
+#[derive(Clone, Copy, PartialEq, Eq, Debug)]
+pub struct Memory;

@@ -1,0 +1,6 @@
+/// A document's number with its rank in a run, from 1.
+#[derive(Clone, Copy, PartialEq, Eq, Debug)]
+pub struct Placed {
+    pub doc: u32,
+    pub rank: u32,
+}

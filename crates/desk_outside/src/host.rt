@@ -1,0 +1,130 @@
+// The real files and streams. They tell nothing of what they hold.
+ghost use Rattle.std.specs.Prelude.{◌≡◌, ◌≤◌, ◌+◌, ◌-◌, ◌^◌, min, None, false, is_some};
+
+use crate::{Failed, Shelf, Sink, Source};
+use std::fs;
+use std::io::{Read, Write};
+use std::rt::Files;
+
+// A failure, once it is counted.
+fn counted(faults: &mut u64) -> Failed
+    ensures count { faults.new ≡ min (faults.old + 1) (2 ^ 64 - 1) }
+    ensures later { faults.old ≤ faults.new }
+{
+    *faults = faults.saturating_add(1);
+    Failed
+}
+
+/// The files of the system. It tells nothing of them.
+#[derive(Drop)]
+pub struct HostShelf<'r, R: Files> {
+    rt: &'r R,
+    file: Option<R::File>,
+    faults: u64,
+}
+
+impl<'r, R: Files> HostShelf<'r, R> {
+    /// A shelf with no file open.
+    pub fn new(rt: &'r R) -> HostShelf<'r, R>
+        ensures files { ⟦<HostShelf<'r, R> as Shelf>⟧.files result ≡ None }
+        ensures rest { ⟦<HostShelf<'r, R> as Shelf>⟧.rest result ≡ None }
+        ensures closed { ⟦<HostShelf<'r, R> as Shelf>⟧.is_open result ≡ false }
+        ensures faults { ⟦<HostShelf<'r, R> as Shelf>⟧.faults result ≡ 0 }
+    {
+        HostShelf {
+            rt,
+            file: None,
+            faults: 0,
+        }
+    }
+}
+
+impl<R: Files> Shelf for HostShelf<'_, R> {
+    ghost files = { λ _. None };
+
+    ghost rest = { λ _. None };
+
+    ghost is_open = { λ s. is_some s.file };
+
+    ghost faults = { λ s. s.faults };
+
+    fn open(&mut self, name: &str) -> Result<(), Failed> {
+        match fs::open(self.rt, name) {
+            Ok(file) => {
+                self.file = Some(file);
+                Ok(())
+            }
+            Err(_) => Err(counted(&mut self.faults)),
+        }
+    }
+
+    fn read(&mut self, room: &mut [u8]) -> Result<usize, Failed> {
+        match &mut self.file {
+            Some(file) => match file.read(room) {
+                Ok(count) => Ok(count),
+                Err(_) => Err(counted(&mut self.faults)),
+            },
+            None => unreachable!(),
+        }
+    }
+}
+
+/// A source over a reader. It tells nothing of its bytes.
+#[derive(Drop)]
+pub struct HostSource<I> {
+    reader: I,
+    faults: u64,
+}
+
+impl<I: Read> HostSource<I> {
+    /// A source that reads from the reader's place on.
+    pub fn new(reader: I) -> HostSource<I>
+        ensures rest { ⟦<HostSource<I> as Source>⟧.rest result ≡ None }
+        ensures faults { ⟦<HostSource<I> as Source>⟧.faults result ≡ 0 }
+    {
+        HostSource { reader, faults: 0 }
+    }
+}
+
+impl<I: Read> Source for HostSource<I> {
+    ghost rest = { λ _. None };
+
+    ghost faults = { λ s. s.faults };
+
+    fn read(&mut self, room: &mut [u8]) -> Result<usize, Failed> {
+        match self.reader.read(room) {
+            Ok(count) => Ok(count),
+            Err(_) => Err(counted(&mut self.faults)),
+        }
+    }
+}
+
+/// A sink over a writer. It tells nothing of its bytes, and a write of no bytes is an error.
+#[derive(Drop)]
+pub struct HostSink<W> {
+    writer: W,
+    faults: u64,
+}
+
+impl<W: Write> HostSink<W> {
+    /// A sink that writes from the writer's place on.
+    pub fn new(writer: W) -> HostSink<W>
+        ensures received { ⟦<HostSink<W> as Sink>⟧.received result ≡ None }
+        ensures faults { ⟦<HostSink<W> as Sink>⟧.faults result ≡ 0 }
+    {
+        HostSink { writer, faults: 0 }
+    }
+}
+
+impl<W: Write> Sink for HostSink<W> {
+    ghost received = { λ _. None };
+
+    ghost faults = { λ s. s.faults };
+
+    fn put(&mut self, piece: &[u8]) -> Result<usize, Failed> {
+        match self.writer.write(piece) {
+            Ok(count) if 0 < count => Ok(count),
+            _ => Err(counted(&mut self.faults)),
+        }
+    }
+}

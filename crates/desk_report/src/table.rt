@@ -1,0 +1,271 @@
+// The printed table.
+ghost use Rattle.std.specs.Prelude.{◌≡◌, ◌<◌, ◌≤◌, ◌^◌, ◌++◌, ◌∷◌, [], All, length, codes, decimal, pos, neg_ℤ, ◌≤ℤ◌, ◌*◌, flat_map, IfOk, OnOk};
+ghost use Rattle.std.specs.Prelude.{unsigned_abs};
+ghost use Rattle.desk_model.specs.MeasureText.{measure_text, persistence_digits};
+ghost use Rattle.desk_model.specs.Pairs.{pairs_of};
+ghost use Rattle.desk_report.specs.Means.{IsNearSpan};
+ghost use Rattle.desk_report.specs.Table.{AreNearTotals, ended, word_of, head_lines, run_line, run_lines, pair_line, pair_lines, table_text};
+
+use crate::means::{parts, push_digits_after_first, push_ends};
+use desk_model::{Desk, MeasureName, Memory, PairPlaces, Totals, Verdict, verdict_of};
+use fractions::Span;
+use itoa::Buffer;
+use std::alloc::{AllocError, Global};
+
+fn push_number(out: &mut Vec<u8>, number: u32) -> Result<(), AllocError>
+    ensures { OnOk result (out.new.items ≡ out.old.items ++ decimal number) }
+{
+    out.extend_from_slice(Buffer::new().format(number).as_bytes())
+}
+
+fn push_line_feed(out: &mut Vec<u8>) -> Result<(), AllocError>
+    ensures { OnOk result (out.new.items ≡ out.old.items ++ 10 ∷ []) }
+{
+    out.extend_from_slice(b"\n")
+}
+
+fn push_measure(out: &mut Vec<u8>, measure: &MeasureName) -> Result<(), AllocError>
+    ensures { OnOk result (out.new.items ≡ out.old.items ++ measure_text measure.now) }
+{
+    match measure {
+        MeasureName::Precision(k) => {
+            out.extend_from_slice(b"P_")?;
+            push_number(out, *k)
+        }
+        MeasureName::Recall(k) => {
+            out.extend_from_slice(b"recall_")?;
+            push_number(out, *k)
+        }
+        MeasureName::RPrecision => out.extend_from_slice(b"Rprec"),
+        MeasureName::Reciprocal => out.extend_from_slice(b"recip_rank"),
+        MeasureName::Biased { top, bottom } => {
+            out.extend_from_slice(b"rbp_0.")?;
+            push_digits_after_first(out, *bottom as u64 + *top as u64)
+        }
+    }
+}
+
+fn push_measure_line(out: &mut Vec<u8>, measure: &MeasureName) -> Result<(), AllocError>
+    ensures { OnOk result (out.new.items ≡ out.old.items ++ ended (codes "measure " ++ measure_text measure.now)) }
+{
+    out.extend_from_slice(b"measure ")?;
+    push_measure(out, measure)?;
+    out.extend_from_slice(b"\n")
+}
+
+fn push_number_line(out: &mut Vec<u8>, word: &[u8], number: u32) -> Result<(), AllocError>
+    ensures { OnOk result (out.new.items ≡ out.old.items ++ ended (word.now ++ decimal number)) }
+{
+    out.extend_from_slice(word)?;
+    push_number(out, number)?;
+    out.extend_from_slice(b"\n")
+}
+
+fn push_head(
+    out: &mut Vec<u8>,
+    measure: &MeasureName,
+    level: u32,
+    topics: u32,
+    runs: u32,
+) -> Result<(), AllocError>
+    ensures { OnOk result (out.new.items ≡ out.old.items ++ flat_map ended (head_lines measure.now level topics runs)) }
+{
+    push_measure_line(out, measure)?;
+    push_number_line(out, b"level ", level)?;
+    push_number_line(out, b"topics ", topics)?;
+    push_number_line(out, b"runs ", runs)
+}
+
+fn push_run(out: &mut Vec<u8>, parts: u128, name: &[u8], bounds: &Span) -> Result<(), AllocError>
+    requires parts { 1 ≤ parts }
+    requires parts_small { parts ≤ 10 ^ 23 }
+    requires bounds { IsNearSpan bounds.now }
+    ensures { OnOk result (out.new.items ≡ out.old.items ++ ended (run_line parts name.now bounds.now)) }
+{
+    out.extend_from_slice(b"run ")?;
+    out.extend_from_slice(name)?;
+    out.extend_from_slice(b" ")?;
+    push_ends(out, parts, bounds)?;
+    out.extend_from_slice(b"\n")
+}
+
+fn push_runs(out: &mut Vec<u8>, desk: &Desk, parts: u128, bounds: &[Span]) -> Result<(), AllocError>
+    requires parts { 1 ≤ parts }
+    requires parts_small { parts ≤ 10 ^ 23 }
+    requires count { length bounds.now ≡ length desk.now.runs }
+    requires bounds { All IsNearSpan bounds.now }
+    ensures { OnOk result (out.new.items ≡ out.old.items ++ flat_map ended (run_lines parts desk.now.runs bounds.now)) }
+{
+    for r in 0..desk.run_count() {
+        push_run(out, parts, desk.run_name(r), &bounds[r as usize])?;
+    }
+    Ok(())
+}
+
+fn word(verdict: Verdict) -> &'static [u8]
+    ensures { result.now ≡ word_of verdict }
+{
+    match verdict {
+        Verdict::Above => b"above",
+        Verdict::Below => b"below",
+        Verdict::Equal => b"equal",
+        Verdict::Open => b"open",
+        Verdict::Close => b"close",
+    }
+}
+
+fn push_names(out: &mut Vec<u8>, first: &[u8], word: &[u8], second: &[u8]) -> Result<(), AllocError>
+    ensures { OnOk result (out.new.items ≡ out.old.items ++ (codes "pair " ++ first.now ++ 32 ∷ word.now ++ 32 ∷ second.now)) }
+{
+    out.extend_from_slice(b"pair ")?;
+    out.extend_from_slice(first)?;
+    out.extend_from_slice(b" ")?;
+    out.extend_from_slice(word)?;
+    out.extend_from_slice(b" ")?;
+    out.extend_from_slice(second)
+}
+
+fn push_pair(
+    out: &mut Vec<u8>,
+    parts: u128,
+    first: &[u8],
+    second: &[u8],
+    totals: &Totals,
+) -> Result<(), AllocError>
+    requires parts { 1 ≤ parts }
+    requires parts_small { parts ≤ 10 ^ 23 }
+    requires totals { AreNearTotals totals.now }
+    ensures { OnOk result (out.new.items ≡ out.old.items ++ ended (pair_line parts first.now second.now totals.now)) }
+{
+    push_names(out, first, word(verdict_of(totals)), second)?;
+    out.extend_from_slice(b" ")?;
+    let ends = Span {
+        lo: totals.least_lo,
+        hi: totals.most_hi,
+    };
+    push_ends(out, parts, &ends)?;
+    push_line_feed(out)
+}
+
+fn push_pairs(
+    out: &mut Vec<u8>,
+    desk: &Desk,
+    parts: u128,
+    totals: &[Totals],
+) -> Result<(), AllocError>
+    requires parts { 1 ≤ parts }
+    requires parts_small { parts ≤ 10 ^ 23 }
+    requires count { length totals.now ≡ length (pairs_of desk.now.runs) }
+    requires totals { All AreNearTotals totals.now }
+    ensures { OnOk result (out.new.items ≡ out.old.items ++ flat_map ended (pair_lines parts desk.now.runs totals.now)) }
+{
+    let runs = desk.run_count();
+    let mut at = PairPlaces::START;
+    for each in totals {
+        push_pair(
+            out,
+            parts,
+            desk.run_name(at.first),
+            desk.run_name(at.second),
+            each,
+        )?;
+        at = at.next(runs);
+    }
+    Ok(())
+}
+
+/// The line `pair FIRST WORD SECOND LOW HIGH` with its line feed: the sums over all topics in units, printed as
+/// means, the least difference rounded down and the greatest rounded up.
+pub fn pair_line(
+    alloc: Global,
+    first: &[u8],
+    second: &[u8],
+    unit: i128,
+    topics: u32,
+    totals: &Totals,
+) -> Result<Vec<u8>, Memory>
+    requires unit { pos 1 ≤ℤ unit }
+    requires unit_small { unit ≤ℤ pos (10 ^ 19) }
+    requires topics { 1 ≤ topics }
+    requires topics_few { topics ≤ 10000 }
+    requires totals { AreNearTotals totals.now }
+    ensures { IfOk result (λ line. line.items ≡ ended (pair_line (unsigned_abs unit * topics) first.now second.now totals.now)) }
+{
+    let mut out = Vec::new(alloc);
+    match push_pair(&mut out, parts(unit, topics), first, second, totals) {
+        Ok(()) => Ok(out),
+        Err(_) => Err(Memory),
+    }
+}
+
+fn push_table(
+    out: &mut Vec<u8>,
+    desk: &Desk,
+    measure: &MeasureName,
+    level: u32,
+    unit: i128,
+    bounds: &[Span],
+    totals: &[Totals],
+) -> Result<(), AllocError>
+    requires unit { pos 1 ≤ℤ unit }
+    requires unit_small { unit ≤ℤ pos (10 ^ 19) }
+    requires bounds_count { length bounds.now ≡ length desk.now.runs }
+    requires totals_count { length totals.now ≡ length (pairs_of desk.now.runs) }
+    requires bounds { All IsNearSpan bounds.now }
+    requires totals { All AreNearTotals totals.now }
+    ensures { OnOk result (out.new.items ≡ out.old.items ++ table_text desk.now measure.now level unit bounds.now totals.now) }
+{
+    let topics = desk.topic_count();
+    let parts = parts(unit, topics);
+    push_head(out, measure, level, topics, desk.run_count())?;
+    push_runs(out, desk, parts, bounds)?;
+    push_pairs(out, desk, parts, totals)
+}
+
+/// The table: its head, a line for each run with its summed bounds, and a line for each pair in order with its four
+/// sums. Bounds and sums are over all topics, in units of the measure.
+pub fn table_text(
+    alloc: Global,
+    desk: &Desk,
+    measure: &MeasureName,
+    level: u32,
+    unit: i128,
+    bounds: &[Span],
+    totals: &[Totals],
+) -> Result<Vec<u8>, Memory>
+    requires unit { pos 1 ≤ℤ unit }
+    requires unit_small { unit ≤ℤ pos (10 ^ 19) }
+    requires bounds_count { length bounds.now ≡ length desk.now.runs }
+    requires totals_count { length totals.now ≡ length (pairs_of desk.now.runs) }
+    requires bounds { All IsNearSpan bounds.now }
+    requires totals { All AreNearTotals totals.now }
+    ensures { IfOk result (λ text. text.items ≡ table_text desk.now measure.now level unit bounds.now totals.now) }
+{
+    let mut out = Vec::new(alloc);
+    match push_table(&mut out, desk, measure, level, unit, bounds, totals) {
+        Ok(()) => Ok(out),
+        Err(_) => Err(Memory),
+    }
+}
+
+#[cfg(test)]
+mod tests {
+    use super::*;
+    use std::test::Fail;
+
+    #[test]
+    fn a_pair_is_printed_outward(rt: HostRuntime) -> Result<(), Fail> {
+        let totals = Totals {
+            least_lo: -1,
+            least_hi: -1,
+            most_lo: 2,
+            most_hi: 2,
+        };
+        let line = pair_line(rt.alloc(), b"A", b"B", 3, 2, &totals).map_err(|_| AllocError)?;
+        assert_eq!(rt;
+            line.as_slice(),
+            b"pair A open B -0.166667 0.333334\n".as_slice()
+        );
+        Ok(())
+    }
+}

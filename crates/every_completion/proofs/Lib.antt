@@ -1,0 +1,4 @@
+pub mod Floors
+pub mod Agreement
+pub mod Splitting
+pub mod Listed

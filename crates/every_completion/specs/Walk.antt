@@ -1,0 +1,57 @@
+-- What the walk through every completion says.
+use Rattle.std.specs.Prelude.{◌<◌, ◌≤◌, Bool, true, false, ℤ, ◌*ℤ◌, ◌≤ℤ◌}
+use Rattle.std.specs.Int.{int_min, int_max}
+use Rattle.desk_model.specs.Fraction as model
+use Rattle.desk_model.specs.Extremes.{IsGreatest, IsSmallest}
+use Rattle.desk_model.specs.Extremes as extremes
+use Rattle.desk_model.specs.declared.types.Mark.{Mark}
+use Rattle.desk_model.specs.declared.types.Mark.TheVariants.{Unjudged, Relevant, Other}
+use Rattle.desk_model.specs.declared.types.MeasureName.{MeasureName}
+use Rattle.desk_model.specs.declared.types.MeasureName.TheVariants.{Precision, Recall, RPrecision, Reciprocal, Biased}
+use Rattle.every_completion.specs.declared.scores.Fraction.{Fraction}
+use Rattle.every_completion.specs.declared.ends.Ends.{Ends}
+
+-- whether a document has no grade
+abbrev pub is_unjudged : Mark → Bool
+is_unjudged Unjudged = true
+is_unjudged Relevant = false
+is_unjudged Other = false
+
+-- a measure that looks at no place past a run's end, with a k from 1 to 10,000 where it has one
+abbrev pub LooksAtNoTail : MeasureName → Type 0
+LooksAtNoTail (Precision k) = (1 ≤ k) × (k ≤ 10000)
+LooksAtNoTail (Recall k) = (1 ≤ k) × (k ≤ 10000)
+LooksAtNoTail RPrecision = Unit {0}
+LooksAtNoTail Reciprocal = Unit {0}
+LooksAtNoTail (Biased top bottom) = ⊥
+
+-- a computed fraction as the fraction that it is
+abbrev pub value_of : Fraction → model.Fraction
+value_of x = record { num = x.num; den = x.den }
+
+-- the sizes of a score: at most 10,000 parts, and a universe of at most 25,000,000 documents
+pub record IsSmall (x : Fraction) : Type 0 where
+  pub num : x.num ≤ 10000
+  pub positive : 0 < x.den
+  pub den : x.den ≤ 25000000
+
+-- computed ends as whole numbers
+abbrev pub ends_of : Ends → extremes.Ends
+ends_of ends = record { least_lo = ends.least_lo; least_hi = ends.least_hi; most_lo = ends.most_lo; most_hi = ends.most_hi }
+
+-- the ends over the completions of two topics
+abbrev pub joined : extremes.Ends → extremes.Ends → extremes.Ends
+joined x y = record {
+  least_lo = int_min x.least_lo y.least_lo;
+  least_hi = int_min x.least_hi y.least_hi;
+  most_lo = int_max x.most_lo y.most_lo;
+  most_hi = int_max x.most_hi y.most_hi;
+}
+
+-- the greatest whole number that is at most n over d
+abbrev pub IsFloor : ℤ → ℤ → ℤ → Type 0
+IsFloor n d = IsGreatest (λ z. (z *ℤ d) ≤ℤ n)
+
+-- the smallest whole number that is at least n over d
+abbrev pub IsCeiling : ℤ → ℤ → ℤ → Type 0
+IsCeiling n d = IsSmallest (λ z. n ≤ℤ (z *ℤ d))

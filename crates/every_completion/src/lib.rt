@@ -1,0 +1,14 @@
+//! The extremes of a topic by a walk through every completion of it: a plain and slow program of the
+//! definitions, to compare the measures with.
+#![tactic(auto)]
+
+pub mod ends;
+pub mod rounding;
+pub mod scores;
+pub mod walk;
+
+pub use ends::{Ends, EndsFault};
+pub use walk::extremes;
+
+#[cfg(test)]
+mod tests;

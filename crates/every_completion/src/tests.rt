@@ -1,0 +1,211 @@
+ghost use Rattle.std.specs.Prelude.{◌≡◌, ◌^◌, ◌≤◌, length, IsTrue, IfOk};
+ghost use Rattle.desk_model.specs.Ranking.{IsRanking};
+ghost use Rattle.every_completion.specs.Walk.{LooksAtNoTail};
+
+use crate::{Ends, EndsFault, extremes};
+use desk_model::{Mark, MeasureName, Ranking};
+use precision::Precision;
+use std::alloc::Global;
+use std::process::Abort;
+use std::test::Fail;
+
+const R: Mark = Mark::Relevant;
+
+const O: Mark = Mark::Other;
+
+const U: Mark = Mark::Unjudged;
+
+const S: u64 = 1_000_000_000_000_000_000;
+
+const HALF: i128 = 500_000_000_000_000_000;
+
+const WHOLE: i128 = 1_000_000_000_000_000_000;
+
+const RANKINGS: [&[u32]; 8] = [
+    &[],
+    &[0],
+    &[3, 1],
+    &[0, 1, 2],
+    &[2, 3, 0],
+    &[3, 2, 1, 0],
+    &[1, 0, 3, 2],
+    &[0, 2, 1, 3],
+];
+
+const MARKS: [[Mark; 4]; 6] = [
+    [U, U, U, U],
+    [R, U, O, U],
+    [U, O, R, U],
+    [O, U, U, R],
+    [R, R, O, O],
+    [O, U, O, U],
+];
+
+/// Whether a list has different documents of a universe.
+fn is_ranking(docs: &[u32], universe: u32) -> bool
+    requires { length docs.now ≤ 10000 }
+    ensures { IsTrue result → IsRanking universe docs.now }
+{
+    match docs {
+        [] => true,
+        [first, rest @ ..] => {
+            if *first >= universe || rest.contains(first) {
+                return false;
+            }
+            is_ranking(rest, universe)
+        }
+    }
+}
+
+fn ranking(rt: &impl Abort, alloc: Global, docs: &[u32], universe: u32) -> Result<Ranking, Fail>
+    ensures { IfOk result (λ ranking. IsRanking universe ranking) }
+{
+    assert!(rt; docs.len() <= 10000);
+    assert!(rt; is_ranking(docs, universe));
+    Ok(Ranking::new(alloc, docs.to_vec(alloc)?, universe)?)
+}
+
+fn walked(
+    rt: &impl Abort,
+    alloc: Global,
+    measure: MeasureName,
+    unit: u64,
+    runs: (&[u32], &[u32]),
+    marks: &[Mark],
+) -> Result<Result<Ends, EndsFault>, Fail>
+    requires measure { LooksAtNoTail measure }
+    requires unit { unit ≤ 10 ^ 18 }
+{
+    assert!(rt; marks.len() <= 100);
+    let universe = marks.len() as u32;
+    let first = ranking(rt, alloc, runs.0, universe)?;
+    let second = ranking(rt, alloc, runs.1, universe)?;
+    Ok(extremes(alloc, measure, unit, &first, &second, marks))
+}
+
+fn ends(least_lo: i128, least_hi: i128, most_lo: i128, most_hi: i128) -> Result<Ends, EndsFault> {
+    Ok(Ends {
+        least_lo,
+        least_hi,
+        most_lo,
+        most_hi,
+    })
+}
+
+#[test]
+fn precision_cancels_what_is_in_both(rt: HostRuntime) -> Result<(), Fail> {
+    let alloc = rt.alloc();
+    let measure = MeasureName::Precision(2);
+    let shared = walked(&rt, alloc, measure, 2, (&[0, 2], &[1, 2]), &[R, O, U])?;
+    assert_eq!(rt; shared, ends(1, 1, 1, 1));
+    let below = walked(&rt, alloc, measure, 2, (&[0], &[1, 0]), &[R, U])?;
+    assert_eq!(rt; below, ends(-1, -1, 0, 0));
+    Ok(())
+}
+
+#[test]
+fn recall_grows_by_neutral_documents(rt: HostRuntime) -> Result<(), Fail> {
+    let alloc = rt.alloc();
+    let measure = MeasureName::Recall(1);
+    let third = 333_333_333_333_333_333;
+    let marks = &[R, O, U, U];
+    let above = walked(&rt, alloc, measure, S, (&[0], &[1]), marks)?;
+    assert_eq!(rt; above, ends(third, third + 1, WHOLE, WHOLE));
+    let open = walked(&rt, alloc, measure, S, (&[0], &[2, 3]), marks)?;
+    assert_eq!(rt; open, ends(0, 0, WHOLE, WHOLE));
+    let below = walked(&rt, alloc, measure, S, (&[1], &[2, 3]), marks)?;
+    assert_eq!(rt; below, ends(-HALF, -HALF, 0, 0));
+    let alone = walked(&rt, alloc, measure, S, (&[0], &[]), &[R, U])?;
+    assert_eq!(rt; alone, ends(HALF, HALF, WHOLE, WHOLE));
+    Ok(())
+}
+
+#[test]
+fn other_measures_by_hand(rt: HostRuntime) -> Result<(), Fail> {
+    let alloc = rt.alloc();
+    let first = walked(
+        &rt,
+        alloc,
+        MeasureName::Reciprocal,
+        S,
+        (&[1, 0], &[0, 1]),
+        &[R, U],
+    )?;
+    assert_eq!(rt; first, ends(-HALF, -HALF, 0, 0));
+    let apart = walked(
+        &rt,
+        alloc,
+        MeasureName::RPrecision,
+        S,
+        (&[0], &[1]),
+        &[U, U, O],
+    )?;
+    assert_eq!(rt; apart, ends(-WHOLE, -WHOLE, WHOLE, WHOLE));
+    let many = walked(
+        &rt,
+        alloc,
+        MeasureName::Reciprocal,
+        S,
+        (&[0], &[1]),
+        &[U; 17],
+    )?;
+    assert_eq!(rt; many, Err(EndsFault::TooManyUnjudged));
+    Ok(())
+}
+
+/// Compares precision with the walk, for a pair and for its first run alone.
+fn compare_precision(
+    rt: &impl Abort,
+    alloc: Global,
+    k: u32,
+    runs: (&[u32], &[u32]),
+    marks: &[Mark],
+) -> Result<(), Fail>
+    requires positive { 1 ≤ k }
+    requires limited { k ≤ 10000 }
+{
+    assert!(rt; marks.len() <= 100);
+    let universe = marks.len() as u32;
+    let first = ranking(rt, alloc, runs.0, universe)?;
+    let second = ranking(rt, alloc, runs.1, universe)?;
+    let measure = Precision::new(k);
+    let (least, most) = measure.extremes(&first, &second, marks);
+    let (least, most) = (least as i128, most as i128);
+    let want = walked(rt, alloc, MeasureName::Precision(k), k as u64, runs, marks)?;
+    assert_eq!(rt;
+        ends(least, least, most, most),
+        want,
+        "P_{k} of {runs:?} under {marks:?}"
+    );
+    let (low, high) = measure.range(&first, marks);
+    let (low, high) = (low as i128, high as i128);
+    let want = walked(
+        rt,
+        alloc,
+        MeasureName::Precision(k),
+        k as u64,
+        (runs.0, &[]),
+        marks,
+    )?;
+    assert_eq!(rt;
+        ends(low, low, high, high),
+        want,
+        "P_{k} of {runs:?} under {marks:?}"
+    );
+    Ok(())
+}
+
+#[test]
+fn precision_as_every_completion_has_it(rt: HostRuntime) -> Result<(), Fail> {
+    let alloc = rt.alloc();
+    for marks in &MARKS {
+        for first in &RANKINGS {
+            for second in &RANKINGS {
+                for k in [1, 2, 3, 40] {
+                    compare_precision(&rt, alloc, k, (*first, *second), marks)?;
+                }
+            }
+        }
+    }
+    Ok(())
+}
