@@ -16,5 +16,7 @@ pub use fault::{FileFault, LineFault};
 pub use limits::{
     GREATEST_GRADE, LEAST_GRADE, LONGEST_NAME, MOST_NAME_BYTES, MOST_QRELS_ROWS, MOST_TOPICS,
 };
+pub use name_set::NameSet;
+pub use names::Names;
 pub use qrels::Qrels;
 pub use read::read_qrels;
