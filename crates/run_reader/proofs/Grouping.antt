@@ -19,11 +19,11 @@ use Rattle.qrels_reader.proofs.Mapped.{list_any-map}
 use Rattle.qrels_reader.proofs.Seen.{laws, same, add_name, first_seen-append, IsDistinct, list_any-first_seen, IsDistinct-first_seen, or-false}
 
 -- what a row adds to the rows of a topic
-rows_on-append : (name : List ℕ) (rows : List RunRow) (row : RunRow) (b : Bool) → bytes_eq name row.topic ≡ b → rows_on name (rows ++ row ∷ []) ≡ rows_on name rows ++ cond b (row ∷ []) []
+pub rows_on-append : (name : List ℕ) (rows : List RunRow) (row : RunRow) (b : Bool) → bytes_eq name row.topic ≡ b → rows_on name (rows ++ row ∷ []) ≡ rows_on name rows ++ cond b (row ∷ []) []
 rows_on-append name rows row b e =
     filter-append (λ (r : RunRow). bytes_eq name r.topic) rows (row ∷ []) ∙ ap (λ b. rows_on name rows ++ cond b (row ∷ []) []) e
 
-append-nil : {A : Type 0} (xs : List A) → xs ++ [] ≡ xs
+pub append-nil : {A : Type 0} (xs : List A) → xs ++ [] ≡ xs
 append-nil [] = refl
 append-nil (x ∷ xs) = ap (λ ys. x ∷ ys) (append-nil xs)
 

@@ -3,3 +3,4 @@ pub mod Zipped
 pub mod Places
 pub mod Chains
 pub mod Progress
+pub mod Right

@@ -1,6 +1,7 @@
 -- A run: its name, and its kept rows, grouped by their topics.
-use Rattle.std.specs.Prelude.{ℕ, zero, suc, ◌+◌, Bool, not, nat_lt, nat_le, List, [], ◌∷◌, ◌++◌, if◌then◌else◌, Option, Some, None, option_map, find, Result, Ok, Err, length, map, sum_by, slice_get, ℤ}
-use Rattle.std.specs.List.{list_any}
+use Rattle.std.specs.Prelude.{◌≡◌, ◌≤◌, true, All, ℕ, zero, suc, ◌+◌, Bool, not, nat_lt, nat_le, List, [], ◌∷◌, ◌++◌, if◌then◌else◌, Option, Some, None, option_map, find, Result, Ok, Err, length, map, sum_by, slice_get, ℤ}
+use Rattle.std.specs.List.{list_any, IsDistinct}
+use Rattle.desk_model.specs.Name.{is_name}
 use Rattle.std.specs.Option.{option_map_or}
 use Rattle.std.specs.Str.{bytes_eq}
 use Rattle.desk_text.specs.Lines.{lines, is_blank}
@@ -30,6 +31,11 @@ pub record Run : Type 0 where
   pub name : List ℕ
   pub topics : List RunTopic
   pub used : Used
+
+-- what was used is within the limits
+pub record IsWithin (used : Used) : Type 0 where
+  pub rows : used.rows ≤ MOST_RUN_ROWS
+  pub name_bytes : used.name_bytes ≤ MOST_NAME_BYTES
 
 abbrev pub scored_of : RunRow → Scored
 scored_of row = record { document = row.document; score = row.score }
@@ -82,6 +88,14 @@ bytes_in documents = sum_by (λ scored. length scored.document) documents
 -- the bytes of the names of all documents of topics
 abbrev pub name_bytes_in : List RunTopic → ℕ
 name_bytes_in topics = sum_by (λ topic. bytes_in topic.rows) topics
+
+-- what holds of the topics of a run that was read: they and the documents of each have names that differ, and no topic has too many rows
+pub record IsRun (topics : List RunTopic) : Type 0 where
+  pub named : All (λ name. is_name name ≡ true) (names_of topics)
+  pub distinct : IsDistinct bytes_eq (names_of topics)
+  pub documents : All (λ topic. All (λ scored. is_name scored.document ≡ true) topic.rows) topics
+  pub distinct_documents : All (λ topic. IsDistinct bytes_eq (map (λ scored. scored.document) topic.rows)) topics
+  pub depth : All (λ topic. length topic.rows ≤ MOST_RANKS) topics
 
 -- topics of which one, by its number from 0, has one more row at its end
 abbrev pub with_scored : List RunTopic → ℕ → Scored → List RunTopic

@@ -1,16 +1,16 @@
 // A whole run file.
-ghost use Rattle.std.specs.Prelude.{◌≡◌, ◌≤◌, IfOk, option_map};
+ghost use Rattle.std.specs.Prelude.{◌≡◌, true, All, IfOk, IfSome, option_map};
 ghost use Rattle.std.specs.Option.{option_copied};
 ghost use Rattle.qrels_reader.specs.Reading.{IsUnlessMemory};
-ghost use Rattle.qrels_reader.specs.declared.limits.TheConstants.{MOST_NAME_BYTES};
-ghost use Rattle.run_reader.specs.Run.{run_of};
+ghost use Rattle.desk_model.specs.Name.{is_name};
+ghost use Rattle.qrels_reader.specs.Grouped.{is_topic};
+ghost use Rattle.run_reader.specs.Run.{run_of, names_of, IsWithin};
 
-use crate::limits::MOST_RUN_ROWS;
 use crate::reader::RunReader;
 use crate::run_rows::RunRows;
 use crate::used::Used;
 use desk_text::next_line;
-use qrels_reader::{FileFault, MOST_NAME_BYTES, Qrels};
+use qrels_reader::{FileFault, Qrels};
 use std::alloc::{AllocError, Global};
 
 /// Reads the rows of a run file, in the format of trec_eval: lines of topic, a field that is not used, document, a rank that is not
@@ -26,9 +26,10 @@ pub fn read_run(
     qrels: &Qrels,
     used: Used,
 ) -> Result<RunRows, FileFault>
-    requires rows { used.rows ≤ MOST_RUN_ROWS }
-    requires name_bytes { used.name_bytes ≤ MOST_NAME_BYTES }
-    ensures { IsUnlessMemory result (run_of (option_copied name.entry) qrels.now used bytes.now) }
+    requires name { IfSome name (λ n. is_name n.now ≡ true) }
+    requires within { IsWithin used }
+    ensures run { IsUnlessMemory result (run_of (option_copied name.entry) qrels.now used bytes.now) }
+    ensures known { IfOk result (λ run. All (λ topic. is_topic topic qrels.now ≡ true) (names_of run.topics)) }
 {
     let name = copied(alloc, name)?;
     let mut reader = RunReader::new(alloc, name, used, qrels);

@@ -1,10 +1,11 @@
 // A reader of the lines of a run file.
-ghost use Rattle.std.specs.Prelude.{length, ◌≡◌, ◌⊎◌, ◌+◌, ◌^◌, ◌<◌, ◌≤◌, [], List, option_map, true, false, unwrap_or, IfErr, OnOk, Ok, Err, Some};
+ghost use Rattle.std.specs.Prelude.{length, ◌≡◌, ◌⊎◌, ◌+◌, ◌^◌, ◌<◌, ◌≤◌, [], List, option_map, true, false, unwrap_or, IfErr, IfSome, OnOk, Ok, Err, Some};
 ghost use Rattle.qrels_reader.specs.Reading.{checked};
 ghost use Rattle.qrels_reader.specs.Grouped.{is_topic};
 ghost use Rattle.qrels_reader.specs.declared.limits.TheConstants.{MOST_NAME_BYTES};
+ghost use Rattle.desk_model.specs.Name.{is_name};
 ghost use Rattle.run_reader.specs.Rows.{RunRow};
-ghost use Rattle.run_reader.specs.Run.{grouped, faults_after, with_row_on, row_count, name_bytes_in};
+ghost use Rattle.run_reader.specs.Run.{grouped, faults_after, with_row_on, row_count, name_bytes_in, IsRun, IsWithin};
 ghost use Rattle.run_reader.specs.Reader.{row_said, place_of, name_in, name_after, IsSound, StaysBeside, ReadsLine, run_with};
 
 use crate::gathered::Gathered;
@@ -28,8 +29,7 @@ pub struct RunReader<'q> {
 
 impl<'q> RunReader<'q> {
     pub fn new(alloc: Global, name: Option<Vec<u8>>, used: Used, qrels: &'q Qrels) -> RunReader<'q>
-        requires rows { used.rows ≤ MOST_RUN_ROWS }
-        requires bytes { used.name_bytes ≤ MOST_NAME_BYTES }
+        requires { IsWithin used }
         ensures none { result.gathered.kept ≡ [] }
         ensures sound { IsSound result }
         ensures lines { result.lines ≡ 0 }
@@ -75,7 +75,9 @@ impl<'q> RunReader<'q> {
 
     /// What was read.
     pub fn finish(self) -> Result<RunRows, FileFault>
-        requires { IsSound self }
+        requires sound { IsSound self }
+        requires name { IfSome (name_in self) (λ n. is_name n ≡ true) }
+        requires kept { IsRun self.gathered.kept }
         ensures { result ≡ run_with (name_in self.entry) self.entry.used self.entry.gathered.kept }
     {
         let RunReader {

@@ -1,7 +1,11 @@
 // A run that was read.
-ghost use Rattle.std.specs.Prelude.{◌≡◌, ◌<◌, [], length, option_map, slice_get, Some, MatchOption};
-ghost use Rattle.run_reader.specs.Run.{rows_on_topic};
+ghost use Rattle.std.specs.Prelude.{◌≡◌, ◌<◌, ◌≤◌, [], true, length, map, option_map, slice_get, Some, MatchOption};
+ghost use Rattle.std.specs.List.{IsDistinct};
+ghost use Rattle.std.specs.Str.{bytes_eq};
+ghost use Rattle.desk_model.specs.Name.{is_name};
+ghost use Rattle.run_reader.specs.Run.{IsRun, IsWithin, rows_on_topic};
 
+use crate::limits::MOST_RANKS;
 use crate::scored_rows::ScoredRows;
 use crate::topic_rows::TopicRows;
 use crate::used::Used;
@@ -17,15 +21,22 @@ pub struct RunRows {
 }
 
 impl Model for RunRows {
-    ghost use Rattle.run_reader.specs.Run.{Run};
+    ghost use Rattle.std.specs.Prelude.{◌≡◌, true};
+    ghost use Rattle.desk_model.specs.Name.{is_name};
+    ghost use Rattle.run_reader.specs.Run.{Run, IsRun, IsWithin};
 
     ghost Value = { Run };
 
     ghost view = { λ r. record { name = r.name.items; topics = r.kept; used = r.used } };
+
+    ghost invariant = { λ r. (is_name r.name.items ≡ true) × IsRun r.kept × IsWithin r.used };
 }
 
 impl RunRows {
     pub(crate) fn new(name: Vec<u8>, kept: TopicRows, used: Used) -> RunRows
+        requires name { is_name name.items ≡ true }
+        requires kept { IsRun kept }
+        requires used { IsWithin used }
         ensures { result ≡ record { name = name.items; topics = kept; used = used } }
     {
         RunRows { name, kept, used }
@@ -33,28 +44,34 @@ impl RunRows {
 
     /// The run's name.
     pub fn name(&self) -> &[u8]
-        ensures { result.now ≡ self.now.name }
+        ensures value { result.now ≡ self.now.name }
+        ensures name { is_name self.now.name ≡ true }
+        ensures topics { IsRun self.now.topics }
     {
         self.name.as_slice()
     }
 
     /// What this and the earlier files used.
     pub fn used(&self) -> Used
-        ensures { result ≡ self.now.used }
+        ensures value { result ≡ self.now.used }
+        ensures within { IsWithin result }
     {
         self.used
     }
 
     /// The kept rows of a topic, in the order of the file, where there are any.
     pub fn rows_on(&self, topic: &[u8]) -> Option<&ScoredRows>
-        ensures { MatchOption result (rows_on_topic self.now topic.now ≡ []) (λ rows. rows.now ≡ rows_on_topic self.now topic.now) }
+        ensures rows { MatchOption result (rows_on_topic self.now topic.now ≡ []) (λ rows. rows.now ≡ rows_on_topic self.now topic.now) }
+        ensures distinct { IsDistinct bytes_eq (map (λ row. row.document) (rows_on_topic self.now topic.now)) }
+        ensures few { length (rows_on_topic self.now topic.now) ≤ MOST_RANKS }
     {
         self.kept.rows_on(topic)
     }
 
     /// How many kept rows a topic has.
     pub fn topic_rows(&self, topic: &[u8]) -> usize
-        ensures { result ≡ length (rows_on_topic self.now topic.now) }
+        ensures count { result ≡ length (rows_on_topic self.now topic.now) }
+        ensures few { result ≤ MOST_RANKS }
     {
         match self.rows_on(topic) {
             Some(rows) => rows.len(),
