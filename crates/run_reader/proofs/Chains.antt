@@ -1,6 +1,6 @@
 -- Faults that are looked for one after the other.
 use Rattle.std.proofs.Common.{◌≡◌, ℕ, ◌+◌, List, [], ◌∷◌, length, true, false, cond, refl, ap, sym, subst, ◌∙◌, inl, inr, ◌⊎◌}
-use Rattle.std.specs.Prelude.{Bool, not, ◌||◌, ◌==◌, Option, Some, None, Result, Ok, Err, OnOk, IfErr, nat_lt, nat_le}
+use Rattle.std.specs.Prelude.{Bool, not, ◌||◌, ◌==◌, Some, None, Result, Ok, Err, OnOk, IfErr, nat_lt, nat_le}
 use Rattle.std.specs.List.{list_any}
 use Rattle.std.specs.Result.{result_map_both}
 use Rattle.std.specs.Str.{bytes_eq}
@@ -16,7 +16,7 @@ use Rattle.qrels_reader.specs.Grouped.{Topic, is_topic}
 use Rattle.qrels_reader.proofs.Chains.{unless-ok, unless-err, on_ok}
 use Rattle.run_reader.specs.declared.limits.TheConstants.{MOST_RANKS, MOST_RUN_ROWS}
 use Rattle.run_reader.specs.declared.used.Used.{Used}
-use Rattle.run_reader.specs.Rows.{RunRow, row_of, tag_of, form_faults, formed, row_faults, read_row}
+use Rattle.run_reader.specs.Rows.{RunRow, row_of, tag_of, formed, row_faults, read_row}
 use Rattle.run_reader.specs.Run.{RunTopic, grouped, faults_after, with_row_on, rows_in, row_count, name_bytes_in}
 use Rattle.run_reader.specs.Reader.{ReadsLine}
 use Rattle.run_reader.proofs.Grouping.{grouped-append, row_faults-grouped}
@@ -64,7 +64,7 @@ module _ (qrels : List Topic) (used : Used) (number : ℕ) (rows : List RunRow) 
       let fine : unless (row_faults used rows row) (Some row) ≡ Ok (Some row) = ap (λ tests. unless tests (Some row)) (sym same) ∙ unless-ok (faults_after used ts row) (tt {0}) (tt {0}) (Some row) right in
       (Some row, read_rest row b f true k ∙ ap (result_map_both (λ row. row) (Line number)) fine, added ∙ ap (λ ts. with_row_on ts row) e ∙ sym (grouped-append rows row))
   read_kept row ts ts' (Err fault) b f k e right added wrong = elim wrong [
-      inl w ↦ inl w
+    | inl w ↦ inl w
     | inr w ↦
         let same : faults_after used ts row ≡ row_faults used rows row = ap (λ ts. faults_after used ts row) e ∙ sym (row_faults-grouped used rows row) in
         let found : unless (row_faults used rows row) (Some row) ≡ Err w.0 = ap (λ tests. unless tests (Some row)) (sym same) ∙ unless-err (faults_after used ts row) (tt {0}) (Some row) w.0 w.1 in

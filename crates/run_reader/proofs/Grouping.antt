@@ -1,6 +1,6 @@
 -- Rows that are grouped by their topics, one after the other.
 use Rattle.std.proofs.Common.{◌≡◌, ℕ, ◌+◌, List, [], ◌∷◌, ◌++◌, length, true, false, cond, refl, ap, ap₂, sym, subst, ◌∙◌, arith}
-use Rattle.std.specs.Prelude.{Bool, not, ◌||◌, ◌&&◌, map, filter, sum_by, nat_lt, nat_le}
+use Rattle.std.specs.Prelude.{Bool, ◌||◌, map, filter, sum_by, nat_lt, nat_le}
 use Rattle.std.specs.List.{list_any}
 use Rattle.std.specs.Str.{bytes_eq}
 use Rattle.std.proofs.lemmas.List.{length-map, length-append, map-append, append_assoc}

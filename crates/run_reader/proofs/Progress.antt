@@ -1,10 +1,9 @@
 -- A file that is read line by line.
-use Rattle.std.proofs.Common.{◌≡◌, ℕ, ◌+◌, ◌≤◌, Bool, true, false, not, List, [], ◌∷◌, drop, length, refl, ap, sym, subst, ◌∙◌, inl, inr, ◌⊎◌}
-use Rattle.std.specs.Prelude.{All, IfSome, Option, Some, None, option_map, unwrap_or, find, Result, Ok, Err, cond}
+use Rattle.std.proofs.Common.{◌≡◌, ℕ, ◌+◌, ◌≤◌, Bool, true, false, not, List, [], ◌∷◌, drop, length, refl, ap, sym, subst, ◌∙◌, inl, inr}
+use Rattle.std.specs.Prelude.{All, IfSome, Option, Some, None, option_map, find, Ok, Err, cond}
 use Rattle.std.proofs.lemmas.List.{drop_all}
 use Rattle.desk_text.specs.Lines.{lines, is_blank}
 use Rattle.qrels_reader.specs.declared.fault.FileFault.{FileFault}
-use Rattle.qrels_reader.specs.declared.fault.FileFault.TheVariants.{Memory}
 use Rattle.qrels_reader.specs.Reading.{and_then, with_row, rows_from, rows_of, IsUnlessMemory}
 use Rattle.desk_model.specs.Name.{is_name}
 use Rattle.qrels_reader.specs.Grouped.{Topic}
@@ -62,7 +61,7 @@ module _ (given : Option (List ℕ)) (qrels : List Topic) (used : Used) (bytes :
         rows = with_row p.rows r.0;
         so_far = r.2;
         rest = p.rest ∙ ap (rows_from (read_row qrels used) (number + 1) p.rows) e
-          ∙ ap (λ row. and_then row (λ row. rows_from (read_row qrels used) (number + 1 + 1) (with_row p.rows row) (lines (drop next bytes)))) r.1;
+            ∙ ap (λ row. and_then row (λ row. rows_from (read_row qrels used) (number + 1 + 1) (with_row p.rows row) (lines (drop next bytes)))) r.1;
         right = right_line qrels used (number + 1) p.rows line r.0 p.right r.1;
         named = subst (λ n. IfSome n (λ n. is_name n ≡ true)) (sym f) (name_right qrels used (number + 1) p.rows line r.0 name p.named r.1);
         naming = ap (λ n. name_of n (lines (drop next bytes))) f ∙ name_of-next name line (lines (drop next bytes)) ∙ ap (name_of name) (sym e) ∙ p.naming;
@@ -72,7 +71,7 @@ module _ (given : Option (List ℕ)) (qrels : List Topic) (used : Used) (bytes :
   pub stopped : (line : List ℕ) (at next number : ℕ) (name : Option (List ℕ)) (topics topics' : List RunTopic) (fault : FileFault) → Progress at number name topics → lines (drop at bytes) ≡ line ∷ lines (drop next bytes)
       → ((rows : List RunRow) → topics ≡ grouped rows → ReadsLine qrels used (number + 1) rows line (Err fault) topics') → IsUnlessMemory {A = Run} (Err fault) (run_of given qrels used bytes)
   stopped line at next number name topics topics' fault p e reads = elim (reads p.rows p.so_far) [
-      inl w ↦ inl (ap Err w)
+    | inl w ↦ inl (ap Err w)
     | inr w ↦ inr (sym (ap (λ rows. and_then rows (named (name_of given (lines bytes)) used)) (p.rest ∙ ap (rows_from (read_row qrels used) (number + 1) p.rows) e
         ∙ ap (λ row. and_then row (λ row. rows_from (read_row qrels used) (number + 1 + 1) (with_row p.rows row) (lines (drop next bytes)))) w)))
   ]

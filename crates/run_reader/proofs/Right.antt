@@ -1,5 +1,5 @@
 -- What holds of rows that were read.
-use Rattle.std.proofs.Common.{◌≡◌, Bor, ℤ, ℕ, zero, suc, ◌+◌, ◌<◌, ◌≤◌, List, [], ◌∷◌, ◌++◌, length, get_or, true, false, true≢false, cond, refl, ap, sym, subst, ◌∙◌, arith, length-append}
+use Rattle.std.proofs.Common.{◌≡◌, Bor, ℤ, ℕ, zero, suc, ◌≤◌, List, [], ◌∷◌, ◌++◌, length, get_or, true, false, true≢false, cond, refl, ap, sym, subst, ◌∙◌, arith, length-append}
 use Rattle.std.specs.Prelude.{Bool, not, ◌||◌, ◌==◌, map, filter, All, Option, Some, None, IfSome, IfOk, unwrap_or, Result, Ok, Err, nat_le}
 use Rattle.std.specs.List.{list_any, IsDistinct as AllDiffer}
 use Rattle.std.specs.Option.{option_copied}
@@ -8,13 +8,11 @@ use Rattle.std.specs.Result.{result_map_both}
 use Rattle.std.proofs.lemmas.Bool.{leb-false, eqb-true}
 use Rattle.std.proofs.lemmas.List.{map-append, length-map}
 use Rattle.std.proofs.lemmas.List.Elements.{All-push, All-map, All-filter}
-use Rattle.desk_text.specs.Lines.{is_bad, is_blank, fields_of}
+use Rattle.desk_text.specs.Lines.{is_blank, fields_of}
 use Rattle.desk_model.specs.Name.{is_name}
 use Rattle.decimal_score.specs.Reading.{score_of}
 use Rattle.decimal_score.specs.declared.score.ScoreFault.{ScoreFault}
-use Rattle.qrels_reader.specs.declared.fault.FileFault.{FileFault}
 use Rattle.qrels_reader.specs.declared.fault.FileFault.TheVariants.{Line}
-use Rattle.qrels_reader.specs.declared.fault.LineFault.{LineFault}
 use Rattle.qrels_reader.specs.Reading.{unless, checked, and_then, field, is_long, read_line, with_row}
 use Rattle.qrels_reader.specs.Rows.{first_seen}
 use Rattle.qrels_reader.specs.Grouped as qrels_grouped
@@ -39,10 +37,11 @@ documents_more rows row name distinct new = by (bytes_eq name row.topic) refl
     absent e =
         sym (list_any-map (bytes_eq row.document) (λ (r : RunRow). r.document) (rows_on name rows))
         ∙ ap (λ n. list_any (λ (r : RunRow). bytes_eq row.document r.document) (rows_on n rows)) (same name row.topic e) ∙ new
+
     by : (b : Bool) → bytes_eq name row.topic ≡ b → IsDistinct (map (λ row. row.document) (rows_on name (rows ++ row ∷ [])))
     by true e =
         subst IsDistinct (sym (ap (map (λ (r : RunRow). r.document)) (rows_on-append name rows row true e) ∙ map-append (λ (r : RunRow). r.document) (rows_on name rows) (row ∷ [])))
-          (IsDistinct-push (map (λ row. row.document) (rows_on name rows)) row.document distinct (absent e))
+        (IsDistinct-push (map (λ row. row.document) (rows_on name rows)) row.document distinct (absent e))
     by false e = subst IsDistinct (sym (ap (map (λ (r : RunRow). r.document)) (rows_on-append name rows row false e ∙ append-nil (rows_on name rows)))) distinct
 
 depth_more : (rows : List RunRow) (row : RunRow) (name : List ℕ) → length (rows_on name rows) ≤ MOST_RANKS → nat_le MOST_RANKS (length (rows_on row.topic rows)) ≡ false → length (rows_on name (rows ++ row ∷ [])) ≤ MOST_RANKS
@@ -142,6 +141,7 @@ module _ (qrels : List qrels_grouped.Topic) (used : Used) where
       kept : (made : RunRow) → IsNamed made → (known : Bool) → qrels_grouped.is_topic made.topic qrels ≡ known → cond known (unless (row_faults used rows made) (Some made)) (Ok None) ≡ Ok row → AreRight (with_row rows row)
       kept made named true k f = subst (λ row. AreRight (with_row rows row)) (last (row_faults used rows made) (Some made) row f) (right_more rows made right named k (Some made) row f)
       kept made named false k f = (let none : None ≡ row = cc in subst (λ row. AreRight (with_row rows row)) none right)
+
       by : (b : Bool) → is_blank line ≡ b → AreRight (with_row rows row)
       by true b = (let none : Ok None ≡ Ok row = sym (ap (λ b. cond b (Ok None) (result_map_both (λ row. row) (Line number) (read_row qrels used rows line))) b) ∙ e in let n : None ≡ row = cc in subst (λ row. AreRight (with_row rows row)) n right)
       by false b =
@@ -155,6 +155,7 @@ module _ (qrels : List qrels_grouped.Topic) (used : Used) where
       some : (name : Option (List ℕ)) → IfSome name (λ n. is_name n ≡ true) → is_name (tag_of line) ≡ true → is_name (unwrap_or name (tag_of line)) ≡ true
       some None h tag = tag
       some (Some n) h tag = h
+
       by : (b : Bool) → is_blank line ≡ b → IfSome (name_after name line) (λ n. is_name n ≡ true)
       by true b = subst (λ b. IfSome (cond b name (Some (unwrap_or name (tag_of line)))) (λ n. is_name n ≡ true)) (sym b) right
       by false b =
@@ -185,16 +186,18 @@ module _ (qrels : List qrels_grouped.Topic) (used : Used) where
     documents = All-map (λ (topic : RunTopic). All (λ (scored : Scored). is_name scored.document ≡ true) topic.rows) (topic_of rows) (topics_of rows) (λ k d lt. on_topic (get_or (topics_of rows) k d));
     distinct_documents = All-map (λ (topic : RunTopic). AllDiffer bytes_eq (map (λ (s : Scored). s.document) topic.rows)) (topic_of rows) (topics_of rows) (λ k d lt. differ (get_or (topics_of rows) k d));
     depth = All-map (λ (topic : RunTopic). length topic.rows ≤ MOST_RANKS) (topic_of rows) (topics_of rows)
-      (λ k d lt. let n = right.depth (get_or (topics_of rows) k d) in omega (arith, length-map (rows_on (get_or (topics_of rows) k d) rows) scored_of));
+        (λ k d lt. let n = right.depth (get_or (topics_of rows) k d) in omega (arith, length-map (rows_on (get_or (topics_of rows) k d) rows) scored_of));
   }
     where
       on_topic : (name : List ℕ) → All (λ (scored : Scored). is_name scored.document ≡ true) (map scored_of (rows_on name rows))
       on_topic name =
           All-map (λ (scored : Scored). is_name scored.document ≡ true) scored_of (rows_on name rows)
-            (All-filter (λ (r : RunRow). bytes_eq name r.topic) (λ r. is_name r.document ≡ true) rows (λ j x le. (right.named j x le).1))
+          (All-filter (λ (r : RunRow). bytes_eq name r.topic) (λ r. is_name r.document ≡ true) rows (λ j x le. (right.named j x le).1))
+
       documents-scored : (rs : List RunRow) → map (λ (s : Scored). s.document) (map scored_of rs) ≡ map (λ row. row.document) rs
       documents-scored [] = refl
       documents-scored (r ∷ rs) = ap (λ xs. r.document ∷ xs) (documents-scored rs)
+
       differ : (name : List ℕ) → AllDiffer bytes_eq (map (λ (s : Scored). s.document) (map scored_of (rows_on name rows)))
       differ name = subst (AllDiffer bytes_eq) (sym (documents-scored (rows_on name rows))) (all_differ (map (λ row. row.document) (rows_on name rows)) (right.documents name))
 

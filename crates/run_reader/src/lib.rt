@@ -1,4 +1,4 @@
-//! The rows of a run file.
+//! Runs: their rows on the topics of the qrels, with exact scores.
 #![tactic(auto)]
 
 mod gathered;
@@ -16,3 +16,6 @@ pub use read::read_run;
 pub use run_rows::RunRows;
 pub use scored_rows::ScoredRows;
 pub use used::Used;
+
+#[cfg(test)]
+mod tests;

@@ -1,5 +1,5 @@
 // A run that was read.
-ghost use Rattle.std.specs.Prelude.{◌≡◌, ◌<◌, ◌≤◌, [], true, length, map, option_map, slice_get, Some, MatchOption};
+ghost use Rattle.std.specs.Prelude.{◌≡◌, ◌<◌, ◌≤◌, [], true, All, length, map, option_map, slice_get, Some, MatchOption};
 ghost use Rattle.std.specs.List.{IsDistinct};
 ghost use Rattle.std.specs.Str.{bytes_eq};
 ghost use Rattle.desk_model.specs.Name.{is_name};
@@ -63,6 +63,7 @@ impl RunRows {
     pub fn rows_on(&self, topic: &[u8]) -> Option<&ScoredRows>
         ensures rows { MatchOption result (rows_on_topic self.now topic.now ≡ []) (λ rows. rows.now ≡ rows_on_topic self.now topic.now) }
         ensures distinct { IsDistinct bytes_eq (map (λ row. row.document) (rows_on_topic self.now topic.now)) }
+        ensures names { All (λ row. is_name row.document ≡ true) (rows_on_topic self.now topic.now) }
         ensures few { length (rows_on_topic self.now topic.now) ≤ MOST_RANKS }
     {
         self.kept.rows_on(topic)

@@ -99,7 +99,12 @@ impl TopicRows {
     }
 
     // One more row of a topic.
-    pub fn add_document(&mut self, t: usize, document: &[u8], score: Score) -> Result<(), AllocError>
+    pub fn add_document(
+        &mut self,
+        t: usize,
+        document: &[u8],
+        score: Score,
+    ) -> Result<(), AllocError>
         requires topic { t < length self.old }
         requires rows { row_count self.old + 1 < 2 ^ 32 }
         requires names { name_bytes_in self.old + length document.now < 2 ^ 32 }

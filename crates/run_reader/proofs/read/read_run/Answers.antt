@@ -14,7 +14,7 @@ loop-at-init c =
     let given = option_copied c.args.name in
     record {
       progress = subst (λ n. Progress given c.args.qrels.now c.args.used c.args.bytes.now 0 n (name_in reader) reader.gathered.kept) (sym c.new-reader.ensures.lines)
-        (begun given c.args.qrels.now c.args.used c.args.bytes.now (name_in reader) reader.gathered.kept (c.new-reader.ensures.name ∙ c.in_ok-name.ensures) (if_copied c.args.name c.requires.name) c.new-reader.ensures.none);
+          (begun given c.args.qrels.now c.args.used c.args.bytes.now (name_in reader) reader.gathered.kept (c.new-reader.ensures.name ∙ c.in_ok-name.ensures) (if_copied c.args.name c.requires.name) c.new-reader.ensures.none);
       sound = c.new-reader.ensures.sound;
       qrels = c.new-reader.ensures.qrels;
       used = c.new-reader.ensures.used;
@@ -33,7 +33,7 @@ loop-at-preserved c =
     let now = c.loop-at.invariant in
     record {
       progress = subst (λ n. Progress given c.args.qrels.now c.args.used c.args.bytes.now line.result.next n (name_in after) after.gathered.kept) (sym step.lines)
-        (read_next given c.args.qrels.now c.args.used c.args.bytes.now text c.loop-at.at line.result.next reader.lines (name_in reader) (name_in after) reader.gathered.kept after.gathered.kept now.progress line.ensures.lines step.name
+          (read_next given c.args.qrels.now c.args.used c.args.bytes.now text c.loop-at.at line.result.next reader.lines (name_in reader) (name_in after) reader.gathered.kept after.gathered.kept now.progress line.ensures.lines step.name
           (λ rows e. subst (λ q. ReadsLine q c.args.used (reader.lines + 1) rows text (Ok tt) after.gathered.kept) now.qrels (subst (λ u. ReadsLine reader.qrels.now u (reader.lines + 1) rows text (Ok tt) after.gathered.kept) now.used (step.read rows e))));
       sound = step.sound;
       qrels = step.beside.qrels ∙ now.qrels;
@@ -46,7 +46,7 @@ pub returns-clause-run : goal.returns-clause-run
 returns-clause-run c =
     let reader = c.loop-at.reader in
     inr (c.finish.ensures ∙ ap (λ used. run_with (name_in reader) used reader.gathered.kept) c.loop-at.invariant.used
-      ∙ ended (option_copied c.args.name) c.args.qrels.now c.args.used c.args.bytes.now c.loop-at.at reader.lines (name_in reader) reader.gathered.kept c.loop-at.invariant.progress (omega arith))
+    ∙ ended (option_copied c.args.name) c.args.qrels.now c.args.used c.args.bytes.now c.loop-at.at reader.lines (name_in reader) reader.gathered.kept c.loop-at.invariant.progress (omega arith))
 
 pub returns-clause-known : goal.returns-clause-known
 returns-clause-known c =

@@ -8,7 +8,7 @@ use Rattle.run_reader.proofs.scored_rows.ScoredRows.push.Goals as goal
 pub push-requires : goal.push-requires
 push-requires c =
     let n : sum_by length c.self.inside.documents ≡ bytes_in c.args.self.now =
-        sym (bytes_in-scored_in c.self.inside.documents c.self.inside.scores.items c.self.invariant) ∙ ap bytes_in c.self.view_is in
+    sym (bytes_in-scored_in c.self.inside.documents c.self.inside.scores.items c.self.invariant) ∙ ap bytes_in c.self.view_is in
     omega (arith, n)
 
 pub returns-clause-ok : goal.returns-clause-ok
