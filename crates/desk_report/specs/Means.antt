@@ -1,7 +1,6 @@
 -- How means are printed: outward, with six digits after the point.
-use Rattle.std.specs.Prelude.{ℕ, suc, ◌+◌, ◌*◌, ◌/◌, ◌%◌, List, [], ◌∷◌, ◌++◌, drop, decimal, ℤ, pos, negsuc, neg_ℤ, ◌*ℤ◌, ◌≤ℤ◌, ◌^◌}
+use Rattle.std.specs.Prelude.{ℕ, suc, ◌+◌, ◌*◌, ◌/◌, ◌%◌, List, [], ◌∷◌, ◌++◌, drop, decimal, ℤ, pos, negsuc, neg_ℤ, ◌*ℤ◌}
 use Rattle.std.specs.Int.{int_div_euclid}
-use Rattle.fractions.specs.declared.ends.Span.{Span}
 
 -- the floor and the ceiling of n over d
 abbrev pub floor_of : ℤ → ℕ → ℤ
@@ -26,10 +25,3 @@ decimal_text (negsuc n) = 45 ∷ millionths (suc n)
 -- a lower end rounded down to millionths, and an upper end rounded up, each a sum over a number of parts
 abbrev pub ends_text : ℕ → ℤ → ℤ → List ℕ
 ends_text parts lo hi = decimal_text (floor_of (lo *ℤ pos 1000000) parts) ++ 32 ∷ decimal_text (ceiling_of (hi *ℤ pos 1000000) parts)
-
--- from -10^30 to 10^30
-abbrev pub IsNear : ℤ → Type 0
-IsNear z = (neg_ℤ (pos (10 ^ 30)) ≤ℤ z) × (z ≤ℤ pos (10 ^ 30))
-
-abbrev pub IsNearSpan : Span → Type 0
-IsNearSpan s = IsNear s.lo × IsNear s.hi

@@ -1,7 +1,8 @@
 // Means with six digits after the point, rounded outward.
 ghost use Rattle.std.specs.Prelude.{◌≡◌, ◌+◌, ◌*◌, ◌<◌, ◌≤◌, ◌^◌, ◌++◌, ◌∷◌, [], drop, decimal, pos, neg_ℤ, ◌≤ℤ◌, ◌*ℤ◌, OnOk};
 ghost use Rattle.std.specs.Prelude.{unsigned_abs};
-ghost use Rattle.desk_report.specs.Means.{floor_of, ceiling_of, six_digits, millionths, decimal_text, IsNearSpan, ends_text};
+ghost use Rattle.fractions.specs.Ends.{IsShort};
+ghost use Rattle.desk_report.specs.Means.{floor_of, ceiling_of, six_digits, millionths, decimal_text, ends_text};
 
 use fractions::Span;
 use itoa::Buffer;
@@ -120,7 +121,7 @@ fn push_high(out: &mut Vec<u8>, parts: u128, sum: i128) -> Result<(), AllocError
 pub fn push_ends(out: &mut Vec<u8>, parts: u128, ends: &Span) -> Result<(), AllocError>
     requires parts { 1 ≤ parts }
     requires parts_small { parts ≤ 10 ^ 23 }
-    requires ends { IsNearSpan ends.now }
+    requires ends { IsShort ends.now }
     ensures { OnOk result (out.new.items ≡ out.old.items ++ ends_text parts ends.now.lo ends.now.hi) }
 {
     push_low(out, parts, ends.lo)?;

@@ -3,7 +3,7 @@ ghost use Rattle.std.specs.Prelude.{◌≡◌, ◌<◌, ◌≤◌, ◌^◌, ◌+
 ghost use Rattle.std.specs.Prelude.{unsigned_abs};
 ghost use Rattle.desk_model.specs.MeasureText.{measure_text, persistence_digits};
 ghost use Rattle.desk_model.specs.Pairs.{pairs_of};
-ghost use Rattle.desk_report.specs.Means.{IsNearSpan};
+ghost use Rattle.fractions.specs.Ends.{IsShort};
 ghost use Rattle.desk_report.specs.Table.{AreNearTotals, ended, word_of, head_lines, run_line, run_lines, pair_line, pair_lines, table_text};
 
 use crate::means::{parts, push_digits_after_first, push_ends};
@@ -79,7 +79,7 @@ fn push_head(
 fn push_run(out: &mut Vec<u8>, parts: u128, name: &[u8], bounds: &Span) -> Result<(), AllocError>
     requires parts { 1 ≤ parts }
     requires parts_small { parts ≤ 10 ^ 23 }
-    requires bounds { IsNearSpan bounds.now }
+    requires bounds { IsShort bounds.now }
     ensures { OnOk result (out.new.items ≡ out.old.items ++ ended (run_line parts name.now bounds.now)) }
 {
     out.extend_from_slice(b"run ")?;
@@ -93,7 +93,7 @@ fn push_runs(out: &mut Vec<u8>, desk: &Desk, parts: u128, bounds: &[Span]) -> Re
     requires parts { 1 ≤ parts }
     requires parts_small { parts ≤ 10 ^ 23 }
     requires count { length bounds.now ≡ length desk.now.runs }
-    requires bounds { All IsNearSpan bounds.now }
+    requires bounds { All IsShort bounds.now }
     ensures { OnOk result (out.new.items ≡ out.old.items ++ flat_map ended (run_lines parts desk.now.runs bounds.now)) }
 {
     for r in 0..desk.run_count() {
@@ -211,7 +211,7 @@ fn push_table(
     requires unit_small { unit ≤ℤ pos (10 ^ 19) }
     requires bounds_count { length bounds.now ≡ length desk.now.runs }
     requires totals_count { length totals.now ≡ length (pairs_of desk.now.runs) }
-    requires bounds { All IsNearSpan bounds.now }
+    requires bounds { All IsShort bounds.now }
     requires totals { All AreNearTotals totals.now }
     ensures { OnOk result (out.new.items ≡ out.old.items ++ table_text desk.now measure.now level unit bounds.now totals.now) }
 {
@@ -237,7 +237,7 @@ pub fn table_text(
     requires unit_small { unit ≤ℤ pos (10 ^ 19) }
     requires bounds_count { length bounds.now ≡ length desk.now.runs }
     requires totals_count { length totals.now ≡ length (pairs_of desk.now.runs) }
-    requires bounds { All IsNearSpan bounds.now }
+    requires bounds { All IsShort bounds.now }
     requires totals { All AreNearTotals totals.now }
     ensures { IfOk result (λ text. text.items ≡ table_text desk.now measure.now level unit bounds.now totals.now) }
 {

@@ -67,17 +67,8 @@ none_holds (t ∷ tests) a b e = by (none_holds tests a b) t.0 refl e
     by rest true f e = absurd (cc)
     by rest false f e = (f, rest e)
 
--- a line that is blank
-pub read_blank : (number : ℕ) (rows : List Row) (line : List ℕ) (ts : List Topic) → is_blank line ≡ true → ts ≡ grouped rows → ReadsLine number rows line (Ok tt) ts
-read_blank number rows line ts b e = (None, ap (λ b. cond b (Ok None) (result_map_both (λ row. row) (Line number) (read_row rows line))) b, e)
-
 filled : (number : ℕ) (rows : List Row) (line : List ℕ) → is_blank line ≡ false → read_line read_row number rows line ≡ result_map_both (λ row. row) (Line number) (read_row rows line)
 filled number rows line b = ap (λ b. cond b (Ok None) (result_map_both (λ row. row) (Line number) (read_row rows line))) b
-
--- a line whose form is wrong
-pub read_misformed : (number : ℕ) (rows : List Row) (line : List ℕ) (fault : LineFault) (ts : List Topic) → is_blank line ≡ false → unless (form_faults line) (row_of line) ≡ Err fault → ReadsLine number rows line (Err (Line number fault)) ts
-read_misformed number rows line fault ts b e =
-    inr (filled number rows line b ∙ ap (λ r. result_map_both (λ row. row) (Line number) (and_then r (λ row. unless (row_faults rows row) (Some row)))) e)
 
 -- a line of the right form
 pub read_formed : (number : ℕ) (rows : List Row) (line : List ℕ) (row : Row) (ts ts' : List Topic) (answer : Result (Unit {0}) FileFault) → is_blank line ≡ false → ts ≡ grouped rows → unless (form_faults line) (row_of line) ≡ Ok row

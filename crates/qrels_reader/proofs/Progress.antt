@@ -1,16 +1,15 @@
 -- A file that is read line by line.
-use Rattle.std.proofs.Common.{◌≡◌, subst, ℕ, ◌+◌, ◌<◌, ◌≤◌, List, [], ◌∷◌, drop, length, refl, ap, ap₂, sym, ◌∙◌, inl, inr}
+use Rattle.std.proofs.Common.{◌≡◌, subst, ℕ, ◌+◌, ◌<◌, ◌≤◌, List, ◌∷◌, drop, length, ap, ap₂, sym, ◌∙◌}
 use Rattle.std.specs.Prelude.{Ok, Err, ◌==◌, cond}
 use Rattle.std.proofs.lemmas.List.{drop_all}
 use Rattle.desk_text.specs.Lines.{lines}
-use Rattle.qrels_reader.specs.declared.fault.FileFault.{FileFault}
 use Rattle.qrels_reader.specs.declared.fault.FileFault.TheVariants.{NoTopics}
-use Rattle.qrels_reader.specs.Reading.{and_then, with_row, rows_from, rows_of, IsUnlessMemory}
+use Rattle.qrels_reader.specs.Reading.{and_then, with_row, rows_from, rows_of}
 use Rattle.qrels_reader.specs.Rows.{Row, read_row}
 use Rattle.qrels_reader.specs.Grouped.{Topic, grouped, qrels_of, row_count, IsQrels}
 use Rattle.qrels_reader.specs.Reader.{ReadsLine}
 use Rattle.qrels_reader.proofs.Grouping.{row_count-grouped}
-use Rattle.qrels_reader.proofs.Right.{AreRight, none_right, right_line, is_qrels}
+use Rattle.qrels_reader.proofs.Right.{AreRight, right_line, is_qrels}
 
 -- some lines are read, and the others are those from a place on
 pub record Progress (bytes : List ℕ) (at number : ℕ) (topics : List Topic) : Type 0 where
@@ -18,9 +17,6 @@ pub record Progress (bytes : List ℕ) (at number : ℕ) (topics : List Topic) :
   pub right : AreRight rows
   pub so_far : topics ≡ grouped rows
   pub rest : rows_of read_row bytes ≡ rows_from read_row (number + 1) rows (lines (drop at bytes))
-
-pub begun : (bytes : List ℕ) (topics : List Topic) → topics ≡ [] → Progress bytes 0 0 topics
-begun bytes topics e = record { rows = []; right = none_right; so_far = e; rest = refl }
 
 -- what a text gives after one more line
 pub read_next : (bytes line : List ℕ) (at next number : ℕ) (topics topics' : List Topic) → Progress bytes at number topics → lines (drop at bytes) ≡ line ∷ lines (drop next bytes)
@@ -33,15 +29,6 @@ read_next bytes line at next number topics topics' p e reads =
       so_far = r.2;
       rest = p.rest ∙ ap (rows_from read_row (number + 1) p.rows) e ∙ ap (λ row. and_then row (λ row. rows_from read_row (number + 1 + 1) (with_row p.rows row) (lines (drop next bytes)))) r.1;
     }
-
--- and at a fault
-pub stopped : (bytes line : List ℕ) (at next number : ℕ) (topics topics' : List Topic) (fault : FileFault) → Progress bytes at number topics → lines (drop at bytes) ≡ line ∷ lines (drop next bytes)
-    → ((rows : List Row) → topics ≡ grouped rows → ReadsLine (number + 1) rows line (Err fault) topics') → IsUnlessMemory {A = List Topic} (Err fault) (qrels_of bytes)
-stopped bytes line at next number topics topics' fault p e reads = elim (reads p.rows p.so_far) [
-  | inl w ↦ inl (ap Err w)
-  | inr w ↦ inr (sym (ap (λ rows. and_then rows (λ rows. cond (length rows == 0) (Err NoTopics) (Ok (grouped rows)))) (p.rest ∙ ap (rows_from read_row (number + 1) p.rows) e
-      ∙ ap (λ row. and_then row (λ row. rows_from read_row (number + 1 + 1) (with_row p.rows row) (lines (drop next bytes)))) w)))
-]
 
 -- at the end
 pub ended : (bytes : List ℕ) (at number : ℕ) (topics : List Topic) → Progress bytes at number topics → length bytes ≤ at → cond (row_count topics == 0) (Err NoTopics) (Ok topics) ≡ qrels_of bytes

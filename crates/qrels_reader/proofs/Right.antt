@@ -1,6 +1,6 @@
 -- What holds of rows that were read.
-use Rattle.std.proofs.Common.{◌≡◌, ℕ, zero, suc, ◌+◌, ◌<◌, ◌≤◌, List, [], ◌∷◌, ◌++◌, length, get_or, true, false, true≢false, cond, refl, ap, ap₂, sym, subst, ◌∙◌, arith, length-append}
-use Rattle.std.specs.Prelude.{Bool, not, ◌&&◌, ◌||◌, ◌==◌, map, filter, All, Option, Some, None, Result, Ok, Err, nat_lt, nat_le, is_none}
+use Rattle.std.proofs.Common.{◌≡◌, ℕ, zero, suc, ◌+◌, ◌<◌, ◌≤◌, List, [], ◌∷◌, ◌++◌, length, get_or, true, false, true≢false, cond, refl, ap, sym, subst, ◌∙◌, arith, length-append}
+use Rattle.std.specs.Prelude.{Bool, not, ◌&&◌, ◌||◌, ◌==◌, map, filter, All, Option, Some, None, Result, Ok, Err, nat_le}
 use Rattle.std.specs.List.{list_any, IsDistinct as AllDiffer}
 use Rattle.std.specs.Str.{bytes_eq}
 use Rattle.std.specs.Result.{result_map_both}
@@ -8,11 +8,9 @@ use Rattle.std.proofs.lemmas.Bool.{ltb-false, leb-false, eqb-true}
 use Rattle.std.proofs.lemmas.List.{map-append}
 use Rattle.std.proofs.lemmas.List.Elements.{All-push, All-map, All-filter}
 use Rattle.std.proofs.lemmas.List.Sums.{sum_by-append}
-use Rattle.desk_text.specs.Lines.{is_bad, is_blank, fields_of}
+use Rattle.desk_text.specs.Lines.{is_blank, fields_of}
 use Rattle.desk_model.specs.Name.{is_name}
-use Rattle.qrels_reader.specs.declared.fault.FileFault.{FileFault}
 use Rattle.qrels_reader.specs.declared.fault.FileFault.TheVariants.{Line}
-use Rattle.qrels_reader.specs.declared.fault.LineFault.{LineFault}
 use Rattle.qrels_reader.specs.declared.limits.TheConstants.{MOST_TOPICS, MOST_QRELS_ROWS, MOST_NAME_BYTES}
 use Rattle.qrels_reader.specs.Reading.{unless, and_then, field, is_long, read_line, with_row}
 use Rattle.qrels_reader.specs.Rows.{Row, first_seen, topics_of, rows_on, has_topic, has_document, name_bytes_of, row_of, form_faults, row_faults, read_row}
@@ -61,10 +59,11 @@ documents_more rows row name distinct new = by (bytes_eq name row.topic) refl
     absent e =
         sym (list_any-map (bytes_eq row.document) (λ (r : Row). r.document) (rows_on name rows))
         ∙ ap (λ n. list_any (λ (r : Row). bytes_eq row.document r.document) (rows_on n rows)) (same name row.topic e) ∙ new
+
     by : (b : Bool) → bytes_eq name row.topic ≡ b → IsDistinct (map (λ row. row.document) (rows_on name (rows ++ row ∷ [])))
     by true e =
         subst IsDistinct (sym (ap (map (λ (r : Row). r.document)) (rows_on-append name rows row true e) ∙ map-append (λ (r : Row). r.document) (rows_on name rows) (row ∷ [])))
-          (IsDistinct-push (map (λ row. row.document) (rows_on name rows)) row.document distinct (absent e))
+        (IsDistinct-push (map (λ row. row.document) (rows_on name rows)) row.document distinct (absent e))
     by false e = subst IsDistinct (sym (ap (map (λ (r : Row). r.document)) (rows_on-append name rows row false e ∙ append-nil (rows_on name rows)))) distinct
 
 -- one more row that is right
@@ -125,7 +124,7 @@ right_line number rows line row right e = by (is_blank line) e
     by false e =
         let made = parted (unless (form_faults line) (row_of line)) (λ row. unless (row_faults rows row) (Some row)) row (mapped (Line number) (read_row rows line) row e) in
         subst (λ row. AreRight (with_row rows row)) (last (row_faults rows made.value) (Some made.value) row made.made)
-          (right_more rows made.value right (named_form line made.value made.found) (Some made.value) row made.made)
+        (right_more rows made.value right (named_form line made.value made.found) (Some made.value) row made.made)
 
 all_cons : {A : Type 0} (P : A → Type 0) (x : A) (xs : List A) → P x → All P xs → All P (x ∷ xs)
 all_cons P x xs here rest zero d lt = here
@@ -139,7 +138,7 @@ all_first_seen P (x ∷ xs) h =
 names_right : (rows : List Row) → All IsNamed rows → All (λ name. is_name name ≡ true) (names_of (grouped rows))
 names_right rows named =
     subst (All (λ name. is_name name ≡ true)) (sym (names-grouped rows))
-      (all_first_seen (λ name. is_name name ≡ true) (map (λ row. row.topic) rows) (All-map (λ name. is_name name ≡ true) (λ (row : Row). row.topic) rows (λ k d lt. (named k d lt).0)))
+    (all_first_seen (λ name. is_name name ≡ true) (map (λ row. row.topic) rows) (All-map (λ name. is_name name ≡ true) (λ (row : Row). row.topic) rows (λ k d lt. (named k d lt).0)))
 
 documents_right : (rows : List Row) → All IsNamed rows → All (λ topic. All (λ judged. is_name judged.document ≡ true) topic.documents) (grouped rows)
 documents_right rows named =
@@ -148,7 +147,7 @@ documents_right rows named =
     on_topic : (name : List ℕ) → All (λ (judged : Judged). is_name judged.document ≡ true) (map judged_of (rows_on name rows))
     on_topic name =
         All-map (λ (judged : Judged). is_name judged.document ≡ true) judged_of (rows_on name rows)
-          (All-filter (λ (r : Row). bytes_eq name r.topic) (λ r. is_name r.document ≡ true) rows (λ j x le. (named j x le).1))
+        (All-filter (λ (r : Row). bytes_eq name r.topic) (λ r. is_name r.document ≡ true) rows (λ j x le. (named j x le).1))
 
 -- rows that are right are those of a file that was read, once there is one
 pub is_qrels : (rows : List Row) → AreRight rows → 0 < row_count (grouped rows) → IsQrels (grouped rows)
@@ -166,8 +165,10 @@ is_qrels rows right some = record {
     documents-judged : (rs : List Row) → map (λ (j : Judged). j.document) (map judged_of rs) ≡ map (λ row. row.document) rs
     documents-judged [] = refl
     documents-judged (r ∷ rs) = ap (λ xs. r.document ∷ xs) (documents-judged rs)
+
     differ : (name : List ℕ) → AllDiffer bytes_eq (map (λ (j : Judged). j.document) (map judged_of (rows_on name rows)))
     differ name = subst (AllDiffer bytes_eq) (sym (documents-judged (rows_on name rows))) (all_differ (map (λ row. row.document) (rows_on name rows)) (right.documents name))
+
     at_least : (ts : List Topic) → 0 < row_count ts → 0 < length ts
     at_least [] h = absurd (omega arith)
     at_least (t ∷ ts) h = omega arith

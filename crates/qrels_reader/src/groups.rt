@@ -115,12 +115,7 @@ impl Groups {
     }
 
     // One more document of a topic.
-    pub fn add_document(
-        &mut self,
-        t: usize,
-        document: &[u8],
-        grade: i16,
-    ) -> Result<(), AllocError>
+    pub fn add_document(&mut self, t: usize, document: &[u8], grade: i16) -> Result<(), AllocError>
         requires topic { t < length self.old }
         requires rows { row_count self.old + 1 < 2 ^ 32 }
         requires names { name_bytes_in self.old + length document.now < 2 ^ 32 }

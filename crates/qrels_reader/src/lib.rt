@@ -20,3 +20,6 @@ pub use name_set::NameSet;
 pub use names::Names;
 pub use qrels::Qrels;
 pub use read::read_qrels;
+
+#[cfg(test)]
+mod tests;

@@ -7,7 +7,7 @@ use indexmap::IndexSet;
 use std::alloc::{AllocError, Global};
 use std::marker::Model;
 
-/// A list of names that is searched by name.
+/// A list of names that is searched by name. Names are numbered from 0 in the order in which they were added.
 #[derive(Drop)]
 pub struct NameSet {
     names: IndexSet<Vec<u8>>,
@@ -22,6 +22,7 @@ impl Model for NameSet {
 }
 
 impl NameSet {
+    /// No name. It takes no memory.
     pub fn new(alloc: Global) -> NameSet
         ensures { result ≡ [] }
     {
@@ -30,13 +31,14 @@ impl NameSet {
         }
     }
 
+    /// How many names there are.
     pub fn len(&self) -> usize
         ensures { result ≡ length self.now }
     {
         self.names.len()
     }
 
-    // The number of a name.
+    /// The number of a name, or `None` where it is not there.
     pub fn place(&self, name: &[u8]) -> Option<usize>
         ensures place { result ≡ position (bytes_eq name.now) self.now }
         ensures found { is_some result ≡ list_any (bytes_eq name.now) self.now }
@@ -44,12 +46,14 @@ impl NameSet {
         self.names.get_index_of(name)
     }
 
+    /// Whether a name is there.
     pub fn contains(&self, name: &[u8]) -> bool
         ensures { result ≡ list_any (bytes_eq name.now) self.now }
     {
         self.names.contains(name)
     }
 
+    /// Name `i`.
     pub fn get(&self, i: usize) -> &[u8]
         requires { i < length self.now }
         ensures { slice_get self.now i ≡ Some result.now }
@@ -60,6 +64,7 @@ impl NameSet {
         }
     }
 
+    /// Puts a copy of a name at the end. It fails only where memory is wanting, and then changes nothing.
     pub fn add(&mut self, alloc: Global, name: &[u8]) -> Result<(), AllocError>
         requires { list_any (bytes_eq name.now) self.old ≡ false }
         ensures ok { OnOk result (self.new ≡ self.old ++ name.now ∷ []) }

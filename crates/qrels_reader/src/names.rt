@@ -5,7 +5,7 @@ ghost use Rattle.qrels_reader.specs.Names.{start_at};
 use std::alloc::{AllocError, Global};
 use std::marker::Model;
 
-/// A list of names, one behind the other in one row of bytes.
+/// A list of names, kept one behind the other in one row of bytes. Names are numbered from 0.
 #[derive(Drop)]
 pub struct Names {
     bytes: Vec<u8>,
@@ -24,6 +24,7 @@ impl Model for Names {
 }
 
 impl Names {
+    /// No name. It takes no memory.
     pub fn new(alloc: Global) -> Names
         ensures { result ≡ [] }
     {
@@ -33,12 +34,14 @@ impl Names {
         }
     }
 
+    /// How many names there are.
     pub fn len(&self) -> usize
         ensures { result ≡ length self.now }
     {
         self.ends.len()
     }
 
+    /// Name `i`.
     pub fn get(&self, i: usize) -> &[u8]
         requires { i < length self.now }
         ensures { slice_get self.now i ≡ Some result.now }
@@ -48,6 +51,7 @@ impl Names {
         part(&self.bytes, start, end)
     }
 
+    /// Puts a copy of a name at the end. It fails only where memory is wanting, and then changes nothing.
     pub fn push(&mut self, name: &[u8]) -> Result<(), AllocError>
         requires { sum_by length self.old + length name.now < 2 ^ 32 }
         ensures ok { OnOk result (self.new ≡ self.old ++ name.now ∷ []) }

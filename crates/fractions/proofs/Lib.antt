@@ -1,0 +1,4 @@
+pub mod Floors
+pub mod PlacesMore
+pub mod Spans
+pub mod Enclosures

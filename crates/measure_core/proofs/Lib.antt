@@ -1,0 +1,4 @@
+pub mod Turned
+pub mod Exact
+pub mod RunBounds
+pub mod Narrow

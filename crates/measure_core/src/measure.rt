@@ -1,0 +1,90 @@
+ghost use Rattle.std.specs.Prelude.{◌≡◌, ℕ, ◌+◌, ◌<◌, List, length, pos, IfOk};
+ghost use Rattle.desk_model.specs.declared.types.Mark.{Mark as M};
+ghost use Rattle.desk_model.specs.declared.types.MeasureName.{MeasureName as N};
+ghost use Rattle.desk_model.specs.MeasureText.{IsMeasure};
+ghost use Rattle.measure_laws.specs.Measures.{unit_of};
+ghost use Rattle.measure_laws.specs.Cases.{least_truth};
+ghost use Rattle.measure_laws.specs.Weights.{weight_of};
+ghost use Rattle.measure_core.specs.declared.cell.Cell.{Cell as C};
+ghost use Rattle.fractions.specs.declared.span.Span.{Span as S};
+ghost use Rattle.measure_core.specs.Laws.{AreMet, IsMet, AreValues, MeetsLaws};
+
+use crate::cell::Cell;
+use crate::steps::Steps;
+use desk_model::{Mark, MeasureName, Memory, Ranking};
+use fractions::Span;
+use std::alloc::Global;
+use std::sync::ledger::Ledger;
+
+/// A measure of rankings over incomplete judgements. Rankings are over the universe of the marks,
+/// documents are numbered from 0, and numbers are in units of the measure.
+pub trait Measure: Drop {
+    /// The measure that the laws speak of.
+    ghost measured: { Self → N };
+
+    /// What `cell` answers.
+    ghost cell_of: { Self → List M → List ℕ → List ℕ → C };
+
+    /// What `bounds` answers.
+    ghost bounds_of: { Self → List M → List ℕ → S };
+
+    /// The name of the measure.
+    fn name(&self) -> MeasureName
+        ensures name { result ≡ measured self.now }
+        ensures built { IsMeasure result };
+
+    /// How many units make a score of 1.
+    fn unit(&self) -> i128
+        ensures { result ≡ pos (unit_of (measured self.now)) };
+
+    /// The ends of the least and of the greatest difference, a's score minus b's, over all
+    /// completions. It is one step.
+    fn cell<L: Ledger>(
+        &self,
+        a: &Ranking,
+        b: &Ranking,
+        marks: &[Mark],
+        steps: &mut Steps<L>,
+    ) -> Cell
+        requires { AreMet marks.now a.now b.now }
+        ensures cell { result ≡ cell_of self.now marks.now a.now b.now }
+        ensures step { steps.new ≡ steps.old + 1 };
+
+    /// The bounds of one run's score over all completions.
+    fn bounds(&self, a: &Ranking, marks: &[Mark]) -> Span
+        requires { IsMet marks.now a.now }
+        ensures { result ≡ bounds_of self.now marks.now a.now };
+
+    /// Which documents are relevant in the least case of a and b.
+    fn least_case(
+        &self,
+        alloc: Global,
+        a: &Ranking,
+        b: &Ranking,
+        marks: &[Mark],
+    ) -> Result<Vec<bool>, Memory>
+        requires { AreMet marks.now a.now b.now }
+        ensures { IfOk result (λ values. AreValues (least_truth (measured self.now) marks.now a.now b.now) (length marks.now) values.items) };
+
+    /// Which documents are relevant in the most case of a and b, the least case of b and a.
+    fn most_case(
+        &self,
+        alloc: Global,
+        a: &Ranking,
+        b: &Ranking,
+        marks: &[Mark],
+    ) -> Result<Vec<bool>, Memory>
+        requires { AreMet marks.now a.now b.now }
+        ensures { IfOk result (λ values. AreValues (least_truth (measured self.now) marks.now b.now a.now) (length marks.now) values.items) };
+
+    /// How much a document tells of the difference of a and b.
+    fn weight(&self, a: &Ranking, b: &Ranking, marks: &[Mark], doc: u32) -> u128
+        requires met { AreMet marks.now a.now b.now }
+        requires known { doc < length marks.now }
+        ensures { result ≡ weight_of (measured self.now) marks.now a.now b.now doc };
+
+    /// The laws: cells enclose the difference and bounds the score in every completion; the least and
+    /// the most case are completions whose differences lie in their spans; exchanged runs have the
+    /// mirror image; and all numbers have stated sizes.
+    ghost laws: { (m : Self) → IsMeasure (measured m) → MeetsLaws (measured m) (cell_of m) (bounds_of m) };
+}

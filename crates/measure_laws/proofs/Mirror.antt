@@ -1,0 +1,79 @@
+-- The runs exchanged: what is said of the least difference of (b, a) says the same of the greatest of (a, b).
+use Rattle.std.proofs.Common.{◌≡◌, ℕ, Bool, List, [], length, ℤ, zero, suc, pos, negsuc, neg_ℤ, ◌≤ℤ◌, arith, refl}
+use Rattle.std.proofs.lemmas.Int.{ints}
+use borrow.Author.Differences.{up, down}
+use Rattle.desk_model.specs.Fraction.{Fraction, IsAtMost, IsAtLeast}
+use Rattle.desk_model.specs.Score.{score}
+use Rattle.desk_model.specs.Extremes.{IsGreatest, IsSmallest, InEvery, InSome, AreExtremes}
+use Rattle.desk_model.proofs.Fractions.{at_most_out, at_most_in, at_least_out, at_least_in}
+use Rattle.measure_laws.proofs.LeastEnds.{least_ends}
+use Rattle.measure_laws.specs.Differences.{IsLeastCase}
+use Rattle.desk_model.specs.declared.types.Mark.{Mark}
+use Rattle.desk_model.specs.declared.types.MeasureName.{MeasureName}
+
+pub neg_twice : (z : ℤ) → neg_ℤ (neg_ℤ z) ≡ z
+neg_twice (pos zero) = refl
+neg_twice (pos (suc n)) = refl
+neg_twice (negsuc n) = refl
+
+-- the parts of a negated number
+pub turned_parts : (z : ℤ) → (up (neg_ℤ z) ≡ down z) × (down (neg_ℤ z) ≡ up z)
+turned_parts (pos zero) = (refl, refl)
+turned_parts (pos (suc n)) = (refl, refl)
+turned_parts (negsuc n) = (refl, refl)
+
+pub at_most_turned : (z : ℤ) (u : ℕ) (x y : Fraction) → IsAtMost z u x y → IsAtLeast (neg_ℤ z) u y x
+at_most_turned z u x y h =
+    let parts = turned_parts z in
+    at_least_in (neg_ℤ z) u y x (rw (parts.0, parts.1) (omega (arith, at_most_out z u x y h)))
+
+pub at_least_turned : (z : ℤ) (u : ℕ) (x y : Fraction) → IsAtLeast z u x y → IsAtMost (neg_ℤ z) u y x
+at_least_turned z u x y h =
+    let parts = turned_parts z in
+    at_most_in (neg_ℤ z) u y x (rw (parts.0, parts.1) (omega (arith, at_least_out z u x y h)))
+
+turned_order : (z w : ℤ) → neg_ℤ z ≤ℤ w → neg_ℤ w ≤ℤ z
+turned_order z w h = omega (arith, ints)
+
+turned_order_up : (z w : ℤ) → w ≤ℤ neg_ℤ z → z ≤ℤ neg_ℤ w
+turned_order_up z w h = omega (arith, ints)
+
+pub every_turned : (m : MeasureName) (u : ℕ) (marks : List Mark) (a b : List ℕ) (z : ℤ) → InEvery m marks b a (IsAtMost z u) → InEvery m marks a b (IsAtLeast (neg_ℤ z) u)
+every_turned m u marks a b z h truth tail_a tail_b c = at_most_turned z u _ _ (h truth tail_b tail_a c)
+
+every_turned_back : (m : MeasureName) (u : ℕ) (marks : List Mark) (a b : List ℕ) (z : ℤ) → InEvery m marks a b (IsAtLeast z u) → InEvery m marks b a (IsAtMost (neg_ℤ z) u)
+every_turned_back m u marks a b z h truth tail_a tail_b c = at_least_turned z u _ _ (h truth tail_b tail_a c)
+
+some_turned : (m : MeasureName) (u : ℕ) (marks : List Mark) (a b : List ℕ) (z : ℤ) → InSome m marks b a (IsAtLeast z u) → InSome m marks a b (IsAtMost (neg_ℤ z) u)
+some_turned m u marks a b z h = (h.0, h.2, h.1, h.3, at_least_turned z u _ _ h.4)
+
+some_turned_back : (m : MeasureName) (u : ℕ) (marks : List Mark) (a b : List ℕ) (z : ℤ) → InSome m marks a b (IsAtMost z u) → InSome m marks b a (IsAtLeast (neg_ℤ z) u)
+some_turned_back m u marks a b z h = (h.0, h.2, h.1, h.3, at_most_turned z u _ _ h.4)
+
+-- the ends of the greatest difference are those of the least one of the runs exchanged, negated and exchanged
+pub most_ends : (m : MeasureName) (u : ℕ) (marks : List Mark) (a b : List ℕ) (lo hi : ℤ) →
+    IsGreatest (λ z. InEvery m marks b a (IsAtMost z u)) lo → IsSmallest (λ z. InSome m marks b a (IsAtLeast z u)) hi →
+    IsSmallest (λ z. InEvery m marks a b (IsAtLeast z u)) (neg_ℤ lo) × IsGreatest (λ z. InSome m marks a b (IsAtMost z u)) (neg_ℤ hi)
+most_ends m u marks a b lo hi low high = (
+  record {
+    so = every_turned m u marks a b lo low.so;
+    others = λ w h. turned_order w lo (low.others (neg_ℤ w) (every_turned_back m u marks a b w h));
+  },
+  record {
+    so = some_turned m u marks a b hi high.so;
+    others = λ w h. turned_order_up w hi (high.others (neg_ℤ w) (some_turned_back m u marks a b w h));
+  },
+)
+
+-- a least case of each order, with the floor and the ceiling of its difference, gives the four ends
+pub case_extremes : (m : MeasureName) (u : ℕ) (marks : List Mark) (a b : List ℕ) (truth truth' : ℕ → Bool) (lo hi lo' hi' : ℤ) →
+    IsLeastCase m marks a b truth → IsLeastCase m marks b a truth' →
+    let n = length marks in
+    IsGreatest (λ z. IsAtMost z u (score m n truth a []) (score m n truth b [])) lo → IsSmallest (λ z. IsAtLeast z u (score m n truth a []) (score m n truth b [])) hi →
+    IsGreatest (λ z. IsAtMost z u (score m n truth' b []) (score m n truth' a [])) lo' → IsSmallest (λ z. IsAtLeast z u (score m n truth' b []) (score m n truth' a [])) hi' →
+    AreExtremes m u marks a b (record { least_lo = lo; least_hi = hi; most_lo = neg_ℤ hi'; most_hi = neg_ℤ lo' })
+case_extremes m u marks a b truth truth' lo hi lo' hi' case case' floor ceiling floor' ceiling' =
+    let least = least_ends m u marks a b truth lo hi case floor ceiling in
+    let other = least_ends m u marks b a truth' lo' hi' case' floor' ceiling' in
+    let most = most_ends m u marks a b lo' hi' other.0 other.1 in
+    record { least_lo = least.0; least_hi = least.1; most_hi = most.0; most_lo = most.1 }

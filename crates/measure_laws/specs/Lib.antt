@@ -1,0 +1,12 @@
+pub mod Fronts
+pub mod Ranks
+pub mod Differences
+pub mod Classes
+pub mod Measures
+pub mod Powers
+pub mod Shares
+pub mod ReciprocalCase
+pub mod RprecCase
+pub mod Cases
+pub mod Weights
+pub mod Pairs

@@ -1,0 +1,13 @@
+-- Ranks, from 1, of documents that may be absent.
+use Rattle.std.specs.Prelude.{ℕ, ◌≤◌, Bool, true, false, nat_lt, Option, Some, None}
+
+-- whether a rank comes before another, where an absent one comes last
+abbrev pub comes_before : Option ℕ → Option ℕ → Bool
+comes_before None y = false
+comes_before (Some x) None = true
+comes_before (Some x) (Some y) = nat_lt x y
+
+-- a rank from 1 to n, or none
+abbrev pub IsWithin : ℕ → Option ℕ → Type 0
+IsWithin n None = Unit {0}
+IsWithin n (Some r) = (1 ≤ r) × (r ≤ n)

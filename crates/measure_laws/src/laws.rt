@@ -1,0 +1,113 @@
+//! Laws of the measures, each the contract of a function that does nothing.
+ghost use Rattle.std.specs.Prelude.{◌≡◌, ℕ, ◌-◌, ◌*◌, ◌^◌, ◌<◌, ◌≤◌, Bool, List, [], ◌∷◌, length, Some, None, pos, neg_ℤ};
+ghost use Rattle.desk_model.specs.Ranking.{IsRanking};
+ghost use Rattle.desk_model.specs.Completion.{Completes};
+ghost use Rattle.desk_model.specs.Fraction.{IsAtMost, IsAtLeast};
+ghost use Rattle.desk_model.specs.Score.{score};
+ghost use Rattle.desk_model.specs.Extremes.{InEvery, InEveryScore, IsAtMostScore, IsAtLeastScore, Ends, AreExtremes};
+ghost use Rattle.desk_model.specs.Classes.{precision_ends};
+ghost use Rattle.desk_model.specs.declared.types.Mark.{Mark};
+ghost use Rattle.desk_model.specs.declared.types.MeasureName.{MeasureName};
+ghost use Rattle.desk_model.specs.declared.types.MeasureName.TheVariants.{Precision, Biased};
+ghost use Rattle.measure_laws.specs.Differences.{IsLeastCase, IsFirstLeast};
+ghost use Rattle.desk_model.specs.MeasureText.{IsPersistence, IsMeasure};
+ghost use Rattle.measure_laws.specs.Measures.{IsExactMeasure, unit_of};
+ghost use Rattle.measure_laws.specs.Cases.{least_truth, HasLeastTails};
+ghost use Rattle.measure_laws.specs.ReciprocalCase.{reciprocal_scores, unjudged_of, reciprocal_choice};
+ghost use Rattle.measure_laws.specs.RprecCase.{greedy_scores, rprec_counts, rprec_count};
+ghost use Rattle.measure_laws.specs.Powers.{low_power, high_power, low_weight, high_weight};
+ghost use Rattle.measure_laws.specs.Shares.{ForPersistence, ForRun, AreNear, IsModest, biased_least_lo, biased_least_hi, biased_bound_lo, biased_bound_hi};
+ghost use Rattle.measure_laws.specs.Weights.{weight_of};
+
+/// The least case is a completion, and tails that go with it are there. Under precision, recall,
+/// R-precision and reciprocal rank no completion has a smaller difference.
+pub fn least_case_is_least()
+    ensures completes { (measure : MeasureName) (marks : List Mark) (a b : List ℕ) →
+        Completes marks (least_truth measure marks a b) }
+    ensures tails { (measure : MeasureName) →
+        (tail_a : List Bool) × (tail_b : List Bool) × HasLeastTails measure tail_a tail_b }
+    ensures least { (measure : MeasureName) (marks : List Mark) (a b : List ℕ) →
+        IsMeasure measure → IsExactMeasure measure →
+        IsRanking (length marks) a → IsRanking (length marks) b →
+        IsLeastCase measure marks a b (least_truth measure marks a b) }
+{}
+
+/// The least case of reciprocal rank makes the first document relevant that has the smallest
+/// difference, of none and the unjudged ones of b in b's order. That of R-precision has the smallest
+/// number of relevant documents that has it. Each candidate before it has a greater difference.
+pub fn least_case_is_first()
+    ensures reciprocal { (marks : List Mark) (a b : List ℕ) →
+        IsFirstLeast (reciprocal_scores marks a b) (None ∷ unjudged_of marks b) (reciprocal_choice marks a b) }
+    ensures rprec { (marks : List Mark) (a b : List ℕ) →
+        IsFirstLeast (greedy_scores marks a b) (rprec_counts marks) (rprec_count marks a b) }
+{}
+
+/// The ends of a topic are determined, and under precision they are counts of documents: the two ends
+/// of the least difference are one number, and so are those of the greatest.
+pub fn ends_are_determined()
+    ensures unique { (measure : MeasureName) (unit : ℕ) (marks : List Mark) (a b : List ℕ) (e f : Ends) →
+        AreExtremes measure unit marks a b e → AreExtremes measure unit marks a b f → e ≡ f }
+    ensures precision { (k : ℕ) (marks : List Mark) (a b : List ℕ) (e : Ends) → 0 < k →
+        IsRanking (length marks) a → IsRanking (length marks) b →
+        AreExtremes (Precision k) k marks a b e → e ≡ precision_ends k marks a b }
+{}
+
+/// The rounded powers of a persistence a / b enclose S times its power, and the rounded weights of a
+/// rank enclose S times what rank-biased precision gives it (Moffat and Zobel 2008).
+pub fn powers_enclose()
+    ensures low { (a b i : ℕ) → low_power a b i * b ^ i ≤ 10 ^ 18 * a ^ i }
+    ensures high { (a b i : ℕ) → 0 < b → 10 ^ 18 * a ^ i ≤ high_power a b i * b ^ i }
+    ensures weight_low { (a b i : ℕ) → a < b → 1 ≤ i →
+        low_weight a b (Some i) * b ^ i ≤ 10 ^ 18 * ((b - a) * a ^ (i - 1)) }
+    ensures weight_high { (a b i : ℕ) → a < b → 1 ≤ i →
+        10 ^ 18 * ((b - a) * a ^ (i - 1)) ≤ high_weight a b (Some i) * b ^ i }
+{}
+
+/// After 10^24 places less than one part of S is left.
+pub fn long_tail_leaves_little()
+    ensures { (top bottom n : ℕ) → IsPersistence top bottom → n ≡ 10 ^ 24 → 10 ^ 18 * top ^ n < bottom ^ n }
+{}
+
+/// The sums of shares enclose S times the difference of two runs in every completion, under all
+/// tails, and the difference of the least case with its tails is at most the sum of upper shares.
+pub fn shares_enclose()
+    ensures low { ForPersistence (λ top bottom marks a b. InEvery (Biased top bottom) marks a b
+        (IsAtMost (biased_least_lo top bottom marks a b) (10 ^ 18))) }
+    ensures high { ForPersistence (λ top bottom marks a b. InEvery (Biased top bottom) marks a b
+        (IsAtLeast (neg_ℤ (biased_least_lo top bottom marks b a)) (10 ^ 18))) }
+    ensures case { ForPersistence (λ top bottom marks a b. (tail_a tail_b : List Bool) →
+        HasLeastTails (Biased top bottom) tail_a tail_b →
+        let truth = least_truth (Biased top bottom) marks a b in
+        IsAtLeast (biased_least_hi top bottom marks a b) (10 ^ 18)
+        (score (Biased top bottom) (length marks) truth a tail_a)
+        (score (Biased top bottom) (length marks) truth b tail_b)) }
+{}
+
+/// The sums of weights enclose S times the score of one run in every completion, under all tails.
+pub fn weights_enclose()
+    ensures low { ForRun (λ top bottom marks a. InEveryScore (Biased top bottom) marks a
+        (IsAtMostScore (pos (biased_bound_lo top bottom marks a)) (10 ^ 18))) }
+    ensures high { ForRun (λ top bottom marks a. InEveryScore (Biased top bottom) marks a
+        (IsAtLeastScore (pos (biased_bound_hi top bottom marks a)) (10 ^ 18))) }
+{}
+
+/// The sums of shares are at most `8 * (n_a + n_b + 1)^2` apart, for rankings of n_a and n_b
+/// documents, and lie from -2*10^18 to 2*10^18. The bounds of one run are at most 10^18.
+pub fn shares_are_narrow()
+    ensures width { ForPersistence (λ top bottom marks a b.
+        AreNear a b (biased_least_lo top bottom marks a b) (biased_least_hi top bottom marks a b)) }
+    ensures low { ForPersistence (λ top bottom marks a b. IsModest (biased_least_lo top bottom marks a b)) }
+    ensures high { ForPersistence (λ top bottom marks a b. IsModest (biased_least_hi top bottom marks a b)) }
+    ensures bounds { ForRun (λ top bottom marks a.
+        (biased_bound_lo top bottom marks a ≤ 10 ^ 18) × (biased_bound_hi top bottom marks a ≤ 10 ^ 18)) }
+{}
+
+/// A unit is from 1 to 10^18. A weight is at most 10^18 and does not depend on the order of the runs.
+pub fn units_and_weights_are_modest()
+    ensures unit { (measure : MeasureName) → IsMeasure measure →
+        (1 ≤ unit_of measure) × (unit_of measure ≤ 10 ^ 18) }
+    ensures weight { (measure : MeasureName) (marks : List Mark) (a b : List ℕ) (doc : ℕ) →
+        IsMeasure measure → weight_of measure marks a b doc ≤ 10 ^ 18 }
+    ensures even { (measure : MeasureName) (marks : List Mark) (a b : List ℕ) (doc : ℕ) →
+        weight_of measure marks b a doc ≡ weight_of measure marks a b doc }
+{}

@@ -1,0 +1,7 @@
+//! Laws of the five measures: their least cases, the ends of rank-biased precision, and weights.
+#![tactic(auto)]
+
+pub mod laws;
+pub mod pairs;
+
+pub use pairs::{Pair, after, next_pair};

@@ -1,0 +1,93 @@
+// Qrels files and their faults, by examples.
+use super::*;
+use std::alloc::{AllocError, Global};
+
+fn refusal(rt: &HostRuntime, bytes: &[u8]) -> Option<FileFault> {
+    read_qrels(rt.alloc(), bytes).err()
+}
+
+fn at_line(line: u64, fault: LineFault) -> Option<FileFault> {
+    Some(FileFault::Line { line, fault })
+}
+
+#[test]
+fn reads_rows(rt: HostRuntime) {
+    let text = b"402\t0 d1 2\r\n\n401 x FT911-3 -1\n402 0 d2 +0001";
+    let Ok(qrels) = read_qrels(rt.alloc(), text) else {
+        panic!(rt; "each line has a row");
+    };
+    assert_eq!(rt;
+        (qrels.topics(), qrels.rows(), qrels.name_bytes()),
+        (2, 3, 11)
+    );
+    assert_eq!(rt; qrels.topic_name(1), b"401".as_slice());
+    assert!(rt; qrels.has_topic(b"402") && !qrels.has_topic(b"40"));
+    assert!(rt; qrels.doc_count(0) == 2 && qrels.doc_count(1) == 1);
+    if qrels.doc_count(0) == 2 && qrels.doc_count(1) == 1 {
+        assert_eq!(rt; qrels.doc_name(0, 1), b"d2".as_slice());
+        assert_eq!(rt;
+            (qrels.grade(0, 0), qrels.grade(0, 1), qrels.grade(1, 0)),
+            (2, 1, -1)
+        );
+    }
+}
+
+#[test]
+fn tells_faults(rt: HostRuntime) {
+    assert_eq!(rt; refusal(&rt, b" \n\n"), Some(FileFault::NoTopics));
+    assert_eq!(rt;
+        refusal(&rt, b"401 0 d1 1\n\n401 0 d\0 1"),
+        at_line(3, LineFault::BadByte)
+    );
+    assert_eq!(rt;
+        refusal(&rt, b"401 0 d1\n"),
+        at_line(1, LineFault::BadFieldCount)
+    );
+    assert_eq!(rt;
+        refusal(&rt, b"401 0 d1 1001\n"),
+        at_line(1, LineFault::BadGrade)
+    );
+    assert_eq!(rt;
+        refusal(&rt, b"1 0 d 1\n2 0 d 1\n1 0 d 0\n"),
+        at_line(3, LineFault::RepeatedDocument)
+    );
+}
+
+fn padded(alloc: Global, name: usize, spaces: usize) -> Result<Vec<u8>, AllocError> {
+    let mut text = Vec::new(alloc);
+    for _ in 0..name {
+        text.push(b'd')?;
+    }
+    text.extend_from_slice(b" 0 d 1")?;
+    for _ in 0..spaces {
+        text.push(b' ')?;
+    }
+    Ok(text)
+}
+
+#[test]
+fn keeps_lengths(rt: HostRuntime) {
+    for (name, spaces, fault) in [
+        (255, 0, None),
+        (256, 0, at_line(1, LineFault::NameTooLong)),
+        (3, 4087, None),
+        (3, 4088, at_line(1, LineFault::LineTooLong)),
+    ] {
+        let text = padded(rt.alloc(), name, spaces).expect(&rt, "memory is not wanting");
+        assert_eq!(rt; refusal(&rt, &text), fault);
+    }
+}
+
+#[test]
+fn survives_any_bytes(rt: HostRuntime) {
+    let alphabet = b"0 1\n\t-+d\0\x7f";
+    let mut state: u32 = 1;
+    for _ in 0..500 {
+        let mut text = [0; 40];
+        for byte in text.iter_mut() {
+            state = state.wrapping_mul(1_664_525).wrapping_add(1_013_904_223);
+            *byte = alphabet[(state >> 16) as usize % 10];
+        }
+        assert!(rt; refusal(&rt, &text) != Some(FileFault::Memory));
+    }
+}
