@@ -1,0 +1,85 @@
+-- Faults that are looked for one after the other.
+use Rattle.std.proofs.Common.{◌≡◌, ℕ, ◌+◌, List, [], ◌∷◌, length, true, false, cond, refl, ap, sym, subst, ◌∙◌, inl, inr, ◌⊎◌}
+use Rattle.std.specs.Prelude.{Bool, not, ◌||◌, ◌==◌, Some, None, Result, Ok, Err, OnOk, IfErr, nat_lt, nat_le}
+use Rattle.std.specs.List.{list_any}
+use Rattle.std.specs.Result.{result_map_both}
+use Rattle.std.specs.Str.{bytes_eq}
+use Rattle.desk_text.specs.Lines.{is_bad, is_blank, fields_of}
+use Rattle.desk_text.specs.declared.line.TheConstants.{LONGEST_LINE}
+use Rattle.qrels_reader.specs.declared.fault.LineFault.{LineFault}
+use Rattle.qrels_reader.specs.declared.fault.LineFault.TheVariants.{LineTooLong, BadByte, BadFieldCount, NameTooLong, RepeatedDocument, TooDeep, TooManyRows, TooManyNameBytes}
+use Rattle.qrels_reader.specs.declared.fault.FileFault.{FileFault}
+use Rattle.qrels_reader.specs.declared.fault.FileFault.TheVariants.{Line, Memory}
+use Rattle.qrels_reader.specs.declared.limits.TheConstants.{MOST_NAME_BYTES}
+use Rattle.qrels_reader.specs.Reading.{unless, checked, and_then, field, is_long, read_line}
+use Rattle.qrels_reader.specs.Grouped.{Topic, is_topic}
+use Rattle.qrels_reader.proofs.Chains.{unless-ok, unless-err, on_ok}
+use Rattle.run_reader.specs.declared.limits.TheConstants.{MOST_RANKS, MOST_RUN_ROWS}
+use Rattle.run_reader.specs.declared.used.Used.{Used}
+use Rattle.run_reader.specs.Rows.{RunRow, row_of, tag_of, formed, row_faults, read_row}
+use Rattle.run_reader.specs.Run.{RunTopic, grouped, faults_after, with_row_on, rows_in, row_count, name_bytes_in}
+use Rattle.run_reader.specs.Reader.{ReadsLine}
+use Rattle.run_reader.proofs.Grouping.{grouped-append, row_faults-grouped}
+
+-- what the tests of a line's form give
+pub formed_is : (line : List ℕ) (a b c d : Bool) → nat_lt LONGEST_LINE (length line) ≡ a → list_any is_bad line ≡ b → not (length (fields_of line) == 6) ≡ c → (is_long (field line 0) || (is_long (field line 2) || is_long (tag_of line))) ≡ d
+    → formed line ≡ and_then (checked ((a, LineTooLong) ∷ (b, BadByte) ∷ (c, BadFieldCount) ∷ (d, NameTooLong) ∷ [])) (λ done. row_of line)
+formed_is line a b c d p q r s = λ i. and_then (checked ((p i, LineTooLong) ∷ (q i, BadByte) ∷ (r i, BadFieldCount) ∷ (s i, NameTooLong) ∷ [])) (λ done. row_of line)
+
+-- and those of a row
+pub row_is : (used : Used) (ts : List RunTopic) (row : RunRow) (a b c d : Bool) → list_any (λ scored. bytes_eq row.document scored.document) (rows_in row.topic ts) ≡ a → nat_le MOST_RANKS (length (rows_in row.topic ts)) ≡ b
+    → nat_le MOST_RUN_ROWS (used.rows + row_count ts) ≡ c → nat_lt MOST_NAME_BYTES (used.name_bytes + name_bytes_in ts + length row.document) ≡ d
+    → checked (faults_after used ts row) ≡ checked ((a, RepeatedDocument) ∷ (b, TooDeep) ∷ (c, TooManyRows) ∷ (d, TooManyNameBytes) ∷ [])
+row_is used ts row a b c d p q r s = λ i. checked ((p i, RepeatedDocument) ∷ (q i, TooDeep) ∷ (r i, TooManyRows) ∷ (s i, TooManyNameBytes) ∷ [])
+
+module _ (qrels : List Topic) (used : Used) (number : ℕ) (rows : List RunRow) (line : List ℕ) where
+  filled : is_blank line ≡ false → read_line (read_row qrels used) number rows line ≡ result_map_both (λ row. row) (Line number) (read_row qrels used rows line)
+  filled b = ap (λ b. cond b (Ok None) (result_map_both (λ row. row) (Line number) (read_row qrels used rows line))) b
+
+  -- a line that is blank
+  pub read_blank : (ts : List RunTopic) → is_blank line ≡ true → ts ≡ grouped rows → ReadsLine qrels used number rows line (Ok tt) ts
+  read_blank ts b e = (None, ap (λ b. cond b (Ok None) (result_map_both (λ row. row) (Line number) (read_row qrels used rows line))) b, e)
+
+  -- a line whose form is wrong
+  pub read_misformed : (fault : LineFault) (ts : List RunTopic) → is_blank line ≡ false → formed line ≡ Err fault → ReadsLine qrels used number rows line (Err (Line number fault)) ts
+  read_misformed fault ts b e =
+      inr (filled b ∙ ap (λ r. result_map_both (λ row. row) (Line number) (and_then r (λ row. cond (is_topic row.topic qrels) (unless (row_faults used rows row) (Some row)) (Ok None)))) e)
+
+  read_rest : (row : RunRow) → is_blank line ≡ false → formed line ≡ Ok row → (known : Bool) → is_topic row.topic qrels ≡ known
+      → read_line (read_row qrels used) number rows line ≡ result_map_both (λ row. row) (Line number) (cond known (unless (row_faults used rows row) (Some row)) (Ok None))
+  read_rest row b f known e =
+      filled b ∙ ap (λ r. result_map_both (λ row. row) (Line number) (and_then r (λ row. cond (is_topic row.topic qrels) (unless (row_faults used rows row) (Some row)) (Ok None)))) f
+      ∙ ap (λ k. result_map_both (λ row. row) (Line number) (cond k (unless (row_faults used rows row) (Some row)) (Ok None))) e
+
+  -- a row on a topic that the qrels lack
+  pub read_dropped : (row : RunRow) (ts : List RunTopic) → is_blank line ≡ false → formed line ≡ Ok row → is_topic row.topic qrels ≡ false → ts ≡ grouped rows → ReadsLine qrels used number rows line (Ok tt) ts
+  read_dropped row ts b f k e = (None, read_rest row b f false k, e)
+
+  -- a row on a topic of the qrels
+  pub read_kept : (row : RunRow) (ts ts' : List RunTopic) (answer : Result (Unit {0}) FileFault) → is_blank line ≡ false → formed line ≡ Ok row → is_topic row.topic qrels ≡ true → ts ≡ grouped rows
+      → OnOk answer (checked (faults_after used ts row) ≡ Ok (tt {0})) → OnOk answer (ts' ≡ with_row_on ts row)
+      → IfErr answer (λ e. (e ≡ Memory) ⊎ ((fault : LineFault) × (checked (faults_after used ts row) ≡ Err fault) × (e ≡ Line number fault))) → ReadsLine qrels used number rows line answer ts'
+  read_kept row ts ts' (Ok done) b f k e right added wrong =
+      let same : faults_after used ts row ≡ row_faults used rows row = ap (λ ts. faults_after used ts row) e ∙ sym (row_faults-grouped used rows row) in
+      let fine : unless (row_faults used rows row) (Some row) ≡ Ok (Some row) = ap (λ tests. unless tests (Some row)) (sym same) ∙ unless-ok (faults_after used ts row) (tt {0}) (tt {0}) (Some row) right in
+      (Some row, read_rest row b f true k ∙ ap (result_map_both (λ row. row) (Line number)) fine, added ∙ ap (λ ts. with_row_on ts row) e ∙ sym (grouped-append rows row))
+  read_kept row ts ts' (Err fault) b f k e right added wrong = elim wrong [
+    | inl w ↦ inl w
+    | inr w ↦
+        let same : faults_after used ts row ≡ row_faults used rows row = ap (λ ts. faults_after used ts row) e ∙ sym (row_faults-grouped used rows row) in
+        let found : unless (row_faults used rows row) (Some row) ≡ Err w.0 = ap (λ tests. unless tests (Some row)) (sym same) ∙ unless-err (faults_after used ts row) (tt {0}) (Some row) w.0 w.1 in
+        inr (read_rest row b f true k ∙ ap (result_map_both (λ row. row) (Line number)) found ∙ ap Err (sym w.2))
+  ]
+
+  -- a row of a line
+  pub read_said : (row : RunRow) (ts ts' : List RunTopic) (answer : Result (Unit {0}) FileFault) → is_blank line ≡ false → formed line ≡ Ok row → ts ≡ grouped rows
+      → (is_topic row.topic qrels ≡ false → (answer ≡ Ok (tt {0})) × (ts' ≡ ts))
+      → OnOk answer (is_topic row.topic qrels ≡ true → checked (faults_after used ts row) ≡ Ok (tt {0})) → OnOk answer (is_topic row.topic qrels ≡ true → ts' ≡ with_row_on ts row)
+      → IfErr answer (λ e. (e ≡ Memory) ⊎ ((fault : LineFault) × (checked (faults_after used ts row) ≡ Err fault) × (e ≡ Line number fault))) → ReadsLine qrels used number rows line answer ts'
+  read_said row ts ts' answer b f e dropped right added wrong = by (is_topic row.topic qrels) refl
+    where
+      by : (known : Bool) → is_topic row.topic qrels ≡ known → ReadsLine qrels used number rows line answer ts'
+      by true k = read_kept row ts ts' answer b f k e (on_ok answer (λ h. h k) right) (on_ok answer (λ h. h k) added) wrong
+      by false k =
+          let d = dropped k in
+          subst (λ a. ReadsLine qrels used number rows line a ts') (sym d.0) (read_dropped row ts' b f k (d.1 ∙ e))

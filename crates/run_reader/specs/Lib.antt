@@ -1,0 +1,4 @@
+pub mod Rows
+pub mod Run
+pub mod Kept
+pub mod Reader

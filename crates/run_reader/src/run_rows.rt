@@ -1,0 +1,104 @@
+// A run that was read.
+ghost use Rattle.std.specs.Prelude.{◌≡◌, ◌<◌, ◌≤◌, [], true, All, length, map, option_map, slice_get, Some, MatchOption};
+ghost use Rattle.std.specs.List.{IsDistinct};
+ghost use Rattle.std.specs.Str.{bytes_eq};
+ghost use Rattle.desk_model.specs.Name.{is_name};
+ghost use Rattle.run_reader.specs.Run.{IsRun, IsWithin, rows_on_topic};
+
+use crate::limits::MOST_RANKS;
+use crate::scored_rows::ScoredRows;
+use crate::topic_rows::TopicRows;
+use crate::used::Used;
+use decimal_score::Score;
+use std::marker::Model;
+
+/// A run: its name and its kept rows, which are those on topics of the qrels.
+#[derive(Drop)]
+pub struct RunRows {
+    name: Vec<u8>,
+    kept: TopicRows,
+    used: Used,
+}
+
+impl Model for RunRows {
+    ghost use Rattle.std.specs.Prelude.{◌≡◌, true};
+    ghost use Rattle.desk_model.specs.Name.{is_name};
+    ghost use Rattle.run_reader.specs.Run.{Run, IsRun, IsWithin};
+
+    ghost Value = { Run };
+
+    ghost view = { λ r. record { name = r.name.items; topics = r.kept; used = r.used } };
+
+    ghost invariant = { λ r. (is_name r.name.items ≡ true) × IsRun r.kept × IsWithin r.used };
+}
+
+impl RunRows {
+    pub(crate) fn new(name: Vec<u8>, kept: TopicRows, used: Used) -> RunRows
+        requires name { is_name name.items ≡ true }
+        requires kept { IsRun kept }
+        requires used { IsWithin used }
+        ensures { result ≡ record { name = name.items; topics = kept; used = used } }
+    {
+        RunRows { name, kept, used }
+    }
+
+    /// The run's name.
+    pub fn name(&self) -> &[u8]
+        ensures value { result.now ≡ self.now.name }
+        ensures name { is_name self.now.name ≡ true }
+        ensures topics { IsRun self.now.topics }
+    {
+        self.name.as_slice()
+    }
+
+    /// What this and the earlier files used.
+    pub fn used(&self) -> Used
+        ensures value { result ≡ self.now.used }
+        ensures within { IsWithin result }
+    {
+        self.used
+    }
+
+    /// The kept rows of a topic, in the order of the file, where there are any.
+    pub fn rows_on(&self, topic: &[u8]) -> Option<&ScoredRows>
+        ensures rows { MatchOption result (rows_on_topic self.now topic.now ≡ []) (λ rows. rows.now ≡ rows_on_topic self.now topic.now) }
+        ensures distinct { IsDistinct bytes_eq (map (λ row. row.document) (rows_on_topic self.now topic.now)) }
+        ensures names { All (λ row. is_name row.document ≡ true) (rows_on_topic self.now topic.now) }
+        ensures few { length (rows_on_topic self.now topic.now) ≤ MOST_RANKS }
+    {
+        self.kept.rows_on(topic)
+    }
+
+    /// How many kept rows a topic has.
+    pub fn topic_rows(&self, topic: &[u8]) -> usize
+        ensures count { result ≡ length (rows_on_topic self.now topic.now) }
+        ensures few { result ≤ MOST_RANKS }
+    {
+        match self.rows_on(topic) {
+            Some(rows) => rows.len(),
+            None => 0,
+        }
+    }
+
+    /// The document of row `i` of a topic, counted from 0 in the order of the file.
+    pub fn doc(&self, topic: &[u8], i: usize) -> &[u8]
+        requires { i < length (rows_on_topic self.now topic.now) }
+        ensures { option_map (λ row. row.document) (slice_get (rows_on_topic self.now topic.now) i) ≡ Some result.now }
+    {
+        match self.rows_on(topic) {
+            Some(rows) => rows.document(i),
+            None => unreachable!(),
+        }
+    }
+
+    /// The score of row `i` of a topic, counted from 0 in the order of the file.
+    pub fn score(&self, topic: &[u8], i: usize) -> &Score
+        requires { i < length (rows_on_topic self.now topic.now) }
+        ensures { option_map (λ row. row.score) (slice_get (rows_on_topic self.now topic.now) i) ≡ Some result.now }
+    {
+        match self.rows_on(topic) {
+            Some(rows) => rows.score(i),
+            None => unreachable!(),
+        }
+    }
+}

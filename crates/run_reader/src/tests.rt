@@ -1,0 +1,79 @@
+// What is meant by the rows of a run, by examples.
+use super::*;
+use qrels_reader::{FileFault, LineFault, Qrels, read_qrels};
+use std::alloc::Global;
+use std::process::Abort;
+use std::test::Fail;
+
+const NONE: Used = Used {
+    rows: 0,
+    name_bytes: 0,
+};
+
+fn qrels(alloc: Global) -> Result<Qrels, Fail> {
+    Ok(read_qrels(alloc, b"401 0 d1 1\n402 0 d1 1\n")?)
+}
+
+fn expect_fault(
+    rt: &impl Abort,
+    alloc: Global,
+    text: &[u8],
+    line: u64,
+    fault: LineFault,
+) -> Result<(), Fail> {
+    let read = read_run(alloc, text, None, &qrels(alloc)?, NONE);
+    assert_eq!(rt; read.err(), Some(FileFault::Line { line, fault }));
+    Ok(())
+}
+
+#[test]
+fn keeps_rows_of_the_topics(rt: HostRuntime) -> Result<(), Fail> {
+    let alloc = rt.alloc();
+    let text =
+        b"403 Q0 x 1 2 BM25\n\n 401\tQ0 d1 7 12.345600 other\r\n401 Q0 d9 1 1.2e1 BM25\n402 Q0 d1 0 3 BM25";
+    let run = read_run(alloc, text, None, &qrels(alloc)?, NONE)?;
+    assert_eq!(rt; run.name(), b"BM25".as_slice());
+    assert_eq!(rt; (run.topic_rows(b"401"), run.topic_rows(b"402")), (2, 1));
+    assert_eq!(rt; run.topic_rows(b"403"), 0);
+    assert_eq!(rt;
+        run.used(),
+        Used {
+            rows: 3,
+            name_bytes: 6
+        }
+    );
+    if run.topic_rows(b"401") == 2 {
+        assert_eq!(rt; run.doc(b"401", 1), b"d9".as_slice());
+        assert!(rt; run.score(b"401", 1) < run.score(b"401", 0));
+    }
+    Ok(())
+}
+
+#[test]
+fn takes_the_given_name(rt: HostRuntime) -> Result<(), Fail> {
+    let alloc = rt.alloc();
+    let run = read_run(alloc, b"", Some(b"E"), &qrels(alloc)?, NONE)?;
+    assert_eq!(rt; run.name(), b"E".as_slice());
+    assert_eq!(rt;
+        read_run(alloc, b"\n \n", None, &qrels(alloc)?, NONE).err(),
+        Some(FileFault::NoTag)
+    );
+    Ok(())
+}
+
+#[test]
+fn tells_the_first_fault(rt: HostRuntime) -> Result<(), Fail> {
+    let alloc = rt.alloc();
+    let repeated = b"401 Q0 d1 1 9 A\n\n401 Q0 d1 2 8 A";
+    expect_fault(&rt, alloc, repeated, 3, LineFault::RepeatedDocument)?;
+    expect_fault(&rt, alloc, b"401 Q0 d1 1 9", 1, LineFault::BadFieldCount)?;
+    expect_fault(&rt, alloc, b"403 Q0 d1 1 inf A", 1, LineFault::BadScore)?;
+    expect_fault(
+        &rt,
+        alloc,
+        b"401 Q0 d1 1 1e1000 A",
+        1,
+        LineFault::ScoreExponent,
+    )?;
+    expect_fault(&rt, alloc, b"401 Q0 d\x01 1 x", 1, LineFault::BadByte)
+}
