@@ -1,1 +1,4 @@
 pub mod Values
+pub mod Walks
+pub mod Arrivals
+pub mod Saying

@@ -1,14 +1,13 @@
 -- The values of entries.
-use Rattle.std.proofs.Common.{◌≡◌, ◌≢◌, ℕ, zero, suc, ◌+◌, ◌<◌, ◌≤◌, ◌^◌, true, false, Bool, List, [], ◌∷◌, ◌++◌, length, get_or, map, take, refl, ap, ap₂, sym, subst, ◌∙◌, arith, rules, decimal, cond}
-use Rattle.std.specs.Prelude.{Option, Some, None, option_map, unwrap_or, not, ◌||◌, Result, Ok, Err, IfOk, IsErrAnd, codes}
+use Rattle.std.proofs.Common.{◌≡◌, ℕ, zero, suc, ◌+◌, ◌<◌, ◌^◌, true, false, Bool, List, [], ◌∷◌, length, get_or, map, refl, ap, sym, ◌∙◌, arith, rules, decimal, cond}
+use Rattle.std.specs.Prelude.{Option, Some, None, option_map, unwrap_or, not, Result, Ok, Err, IfOk, IsErrAnd, codes}
 use Rattle.std.specs.Borrow.{Bor}
 use Rattle.std.specs.List.{list_any, position_or_len}
-use Rattle.std.proofs.lemmas.List.{take_more}
 use Rattle.clap.specs.Words.{App, Text, all_of, matched_of, fault_of, matches_of, raw_values, rows_of}
 use Rattle.clap.specs.declared.parser.matches.Found.{Found}
 use Rattle.clap.proofs.WalkLemmas.{raw_values-rows}
 use Rattle.desk_words.specs.Parser.{given, seed_app}
-use Rattle.desk_words.specs.Words.{run_of, unnamed, is_equals, IsSeedOf}
+use Rattle.desk_words.specs.Words.{run_of, is_equals, IsSeedOf}
 use Rattle.desk_words.specs.declared.command.RunWord.{RunWord}
 use Rattle.desk_words.specs.declared.command.WordsFault.{WordsFault}
 use Rattle.desk_words.specs.declared.command.WordsFault.TheVariants.{Usage}

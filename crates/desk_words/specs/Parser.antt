@@ -1,5 +1,5 @@
 -- The commands of clap that read the words after the first, and what they give.
-use Rattle.std.specs.Prelude.{List, [], ◌∷◌, Option, Some, None, true, codes, unwrap_or}
+use Rattle.std.specs.Prelude.{List, [], Some, true, codes, unwrap_or}
 use Rattle.clap.specs.Words.{App, Row, Rule, Text, all_of, matches_of, new_app, new_rule, with_rule}
 use Rattle.clap.specs.declared.builder.action.ArgAction.TheVariants.{Append}
 

@@ -1,7 +1,7 @@
 -- The command of the words.
-use Rattle.std.specs.Prelude.{◌≡◌, ◌≢◌, ℕ, ◌<◌, ◌≤◌, ◌^◌, ◌==◌, ◌&&◌, Bool, nat_lt, List, [], ◌∷◌, Option, Some, None, if◌then◌else◌, ◌⊎◌, codes, decimal, length, map}
+use Rattle.std.specs.Prelude.{◌≡◌, ℕ, ◌<◌, ◌≤◌, ◌^◌, ◌==◌, ◌&&◌, Bool, nat_lt, List, [], ◌∷◌, Option, Some, None, if◌then◌else◌, ◌⊎◌, codes, decimal, length, map}
 use Rattle.std.specs.List.{before_first, after_first, list_any}
-use Rattle.clap.specs.Words.{App, Text, fault_of}
+use Rattle.clap.specs.Words.{Text, fault_of}
 use Rattle.desk_model.specs.Name.{is_name}
 use Rattle.desk_model.specs.MeasureText.{IsMeasure, IsTextOf}
 use Rattle.desk_model.specs.declared.types.MeasureName.{MeasureName}

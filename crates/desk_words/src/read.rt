@@ -10,8 +10,8 @@ use crate::parser::{check_words, job_words, seed_words};
 use crate::value::{level, measure, path, runs, seed};
 use std::alloc::Global;
 
-/// The command that the words say, which stand after the program's name. `Usage` comes only where they are of no
-/// command, and where they are of none and memory suffices.
+/// The command that the words say, which are those after the program's name. `Usage` comes exactly where the words are
+/// of no command, unless memory is wanting; `Memory` may come at any words.
 pub fn read_words(alloc: Global, words: &[String]) -> Result<Command, WordsFault>
     ensures ok { IfOk result (λ command. IsCommandOf (map string_bytes words.now) command) }
     ensures usage { result ≡ Err WordsFault.Usage → (command : Command) → IsCommandOf (map string_bytes words.now) command → ⊥ }
@@ -24,7 +24,9 @@ pub fn read_words(alloc: Global, words: &[String]) -> Result<Command, WordsFault
         "certify" => Ok(Command::Certify(read_job(alloc, rest, 2)?)),
         "session" => Ok(Command::Session(read_job(alloc, rest, 1)?)),
         "verify" => Ok(Command::Verify(read_check(alloc, rest)?)),
-        "demo" => Ok(Command::Demo { seed: read_seed(alloc, rest)? }),
+        "demo" => Ok(Command::Demo {
+            seed: read_seed(alloc, rest)?,
+        }),
         _ => Err(WordsFault::Usage),
     }
 }

@@ -124,7 +124,10 @@ fn run_word(alloc: Global, word: &str) -> Result<RunWord, WordsFault>
 {
     match word.split_once('=') {
         Some((name, path)) => named(alloc, name, path),
-        None => Ok(RunWord { name: None, path: filled(alloc, word)? }),
+        None => Ok(RunWord {
+            name: None,
+            path: filled(alloc, word)?,
+        }),
     }
 }
 
@@ -135,7 +138,10 @@ fn named(alloc: Global, name: &str, path: &str) -> Result<RunWord, WordsFault>
 {
     let path = filled(alloc, path)?;
     match Name::new(alloc, name.as_bytes()) {
-        Ok(name) => Ok(RunWord { name: Some(name), path }),
+        Ok(name) => Ok(RunWord {
+            name: Some(name),
+            path,
+        }),
         Err(NameFault::BadName) => Err(WordsFault::Usage),
         Err(NameFault::Memory) => Err(WordsFault::Memory),
     }

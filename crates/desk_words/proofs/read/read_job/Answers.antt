@@ -1,6 +1,6 @@
-use Rattle.std.proofs.Common.{◌≡◌, ℕ, List, refl, ap, sym, subst, ◌∙◌, arith, map, string_bytes, codes}
-use Rattle.clap.specs.Words.{Text, found_of, matches_of}
-use Rattle.desk_words.specs.Parser.{given, job_app, check_app, seed_app}
+use Rattle.std.proofs.Common.{List, refl, sym, subst, map, string_bytes, codes}
+use Rattle.clap.specs.Words.{Text, found_of}
+use Rattle.desk_words.specs.Parser.{job_app}
 use Rattle.desk_words.specs.Words.{IsPathOf, IsMeasureOf, IsLevelOf, AreRunsOf}
 use Rattle.desk_words.proofs.Values.{entry_values, handed_on}
 use Rattle.desk_words.proofs.read.read_job.Goals as goal

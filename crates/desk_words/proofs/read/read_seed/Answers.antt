@@ -1,7 +1,6 @@
-use Rattle.std.proofs.Common.{◌≡◌, ℕ, List, refl, ap, sym, subst, ◌∙◌, arith, map, string_bytes, codes}
-use Rattle.clap.specs.Words.{Text, found_of, matches_of}
-use Rattle.desk_words.specs.Parser.{given, job_app, check_app, seed_app}
-use Rattle.desk_words.specs.Words.{IsPathOf, IsMeasureOf, IsLevelOf, AreRunsOf}
+use Rattle.std.proofs.Common.{refl, ◌∙◌, map, string_bytes, codes}
+use Rattle.clap.specs.Words.{found_of}
+use Rattle.desk_words.specs.Parser.{seed_app}
 use Rattle.desk_words.proofs.Values.{entry_values, seed_read}
 use Rattle.desk_words.proofs.read.read_seed.Goals as goal
 

@@ -1,4 +1,4 @@
-use Rattle.std.proofs.Common.{◌≡◌, ℕ, arith, sym, ap, ◌∙◌, decimal}
+use Rattle.std.proofs.Common.{arith, sym, ap, ◌∙◌, decimal}
 use Rattle.std.proofs.lemmas.Fmt.{decimal_injective}
 use Rattle.desk_words.proofs.value.level_in.Goals as goal
 

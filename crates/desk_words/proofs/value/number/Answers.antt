@@ -1,4 +1,4 @@
-use Rattle.std.proofs.Common.{◌≡◌, Option, Some, None, ℕ, arith, sym, ap, ap₂, ◌∙◌}
+use Rattle.std.proofs.Common.{◌≡◌, Some, None, arith, sym, ap₂, ◌∙◌}
 use Rattle.desk_text.specs.Numbers.{plain_of}
 use Rattle.desk_model.proofs.Decimals.{plain_some, plain_none}
 use Rattle.desk_words.proofs.value.number.Goals as goal

@@ -1,4 +1,3 @@
-use Rattle.std.proofs.Common.{arith, sym, ◌∙◌, subst, ◌<◌}
 use Rattle.std.proofs.Common.{lit<}
 use Rattle.desk_words.specs.Words.{is_equals}
 use Rattle.desk_words.proofs.Values.{run_unnamed, none_passes}

@@ -1,4 +1,4 @@
-use Rattle.std.proofs.Common.{arith, refl}
+use Rattle.std.proofs.Common.{arith}
 use Rattle.desk_words.proofs.Values.{no_run, handed_on}
 use Rattle.desk_words.proofs.value.run_words.Goals as goal
 
