@@ -2,3 +2,4 @@ pub mod Values
 pub mod Walks
 pub mod Arrivals
 pub mod Saying
+pub mod Unique

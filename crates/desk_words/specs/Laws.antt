@@ -70,3 +70,7 @@ EmptyIsUsage = (word name : Text) (parts : List Part) (end : Option (List Text))
 abbrev pub HelpIsUsage : Type 0
 HelpIsUsage = (word : Text) (parts : List Part) (rest : List Text) (command : Command) → AreParts (options_of word) parts
     → (IsCommandOf (word ∷ (line_of parts ++ codes "--help" ∷ rest)) command → ⊥) × (IsCommandOf (word ∷ (line_of parts ++ codes "--version" ∷ rest)) command → ⊥)
+
+-- words are of one command at most
+abbrev pub CommandIsUnique : Type 0
+CommandIsUnique = (words : List Text) (first second : Command) → IsCommandOf words first → IsCommandOf words second → first ≡ second

@@ -1,5 +1,10 @@
 //! Laws of the words, each the contract of a function that does nothing.
-ghost use Rattle.desk_words.specs.Laws.{PartsSayTheCommand, OrderIsFree, TwiceIsUsage, EmptyIsUsage, HelpIsUsage};
+ghost use Rattle.desk_words.specs.Laws.{CommandIsUnique, PartsSayTheCommand, OrderIsFree, TwiceIsUsage, EmptyIsUsage, HelpIsUsage};
+
+/// Words are of one command at most.
+pub fn command_is_unique()
+    ensures { CommandIsUnique }
+{}
 
 /// The command of the words is the one that their parts say: each option by its values, and the RUN words, those
 /// after `--` among them.
