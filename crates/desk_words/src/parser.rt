@@ -1,7 +1,6 @@
 //! The words after the first, as clap reads them.
 ghost use Rattle.std.specs.Prelude.{◌≡◌, ◌≢◌, false, [], IfOk, OnOk, Err, map, string_bytes};
 ghost use Rattle.clap.specs.Words.{app_of, fault_of, found_of, matches_of, rows_of, rule_of, kind_of};
-ghost use Rattle.clap.specs.declared.error.kind.ErrorKind.TheVariants as error_kind;
 ghost use Rattle.desk_words.specs.Parser.{bare_app, check_app, job_app, option_rule, other_rule, seed_app};
 
 use crate::command::WordsFault;
@@ -54,8 +53,10 @@ pub fn seed_words<'a>(alloc: Global, words: &'a [String]) -> Result<ArgMatches<'
     }
 }
 
+// Want of memory where clap tells it, and else usage.
 fn fault_from(error: &Error) -> WordsFault
-    ensures { result ≡ WordsFault.Usage → kind_of error.now ≢ ErrorKind.OutOfMemory }
+    ensures usage { result ≡ WordsFault.Usage → kind_of error.now ≢ ErrorKind.OutOfMemory }
+    ensures memory { result ≡ WordsFault.Memory → kind_of error.now ≡ ErrorKind.OutOfMemory }
 {
     if error.kind() == ErrorKind::OutOfMemory {
         WordsFault::Memory
