@@ -1,0 +1,5 @@
+pub mod Values
+pub mod Walks
+pub mod Arrivals
+pub mod Saying
+pub mod Unique

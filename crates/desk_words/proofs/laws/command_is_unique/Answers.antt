@@ -1,0 +1,5 @@
+use Rattle.desk_words.proofs.Unique as lemmas
+use Rattle.desk_words.proofs.laws.command_is_unique.Goals as goal
+
+pub returns : goal.returns
+returns c = lemmas.command_is_unique

@@ -1,0 +1,5 @@
+use Rattle.desk_words.proofs.Saying as lemmas
+use Rattle.desk_words.proofs.laws.empty_value_is_usage.Goals as goal
+
+pub returns : goal.returns
+returns c = lemmas.empty_is_usage

@@ -1,0 +1,5 @@
+use Rattle.desk_words.proofs.Saying as lemmas
+use Rattle.desk_words.proofs.laws.help_is_usage.Goals as goal
+
+pub returns : goal.returns
+returns c = lemmas.help_is_usage

@@ -1,0 +1,4 @@
+pub mod Parser
+pub mod Words
+pub mod Parts
+pub mod Laws

@@ -1,0 +1,121 @@
+//! Commands.
+ghost use Rattle.std.specs.Prelude.{◌≡◌, string_bytes};
+
+use desk_model::{MeasureName, Name};
+use std::marker::Model;
+
+/// Why there is no command.
+#[derive(Clone, Copy, PartialEq, Eq, Debug)]
+pub enum WordsFault {
+    /// The words are of no command.
+    Usage,
+    /// Memory was wanting.
+    Memory,
+}
+
+/// A command with what its words say.
+#[derive(Debug, Drop)]
+pub enum Command {
+    /// Print the table of all pairs.
+    Table(Job),
+    /// Print the certificate of the first two runs.
+    Certify(Job),
+    /// Judge documents.
+    Session(Job),
+    /// Check a certificate.
+    Verify(Check),
+    /// Show a worked example that is made from the seed.
+    Demo { seed: u32 },
+}
+
+/// Runs that are to be compared.
+#[derive(Debug, Drop)]
+pub struct Job {
+    /// The file of judgements.
+    pub qrels: Path,
+    /// What the runs are compared by.
+    pub measure: MeasureName,
+    /// The least grade of a relevant document, from 1 to 1,000.
+    pub level: u32,
+    /// From 1 to 256 runs, in the order of the words; for a certificate from 2.
+    pub runs: RunWords,
+}
+
+/// A certificate that is to be checked.
+#[derive(Debug, Drop)]
+pub struct Check {
+    /// The file of judgements.
+    pub qrels: Path,
+    /// The file of the certificate.
+    pub cert: Path,
+    /// From 2 to 256 runs, in the order of the words.
+    pub runs: RunWords,
+}
+
+/// A file of a run, and the name that the words give the run.
+#[derive(Debug, Drop)]
+pub struct RunWord {
+    pub name: Option<Name>,
+    pub path: Path,
+}
+
+/// The path of a file.
+#[derive(Debug, Drop)]
+pub struct Path {
+    text: String,
+}
+
+impl Model for Path {
+    ghost use Rattle.std.specs.Prelude.{List, ℕ, string_bytes};
+
+    ghost Value = { List ℕ };
+
+    ghost view = { λ p. string_bytes p.text };
+}
+
+impl Path {
+    /// The path with this text.
+    pub fn new(text: String) -> Path
+        ensures { result ≡ string_bytes text }
+    {
+        Path { text }
+    }
+
+    /// The text of the path.
+    pub fn as_str(&self) -> &str
+        ensures { result.now ≡ self.now }
+    {
+        self.text.as_str()
+    }
+}
+
+/// Runs in their order.
+#[derive(Debug, Drop)]
+pub struct RunWords {
+    words: Vec<RunWord>,
+}
+
+impl Model for RunWords {
+    ghost use Rattle.std.specs.Prelude.{List};
+    ghost use Rattle.desk_words.specs.declared.command.RunWord.{RunWord};
+
+    ghost Value = { List RunWord };
+
+    ghost view = { λ r. r.words.items };
+}
+
+impl RunWords {
+    /// These runs.
+    pub fn new(words: Vec<RunWord>) -> RunWords
+        ensures { result ≡ words.items }
+    {
+        RunWords { words }
+    }
+
+    /// The runs, the first at place 0.
+    pub fn as_slice(&self) -> &[RunWord]
+        ensures { result.now ≡ self.now }
+    {
+        self.words.as_slice()
+    }
+}

@@ -1,0 +1,33 @@
+//! Laws of the words, each the contract of a function that does nothing.
+ghost use Rattle.desk_words.specs.Laws.{CommandIsUnique, PartsSayTheCommand, OrderIsFree, TwiceIsUsage, EmptyIsUsage, HelpIsUsage};
+
+/// Words are of one command at most.
+pub fn command_is_unique()
+    ensures { CommandIsUnique }
+{}
+
+/// The command of the words is the one that their parts say: each option by its values, and the RUN words, those
+/// after `--` among them.
+pub fn parts_say_the_command()
+    ensures { PartsSayTheCommand }
+{}
+
+/// Options may stand in any order and anywhere among the RUN words, and `--level=2` means what `--level 2` means.
+pub fn order_of_options_is_free()
+    ensures { OrderIsFree }
+{}
+
+/// An option that is given twice is usage.
+pub fn option_twice_is_usage()
+    ensures { TwiceIsUsage }
+{}
+
+/// An option with an empty value is usage.
+pub fn empty_value_is_usage()
+    ensures { EmptyIsUsage }
+{}
+
+/// `--help` and `--version` are usage.
+pub fn help_is_usage()
+    ensures { HelpIsUsage }
+{}

@@ -1,0 +1,18 @@
+//! The command that the words of a command line say.
+#![tactic(auto)]
+
+pub mod command;
+pub mod laws;
+mod parser;
+mod read;
+mod value;
+
+pub use command::{Check, Command, Job, Path, RunWord, RunWords, WordsFault};
+pub use laws::{
+    command_is_unique, empty_value_is_usage, help_is_usage, option_twice_is_usage,
+    order_of_options_is_free, parts_say_the_command,
+};
+pub use read::read_words;
+
+#[cfg(test)]
+mod tests;

@@ -1,0 +1,163 @@
+//! The values of one entry.
+ghost use Rattle.std.specs.Prelude.{◌≡◌, ◌≢◌, ℕ, IfOk, Err, Some, None, map, List, decimal, [], ◌∷◌, ◌<◌, ◌≤◌, ◌^◌, length, IfSome, IfNone};
+ghost use Rattle.clap.specs.Words.{Text};
+ghost use Rattle.desk_model.specs.declared.types.MeasureName.{MeasureName};
+ghost use Rattle.desk_words.specs.Words.{IsPathOf, IsMeasureOf, IsLevelOf, AreRunsOf, named, run_of};
+ghost use Rattle.desk_words.specs.declared.command.RunWord.{RunWord};
+
+use crate::command::{Path, RunWord, RunWords, WordsFault};
+use desk_model::{MeasureName, Name, NameFault, read_measure};
+use desk_text::plain;
+use std::alloc::Global;
+
+/// The one value, a path that is not empty.
+pub fn path(alloc: Global, values: &[&str]) -> Result<Path, WordsFault>
+    ensures ok { IfOk result (λ p. IsPathOf (map (λ v. v.now) values.now) p) }
+    ensures usage { result ≡ Err WordsFault.Usage → (p : Text) → IsPathOf (map (λ v. v.now) values.now) p → ⊥ }
+{
+    match *values {
+        [text] => filled(alloc, text),
+        _ => Err(WordsFault::Usage),
+    }
+}
+
+/// The measure that the one value names.
+pub fn measure(values: &[&str]) -> Result<MeasureName, WordsFault>
+    ensures ok { IfOk result (λ m. IsMeasureOf (map (λ v. v.now) values.now) m) }
+    ensures usage { result ≡ Err WordsFault.Usage → (m : MeasureName) → IsMeasureOf (map (λ v. v.now) values.now) m → ⊥ }
+{
+    match *values {
+        [text] => match read_measure(text.as_bytes()) {
+            Ok(name) => Ok(name),
+            Err(_) => Err(WordsFault::Usage),
+        },
+        _ => Err(WordsFault::Usage),
+    }
+}
+
+/// The level that the one value says, or 1 where there is no value.
+pub fn level(values: &[&str]) -> Result<u32, WordsFault>
+    ensures ok { IfOk result (λ n. IsLevelOf (map (λ v. v.now) values.now) n) }
+    ensures usage { result ≡ Err WordsFault.Usage → (n : ℕ) → IsLevelOf (map (λ v. v.now) values.now) n → ⊥ }
+{
+    match *values {
+        [] => Ok(1),
+        [text] => level_in(text),
+        _ => Err(WordsFault::Usage),
+    }
+}
+
+// The level that the text says.
+fn level_in(text: &str) -> Result<u32, WordsFault>
+    ensures ok { IfOk result (λ n. (text.now ≡ decimal n) × (1 ≤ n) × (n ≤ 1000)) }
+    ensures usage { result ≡ Err WordsFault.Usage → (n : ℕ) → 1 ≤ n → n ≤ 1000 → text.now ≢ decimal n }
+{
+    match number(text, 1000) {
+        Some(level) => {
+            if level == 0 {
+                return Err(WordsFault::Usage);
+            }
+            Ok(level)
+        }
+        None => Err(WordsFault::Usage),
+    }
+}
+
+// The number that the text is, in digits with no sign and no leading zero.
+fn number(text: &str, most: u32) -> Option<u32>
+    ensures some { IfSome result (λ n. text.now ≡ decimal n) }
+    ensures small { IfSome result (λ n. n ≤ most) }
+    ensures none { IfNone result ((n : ℕ) → n ≤ most → text.now ≢ decimal n) }
+{
+    match plain(text.as_bytes(), u64::from(most)) {
+        Some(number) => Some(number as u32),
+        None => None,
+    }
+}
+
+/// The seed that the one value says.
+pub fn seed(values: &[&str]) -> Result<u32, WordsFault>
+    ensures ok { IfOk result (λ n. map (λ v. v.now) values.now ≡ decimal n ∷ []) }
+    ensures fits { IfOk result (λ n. n < 2 ^ 32) }
+    ensures usage { result ≡ Err WordsFault.Usage → (n : ℕ) → n < 2 ^ 32 → map (λ v. v.now) values.now ≢ decimal n ∷ [] }
+{
+    match *values {
+        [text] => match number(text, u32::MAX) {
+            Some(seed) => Ok(seed),
+            None => Err(WordsFault::Usage),
+        },
+        _ => Err(WordsFault::Usage),
+    }
+}
+
+/// The runs of the RUN words, from `least` to 256.
+pub fn runs(alloc: Global, values: &[&str], least: usize) -> Result<RunWords, WordsFault>
+    ensures ok { IfOk result (λ runs. AreRunsOf least (map (λ v. v.now) values.now) runs) }
+    ensures usage { result ≡ Err WordsFault.Usage → (runs : List RunWord) → AreRunsOf least (map (λ v. v.now) values.now) runs → ⊥ }
+{
+    if values.len() < least || values.len() > 256 {
+        return Err(WordsFault::Usage);
+    }
+    let words = run_words(alloc, values)?;
+    Ok(RunWords::new(words))
+}
+
+// Each RUN word, in order.
+fn run_words(alloc: Global, values: &[&str]) -> Result<Vec<RunWord>, WordsFault>
+    ensures ok { IfOk result (λ runs. map run_of (map (λ v. v.now) values.now) ≡ map Some runs.items) }
+    ensures usage { result ≡ Err WordsFault.Usage → (runs : List RunWord) → map run_of (map (λ v. v.now) values.now) ≢ map Some runs }
+{
+    let mut words = Vec::new(alloc);
+    for value in values {
+        let word = run_word(alloc, value)?;
+        if words.push(word).is_err() {
+            return Err(WordsFault::Memory);
+        }
+    }
+    Ok(words)
+}
+
+// The run of a RUN word.
+fn run_word(alloc: Global, word: &str) -> Result<RunWord, WordsFault>
+    ensures ok { IfOk result (λ run. run_of word.now ≡ Some run) }
+    ensures usage { result ≡ Err WordsFault.Usage → run_of word.now ≡ None }
+{
+    match word.split_once('=') {
+        Some((name, path)) => named(alloc, name, path),
+        None => Ok(RunWord {
+            name: None,
+            path: filled(alloc, word)?,
+        }),
+    }
+}
+
+// A run by its name and its path.
+fn named(alloc: Global, name: &str, path: &str) -> Result<RunWord, WordsFault>
+    ensures ok { IfOk result (λ run. named name.now path.now ≡ Some run) }
+    ensures usage { result ≡ Err WordsFault.Usage → named name.now path.now ≡ None }
+{
+    let path = filled(alloc, path)?;
+    match Name::new(alloc, name.as_bytes()) {
+        Ok(name) => Ok(RunWord {
+            name: Some(name),
+            path,
+        }),
+        Err(NameFault::BadName) => Err(WordsFault::Usage),
+        Err(NameFault::Memory) => Err(WordsFault::Memory),
+    }
+}
+
+// The path with this text, which is not empty.
+fn filled(alloc: Global, text: &str) -> Result<Path, WordsFault>
+    ensures ok { IfOk result (λ path. path ≡ text.now) }
+    ensures some { IfOk result (λ path. 0 < length path) }
+    ensures usage { result ≡ Err WordsFault.Usage → length text.now ≡ 0 }
+{
+    if text.is_empty() {
+        return Err(WordsFault::Usage);
+    }
+    match String::from_str(alloc, text) {
+        Ok(text) => Ok(Path::new(text)),
+        Err(_) => Err(WordsFault::Memory),
+    }
+}
