@@ -1,4 +1,4 @@
-use Rattle.std.proofs.Common.{◌≡◌, ℕ, length, ap, sym, ◌∙◌, arith}
+use Rattle.std.proofs.Common.{length, ap, sym, ◌∙◌}
 use Rattle.desk_model.specs.Desk.{pair_count}
 use Rattle.pair_table.proofs.PairNumbers.{length-pairs}
 use Rattle.pair_table.proofs.table.Table.new.Goals as goal
