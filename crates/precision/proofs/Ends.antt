@@ -7,14 +7,12 @@ use Rattle.desk_model.specs.Classes.{only_count, front_count, precision_least, p
 use Rattle.desk_model.specs.declared.types.Mark.{Mark}
 use Rattle.desk_model.specs.declared.types.MeasureName.TheVariants.{Precision}
 use Rattle.desk_model.proofs.PrecisionEnds.{precision_extremes, precision_bounds}
-use Rattle.measure_laws.proofs.Unique.{greatest_unique, smallest_unique, extremes_unique}
 use Rattle.fractions.specs.declared.span.Span.{Span}
 use Rattle.fractions.proofs.Spans.{span, span_same}
 use Rattle.measure_core.specs.declared.cell.Cell.{Cell}
 use Rattle.measure_core.specs.Laws.{AreMet, IsMet}
-use Rattle.measure_core.specs.Made.{ends_of}
 use Rattle.measure_core.specs.Numbers.{exact_cell, exact_bounds}
-use Rattle.measure_core.proofs.Exact.{extremes, ranges}
+use Rattle.measure_core.proofs.Exact.{ends_are, bounds_are}
 
 difference_read : (z : ℤ) (m n m' n' : ℕ) → z ≡ pos m -ℤ pos n → m ≡ m' → n ≡ n' → z ≡ pos m' -ℤ pos n'
 difference_read z m n m' n' e f g = e ∙ ap (λ x. pos x -ℤ pos n) f ∙ ap (λ x. pos m' -ℤ pos x) g
@@ -49,14 +47,12 @@ pub cell_is : (k : ℕ) (marks : List Mark) (a b : List ℕ) (low high : ℤ) (s
     s.lo ≡ low → s.hi ≡ low → t.lo ≡ high → t.hi ≡ high → cell s t ≡ exact_cell (Precision k) marks a b
 cell_is k marks a b low high s t valid met known sl sh tl th =
     let exact = exact_cell (Precision k) marks a b in
-    let same = extremes_unique (Precision k) k marks a b _ (ends_of exact) known (extremes (Precision k) marks a b valid tt met.first met.second) in
+    let same = ends_are (Precision k) marks a b _ valid tt met.first met.second known in
     cell_same s t exact.least exact.most
     (span_same s.lo exact.least.lo s.hi exact.least.hi (sl ∙ ap (λ (e : Ends). e.least_lo) same) (sh ∙ ap (λ (e : Ends). e.least_hi) same))
     (span_same t.lo exact.most.lo t.hi exact.most.hi (tl ∙ ap (λ (e : Ends). e.most_lo) same) (th ∙ ap (λ (e : Ends). e.most_hi) same))
 
-pub bounds_are : (k : ℕ) (marks : List Mark) (a : List ℕ) (low high lo hi : ℤ) → IsMeasure (Precision k) → IsMet marks a → AreBounds (Precision k) k marks a low high →
+pub bounds_read_are : (k : ℕ) (marks : List Mark) (a : List ℕ) (low high lo hi : ℤ) → IsMeasure (Precision k) → IsMet marks a → AreBounds (Precision k) k marks a low high →
     lo ≡ low → hi ≡ high → span lo hi ≡ exact_bounds (Precision k) marks a
-bounds_are k marks a low high lo hi valid met known el eh =
-    let exact = exact_bounds (Precision k) marks a in
-    let same = ranges (Precision k) marks a valid tt met.ranking in
-    span_same lo exact.lo hi exact.hi (el ∙ greatest_unique _ low exact.lo known.low same.low) (eh ∙ smallest_unique _ high exact.hi known.high same.high)
+bounds_read_are k marks a low high lo hi valid met known el eh =
+    span_same lo low hi high el eh ∙ bounds_are (Precision k) marks a low high valid tt met.ranking known
