@@ -62,11 +62,7 @@ fn is_chosen(choice: Option<u32>, doc: u32) -> bool
 }
 
 /// Whether each document is relevant, where of the unjudged ones the chosen one alone is.
-fn values(
-    alloc: Global,
-    choice: Option<u32>,
-    marks: &[Mark],
-) -> Result<Vec<bool>, Memory>
+fn values(alloc: Global, choice: Option<u32>, marks: &[Mark]) -> Result<Vec<bool>, Memory>
     requires { length marks.now ≤ 25000000 }
     ensures { IfOk result (λ values. AreValues (with_choice marks.now choice) (length marks.now) values.items) }
 {

@@ -1,0 +1,33 @@
+-- What a measure is and answers, by cases.
+use Rattle.std.specs.Prelude.{ℕ, List}
+use Rattle.desk_model.specs.MeasureText.{IsMeasure}
+use Rattle.desk_model.specs.declared.types.Mark.{Mark}
+use Rattle.desk_model.specs.declared.types.MeasureName.{MeasureName}
+use Rattle.desk_model.specs.declared.types.MeasureName.TheVariants as name
+use Rattle.fractions.specs.declared.span.Span.{Span}
+use Rattle.measure_core.specs.declared.cell.Cell.{Cell}
+use Rattle.measure_core.specs.Laws.{MeetsLaws}
+use Rattle.measure_core.specs.Numbers.{exact_cell, exact_bounds}
+use Rattle.precision.specs.Laws as precision
+use Rattle.recip_rank.specs.Laws as recip_rank
+use Rattle.any_measure.specs.declared.any.AnyMeasure.{AnyMeasure}
+use Rattle.any_measure.specs.declared.any.AnyMeasure.TheVariants.{Precision, Reciprocal}
+
+-- the name that the measure is of
+abbrev pub measured_by : AnyMeasure → MeasureName
+measured_by (Precision k) = name.Precision k
+measured_by (Reciprocal r) = name.Reciprocal
+
+-- what its cells are
+abbrev pub cell_by : AnyMeasure → List Mark → List ℕ → List ℕ → Cell
+cell_by (Precision k) = exact_cell (name.Precision k)
+cell_by (Reciprocal r) = exact_cell name.Reciprocal
+
+-- what its bounds are
+abbrev pub bounds_by : AnyMeasure → List Mark → List ℕ → Span
+bounds_by (Precision k) = exact_bounds (name.Precision k)
+bounds_by (Reciprocal r) = exact_bounds name.Reciprocal
+
+pub laws : (m : AnyMeasure) → IsMeasure (measured_by m) → MeetsLaws (measured_by m) (cell_by m) (bounds_by m)
+laws (Precision k) valid = precision.laws k valid
+laws (Reciprocal r) valid = recip_rank.laws

@@ -1,0 +1,11 @@
+-- Which measures are built.
+use Rattle.desk_model.specs.declared.types.MeasureName.{MeasureName}
+use Rattle.desk_model.specs.declared.types.MeasureName.TheVariants.{Precision, Recall, RPrecision, Reciprocal, Biased}
+
+-- a measure that can be made by its name
+abbrev pub IsBuilt : MeasureName → Type 0
+IsBuilt (Precision k) = Unit {0}
+IsBuilt (Recall k) = ⊥
+IsBuilt RPrecision = ⊥
+IsBuilt Reciprocal = Unit {0}
+IsBuilt (Biased top bottom) = ⊥

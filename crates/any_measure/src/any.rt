@@ -1,0 +1,48 @@
+ghost use Rattle.std.specs.Prelude.{◌≡◌, true, false, IfOk};
+ghost use Rattle.desk_model.specs.MeasureText.{IsMeasure};
+ghost use Rattle.measure_core.specs.Made.{IsMadeFor};
+ghost use Rattle.any_measure.specs.Built.{IsBuilt};
+ghost use Rattle.any_measure.specs.Any.{measured_by, cell_by, bounds_by};
+
+use desk_model::{MeasureName, Memory};
+use precision::Precision;
+use recip_rank::RecipRank;
+use std::alloc::Global;
+
+/// One of the measures that are built.
+#[derive(Debug, Drop)]
+pub enum AnyMeasure {
+    /// `P_k`.
+    Precision(Precision),
+    /// `recip_rank`.
+    Reciprocal(RecipRank),
+}
+
+/// Whether a measure is built.
+pub fn is_built(name: &MeasureName) -> bool
+    ensures yes { result ≡ true → IsBuilt name.now }
+    ensures no { result ≡ false → IsBuilt name.now → ⊥ }
+{
+    match name {
+        MeasureName::Precision(_) | MeasureName::Reciprocal => true,
+        MeasureName::Recall(_) | MeasureName::RPrecision | MeasureName::Biased { .. } => false,
+    }
+}
+
+impl AnyMeasure {
+    /// The measure of this name.
+    pub fn new(alloc: Global, name: MeasureName) -> Result<AnyMeasure, Memory>
+        requires measure { IsMeasure name }
+        requires built { IsBuilt name }
+        ensures { IfOk result (λ made. IsMadeFor name (measured_by made) (cell_by made) (bounds_by made)) }
+    {
+        let _ = alloc;
+        match name {
+            MeasureName::Precision(k) => Ok(AnyMeasure::Precision(Precision::new(k))),
+            MeasureName::Reciprocal => Ok(AnyMeasure::Reciprocal(RecipRank::new())),
+            MeasureName::Recall(_) | MeasureName::RPrecision | MeasureName::Biased { .. } => {
+                unreachable!()
+            }
+        }
+    }
+}

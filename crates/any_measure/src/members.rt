@@ -1,0 +1,85 @@
+use crate::any::AnyMeasure;
+use desk_model::{Mark, MeasureName, Memory, Ranking};
+use fractions::Span;
+use measure_core::{Cell, Measure, Steps};
+use std::alloc::Global;
+use std::sync::ledger::Ledger;
+
+impl Measure for AnyMeasure {
+    ghost use Rattle.any_measure.specs.Any as any;
+
+    ghost measured = { any.measured_by };
+
+    ghost cell_of = { any.cell_by };
+
+    ghost bounds_of = { any.bounds_by };
+
+    fn name(&self) -> MeasureName {
+        match self {
+            AnyMeasure::Precision(m) => m.name(),
+            AnyMeasure::Reciprocal(m) => m.name(),
+        }
+    }
+
+    fn unit(&self) -> i128 {
+        match self {
+            AnyMeasure::Precision(m) => m.unit(),
+            AnyMeasure::Reciprocal(m) => m.unit(),
+        }
+    }
+
+    fn cell<L: Ledger>(
+        &self,
+        a: &Ranking,
+        b: &Ranking,
+        marks: &[Mark],
+        steps: &mut Steps<L>,
+    ) -> Cell {
+        match self {
+            AnyMeasure::Precision(m) => m.cell(a, b, marks, steps),
+            AnyMeasure::Reciprocal(m) => m.cell(a, b, marks, steps),
+        }
+    }
+
+    fn bounds(&self, a: &Ranking, marks: &[Mark]) -> Span {
+        match self {
+            AnyMeasure::Precision(m) => m.bounds(a, marks),
+            AnyMeasure::Reciprocal(m) => m.bounds(a, marks),
+        }
+    }
+
+    fn least_case(
+        &self,
+        alloc: Global,
+        a: &Ranking,
+        b: &Ranking,
+        marks: &[Mark],
+    ) -> Result<Vec<bool>, Memory> {
+        match self {
+            AnyMeasure::Precision(m) => m.least_case(alloc, a, b, marks),
+            AnyMeasure::Reciprocal(m) => m.least_case(alloc, a, b, marks),
+        }
+    }
+
+    fn most_case(
+        &self,
+        alloc: Global,
+        a: &Ranking,
+        b: &Ranking,
+        marks: &[Mark],
+    ) -> Result<Vec<bool>, Memory> {
+        match self {
+            AnyMeasure::Precision(m) => m.most_case(alloc, a, b, marks),
+            AnyMeasure::Reciprocal(m) => m.most_case(alloc, a, b, marks),
+        }
+    }
+
+    fn weight(&self, a: &Ranking, b: &Ranking, marks: &[Mark], doc: u32) -> u128 {
+        match self {
+            AnyMeasure::Precision(m) => m.weight(a, b, marks, doc),
+            AnyMeasure::Reciprocal(m) => m.weight(a, b, marks, doc),
+        }
+    }
+
+    ghost laws = { any.laws };
+}
