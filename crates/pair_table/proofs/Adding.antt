@@ -5,9 +5,7 @@ use Rattle.std.proofs.lemmas.Int.{ints}
 use Rattle.std.proofs.lemmas.List.{map-append, take_all}
 use Rattle.desk_model.proofs.Nested.{take-there}
 use Rattle.desk_model.specs.Extremes.{Ends}
-use Rattle.desk_model.specs.Order.{Topic}
 use Rattle.desk_model.specs.Verdict.{whole_sum, totals_of}
-use Rattle.desk_model.specs.declared.types.Mark.{Mark}
 use Rattle.desk_model.specs.declared.types.Totals.{Totals}
 use Rattle.measure_laws.specs.Shares.{IsModest}
 use Rattle.fractions.specs.Ends.{IsNear, IsShort}
@@ -16,8 +14,7 @@ use Rattle.fractions.proofs.Spans.{span_same}
 use Rattle.measure_core.specs.Laws.{SpanIsModest, CellIsModest}
 use Rattle.measure_core.specs.Made.{ends_of}
 use Rattle.measure_core.specs.declared.cell.Cell.{Cell}
-use Rattle.pair_table.specs.Sums.{cell_ends, pair_sums, run_spans, run_sums, span_sum}
-use Rattle.pair_table.specs.Kept.{AreNear}
+use Rattle.pair_table.specs.Sums.{span_sum}
 
 -- within n times 2*10^18 of 0
 abbrev pub IsWithin : ℕ → ℤ → Type 0

@@ -1,9 +1,9 @@
 -- The numbers of a name: a made measure has them, and they are determined.
-use Rattle.std.proofs.Common.{◌≡◌, ℕ, ◌+◌, ◌^◌, ◌<◌, List, [], ◌∷◌, map, length, ℤ, ◌≤ℤ◌, refl, ap, sym, ◌∙◌, arith}
-use Rattle.std.specs.List.{AllZip, AllByRecursion}
+use Rattle.std.proofs.Common.{◌≡◌, ℕ, ◌^◌, List, length, ℤ, ◌≤ℤ◌, refl, ap, sym, ◌∙◌, arith}
+use Rattle.std.specs.List.{AllByRecursion}
 use Rattle.std.proofs.lemmas.Int.{ints}
 use Rattle.desk_model.specs.Desk.{Desk, IsDesk, AreMarksOf, topics_under}
-use Rattle.desk_model.specs.Extremes.{Ends, IsGreatest, IsSmallest, AreBounds}
+use Rattle.desk_model.specs.Extremes.{Ends, AreBounds}
 use Rattle.desk_model.specs.Order.{Topic}
 use Rattle.desk_model.specs.Pairs.{pairs_of}
 use Rattle.desk_model.specs.Verdict.{totals_of}
@@ -14,11 +14,11 @@ use Rattle.desk_model.specs.declared.types.Totals.{Totals}
 use Rattle.measure_laws.proofs.Unique.{extremes_unique}
 use Rattle.fractions.specs.declared.span.Span.{Span}
 use Rattle.fractions.proofs.Spans.{span_same}
-use Rattle.measure_core.specs.Laws.{AreMet, IsMet}
+use Rattle.measure_core.specs.Laws.{IsMet}
 use Rattle.measure_core.specs.Made.{ends_of, HasEnds, HasBounds, AreNumbersOf}
 use Rattle.measure_core.specs.declared.cell.Cell.{Cell}
 use Rattle.pair_table.specs.Sums.{run_numbers, cell_ends, pair_sums, run_spans, run_sums, span_sum, all_pair_sums, all_run_sums}
-use Rattle.pair_table.specs.Numbers.{AreEndsOf, AreBoundsOf, ArePairNumbers, AreRunNumbers, AreNumbersIn}
+use Rattle.pair_table.specs.Numbers.{ArePairNumbers, AreRunNumbers, AreNumbersIn}
 use Rattle.pair_table.proofs.DeskTopics.{topics_met, topics_met_one}
 use Rattle.pair_table.proofs.Zips.{zip_made, zip_making, zip_unique, zip_unique_first, all_then, all_in_range, IsPairBelow, pairs_below}
 use Rattle.pair_table.proofs.Orders.{MetBy}
@@ -93,6 +93,7 @@ run_unique name topics run s r h g =
 pub table_determined : (name : MeasureName) (desk : Desk) (marks : List (List Mark)) (b c : List Span) (t u : List Totals) → AreNumbersIn name desk marks b t → AreNumbersIn name desk marks c u → (b ≡ c) × (t ≡ u)
 table_determined name desk marks b c t u h g =
     let topics = topics_under desk marks in
-    let n = length desk.runs in
-    (zip_unique (λ (run : ℕ) (s : Span). AreRunNumbers name topics run s) (λ run s r. run_unique name topics run s r) (run_numbers n) b c h.runs g.runs,
-     zip_unique (λ (pair : ℕ × ℕ) (s : Totals). ArePairNumbers name topics pair.0 pair.1 s) (λ pair s r. pair_unique name topics pair.0 pair.1 s r) (pairs_of (run_numbers n)) t u h.pairs g.pairs)
+    let n = length desk.runs in (
+      zip_unique (λ (run : ℕ) (s : Span). AreRunNumbers name topics run s) (λ run s r. run_unique name topics run s r) (run_numbers n) b c h.runs g.runs,
+      zip_unique (λ (pair : ℕ × ℕ) (s : Totals). ArePairNumbers name topics pair.0 pair.1 s) (λ pair s r. pair_unique name topics pair.0 pair.1 s r) (pairs_of (run_numbers n)) t u h.pairs g.pairs,
+    )

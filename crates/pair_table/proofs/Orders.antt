@@ -1,6 +1,6 @@
 -- What the numbers of a name say of means.
-use Rattle.std.proofs.Common.{◌≡◌, ◌≢◌, ℕ, zero, suc, ◌+◌, ◌*◌, ◌^◌, ◌<◌, ◌≤◌, List, [], ◌∷◌, map, length, ℤ, pos, neg_ℤ, ◌+ℤ◌, ◌≤ℤ◌, ◌<ℤ◌, refl, ap, sym, ◌∙◌, subst, arith}
-use Rattle.std.specs.List.{AllZip, AllByRecursion, sum_by}
+use Rattle.std.proofs.Common.{◌≡◌, ◌≢◌, ℕ, ◌+◌, ◌<◌, List, [], ◌∷◌, map, length, ℤ, pos, ◌+ℤ◌, ◌≤ℤ◌, refl, sym, subst, arith}
+use Rattle.std.specs.List.{AllZip, AllByRecursion}
 use Rattle.std.proofs.lemmas.List.Sums.{sum_by-cons}
 use Rattle.std.proofs.lemmas.Int.{ints}
 use Rattle.std.proofs.lemmas.List.Elements.{All-from_recursion}
@@ -23,14 +23,15 @@ use Rattle.measure_laws.specs.Measures.{IsExactMeasure, unit_of}
 use Rattle.measure_laws.proofs.Persistence.{least_encloses, most_encloses, run_low_encloses, run_high_encloses}
 use Rattle.measure_laws.proofs.Weights.{unit-size}
 use Rattle.fractions.specs.declared.span.Span.{Span}
-use Rattle.measure_core.specs.Laws.{AreMet, IsMet}
-use Rattle.measure_core.specs.Made.{HasEnds, HasBounds, AreNarrow, width_of}
+use Rattle.measure_core.specs.Laws.{AreMet, IsMet, MeetsLaws}
+use Rattle.measure_core.specs.Made.{ends_of, HasEnds, HasBounds, AreNarrow, width_of}
+use Rattle.measure_core.specs.declared.cell.Cell.{Cell}
 use Rattle.measure_core.proofs.Narrow.{ends_narrow, precision_whole}
-use Rattle.pair_table.specs.Sums.{run_numbers, span_sum}
-use Rattle.pair_table.specs.Numbers.{AreEndsOf, ArePairNumbers, AreRunNumbers, AreNumbersIn}
+use Rattle.pair_table.specs.Sums.{run_numbers, cell_ends, pair_sums, span_sum, run_spans, run_sums}
+use Rattle.pair_table.specs.Numbers.{AreEndsOf, ArePairNumbers, AreRunNumbers}
 use Rattle.pair_table.specs.Orders.{HoldsOfPair, HoldsOfRun, total_width, IsNearZero, ForEachPair, ForEachRun}
 use Rattle.pair_table.proofs.DeskTopics.{topics_met, topics_met_one}
-use Rattle.pair_table.proofs.Zips.{zip_then, zip_by, zip_mapped, all_first, all_in_range, IsPairBelow, pairs_below}
+use Rattle.pair_table.proofs.Zips.{zip_then, zip_by, zip_made, zip_mapped, all_then, all_first, all_in_range, IsPairBelow, pairs_below}
 use Rattle.pair_table.proofs.Verdicts.{above_says, below_says, equal_says, close_says}
 
 -- the outer ends of a name enclose
@@ -64,25 +65,33 @@ bounds_enclose (Biased top bottom) marks a s valid met h =
       high = run_high_encloses top bottom marks a valid met.ranking;
     })
 
+always : {A : Type 0} (xs : List A) → AllByRecursion (λ (x : A). Unit {0}) xs
+always [] = tt
+always (x ∷ xs) = (tt, always xs)
+
 abbrev pub MetBy : ℕ → ℕ → Topic → Type 0
 MetBy a b topic = AreMet topic.marks (topic.ranking a) (topic.ranking b)
 
+abbrev pub MetOneBy : ℕ → Topic → Type 0
+MetOneBy run topic = IsMet topic.marks (topic.ranking run)
+
 -- ---- one pair
-module _ (name : MeasureName) (valid : IsMeasure name) (topics : List Topic) (a b : ℕ) (met : AllByRecursion (MetBy a b) topics) (ends : List Ends) (named : AreEndsOf name topics a b ends) where
+abbrev EncloseBy : MeasureName → ℕ → ℕ → Ends → Topic → Type 0
+EncloseBy name a b e topic = Enclose name topic.marks (topic.ranking a) (topic.ranking b) e
+
+module _ (name : MeasureName) (valid : IsMeasure name) (topics : List Topic) (a b : ℕ) (ends : List Ends) (enclosed : AllZip (EncloseBy name a b) ends topics) where
   lows : AreLowEnds name (unit_of name) topics a b (map (λ (e : Ends). e.least_lo) ends)
   lows = zip_mapped (λ (e : Ends). e.least_lo) _ ends topics
-      (zip_then (λ (e : Ends) (topic : Topic). HasEnds name topic.marks (topic.ranking a) (topic.ranking b) e)
-      (λ (e : Ends) (topic : Topic). InEvery name topic.marks (topic.ranking a) (topic.ranking b) (IsAtMost e.least_lo (unit_of name))) (MetBy a b)
-      (λ e topic m h. (ends_enclose name topic.marks (topic.ranking a) (topic.ranking b) e valid m h).low) ends topics met named)
+      (zip_then (EncloseBy name a b) (λ (e : Ends) (topic : Topic). InEvery name topic.marks (topic.ranking a) (topic.ranking b) (IsAtMost e.least_lo (unit_of name))) (λ (t : Topic). Unit {0})
+      (λ e topic _ h. h.low) ends topics (always topics) enclosed)
 
   highs : AreHighEnds name (unit_of name) topics a b (map (λ (e : Ends). e.most_hi) ends)
   highs = zip_mapped (λ (e : Ends). e.most_hi) _ ends topics
-      (zip_then (λ (e : Ends) (topic : Topic). HasEnds name topic.marks (topic.ranking a) (topic.ranking b) e)
-      (λ (e : Ends) (topic : Topic). InEvery name topic.marks (topic.ranking a) (topic.ranking b) (IsAtLeast e.most_hi (unit_of name))) (MetBy a b)
-      (λ e topic m h. (ends_enclose name topic.marks (topic.ranking a) (topic.ranking b) e valid m h).high) ends topics met named)
+      (zip_then (EncloseBy name a b) (λ (e : Ends) (topic : Topic). InEvery name topic.marks (topic.ranking a) (topic.ranking b) (IsAtLeast e.most_hi (unit_of name))) (λ (t : Topic). Unit {0})
+      (λ e topic _ h. h.high) ends topics (always topics) enclosed)
 
-  ends_hold : HoldsOfPair name topics a b (totals_of ends)
-  ends_hold =
+  enclosed_hold : HoldsOfPair name topics a b (totals_of ends)
+  enclosed_hold =
       let t : Totals = totals_of ends in
       let unit = unit-size name valid in
       record {
@@ -93,6 +102,13 @@ module _ (name : MeasureName) (valid : IsMeasure name) (topics : List Topic) (a 
         least = difference_low name (unit_of name) a b topics _ lows;
         most = difference_high name (unit_of name) a b topics _ highs;
       }
+
+module _ (name : MeasureName) (valid : IsMeasure name) (topics : List Topic) (a b : ℕ) (met : AllByRecursion (MetBy a b) topics) (ends : List Ends) (named : AreEndsOf name topics a b ends) where
+  ends_hold : HoldsOfPair name topics a b (totals_of ends)
+  ends_hold =
+      enclosed_hold name valid topics a b ends
+      (zip_then (λ (e : Ends) (topic : Topic). HasEnds name topic.marks (topic.ranking a) (topic.ranking b) e) (EncloseBy name a b) (MetBy a b)
+      (λ e topic m h. ends_enclose name topic.marks (topic.ranking a) (topic.ranking b) e valid m h) ends topics met named)
 
   narrow : AllZip (λ (e : Ends) (topic : Topic). AreNarrow name (topic.ranking a) (topic.ranking b) e) ends topics
   narrow = zip_then (λ (e : Ends) (topic : Topic). HasEnds name topic.marks (topic.ranking a) (topic.ranking b) e)
@@ -112,10 +128,6 @@ sums_narrow name a b low high (e ∷ es) (t ∷ ts) h =
     let width = λ (topic : Topic). width_of name (topic.ranking a) (topic.ranking b) in
     subst (λ (n : ℕ). (high e +ℤ whole_sum (map high es)) ≤ℤ ((low e +ℤ whole_sum (map low es)) +ℤ pos n)) (sym (sum_by-cons width t ts))
     (width_adds (width t) (total_width name ts a b) (low e) (high e) (whole_sum (map low es)) (whole_sum (map high es)) h.0 (sums_narrow name a b low high es ts h.1))
-
-always : {A : Type 0} (xs : List A) → AllByRecursion (λ (x : A). Unit {0}) xs
-always [] = tt
-always (x ∷ xs) = (tt, always xs)
 
 ends_close : (name : MeasureName) → IsMeasure name → (topics : List Topic) (a b : ℕ) → AllByRecursion (MetBy a b) topics → (ends : List Ends) → AreEndsOf name topics a b ends →
     verdict (totals_of ends) ≡ Close → IsNearZero (total_width name topics a b) (totals_of ends)
@@ -156,18 +168,56 @@ ends_exact k valid topics a b apart met ends named =
     })
 
 -- ---- one run
-bounds_hold : (name : MeasureName) → IsMeasure name → (topics : List Topic) (run : ℕ) → AllByRecursion (λ (topic : Topic). IsMet topic.marks (topic.ranking run)) topics → (s : Span) → AreRunNumbers name topics run s → HoldsOfRun name topics run s
+abbrev EncloseOneBy : MeasureName → ℕ → Span → Topic → Type 0
+EncloseOneBy name run x topic = EncloseOne name topic.marks (topic.ranking run) x
+
+enclosed_run_holds : (name : MeasureName) (topics : List Topic) (run : ℕ) (spans : List Span) → AllZip (EncloseOneBy name run) spans topics → HoldsOfRun name topics run (span_sum spans)
+enclosed_run_holds name topics run spans h = record {
+  low = mean_low name (unit_of name) run topics _ (zip_mapped (λ (x : Span). x.lo) _ spans topics
+      (zip_then (EncloseOneBy name run) (λ (x : Span) (topic : Topic). InEveryScore name topic.marks (topic.ranking run) (IsAtMostScore x.lo (unit_of name))) (λ (t : Topic). Unit {0}) (λ x topic _ k. k.low) spans topics (always topics) h));
+  high = mean_high name (unit_of name) run topics _ (zip_mapped (λ (x : Span). x.hi) _ spans topics
+      (zip_then (EncloseOneBy name run) (λ (x : Span) (topic : Topic). InEveryScore name topic.marks (topic.ranking run) (IsAtLeastScore x.hi (unit_of name))) (λ (t : Topic). Unit {0}) (λ x topic _ k. k.high) spans topics (always topics) h));
+}
+
+bounds_hold : (name : MeasureName) → IsMeasure name → (topics : List Topic) (run : ℕ) → AllByRecursion (MetOneBy run) topics → (s : Span) → AreRunNumbers name topics run s → HoldsOfRun name topics run s
 bounds_hold name valid topics run met s h =
-    let M = λ (topic : Topic). IsMet topic.marks (topic.ranking run) in
-    let R = λ (x : Span) (topic : Topic). HasBounds name topic.marks (topic.ranking run) x in
-    subst (HoldsOfRun name topics run) (sym h.summed) (record {
-      low = mean_low name (unit_of name) run topics _ (zip_mapped (λ (x : Span). x.lo) _ h.spans topics
-          (zip_then R (λ (x : Span) (topic : Topic). InEveryScore name topic.marks (topic.ranking run) (IsAtMostScore x.lo (unit_of name))) M
-          (λ x topic m k. (bounds_enclose name topic.marks (topic.ranking run) x valid m k).low) h.spans topics met h.named));
-      high = mean_high name (unit_of name) run topics _ (zip_mapped (λ (x : Span). x.hi) _ h.spans topics
-          (zip_then R (λ (x : Span) (topic : Topic). InEveryScore name topic.marks (topic.ranking run) (IsAtLeastScore x.hi (unit_of name))) M
-          (λ x topic m k. (bounds_enclose name topic.marks (topic.ranking run) x valid m k).high) h.spans topics met h.named));
-    })
+    subst (HoldsOfRun name topics run) (sym h.summed) (enclosed_run_holds name topics run h.spans
+    (zip_then (λ (x : Span) (topic : Topic). HasBounds name topic.marks (topic.ranking run) x) (EncloseOneBy name run) (MetOneBy run)
+    (λ x topic m k. bounds_enclose name topic.marks (topic.ranking run) x valid m k) h.spans topics met h.named))
+
+-- ---- a measure that meets its laws
+module _ (name : MeasureName) (valid : IsMeasure name) (cell : List Mark → List ℕ → List ℕ → Cell) (bounds : List Mark → List ℕ → Span) (laws : MeetsLaws name cell bounds) where
+  cells_hold : (topics : List Topic) (a b : ℕ) → AllByRecursion (MetBy a b) topics → HoldsOfPair name topics a b (pair_sums cell topics a b)
+  unfolding pair_sums
+  cells_hold topics a b met =
+      enclosed_hold name valid topics a b (cell_ends cell topics a b)
+      (zip_made (EncloseBy name a b) (λ (topic : Topic). ends_of (cell topic.marks (topic.ranking a) (topic.ranking b))) topics
+      (all_then (MetBy a b) (λ (topic : Topic). EncloseBy name a b (ends_of (cell topic.marks (topic.ranking a) (topic.ranking b))) topic)
+      (λ topic m. let law = laws.encloses topic.marks (topic.ranking a) (topic.ranking b) m in record { low = law.least; high = law.most }) topics met))
+
+  spans_hold : (topics : List Topic) (run : ℕ) → AllByRecursion (MetOneBy run) topics → HoldsOfRun name topics run (run_sums bounds topics run)
+  unfolding run_sums
+  spans_hold topics run met =
+      enclosed_run_holds name topics run (run_spans bounds topics run)
+      (zip_made (EncloseOneBy name run) (λ (topic : Topic). bounds topic.marks (topic.ranking run)) topics
+      (all_then (MetOneBy run) (λ (topic : Topic). EncloseOneBy name run (bounds topic.marks (topic.ranking run)) topic)
+      (λ topic m. let law = laws.bounds_enclose topic.marks (topic.ranking run) m in record { low = law.low; high = law.high }) topics met))
+
+pub measure_pairs_hold : (name : MeasureName) (cell : List Mark → List ℕ → List ℕ → Cell) (bounds : List Mark → List ℕ → Span) (desk : Desk) (marks : List (List Mark)) (a b : ℕ) →
+    IsMeasure name → MeetsLaws name cell bounds → IsDesk desk → AreMarksOf desk marks → a < length desk.runs → b < length desk.runs →
+    HoldsOfPair name (topics_under desk marks) a b (pair_sums cell (topics_under desk marks) a b)
+measure_pairs_hold name cell bounds desk marks a b valid laws is_desk known in_a in_b = cells_hold name valid cell bounds laws (topics_under desk marks) a b (topics_met desk marks is_desk known a b in_a in_b)
+
+pub measure_runs_hold : (name : MeasureName) (cell : List Mark → List ℕ → List ℕ → Cell) (bounds : List Mark → List ℕ → Span) (desk : Desk) (marks : List (List Mark)) (run : ℕ) →
+    IsMeasure name → MeetsLaws name cell bounds → IsDesk desk → AreMarksOf desk marks → run < length desk.runs →
+    HoldsOfRun name (topics_under desk marks) run (run_sums bounds (topics_under desk marks) run)
+measure_runs_hold name cell bounds desk marks run valid laws is_desk known in_run = spans_hold name valid cell bounds laws (topics_under desk marks) run (topics_met_one desk marks is_desk known run in_run)
+
+-- ends that are whole numbers of units
+pub whole_cells_decide : (name : MeasureName) (unit : ℕ) (cell : List Mark → List ℕ → List ℕ → Cell) (topics : List Topic) (a b : ℕ) → 0 < unit → a ≢ b → AreExactEnds name unit topics a b (cell_ends cell topics a b) →
+    IsExactVerdict name topics a b (verdict (pair_sums cell topics a b))
+unfolding pair_sums
+whole_cells_decide name unit cell topics a b some apart h = exact_verdict name unit a b topics (cell_ends cell topics a b) some apart h
 
 -- ---- all pairs and all runs
 for_each_pair : (fact : MeasureName → List Topic → ℕ → ℕ → Totals → Type 0) →
@@ -178,7 +228,7 @@ for_each_pair fact f name desk marks bounds totals valid is_desk known h =
     let n = length desk.runs in
     zip_by (λ (pair : ℕ × ℕ) (t : Totals). ArePairNumbers name topics pair.0 pair.1 t) (λ (pair : ℕ × ℕ) (t : Totals). fact name topics pair.0 pair.1 t) (IsPairBelow n)
     (λ pair t p k. subst (fact name topics pair.0 pair.1) (sym k.summed)
-        (f name topics pair.0 pair.1 k.ends valid (λ e. omega (arith, p.order, e)) (topics_met desk marks is_desk known pair.0 pair.1 (omega (arith, p.order, p.below)) p.below) k.named))
+    (f name topics pair.0 pair.1 k.ends valid (λ e. omega (arith, p.order, e)) (topics_met desk marks is_desk known pair.0 pair.1 (omega (arith, p.order, p.below)) p.below) k.named))
     (pairs_of (run_numbers n)) totals (pairs_below n) h.pairs
 
 pub pairs_hold : ForEachPair HoldsOfPair
@@ -195,8 +245,8 @@ runs_hold name desk marks bounds totals valid is_desk known h =
 pub pairs_exact : ForEachPair (λ name topics a b sums. (k : ℕ) → name ≡ Precision k → IsExactVerdict name topics a b (verdict sums))
 pairs_exact = for_each_pair (λ name topics a b sums. (k : ℕ) → name ≡ Precision k → IsExactVerdict name topics a b (verdict sums))
     (λ name topics a b ends valid apart met named k e.
-        subst (λ (m : MeasureName). IsMeasure m → AreEndsOf m topics a b ends → IsExactVerdict m topics a b (verdict (totals_of ends))) (sym e)
-        (λ v h. ends_exact k v topics a b apart met ends h) valid named)
+    subst (λ (m : MeasureName). IsMeasure m → AreEndsOf m topics a b ends → IsExactVerdict m topics a b (verdict (totals_of ends))) (sym e)
+    (λ v h. ends_exact k v topics a b apart met ends h) valid named)
 
 pub pairs_close : ForEachPair (λ name topics a b sums. verdict sums ≡ Close → IsNearZero (total_width name topics a b) sums)
 pairs_close = for_each_pair (λ name topics a b sums. verdict sums ≡ Close → IsNearZero (total_width name topics a b) sums)
@@ -205,4 +255,4 @@ pairs_close = for_each_pair (λ name topics a b sums. verdict sums ≡ Close →
 pub pairs_close_exact : ForEachPair (λ name topics a b sums. IsExactMeasure name → verdict sums ≡ Close → IsNearZero (length topics) sums)
 pairs_close_exact = for_each_pair (λ name topics a b sums. IsExactMeasure name → verdict sums ≡ Close → IsNearZero (length topics) sums)
     (λ name topics a b ends valid apart met named exact v.
-        subst (λ (n : ℕ). IsNearZero n (totals_of ends)) (one_each name exact topics a b) (ends_close name valid topics a b met ends named v))
+    subst (λ (n : ℕ). IsNearZero n (totals_of ends)) (one_each name exact topics a b) (ends_close name valid topics a b met ends named v))

@@ -1,5 +1,5 @@
 -- The pairs of the numbers of runs: how many there are, which number each has, and going over them.
-use Rattle.std.proofs.Common.{◌≡◌, ℕ, zero, suc, ◌+◌, ◌-◌, ◌*◌, ◌/◌, ◌<◌, ◌≤◌, Bool, true, false, List, [], ◌∷◌, ◌++◌, length, drop, map, Option, Some, None, refl, ap, sym, ◌∙◌, length-drop, arith}
+use Rattle.std.proofs.Common.{◌≡◌, ℕ, zero, suc, ◌+◌, ◌-◌, ◌*◌, ◌/◌, ◌<◌, Bool, true, false, List, [], ◌∷◌, ◌++◌, length, drop, map, Some, refl, ap, sym, ◌∙◌, length-drop, arith}
 use Rattle.std.specs.Prelude.{slice_get, nat_lt}
 use Rattle.std.specs.List.{range_with_len}
 use Rattle.std.specs.Option.{option_map}
@@ -52,6 +52,16 @@ half m n h = omega (arith, h)
 pub length-pairs : (n : ℕ) → length (pairs_of (run_numbers n)) ≡ pair_count n
 length-pairs zero = refl
 length-pairs (suc n) = let less : suc n - 1 ≡ n = omega arith in sym (ap (λ (m : ℕ). suc n * m / 2) less ∙ half (length (pairs_of (run_numbers (suc n)))) (suc n * n) (twice 0 n))
+
+-- as many as there are of any list of that length
+pub length-pairs_of : {X : Type 0} (xs : List X) (start : ℕ) → length (pairs_of (range_with_len start (length xs))) ≡ length (pairs_of xs)
+length-pairs_of [] start = refl
+length-pairs_of {X = X} (x ∷ xs) start =
+    let rest : length (pairs_of (range_with_len (start + 1) (length xs))) ≡ length (pairs_of xs) = length-pairs_of xs (start + 1) in
+    let first : length {A = X × X} (map (λ y. (x, y)) xs) ≡ length xs = length-mapped (λ y. (x, y)) xs in
+    let joined = length-joined (map (λ y. (x, y)) xs) (pairs_of xs) in
+    let more = length-more start (length xs) in
+    omega (arith, rest, first, joined, more)
 
 -- ---- the number of a pair
 get_past : {X : Type 0} (xs ys : List X) (i : ℕ) → slice_get (xs ++ ys) (length xs + i) ≡ slice_get ys i

@@ -1,17 +1,17 @@
 -- The sums of two runs in the other order.
-use Rattle.std.proofs.Common.{◌≡◌, ℕ, ◌+◌, ◌<◌, List, [], ◌∷◌, map, length, ℤ, pos, neg_ℤ, ◌+ℤ◌, ◌⊎◌, inl, inr, refl, ap, sym, ◌∙◌, arith}
-use Rattle.std.specs.List.{AllByRecursion, Contains, zip}
+use Rattle.std.proofs.Common.{◌≡◌, ℕ, List, [], ◌∷◌, map, length, ℤ, neg_ℤ, ◌+ℤ◌, inl, inr, refl, ap, sym, ◌∙◌, arith}
+use Rattle.std.specs.List.{AllByRecursion}
 use Rattle.std.proofs.lemmas.Int.{ints}
 use Rattle.desk_model.specs.Desk.{Desk, IsDesk, AreMarksOf, topics_under}
 use Rattle.desk_model.specs.Extremes.{Ends}
 use Rattle.desk_model.specs.Order.{Topic}
 use Rattle.desk_model.specs.Pairs.{pairs_of}
-use Rattle.desk_model.specs.Verdict.{whole_sum, totals_of}
+use Rattle.desk_model.specs.Verdict.{whole_sum}
 use Rattle.desk_model.specs.declared.types.Mark.{Mark}
 use Rattle.desk_model.specs.declared.types.MeasureName.{MeasureName}
 use Rattle.desk_model.specs.declared.types.Totals.{Totals}
 use Rattle.fractions.specs.declared.span.Span.{Span}
-use Rattle.measure_core.specs.Laws.{AreMet, MeetsLaws, mirrored}
+use Rattle.measure_core.specs.Laws.{MeetsLaws, mirrored}
 use Rattle.measure_core.specs.Made.{ends_of}
 use Rattle.measure_core.specs.declared.cell.Cell.{Cell}
 use Rattle.pair_table.specs.Sums.{run_numbers, cell_ends, pair_sums, all_pair_sums, turned}
@@ -64,7 +64,7 @@ exact_in_both name cell bounds desk marks i j sums laws valid known h =
     elim h [
       | inl straight ↦ (made_beside (IsPairBelow n) f (pairs_of (run_numbers n)) (i, j) sums (pairs_below n) straight).0
       | inr other ↦
-        let found = made_beside (IsPairBelow n) f (pairs_of (run_numbers n)) (j, i) (turned sums) (pairs_below n) other in
-        sym (turned_twice sums) ∙ ap turned found.0
-        ∙ sym (sums_turned name cell bounds laws topics j i (topics_met desk marks valid known j i (omega (arith, found.1.order, found.1.below)) found.1.below))
+          let found = made_beside (IsPairBelow n) f (pairs_of (run_numbers n)) (j, i) (turned sums) (pairs_below n) other in
+          sym (turned_twice sums) ∙ ap turned found.0
+          ∙ sym (sums_turned name cell bounds laws topics j i (topics_met desk marks valid known j i (omega (arith, found.1.order, found.1.below)) found.1.below))
     ]

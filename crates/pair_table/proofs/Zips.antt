@@ -106,6 +106,8 @@ made_beside P f (z ∷ xs) x y h (suc k, lt, is) = made_beside P f xs x y h.1 (k
 pub beside : {A B : Type 0} (xs : List A) (ys : List B) (k : ℕ) (x : A) (y : B) → length ys ≡ length xs → slice_get xs k ≡ Some x → y ≡ get_or ys k y → Contains (zip xs ys) (x, y)
 beside xs ys k x y same there is =
     let in_xs : k < length xs = slice_get_within xs k x there in
-    let in_ys : k < length ys = omega (arith, in_xs, same) in
-    (k, omega (arith, in_xs, in_ys, length-zip xs ys),
-     get_or-zip xs ys k (x, y) in_xs in_ys ∙ ap (λ v. (v, get_or ys k y)) (get_or_from_slice_get xs k x x there) ∙ ap (λ v. (x, v)) (sym is))
+    let in_ys : k < length ys = omega (arith, in_xs, same) in (
+      k,
+      omega (arith, in_xs, in_ys, length-zip xs ys),
+      get_or-zip xs ys k (x, y) in_xs in_ys ∙ ap (λ v. (v, get_or ys k y)) (get_or_from_slice_get xs k x x there) ∙ ap (λ v. (x, v)) (sym is),
+    )

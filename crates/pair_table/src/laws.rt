@@ -1,8 +1,8 @@
 //! Laws of tables, each the contract of a function that does nothing.
 ghost use Rattle.std.specs.Prelude.{◌≡◌, ◌≢◌, ◌<◌, ℕ, List, length};
-ghost use Rattle.std.specs.List.{AllZip};
 ghost use Rattle.desk_model.specs.Desk.{Desk, IsDesk, AreMarksOf, topics_under};
-ghost use Rattle.desk_model.specs.Pairs.{pairs_of};
+ghost use Rattle.desk_model.specs.Enclosure.{AreExactEnds};
+ghost use Rattle.desk_model.specs.Order.{Topic};
 ghost use Rattle.desk_model.specs.Verdict.{verdict, IsExactVerdict};
 ghost use Rattle.desk_model.specs.declared.types.Mark.{Mark};
 ghost use Rattle.desk_model.specs.declared.types.MeasureName.{MeasureName};
@@ -15,7 +15,7 @@ ghost use Rattle.measure_laws.specs.Measures.{IsExactMeasure};
 ghost use Rattle.measure_core.specs.Laws.{MeetsLaws};
 ghost use Rattle.measure_core.specs.Made.{AreNumbersOf};
 ghost use Rattle.measure_core.specs.declared.cell.Cell.{Cell};
-ghost use Rattle.pair_table.specs.Sums.{run_numbers, pair_sums, all_pair_sums, all_run_sums};
+ghost use Rattle.pair_table.specs.Sums.{cell_ends, pair_sums, run_sums, all_pair_sums, all_run_sums};
 ghost use Rattle.pair_table.specs.Kept.{AreSumsOf};
 ghost use Rattle.pair_table.specs.Numbers.{AreNumbersIn};
 ghost use Rattle.pair_table.specs.Orders.{HoldsOfPair, HoldsOfRun, total_width, IsNearZero, ForEachPair, ForEachRun};
@@ -36,6 +36,28 @@ pub fn tables_have_named_numbers()
 pub fn numbers_hold_in_every_completion()
     ensures pairs { ForEachPair HoldsOfPair }
     ensures runs { ForEachRun HoldsOfRun }
+{}
+
+/// The same of the sums of a measure that meets its laws, for any two runs and for each run.
+pub fn sums_of_a_measure_hold()
+    ensures pairs { (name : MeasureName) (cell : List Mark → List ℕ → List ℕ → Cell) (bounds : List Mark → List ℕ → Span)
+        (desk : Desk) (marks : List (List Mark)) (a b : ℕ) →
+        IsMeasure name → MeetsLaws name cell bounds → IsDesk desk → AreMarksOf desk marks →
+        a < length desk.runs → b < length desk.runs →
+        HoldsOfPair name (topics_under desk marks) a b (pair_sums cell (topics_under desk marks) a b) }
+    ensures runs { (name : MeasureName) (cell : List Mark → List ℕ → List ℕ → Cell) (bounds : List Mark → List ℕ → Span)
+        (desk : Desk) (marks : List (List Mark)) (run : ℕ) →
+        IsMeasure name → MeetsLaws name cell bounds → IsDesk desk → AreMarksOf desk marks →
+        run < length desk.runs →
+        HoldsOfRun name (topics_under desk marks) run (run_sums bounds (topics_under desk marks) run) }
+{}
+
+/// Where the cells of two different runs are the extremes, and the two ends of each are one number, a
+/// verdict says exactly what always holds, and is never close.
+pub fn whole_cells_decide_exactly()
+    ensures { (name : MeasureName) (unit : ℕ) (cell : List Mark → List ℕ → List ℕ → Cell) (topics : List Topic) (a b : ℕ) →
+        0 < unit → a ≢ b → AreExactEnds name unit topics a b (cell_ends cell topics a b) →
+        IsExactVerdict name topics a b (verdict (pair_sums cell topics a b)) }
 {}
 
 /// Under precision a verdict says exactly what always holds, and is never close.

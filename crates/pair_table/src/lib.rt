@@ -2,7 +2,7 @@
 #![tactic(auto)]
 
 pub mod laws;
-pub mod sums;
+mod sums;
 pub mod table;
 
 pub use table::Table;

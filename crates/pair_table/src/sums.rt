@@ -1,6 +1,6 @@
 //! The sums over all topics of a measure's cells and bounds.
 ghost use Rattle.std.specs.Prelude.{◌≡◌, ◌+◌, ◌<◌, length, slice_get, Some};
-ghost use Rattle.desk_model.specs.Desk.{AreMarksOf, topics_under};
+ghost use Rattle.desk_model.specs.Desk.{IsDesk, AreMarksOf, topics_under};
 ghost use Rattle.desk_model.specs.MeasureText.{IsMeasure};
 ghost use Rattle.fractions.specs.Ends.{IsShort};
 ghost use Rattle.measure_core.specs.Laws.{SpanIsModest, CellIsModest};
@@ -26,6 +26,7 @@ fn cell_at<M: Measure, L: Ledger>(
     steps: &mut Steps<L>,
 ) -> Cell
     requires measure { IsMeasure (M.measured measure.now) }
+    requires desk { IsDesk desk.now }
     requires marks { AreMarksOf desk.now marks.now }
     requires first { first < length desk.now.runs }
     requires second { second < length desk.now.runs }
@@ -34,8 +35,6 @@ fn cell_at<M: Measure, L: Ledger>(
     ensures modest { CellIsModest result }
     ensures step { steps.new ≡ steps.old + 1 }
 {
-    // The laws speak of the topics of a desk.
-    let _topics = desk.topic_count();
     let a = desk.ranking(first, topic);
     let b = desk.ranking(second, topic);
     measure.cell(a, b, marks.topic(topic), steps)
@@ -44,13 +43,13 @@ fn cell_at<M: Measure, L: Ledger>(
 /// The bounds of a run on a topic, by their numbers.
 fn bounds_at<M: Measure>(measure: &M, desk: &Desk, marks: &Marks, run: u32, topic: u32) -> Span
     requires measure { IsMeasure (M.measured measure.now) }
+    requires desk { IsDesk desk.now }
     requires marks { AreMarksOf desk.now marks.now }
     requires run { run < length desk.now.runs }
     requires topic { topic < length desk.now.topics }
     ensures bounds { slice_get (run_spans (M.bounds_of measure.now) (topics_under desk.now marks.now) run) topic ≡ Some result }
     ensures modest { SpanIsModest result }
 {
-    let _topics = desk.topic_count();
     measure.bounds(desk.ranking(run, topic), marks.topic(topic))
 }
 
@@ -71,9 +70,10 @@ pub fn sum_cells<M: Measure, L: Ledger>(
     ensures near { AreNear result }
     ensures steps { steps.new ≡ steps.old + length desk.now.topics }
 {
+    let topics = desk.topic_count();
     let mut least = NOTHING;
     let mut most = NOTHING;
-    for topic in 0..desk.topic_count() {
+    for topic in 0..topics {
         let cell = cell_at(measure, desk, marks, first, second, topic, steps);
         least = least.add(cell.least);
         most = most.add(cell.most);

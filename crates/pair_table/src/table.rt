@@ -142,6 +142,7 @@ impl<M: Measure> Table<M> {
         ensures measure { IfOk result (λ table. table.measure ≡ measure) }
         ensures runs { IfOk result (λ table. table.runs ≡ length desk.now.runs) }
         ensures totals { IfOk result (λ table. table.totals ≡ all_pair_sums (M.cell_of measure) (topics_under desk.now marks.now) (length desk.now.runs)) }
+        ensures pairs { IfOk result (λ table. length table.totals ≡ length (pairs_of desk.now.runs)) }
         ensures bounds { IfOk result (λ table. table.bounds ≡ all_run_sums (M.bounds_of measure) (topics_under desk.now marks.now) (length desk.now.runs)) }
         ensures steps { OnOk result (steps.new ≡ steps.old + pair_count (length desk.now.runs) * length desk.now.topics) }
         ensures no_steps { OnErr result (steps.new ≡ steps.old) }

@@ -8,7 +8,7 @@ topic-requires g c = omega (arith, c.requires.topic, length-marks c.args.desk.no
 
 pub bounds-requires : goal.bounds-requires
 bounds-requires g c =
-    rw c.ranking.ensures.ranking (one_met_at c.args.desk.now c.args.marks.now c.topic_count-topics.ensures.desk c.requires.marks c.args.run c.args.topic c.topic.result.now c.requires.run c.topic.ensures)
+    rw c.ranking.ensures.ranking (one_met_at c.args.desk.now c.args.marks.now c.requires.desk c.requires.marks c.args.run c.args.topic c.topic.result.now c.requires.run c.topic.ensures)
 
 pub returns-clause-bounds : goal.returns-clause-bounds
 returns-clause-bounds g c =
@@ -16,5 +16,5 @@ returns-clause-bounds g c =
 
 pub returns-clause-modest : goal.returns-clause-modest
 returns-clause-modest g c =
-    let met : IsMet c.topic.result.now c.ranking.result.now = rw c.ranking.ensures.ranking (one_met_at c.args.desk.now c.args.marks.now c.topic_count-topics.ensures.desk c.requires.marks c.args.run c.args.topic c.topic.result.now c.requires.run c.topic.ensures) in
+    let met : IsMet c.topic.result.now c.ranking.result.now = rw c.ranking.ensures.ranking (one_met_at c.args.desk.now c.args.marks.now c.requires.desk c.requires.marks c.args.run c.args.topic c.topic.result.now c.requires.run c.topic.ensures) in
     subst SpanIsModest (sym c.bounds.ensures) ((g.met.M.Measure.laws c.args.measure.now c.requires.measure).bounds_modest c.topic.result.now c.ranking.result.now met)

@@ -9,7 +9,7 @@ topic-requires g c = omega (arith, c.requires.topic, length-marks c.args.desk.no
 pub cell-requires : goal.cell-requires
 cell-requires g c =
     rw (c.ranking-a.ensures.ranking, c.ranking-b.ensures.ranking)
-    (met_at c.args.desk.now c.args.marks.now c.topic_count-topics.ensures.desk c.requires.marks c.args.first c.args.second c.args.topic c.topic.result.now c.requires.first c.requires.second c.topic.ensures)
+    (met_at c.args.desk.now c.args.marks.now c.requires.desk c.requires.marks c.args.first c.args.second c.args.topic c.topic.result.now c.requires.first c.requires.second c.topic.ensures)
 
 pub returns-clause-cell : goal.returns-clause-cell
 returns-clause-cell g c =
@@ -19,6 +19,6 @@ returns-clause-cell g c =
 pub returns-clause-modest : goal.returns-clause-modest
 returns-clause-modest g c =
     let met : AreMet c.topic.result.now c.ranking-a.result.now c.ranking-b.result.now = rw (c.ranking-a.ensures.ranking, c.ranking-b.ensures.ranking)
-        (met_at c.args.desk.now c.args.marks.now c.topic_count-topics.ensures.desk c.requires.marks c.args.first c.args.second c.args.topic c.topic.result.now c.requires.first c.requires.second c.topic.ensures) in
+    (met_at c.args.desk.now c.args.marks.now c.requires.desk c.requires.marks c.args.first c.args.second c.args.topic c.topic.result.now c.requires.first c.requires.second c.topic.ensures) in
     subst CellIsModest (sym c.cell.ensures.cell)
     ((g.met.M.Measure.laws c.args.measure.now c.requires.measure).cell_modest c.topic.result.now c.ranking-a.result.now c.ranking-b.result.now met)

@@ -1,4 +1,4 @@
-use Rattle.std.proofs.Common.{◌≡◌, ℕ, ◌≤◌, length, ◌∙◌, arith}
+use Rattle.std.proofs.Common.{◌≤◌, length, arith}
 use Rattle.desk_model.specs.Desk.{topics_under}
 use Rattle.desk_model.specs.Order.{Topic}
 use Rattle.pair_table.specs.Sums.{run_spans, run_sums}

@@ -1,4 +1,4 @@
-use Rattle.std.proofs.Common.{◌≡◌, ℕ, ◌≤◌, length, to_z, of_z, ◌∙◌, arith}
+use Rattle.std.proofs.Common.{◌≡◌, ◌≤◌, length, to_z, of_z, ◌∙◌, arith}
 use Rattle.std.specs.Int.{w128}
 use Rattle.std.proofs.lemmas.Int.{ints}
 use Rattle.desk_model.specs.Desk.{topics_under}
@@ -13,13 +13,13 @@ pub loop-topic-init : goal.loop-topic-init
 loop-topic-init g c = record { sums = no_sums _; steps = omega arith }
 
 pub add-least-requires-clause-first : goal.add-least-requires-clause-first
-add-least-requires-clause-first g c = (sums_short _ c.loop-topic.topic c.loop-topic.least c.loop-topic.most (omega (arith, c.topic_count-topic-end.ensures.desk.topics)) c.loop-topic.invariant.sums).0
+add-least-requires-clause-first g c = (sums_short _ c.loop-topic.topic c.loop-topic.least c.loop-topic.most (omega (arith, c.topic_count-topics.ensures.desk.topics)) c.loop-topic.invariant.sums).0
 
 pub add-least-requires-clause-second : goal.add-least-requires-clause-second
 add-least-requires-clause-second g c = modest_short c.cell_at-cell.result.least c.cell_at-cell.ensures.modest.least
 
 pub add-most-requires-clause-first : goal.add-most-requires-clause-first
-add-most-requires-clause-first g c = (sums_short _ c.loop-topic.topic c.loop-topic.least c.loop-topic.most (omega (arith, c.topic_count-topic-end.ensures.desk.topics)) c.loop-topic.invariant.sums).1
+add-most-requires-clause-first g c = (sums_short _ c.loop-topic.topic c.loop-topic.least c.loop-topic.most (omega (arith, c.topic_count-topics.ensures.desk.topics)) c.loop-topic.invariant.sums).1
 
 pub add-most-requires-clause-second : goal.add-most-requires-clause-second
 add-most-requires-clause-second g c = modest_short c.cell_at-cell.result.most c.cell_at-cell.ensures.modest.most
@@ -39,7 +39,7 @@ returns-clause-sums g c =
     let at = λ (topic : Topic). ends_of (cell topic.marks (topic.ranking c.args.first) (topic.ranking c.args.second)) in
     let end : length (cell_ends cell topics c.args.first c.args.second) ≤ c.loop-topic.topic =
     omega (arith, length-mapped at topics, length-topics_under c.args.desk.now c.args.marks.now c.requires.marks) in
-    let small : c.loop-topic.topic ≤ 10000 = omega (arith, c.topic_count-topic-end.ensures.desk.topics) in
+    let small : c.loop-topic.topic ≤ 10000 = omega (arith, c.topic_count-topics.ensures.desk.topics) in
     let near = sums_short _ c.loop-topic.topic c.loop-topic.least c.loop-topic.most small c.loop-topic.invariant.sums in
     let e : to_z w128 (of_z w128 c.loop-topic.least.lo) ≡ c.loop-topic.least.lo = omega (arith, ints, near.0.0) in
     let f : to_z w128 (of_z w128 c.loop-topic.least.hi) ≡ c.loop-topic.least.hi = omega (arith, ints, near.0.1) in
@@ -49,7 +49,7 @@ returns-clause-sums g c =
 
 pub returns-clause-near : goal.returns-clause-near
 returns-clause-near g c =
-    let small : c.loop-topic.topic ≤ 10000 = omega (arith, c.topic_count-topic-end.ensures.desk.topics) in
+    let small : c.loop-topic.topic ≤ 10000 = omega (arith, c.topic_count-topics.ensures.desk.topics) in
     let near = sums_short _ c.loop-topic.topic c.loop-topic.least c.loop-topic.most small c.loop-topic.invariant.sums in
     let e : to_z w128 (of_z w128 c.loop-topic.least.lo) ≡ c.loop-topic.least.lo = omega (arith, ints, near.0.0) in
     let f : to_z w128 (of_z w128 c.loop-topic.least.hi) ≡ c.loop-topic.least.hi = omega (arith, ints, near.0.1) in

@@ -1,4 +1,4 @@
-use Rattle.std.proofs.Common.{◌≡◌, ◌+◌, ◌<◌, length, arith}
+use Rattle.std.proofs.Common.{length, arith}
 use Rattle.desk_model.specs.Desk.{topics_under}
 use Rattle.fractions.specs.Ends.{IsShort}
 use Rattle.pair_table.specs.Sums.{run_numbers, run_sums}

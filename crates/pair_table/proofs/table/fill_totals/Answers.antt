@@ -1,11 +1,10 @@
-use Rattle.std.proofs.Common.{◌≡◌, ℕ, ◌+◌, ◌*◌, ◌<◌, length, refl, ap, sym, ◌∙◌, arith}
+use Rattle.std.proofs.Common.{◌≡◌, ℕ, ◌+◌, ◌*◌, length, refl, ap, ◌∙◌, arith}
 use Rattle.desk_model.specs.Desk.{topics_under}
-use Rattle.desk_model.specs.Pairs.{pairs_of, places_after}
-use Rattle.desk_model.specs.declared.pairs.PairPlaces.{PairPlaces}
+use Rattle.desk_model.specs.Pairs.{pairs_of}
 use Rattle.pair_table.specs.Sums.{run_numbers, pair_sums}
 use Rattle.pair_table.specs.Kept.{AreNear}
 use Rattle.pair_table.proofs.Filling.{filled_none, filled_more, filled_whole}
-use Rattle.pair_table.proofs.PairNumbers.{IsAt, at_start, at_within, at_next}
+use Rattle.pair_table.proofs.PairNumbers.{at_start, at_within, at_next}
 use Rattle.pair_table.proofs.table.fill_totals.Goals as goal
 
 pub loop-place-init : goal.loop-place-init

@@ -1,4 +1,4 @@
-use Rattle.std.proofs.Common.{◌≡◌, ◌+◌, ◌<◌, length, get_or, pos, arith}
+use Rattle.std.proofs.Common.{get_or, pos, arith}
 use Rattle.std.proofs.lemmas.Option.{slice_get-get_or}
 use Rattle.desk_model.specs.Verdict.{verdict}
 use Rattle.desk_model.specs.declared.types.Totals.{Totals}

@@ -1,4 +1,4 @@
-use Rattle.std.proofs.Common.{◌≡◌, ℕ, List, inl, inr, ap, sym, ◌∙◌, subst, arith}
+use Rattle.std.proofs.Common.{◌≡◌, inl, inr, ap, sym, ◌∙◌, subst}
 use Rattle.std.specs.List.{Contains, zip}
 use Rattle.desk_model.specs.Pairs.{pairs_of}
 use Rattle.desk_model.specs.declared.types.Totals.{Totals}
