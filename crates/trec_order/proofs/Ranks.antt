@@ -23,7 +23,7 @@ use Rattle.trec_order.specs.Entry.{row_of}
 pub trec_total : IsTotalOrder trec_cmp
 trec_total = search (comparing, rules) depth 9
 
-then_equal : (r s : Ordering) → ordering_then r s ≡ Equal → s ≡ Equal
+pub then_equal : (r s : Ordering) → ordering_then r s ≡ Equal → s ≡ Equal
 then_equal Less s e = absurd (cc)
 then_equal Equal s e = e
 then_equal Greater s e = absurd (cc)

@@ -4,7 +4,7 @@
 mod entry;
 mod ranked;
 
-pub use ranked::{RankedNames, ranking};
+pub use ranked::{RankedNames, order_is_one, ranking};
 
 #[cfg(test)]
 mod tests;

@@ -1,6 +1,6 @@
 // The names of a topic's rows in trec_eval's order.
-ghost use Rattle.std.specs.Prelude.{◌≡◌, ◌<◌, length, IfOk, slice_get, Some};
-ghost use Rattle.run_reader.specs.Run.{rows_on_topic};
+ghost use Rattle.std.specs.Prelude.{◌≡◌, ◌<◌, ℕ, List, length, IfOk, slice_get, Some};
+ghost use Rattle.run_reader.specs.Run.{Scored, rows_on_topic};
 ghost use Rattle.trec_order.specs.Order.{IsTrecOrder};
 
 use crate::entry::{Entry, ranked};
@@ -56,3 +56,8 @@ pub fn ranking(alloc: Global, rows: &RunRows, topic: &[u8]) -> Result<RankedName
         }),
     }
 }
+
+/// The order fixes the list: two lists of names in trec_eval's order over the same rows are one.
+pub fn order_is_one()
+    ensures { (rows : List Scored) (a b : List (List ℕ)) → IsTrecOrder rows a → IsTrecOrder rows b → a ≡ b }
+{}
