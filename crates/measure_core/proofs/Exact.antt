@@ -9,7 +9,7 @@ use borrow.Author.Differences.{up, down}
 use Rattle.desk_model.specs.Ranking.{IsRanking}
 use Rattle.desk_model.specs.Fraction.{Fraction, over, IsAtMost, IsAtLeast}
 use Rattle.desk_model.specs.Score.{score, true_count, true_among, first_true, reciprocal}
-use Rattle.desk_model.specs.Extremes.{InEvery, InSome, IsGreatest, IsSmallest, AreExtremes, AreBounds}
+use Rattle.desk_model.specs.Extremes.{InEvery, InSome, IsGreatest, IsSmallest, Ends, AreExtremes, AreBounds}
 use Rattle.desk_model.proofs.Fractions.{at_most_in, at_most_out, at_least_in, at_least_out}
 use Rattle.desk_model.proofs.Topics.{score-den}
 use Rattle.desk_model.proofs.Counts.{IsDistinct-take}
@@ -26,12 +26,12 @@ use Rattle.measure_laws.proofs.Mirror.{most_ends}
 use Rattle.measure_laws.proofs.Weights.{unit-size}
 use Rattle.fractions.specs.Ends.{IsShort}
 use Rattle.fractions.specs.Numbers.{difference_span, negated}
-use Rattle.fractions.proofs.Spans.{difference_floor, difference_ceiling}
+use Rattle.fractions.proofs.Spans.{difference_floor, difference_ceiling, span, span_same}
 use Rattle.desk_model.specs.declared.types.Mark.{Mark}
 use Rattle.desk_model.specs.declared.types.MeasureName.{MeasureName}
 use Rattle.desk_model.specs.declared.types.MeasureName.TheVariants.{Precision, Recall, RPrecision, Reciprocal, Biased}
 use Rattle.fractions.specs.declared.span.Span.{Span}
-use Rattle.measure_laws.proofs.Unique.{greatest_unique, smallest_unique}
+use Rattle.measure_laws.proofs.Unique.{greatest_unique, smallest_unique, extremes_unique}
 use Rattle.measure_core.specs.declared.cell.Cell.{Cell}
 use Rattle.measure_core.specs.Laws.{IsMet, Bounds, mirrored, SpanIsModest, MeetsLaws}
 use Rattle.measure_core.specs.Made.{ends_of, HasEnds, HasBounds, AreNumbersOf}
@@ -277,3 +277,15 @@ exact_numbers m valid exact = record {
   cells = λ marks a b met. has_ends m marks a b valid exact met.first met.second;
   ranges = λ marks a met. has_bounds m marks a valid exact met.ranking;
 }
+
+-- ---- numbers that are those of all completions are these ones
+pub ends_are : (m : MeasureName) (marks : List Mark) (a b : List ℕ) (e : Ends) → IsMeasure m → IsExactMeasure m → IsRanking (length marks) a → IsRanking (length marks) b →
+    AreExtremes m (unit_of m) marks a b e → e ≡ ends_of (exact_cell m marks a b)
+ends_are m marks a b e valid exact ra rb known = extremes_unique m (unit_of m) marks a b e (ends_of (exact_cell m marks a b)) known (extremes m marks a b valid exact ra rb)
+
+pub bounds_are : (m : MeasureName) (marks : List Mark) (a : List ℕ) (lo hi : ℤ) → IsMeasure m → IsExactMeasure m → IsRanking (length marks) a →
+    AreBounds m (unit_of m) marks a lo hi → span lo hi ≡ exact_bounds m marks a
+bounds_are m marks a lo hi valid exact ra known =
+    let bounds = exact_bounds m marks a in
+    let same = ranges m marks a valid exact ra in
+    span_same lo bounds.lo hi bounds.hi (greatest_unique _ lo bounds.lo known.low same.low) (smallest_unique _ hi bounds.hi known.high same.high)

@@ -1,11 +1,18 @@
 -- The numbers that the code reads are the ends.
 use Rattle.std.proofs.Common.{◌≡◌, ℕ, ◌<◌, true, false, List, take, length, ℤ, pos, ◌-ℤ◌, ap, ◌∙◌}
 use Rattle.desk_model.specs.Ranking.{IsRanking}
-use Rattle.desk_model.specs.Extremes.{AreExtremes, AreBounds}
+use Rattle.desk_model.specs.Extremes.{Ends, AreExtremes, AreBounds}
+use Rattle.desk_model.specs.MeasureText.{IsMeasure}
 use Rattle.desk_model.specs.Classes.{only_count, front_count, precision_least, precision_most}
 use Rattle.desk_model.specs.declared.types.Mark.{Mark}
 use Rattle.desk_model.specs.declared.types.MeasureName.TheVariants.{Precision}
 use Rattle.desk_model.proofs.PrecisionEnds.{precision_extremes, precision_bounds}
+use Rattle.fractions.specs.declared.span.Span.{Span}
+use Rattle.fractions.proofs.Spans.{span, span_same}
+use Rattle.measure_core.specs.declared.cell.Cell.{Cell}
+use Rattle.measure_core.specs.Laws.{AreMet, IsMet}
+use Rattle.measure_core.specs.Numbers.{exact_cell, exact_bounds}
+use Rattle.measure_core.proofs.Exact.{ends_are, bounds_are}
 
 difference_read : (z : ℤ) (m n m' n' : ℕ) → z ≡ pos m -ℤ pos n → m ≡ m' → n ≡ n' → z ≡ pos m' -ℤ pos n'
 difference_read z m n m' n' e f g = e ∙ ap (λ x. pos x -ℤ pos n) f ∙ ap (λ x. pos m' -ℤ pos x) g
@@ -26,3 +33,26 @@ bounds_read k marks a low high least most h r el eh fl fh =
     let low_is : low ≡ pos (front_count false k marks a) = el ∙ ap (λ x. pos x) fl in
     let high_is : high ≡ pos (front_count true k marks a) = eh ∙ ap (λ x. pos x) fh in
     rw (low_is, high_is) (precision_bounds k marks a h r)
+
+-- ---- the numbers that the extremes determine
+-- a cell of two spans
+abbrev pub cell : Span → Span → Cell
+cell s t = record { least = s; most = t }
+
+cell_same : (s t s' t' : Span) → s ≡ s' → t ≡ t' → cell s t ≡ cell s' t'
+cell_same s t s' t' e f = ap (λ x. cell x t) e ∙ ap (λ x. cell s' x) f
+
+pub cell_is : (k : ℕ) (marks : List Mark) (a b : List ℕ) (low high : ℤ) (s t : Span) → IsMeasure (Precision k) → AreMet marks a b →
+    AreExtremes (Precision k) k marks a b (record { least_lo = low; least_hi = low; most_lo = high; most_hi = high }) →
+    s.lo ≡ low → s.hi ≡ low → t.lo ≡ high → t.hi ≡ high → cell s t ≡ exact_cell (Precision k) marks a b
+cell_is k marks a b low high s t valid met known sl sh tl th =
+    let exact = exact_cell (Precision k) marks a b in
+    let same = ends_are (Precision k) marks a b _ valid tt met.first met.second known in
+    cell_same s t exact.least exact.most
+    (span_same s.lo exact.least.lo s.hi exact.least.hi (sl ∙ ap (λ (e : Ends). e.least_lo) same) (sh ∙ ap (λ (e : Ends). e.least_hi) same))
+    (span_same t.lo exact.most.lo t.hi exact.most.hi (tl ∙ ap (λ (e : Ends). e.most_lo) same) (th ∙ ap (λ (e : Ends). e.most_hi) same))
+
+pub bounds_read_are : (k : ℕ) (marks : List Mark) (a : List ℕ) (low high lo hi : ℤ) → IsMeasure (Precision k) → IsMet marks a → AreBounds (Precision k) k marks a low high →
+    lo ≡ low → hi ≡ high → span lo hi ≡ exact_bounds (Precision k) marks a
+bounds_read_are k marks a low high lo hi valid met known el eh =
+    span_same lo low hi high el eh ∙ bounds_are (Precision k) marks a low high valid tt met.ranking known

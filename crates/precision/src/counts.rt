@@ -61,7 +61,7 @@ fn front(docs: &[u32], k: u32) -> &[u32]
 }
 
 /// Whether a document is among the first k: by a scan where k is small, else by its rank.
-fn is_among_first(k: u32, ranking: &Ranking, doc: u32) -> bool
+pub fn is_among_first(k: u32, ranking: &Ranking, doc: u32) -> bool
     ensures { result ≡ is_in (take k ranking.now) doc }
 {
     if k <= 32 {

@@ -1,11 +1,20 @@
-ghost use Rattle.std.specs.Prelude.{◌≡◌, ◌≤◌, length};
+ghost use Rattle.std.specs.Prelude.{◌≡◌, ◌≤◌, length, IfOk};
+ghost use Rattle.desk_model.specs.Completion.{with_picked};
 ghost use Rattle.desk_model.specs.Ranking.{IsRanking};
 ghost use Rattle.desk_model.specs.Extremes.{AreExtremes, AreBounds};
+ghost use Rattle.desk_model.specs.MeasureText.{IsMeasure};
 ghost use Rattle.desk_model.specs.declared.types.MeasureName.TheVariants.{Precision as P};
+ghost use Rattle.measure_laws.specs.Fronts.{only_second};
+ghost use Rattle.measure_core.specs.Laws.{AreValues};
+ghost use Rattle.measure_core.specs.Made.{IsMadeFor};
 
-use crate::counts::{front_documents, own_documents};
-use desk_model::{Mark, Ranking};
+use crate::counts::{front_documents, is_among_first, own_documents};
+use desk_model::{Mark, MeasureName, Memory, Ranking};
+use fractions::Span;
+use measure_core::{Cell, Measure, Steps};
+use std::alloc::Global;
 use std::marker::Model;
+use std::sync::ledger::Ledger;
 
 /// The measure `P_k`, for a k from 1 to 10,000. Its unit is k: what it answers are numbers of
 /// documents.
@@ -25,10 +34,12 @@ impl Model for Precision {
 }
 
 impl Precision {
+    /// The measure `P_k`, whose cells and bounds are the floors and ceilings of the extremes.
     pub fn new(k: u32) -> Precision
         requires positive { 1 ≤ k }
         requires limited { k ≤ 10000 }
-        ensures { result ≡ k }
+        ensures depth { result ≡ k }
+        ensures made { IsMadeFor (P k) (⟦<Precision as Measure>⟧.measured result) (⟦<Precision as Measure>⟧.cell_of result) (⟦<Precision as Measure>⟧.bounds_of result) }
     {
         Precision { k }
     }
@@ -38,8 +49,9 @@ impl Precision {
     pub fn extremes(&self, first: &Ranking, second: &Ranking, marks: &[Mark]) -> (i64, i64)
         requires first { IsRanking (length marks.now) first.now }
         requires second { IsRanking (length marks.now) second.now }
-        ensures { AreExtremes (P self.now) self.now marks.now first.now second.now
+        ensures ends { AreExtremes (P self.now) self.now marks.now first.now second.now
             (record { least_lo = result.0; least_hi = result.0; most_lo = result.1; most_hi = result.1 }) }
+        ensures depth { IsMeasure (P self.now) }
     {
         let first_own = own_documents(self.k, first, second, marks);
         let second_own = own_documents(self.k, second, first, marks);
@@ -52,9 +64,116 @@ impl Precision {
     /// k times the least and the greatest score of a run, over every completion of the marks.
     pub fn range(&self, run: &Ranking, marks: &[Mark]) -> (i64, i64)
         requires { IsRanking (length marks.now) run.now }
-        ensures { AreBounds (P self.now) self.now marks.now run.now result.0 result.1 }
+        ensures bounds { AreBounds (P self.now) self.now marks.now run.now result.0 result.1 }
+        ensures depth { IsMeasure (P self.now) }
     {
         let front = front_documents(self.k, run, marks);
         (front.least(), front.most())
     }
+}
+
+/// One number as both ends.
+fn point(number: i64) -> Span
+    ensures lo { result.lo ≡ number }
+    ensures hi { result.hi ≡ number }
+{
+    let end = i128::from(number);
+    Span { lo: end, hi: end }
+}
+
+/// Whether each document is relevant, where of the unjudged ones exactly those of the second run's
+/// first k are that the first run's first k lack.
+fn least_values(
+    alloc: Global,
+    k: u32,
+    first: &Ranking,
+    second: &Ranking,
+    marks: &[Mark],
+) -> Result<Vec<bool>, Memory>
+    requires { length marks.now ≤ 25000000 }
+    ensures { IfOk result (λ values. AreValues (with_picked marks.now (only_second k first.now second.now)) (length marks.now) values.items) }
+{
+    let mut values = Vec::new(alloc);
+    for (place, mark) in marks.iter().enumerate() {
+        let doc = place as u32;
+        let value = match *mark {
+            Mark::Unjudged => is_among_first(k, second, doc) && !is_among_first(k, first, doc),
+            Mark::Relevant => true,
+            Mark::Other => false,
+        };
+        if values.push(value).is_err() {
+            return Err(Memory);
+        }
+    }
+    Ok(values)
+}
+
+impl Measure for Precision {
+    ghost use Rattle.desk_model.specs.declared.types.MeasureName.TheVariants.{Precision as P};
+    ghost use Rattle.measure_core.specs.Numbers.{exact_cell, exact_bounds};
+    ghost use Rattle.precision.specs.Laws as laws;
+
+    ghost measured = { λ k. P k };
+
+    ghost cell_of = { λ k. exact_cell (P k) };
+
+    ghost bounds_of = { λ k. exact_bounds (P k) };
+
+    fn name(&self) -> MeasureName {
+        MeasureName::Precision(self.k)
+    }
+
+    fn unit(&self) -> i128 {
+        i128::from(self.k)
+    }
+
+    fn cell<L: Ledger>(
+        &self,
+        a: &Ranking,
+        b: &Ranking,
+        marks: &[Mark],
+        steps: &mut Steps<L>,
+    ) -> Cell {
+        steps.tick();
+        let (least, most) = self.extremes(a, b, marks);
+        Cell {
+            least: point(least),
+            most: point(most),
+        }
+    }
+
+    fn bounds(&self, a: &Ranking, marks: &[Mark]) -> Span {
+        let (lo, hi) = self.range(a, marks);
+        Span {
+            lo: i128::from(lo),
+            hi: i128::from(hi),
+        }
+    }
+
+    fn least_case(
+        &self,
+        alloc: Global,
+        a: &Ranking,
+        b: &Ranking,
+        marks: &[Mark],
+    ) -> Result<Vec<bool>, Memory> {
+        least_values(alloc, self.k, a, b, marks)
+    }
+
+    fn most_case(
+        &self,
+        alloc: Global,
+        a: &Ranking,
+        b: &Ranking,
+        marks: &[Mark],
+    ) -> Result<Vec<bool>, Memory> {
+        least_values(alloc, self.k, b, a, marks)
+    }
+
+    fn weight(&self, a: &Ranking, b: &Ranking, _marks: &[Mark], doc: u32) -> u128 {
+        let one_alone = is_among_first(self.k, a, doc) != is_among_first(self.k, b, doc);
+        u128::from(one_alone)
+    }
+
+    ghost laws = { laws.laws };
 }

@@ -3,8 +3,8 @@ use Rattle.std.proofs.lemmas.Int.{ints}
 use Rattle.precision.proofs.Ends.{bounds_read}
 use Rattle.precision.proofs.precision.Precision.range.Goals as goal
 
-pub returns : goal.returns
-returns c =
+pub returns-clause-bounds : goal.returns-clause-bounds
+returns-clause-bounds c =
     let low : to_z w64 (of_z w64 c.least.result) ≡ pos c.front_documents-front.result.relevant = omega (arith, ints) in
     let high : to_z w64 (of_z w64 c.most.result) ≡ pos (c.front_documents-front.result.relevant + c.front_documents-front.result.unjudged) = omega (arith, ints) in
     let k : c.args.self.now ≡ c.self.inside.k = cc in

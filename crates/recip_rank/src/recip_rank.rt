@@ -1,0 +1,156 @@
+ghost use Rattle.std.specs.Prelude.{◌≡◌, ◌≤◌, length, IfOk};
+ghost use Rattle.desk_model.specs.declared.types.MeasureName.TheVariants.{Reciprocal as R};
+ghost use Rattle.measure_laws.specs.Ranks.{IsWithin};
+ghost use Rattle.measure_laws.specs.ReciprocalCase.{is_choice, with_choice};
+ghost use Rattle.measure_laws.specs.Weights.{reciprocal_weight};
+ghost use Rattle.fractions.specs.Ends.{IsShort};
+ghost use Rattle.measure_core.specs.Laws.{AreMet, AreValues};
+ghost use Rattle.measure_core.specs.Made.{IsMadeFor};
+ghost use Rattle.measure_core.specs.Numbers.{exact_least};
+
+use crate::firsts::{Firsts, first_rank, is_true, least, rank_in, span};
+use desk_model::{Mark, MeasureName, Memory, Ranking};
+use fractions::Span;
+use measure_core::{Cell, Measure, Steps};
+use std::alloc::Global;
+use std::sync::ledger::Ledger;
+
+/// How many units make a score of 1.
+const UNIT: u128 = 1_000_000_000_000_000_000;
+
+/// The measure `recip_rank`. Its unit is 10^18.
+#[derive(Debug, Drop)]
+pub struct RecipRank;
+
+impl RecipRank {
+    /// The measure, whose cells and bounds are the floors and ceilings of the extremes.
+    pub fn new() -> RecipRank
+        ensures { IsMadeFor R (⟦<RecipRank as Measure>⟧.measured result) (⟦<RecipRank as Measure>⟧.cell_of result) (⟦<RecipRank as Measure>⟧.bounds_of result) }
+    {
+        RecipRank
+    }
+}
+
+/// The ends of the least difference, in units.
+fn least_span(a: &Ranking, b: &Ranking, marks: &[Mark]) -> Span
+    requires { AreMet marks.now a.now b.now }
+    ensures span { result ≡ exact_least R marks.now a.now b.now }
+    ensures short { IsShort result }
+{
+    span(least(a, b, marks).firsts)
+}
+
+/// One unit over a rank, rounded down; nothing for an absent one.
+fn worth(rank: Option<u32>) -> u128
+    requires { IsWithin 10000 rank }
+    ensures { result ≡ reciprocal_weight rank }
+{
+    match rank {
+        None => 0,
+        Some(rank) => UNIT / u128::from(rank),
+    }
+}
+
+/// Whether a document is the chosen one.
+fn is_chosen(choice: Option<u32>, doc: u32) -> bool
+    ensures { result ≡ is_choice choice doc }
+{
+    match choice {
+        None => false,
+        Some(one) => one == doc,
+    }
+}
+
+/// Whether each document is relevant, where of the unjudged ones the chosen one alone is.
+fn values(
+    alloc: Global,
+    choice: Option<u32>,
+    marks: &[Mark],
+) -> Result<Vec<bool>, Memory>
+    requires { length marks.now ≤ 25000000 }
+    ensures { IfOk result (λ values. AreValues (with_choice marks.now choice) (length marks.now) values.items) }
+{
+    let mut values = Vec::new(alloc);
+    for (place, mark) in marks.iter().enumerate() {
+        let value = is_true(is_chosen(choice, place as u32), *mark);
+        if values.push(value).is_err() {
+            return Err(Memory);
+        }
+    }
+    Ok(values)
+}
+
+impl Measure for RecipRank {
+    ghost use Rattle.desk_model.specs.declared.types.MeasureName.TheVariants.{Reciprocal as R};
+    ghost use Rattle.measure_core.specs.Numbers.{exact_cell, exact_bounds};
+    ghost use Rattle.recip_rank.specs.Laws as laws;
+
+    ghost measured = { λ _. R };
+
+    ghost cell_of = { λ _. exact_cell R };
+
+    ghost bounds_of = { λ _. exact_bounds R };
+
+    fn name(&self) -> MeasureName {
+        MeasureName::Reciprocal
+    }
+
+    fn unit(&self) -> i128 {
+        UNIT as i128
+    }
+
+    fn cell<L: Ledger>(
+        &self,
+        a: &Ranking,
+        b: &Ranking,
+        marks: &[Mark],
+        steps: &mut Steps<L>,
+    ) -> Cell {
+        steps.tick();
+        Cell {
+            least: least_span(a, b, marks),
+            most: least_span(b, a, marks).negate(),
+        }
+    }
+
+    fn bounds(&self, a: &Ranking, marks: &[Mark]) -> Span {
+        let least = span(Firsts {
+            first: first_rank(false, a.docs(), marks),
+            second: None,
+        });
+        let greatest = span(Firsts {
+            first: first_rank(true, a.docs(), marks),
+            second: None,
+        });
+        Span {
+            lo: least.lo,
+            hi: greatest.hi,
+        }
+    }
+
+    fn least_case(
+        &self,
+        alloc: Global,
+        a: &Ranking,
+        b: &Ranking,
+        marks: &[Mark],
+    ) -> Result<Vec<bool>, Memory> {
+        values(alloc, least(a, b, marks).choice, marks)
+    }
+
+    fn most_case(
+        &self,
+        alloc: Global,
+        a: &Ranking,
+        b: &Ranking,
+        marks: &[Mark],
+    ) -> Result<Vec<bool>, Memory> {
+        values(alloc, least(b, a, marks).choice, marks)
+    }
+
+    fn weight(&self, a: &Ranking, b: &Ranking, _marks: &[Mark], doc: u32) -> u128 {
+        worth(rank_in(a, doc)).abs_diff(worth(rank_in(b, doc)))
+    }
+
+    ghost laws = { λ _ _. laws.laws };
+}
