@@ -1,0 +1,107 @@
+-- What is found by name, and the first number that passes a test.
+use Rattle.std.proofs.Common.{◌≡◌, ℕ, zero, suc, ◌+◌, ◌<◌, Bool, true, false, cond, List, [], ◌∷◌, length, get_or, Some, None, refl, ap, sym, ◌∙◌, arith}
+use Rattle.std.specs.Prelude.{find, option_map, slice_get, position, is_some, ℤ}
+use Rattle.std.specs.List.{list_any, range_with_len, position_from}
+use Rattle.std.specs.Str.{bytes_eq}
+use Rattle.std.proofs.lemmas.List.{get_or-map, length-map}
+use Rattle.std.proofs.lemmas.List.Quantifiers.{position-Some}
+use Rattle.std.proofs.lemmas.Map.Keys.{any_passes_from_place}
+use Rattle.std.proofs.lemmas.Option.{slice_get-get_or}
+use Rattle.desk_model.specs.Name.{is_same_name}
+use Rattle.qrels_reader.specs.Grouped.{Judged}
+use Rattle.qrels_reader.proofs.Seen.{laws, same, or-false}
+use Rattle.qrels_reader.proofs.Places.{is_some-position}
+use Rattle.topics_pool.specs.Rows.{listed, grade_in, first_repeated, is_repeated}
+
+-- ---- the first number that passes
+pub find-first : (p : ℕ → Bool) (a n i : ℕ) → i < n → p (a + i) ≡ true → ((k : ℕ) → k < i → p (a + k) ≡ false) → find p (range_with_len a n) ≡ Some (a + i)
+find-first p a zero i lt here before = absurd (omega arith)
+find-first p a (suc n) zero lt here before =
+    let start : a + 0 ≡ a = omega arith in
+    let passes : p a ≡ true = ap p (sym start) ∙ here in
+    rw passes (ap Some (sym start))
+find-first p a (suc n) (suc i) lt here before =
+    let start : a + 0 ≡ a = omega arith in
+    let fails : p a ≡ false = ap p (sym start) ∙ before 0 (omega arith) in
+    let shift : (k : ℕ) → a + suc k ≡ a + 1 + k = λ k. omega arith in
+    rw fails (find-first p (a + 1) n i (omega arith) (ap p (sym (shift i)) ∙ here) (λ k below. ap p (sym (shift k)) ∙ before (suc k) (omega arith)) ∙ ap Some (sym (shift i)))
+
+pub find-none : (p : ℕ → Bool) (a n : ℕ) → ((k : ℕ) → k < n → p (a + k) ≡ false) → find p (range_with_len a n) ≡ None
+find-none p a zero fails = refl
+find-none p a (suc n) fails =
+    let start : a + 0 ≡ a = omega arith in
+    let first : p a ≡ false = ap p (sym start) ∙ fails 0 (omega arith) in
+    let shift : (k : ℕ) → a + suc k ≡ a + 1 + k = λ k. omega arith in
+    rw first (find-none p (a + 1) n (λ k below. ap p (sym (shift k)) ∙ fails (suc k) (omega arith)))
+
+pub repeated_first : (names : List (List ℕ)) (r : ℕ) → r < length names → is_repeated names r ≡ true → ((k : ℕ) → k < r → is_repeated names k ≡ false) → first_repeated names ≡ Some r
+repeated_first names r lt here before =
+    let start : (k : ℕ) → 0 + k ≡ k = λ k. omega arith in
+    find-first (is_repeated names) 0 (length names) r lt (ap (is_repeated names) (start r) ∙ here) (λ k below. ap (is_repeated names) (start k) ∙ before k below) ∙ ap Some (start r)
+
+pub repeated_none : (names : List (List ℕ)) → ((k : ℕ) → k < length names → is_repeated names k ≡ false) → first_repeated names ≡ None
+repeated_none names fails = let start : (k : ℕ) → 0 + k ≡ k = λ k. omega arith in find-none (is_repeated names) 0 (length names) (λ k lt. ap (is_repeated names) (start k) ∙ fails k lt)
+
+-- ---- a document that is listed
+find_at : (p : Judged → Bool) (docs : List Judged) (i : ℕ) (d : Judged) → i < length docs → p (get_or docs i d) ≡ true → ((k : ℕ) → k < i → p (get_or docs k d) ≡ false) → find p docs ≡ Some (get_or docs i d)
+find_at p [] i d lt here before = absurd (omega arith)
+find_at p (x ∷ docs) zero d lt here before = rw here refl
+find_at p (x ∷ docs) (suc i) d lt here before =
+    let first : p x ≡ false = before 0 (omega arith) in
+    rw first (find_at p docs i d (omega arith) here (λ k below. before (suc k) (omega arith)))
+
+pub grade_found : (docs : List Judged) (name : List ℕ) (i : ℕ) (grade : ℤ) → position (bytes_eq name) (listed docs) ≡ Some i → option_map (λ (d : Judged). d.grade) (slice_get docs i) ≡ Some grade → Some grade ≡ grade_in docs name
+grade_found docs name i grade is got =
+    let nobody : Judged = record { document = []; grade = grade } in
+    let at = position-Some (bytes_eq name) (listed docs) i [] is in
+    let long = length-map docs (λ (d : Judged). d.document) in
+    let lt : i < length docs = omega (arith, at.0, long) in
+    let by : (k : ℕ) → k < length docs → get_or (listed docs) k [] ≡ (get_or docs k nobody).document = λ k below. get_or-map (λ (d : Judged). d.document) docs k nobody [] below in
+    let found = find_at (λ (d : Judged). bytes_eq name d.document) docs i nobody lt (ap (bytes_eq name) (sym (by i lt)) ∙ at.1) (λ k below. ap (bytes_eq name) (sym (by k (omega arith))) ∙ at.2 k below) in
+    sym got ∙ ap (option_map (λ (d : Judged). d.grade)) (slice_get-get_or docs i nobody lt ∙ sym found)
+
+find_none : (docs : List Judged) (name : List ℕ) → list_any (bytes_eq name) (listed docs) ≡ false → find (λ (d : Judged). bytes_eq name d.document) docs ≡ None
+find_none [] name h = refl
+find_none (d ∷ docs) name h =
+    let parts = or-false (bytes_eq name d.document) (list_any (bytes_eq name) (listed docs)) h in
+    rw (parts.0) (find_none docs name parts.1)
+
+pub grade_none : (docs : List Judged) (name : List ℕ) → position (bytes_eq name) (listed docs) ≡ None → None ≡ grade_in docs name
+grade_none docs name is =
+    sym (ap (option_map (λ (d : Judged). d.grade)) (find_none docs name (sym (is_some-position (bytes_eq name) (listed docs)) ∙ ap is_some is)))
+
+-- ---- the number of a document
+pub record Numbered (docs : List (List ℕ)) (name : List ℕ) (n i : ℕ) : Type 0 where
+  pub place : ℕ
+  pub number : i ≡ n + place
+  pub within : place < length docs
+  pub is : get_or docs place [] ≡ name
+
+pub numbered : (docs : List (List ℕ)) (name : List ℕ) (n i : ℕ) → position_from (λ each. is_same_name each name) n docs ≡ Some i → Numbered docs name n i
+numbered [] name n i h = absurd (cc)
+numbered (d ∷ docs) name n i h = go (is_same_name d name) refl (numbered docs name (n + 1) i)
+  where
+    go : (b : Bool) → is_same_name d name ≡ b → (position_from (λ each. is_same_name each name) (n + 1) docs ≡ Some i → Numbered docs name (n + 1) i) → Numbered (d ∷ docs) name n i
+    go true e later =
+        let first : Some n ≡ Some i = sym (ap (λ b. cond b (Some n) (position_from (λ each. is_same_name each name) (n + 1) docs)) e) ∙ h in
+        let same_number : n ≡ i = cc in
+        record { place = 0; number = omega (arith, same_number); within = omega arith; is = same d name e }
+    go false e later =
+        let found : position_from (λ each. is_same_name each name) (n + 1) docs ≡ Some i = sym (ap (λ b. cond b (Some n) (position_from (λ each. is_same_name each name) (n + 1) docs)) e) ∙ h in
+        let rest = later found in
+        record { place = suc rest.place; number = omega (arith, rest.number); within = omega (arith, rest.within); is = rest.is }
+
+pub unnumbered : (docs : List (List ℕ)) (name : List ℕ) (n : ℕ) → position_from (λ each. is_same_name each name) n docs ≡ None → list_any (bytes_eq name) docs ≡ false
+unnumbered [] name n h = refl
+unnumbered (d ∷ docs) name n h = go (is_same_name d name) refl (unnumbered docs name (n + 1))
+  where
+    go : (b : Bool) → is_same_name d name ≡ b → (position_from (λ each. is_same_name each name) (n + 1) docs ≡ None → list_any (bytes_eq name) docs ≡ false) → list_any (bytes_eq name) (d ∷ docs) ≡ false
+    go true e later = let bad : Some n ≡ None = sym (ap (λ b. cond b (Some n) (position_from (λ each. is_same_name each name) (n + 1) docs)) e) ∙ h in absurd (cc)
+    go false e later =
+        let none : position_from (λ each. is_same_name each name) (n + 1) docs ≡ None = sym (ap (λ b. cond b (Some n) (position_from (λ each. is_same_name each name) (n + 1) docs)) e) ∙ h in
+        let here : bytes_eq name d ≡ false = laws.symm name d ∙ e in
+        rw here (later none)
+
+-- a name that stands at a place is among the names
+pub among-at : (names : List (List ℕ)) (i : ℕ) (name : List ℕ) → slice_get names i ≡ Some name → list_any (bytes_eq name) names ≡ true
+among-at names i name got = any_passes_from_place (bytes_eq name) names i name got (laws.refl name)

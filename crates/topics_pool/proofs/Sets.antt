@@ -1,0 +1,139 @@
+-- Names that are gathered, each once.
+use Rattle.std.proofs.Common.{◌≡◌, ℕ, zero, suc, ◌+◌, ◌≤◌, Bool, true, false, true≢false, cond, List, [], ◌∷◌, ◌++◌, length, refl, ap, sym, ◌∙◌, append_assoc, length-append, take, map, get_or, ◌<◌, arith}
+use Rattle.std.specs.Prelude.{flat_map, slice_get, Some}
+use Rattle.std.proofs.lemmas.List.{take_more, length-map, get_or-map}
+use Rattle.std.proofs.lemmas.Grind.{flat_map-append}
+use Rattle.std.proofs.lemmas.Option.{slice_get_within, get_or_from_slice_get}
+use Rattle.desk_model.proofs.Nested.{take-there}
+use Rattle.qrels_reader.proofs.Grouping.{append-nil}
+use Rattle.std.specs.Prelude.{◌||◌, All}
+use Rattle.std.specs.List.{list_any, AllByRecursion, IsDistinct}
+use Rattle.std.specs.Str.{bytes_eq}
+use Rattle.std.proofs.lemmas.List.Folds.{list_any-append}
+use Rattle.std.proofs.lemmas.List.Elements.{All-push, All-head, All-tail, All-from_recursion}
+use Rattle.std.proofs.lemmas.Map.Keys.{IsDistinct-push, IsDistinct-head, IsDistinct-tail}
+use Rattle.std.proofs.lemmas.Map.Steps.{list_any_congr}
+use Rattle.desk_model.specs.Name.{is_name}
+use Rattle.qrels_reader.proofs.Seen.{laws}
+use Rattle.topics_pool.specs.Names.{with_name, with_names, AreNames, HaveSameNames}
+
+pub with_names-append : (names xs ys : List (List ℕ)) → with_names names (xs ++ ys) ≡ with_names (with_names names xs) ys
+with_names-append names [] ys = refl
+with_names-append names (x ∷ xs) ys = with_names-append (with_name names x) xs ys
+
+or-false : (a : Bool) → a || false ≡ a
+or-false true = refl
+or-false false = refl
+
+or-assoc : (a b c : Bool) → (a || b) || c ≡ a || (b || c)
+or-assoc true b c = refl
+or-assoc false b c = refl
+
+or-absorbs : (a b : Bool) → (b ≡ true → a ≡ true) → a ≡ a || b
+or-absorbs true b h = refl
+or-absorbs false true h = absurd (true≢false (sym (h refl)))
+or-absorbs false false h = refl
+
+-- ---- membership
+any-with_name : (names : List (List ℕ)) (n m : List ℕ) → list_any (bytes_eq m) (with_name names n) ≡ list_any (bytes_eq m) names || bytes_eq m n
+any-with_name names n m = go (list_any (bytes_eq n) names) refl
+  where
+    go : (b : Bool) → list_any (bytes_eq n) names ≡ b → list_any (bytes_eq m) (cond b names (names ++ n ∷ [])) ≡ list_any (bytes_eq m) names || bytes_eq m n
+    go true e = or-absorbs (list_any (bytes_eq m) names) (bytes_eq m n) (λ is. list_any_congr laws m n names is ∙ e)
+    go false e = list_any-append (bytes_eq m) names (n ∷ []) ∙ ap (λ b. list_any (bytes_eq m) names || b) (or-false (bytes_eq m n))
+
+pub any-with_names : (names more : List (List ℕ)) (m : List ℕ) → list_any (bytes_eq m) (with_names names more) ≡ list_any (bytes_eq m) names || list_any (bytes_eq m) more
+any-with_names names [] m = sym (or-false (list_any (bytes_eq m) names))
+any-with_names names (n ∷ more) m =
+    any-with_names (with_name names n) more m
+    ∙ ap (λ b. b || list_any (bytes_eq m) more) (any-with_name names n m)
+    ∙ or-assoc (list_any (bytes_eq m) names) (bytes_eq m n) (list_any (bytes_eq m) more)
+
+-- the gathered names are those of both lists
+pub gathered_same : (names more : List (List ℕ)) → HaveSameNames (with_names names more) (names ++ more)
+gathered_same names more m = any-with_names names more m ∙ sym (list_any-append (bytes_eq m) names more)
+
+-- ---- gathered names differ
+pub AreNames-nil : AreNames []
+unfolding IsDistinct
+AreNames-nil = record { named = λ k d lt. absurd (omega arith); distinct = tt }
+
+pub AreNames-with_name : (names : List (List ℕ)) (n : List ℕ) → AreNames names → is_name n ≡ true → AreNames (with_name names n)
+AreNames-with_name names n are is = go (list_any (bytes_eq n) names) refl
+  where
+    go : (b : Bool) → list_any (bytes_eq n) names ≡ b → AreNames (cond b names (names ++ n ∷ []))
+    go true e = are
+    go false e = record { named = All-push (λ name. is_name name ≡ true) names n are.named is; distinct = IsDistinct-push laws names n are.distinct e }
+
+-- ---- how many they are
+length-with_name : (names : List (List ℕ)) (n : List ℕ) → length (with_name names n) ≤ length names + 1
+length-with_name names n = go (list_any (bytes_eq n) names)
+  where
+    go : (b : Bool) → length (cond b names (names ++ n ∷ [])) ≤ length names + 1
+    go true = omega arith
+    go false = omega (arith, length-append names (n ∷ []))
+
+pub length-with_names : (names more : List (List ℕ)) → length (with_names names more) ≤ length names + length more
+length-with_names names [] = omega arith
+length-with_names names (n ∷ more) = let rest = length-with_names (with_name names n) more in let first = length-with_name names n in omega (arith, rest, first)
+
+-- ---- names that differ are added as they are
+lacks-all : (n m : List ℕ) (xs : List (List ℕ)) → AllByRecursion (λ y. bytes_eq n y ≡ false) xs → list_any (bytes_eq m) xs ≡ true → bytes_eq m n ≡ false
+lacks-all n m xs apart is = go (bytes_eq m n) refl
+  where
+    none : (ys : List (List ℕ)) → AllByRecursion (λ y. bytes_eq n y ≡ false) ys → list_any (bytes_eq n) ys ≡ false
+    none [] h = refl
+    none (y ∷ ys) h = rw (h.0) (none ys h.1)
+
+    go : (b : Bool) → bytes_eq m n ≡ b → bytes_eq m n ≡ false
+    go false e = e
+    go true e = absurd (true≢false (sym is ∙ list_any_congr laws m n xs e ∙ none xs apart))
+
+pub added-whole : (names xs : List (List ℕ)) → IsDistinct bytes_eq xs → ((m : List ℕ) → list_any (bytes_eq m) xs ≡ true → list_any (bytes_eq m) names ≡ false) → with_names names xs ≡ names ++ xs
+added-whole names [] distinct apart = sym (append-nil names)
+added-whole names (x ∷ xs) distinct apart =
+    let here : list_any (bytes_eq x) (x ∷ xs) ≡ true = ap (λ b. b || list_any (bytes_eq x) xs) (laws.refl x) in
+    let new : with_name names x ≡ names ++ x ∷ [] = ap (λ b. cond b names (names ++ x ∷ [])) (apart x here) in
+    let later : (m : List ℕ) → list_any (bytes_eq m) xs ≡ true → list_any (bytes_eq m) (names ++ x ∷ []) ≡ false = λ m is.
+    let there : list_any (bytes_eq m) (x ∷ xs) ≡ true = grind (arith, is) in
+    list_any-append (bytes_eq m) names (x ∷ [])
+    ∙ ap (λ b. b || list_any (bytes_eq m) (x ∷ [])) (apart m there)
+    ∙ or-false (bytes_eq m x)
+    ∙ lacks-all x m xs (IsDistinct-head bytes_eq x xs distinct) is
+    in
+    ap (λ s. with_names s xs) new ∙ added-whole (names ++ x ∷ []) xs (IsDistinct-tail bytes_eq x xs distinct) later ∙ append_assoc names (x ∷ []) xs
+
+pub AreNames-with_names : (names more : List (List ℕ)) → AreNames names → All (λ name. is_name name ≡ true) more → AreNames (with_names names more)
+AreNames-with_names names [] are all = are
+AreNames-with_names names (n ∷ more) are all =
+    AreNames-with_names (with_name names n) more (AreNames-with_name names n are (All-head (λ name. is_name name ≡ true) n more all)) (All-tail (λ name. is_name name ≡ true) n more all)
+
+pub AreNames-push : (names : List (List ℕ)) (n : List ℕ) → AreNames names → is_name n ≡ true → list_any (bytes_eq n) names ≡ false → AreNames (names ++ n ∷ [])
+AreNames-push names n are is new = record { named = All-push (λ name. is_name name ≡ true) names n are.named is; distinct = IsDistinct-push laws names n are.distinct new }
+
+-- a name of names that differ is not among those before it
+pub fresh : (xs : List (List ℕ)) (i : ℕ) (n : List ℕ) → IsDistinct bytes_eq xs → slice_get xs i ≡ Some n → list_any (bytes_eq n) (take i xs) ≡ false
+fresh [] i n distinct got = absurd (cc)
+fresh (x ∷ xs) zero n distinct got = refl
+fresh (x ∷ xs) (suc i) n distinct got =
+    let at : get_or xs i [] ≡ n = get_or_from_slice_get xs i n [] got in
+    let apart : bytes_eq x (get_or xs i []) ≡ false = All-from_recursion (λ y. bytes_eq x y ≡ false) xs (IsDistinct-head bytes_eq x xs distinct) i [] (slice_get_within xs i n got) in
+    let here : bytes_eq n x ≡ false = laws.symm n x ∙ ap (bytes_eq x) (sym at) ∙ apart in
+    rw here (fresh xs i n (IsDistinct-tail bytes_eq x xs distinct) got)
+
+-- ---- steps of loops
+pub gather_step : (start xs : List (List ℕ)) (i : ℕ) (n : List ℕ) (names names' : List (List ℕ)) → slice_get xs i ≡ Some n → names ≡ with_names start (take i xs) → names' ≡ with_name names n → names' ≡ with_names start (take (i + 1) xs)
+gather_step start xs i n names names' got so_far new =
+    new ∙ ap (λ s. with_name s n) so_far ∙ sym (with_names-append start (take i xs) (n ∷ [])) ∙ ap (with_names start) (sym (take-there xs i n got))
+
+pub gather_list : {X : Type 0} (f : X → List (List ℕ)) (start : List (List ℕ)) (xs : List X) (i : ℕ) (x : X) (names names' : List (List ℕ)) → i < length xs → x ≡ get_or xs i x → names ≡ with_names start (flat_map f (take i xs)) →
+    names' ≡ with_names names (f x) → names' ≡ with_names start (flat_map f (take (i + 1) xs))
+gather_list f start xs i x names names' lt is so_far new =
+    let taken : take (i + 1) xs ≡ take i xs ++ x ∷ [] = take_more xs i x lt ∙ ap (λ y. take i xs ++ y ∷ []) (sym is) in
+    let flat : flat_map f (take (i + 1) xs) ≡ flat_map f (take i xs) ++ f x = ap (flat_map f) taken ∙ flat_map-append f (take i xs) (x ∷ []) ∙ ap (λ ys. flat_map f (take i xs) ++ ys) (append-nil (f x)) in
+    new ∙ ap (λ s. with_names s (f x)) so_far ∙ sym (with_names-append start (flat_map f (take i xs)) (f x)) ∙ ap (with_names start) (sym flat)
+
+pub mapped_step : {X Y : Type 0} (f : X → Y) (xs : List X) (i : ℕ) (x : X) → i < length xs → x ≡ get_or xs i x → take (i + 1) (map f xs) ≡ take i (map f xs) ++ f x ∷ []
+mapped_step f xs i x lt is =
+    let long = length-map xs f in
+    take_more (map f xs) i (f x) (omega (arith, long)) ∙ ap (λ y. take i (map f xs) ++ y ∷ []) (get_or-map f xs i x (f x) lt ∙ ap f (sym is))

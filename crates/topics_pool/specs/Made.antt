@@ -1,0 +1,32 @@
+-- The parts of a desk while it is made.
+use Rattle.std.specs.Prelude.{◌≡◌, ℕ, All, List, length}
+use Rattle.std.specs.List.{AllZip}
+use Rattle.desk_model.specs.Book.{Book, IsBook}
+use Rattle.desk_model.specs.Name.{AreAscending}
+use Rattle.desk_model.specs.Ranking.{IsRanking}
+use Rattle.qrels_reader.specs.Grouped.{Topic, names_of}
+use Rattle.run_reader.specs.Run.{Run, rows_on_topic}
+use Rattle.trec_order.specs.Order.{IsTrecOrder}
+use Rattle.topics_pool.specs.Names.{HaveSameNames, AreAmong}
+use Rattle.topics_pool.specs.Rows.{IsBookOf, doc_names, retrieved, topic_names}
+
+-- the topics of the qrels, ascending
+pub record AreBooksOf (qrels : List Topic) (runs : List Run) (books : List Book) : Type 0 where
+  pub sound : All IsBook books
+  pub of_rows : All (IsBookOf qrels runs) books
+  pub ascending : AreAscending (topic_names books)
+  pub topics : HaveSameNames (topic_names books) (names_of qrels)
+  pub count : length books ≡ length qrels
+
+-- a topic's universe has the documents of a run
+abbrev pub Covers : Run → Book → Type 0
+Covers run book = AreAmong (retrieved book.name run) book.docs
+
+-- document numbers that rank the documents of a run on a topic
+pub record IsRankingOf (run : Run) (book : Book) (docs : List ℕ) : Type 0 where
+  pub ranking : IsRanking (length book.docs) docs
+  pub order : IsTrecOrder (rows_on_topic run book.name) (doc_names book docs)
+
+-- a run's ranking of each topic
+abbrev pub AreRankingsOf : List Book → Run → List (List ℕ) → Type 0
+AreRankingsOf books run rankings = AllZip (IsRankingOf run) books rankings

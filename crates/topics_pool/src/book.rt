@@ -1,0 +1,120 @@
+// The topics of a desk.
+ghost use Rattle.std.specs.Prelude.{◌≡◌, ◌≤◌, ◌<◌, true, All, Some, IfOk, length, map, position};
+ghost use Rattle.std.specs.List.{list_any};
+ghost use Rattle.std.specs.Str.{bytes_eq};
+ghost use Rattle.desk_model.specs.Name.{is_name};
+ghost use Rattle.desk_model.specs.Book.{IsBook};
+ghost use Rattle.qrels_reader.specs.Grouped.{documents_at, names_of};
+ghost use Rattle.run_reader.specs.declared.limits.TheConstants.{MOST_RUN_ROWS};
+ghost use Rattle.topics_pool.specs.Names.{AreNames, AreAmong};
+ghost use Rattle.topics_pool.specs.Rows.{listed, grade_in, rows_of, topic_names, IsBookOf};
+ghost use Rattle.topics_pool.specs.Made.{AreBooksOf};
+
+use crate::ascending::{ascending, named};
+use crate::fault::OutOfMemory;
+use crate::universe::{listed_set, universe};
+use desk_model::{Name, TopicBook};
+use qrels_reader::{NameSet, Qrels};
+use run_reader::RunRows;
+use std::alloc::{AllocError, Global};
+
+// The grade that the qrels give a document of topic `t`, where they list it.
+fn listed_grade(qrels: &Qrels, t: usize, names: &NameSet, doc: &[u8]) -> Option<i32>
+    requires { names.now ≡ listed (documents_at qrels.now t) }
+    ensures { result ≡ grade_in (documents_at qrels.now t) doc.now }
+{
+    match names.place(doc) {
+        Some(i) => Some(qrels.grade(t, i)),
+        None => None,
+    }
+}
+
+fn listed_grades(
+    alloc: Global,
+    qrels: &Qrels,
+    t: usize,
+    docs: &[Name],
+) -> Result<Vec<Option<i32>>, AllocError>
+    requires { t < length qrels.now }
+    ensures { IfOk result (λ grades. grades.items ≡ map (grade_in (documents_at qrels.now t)) docs.now) }
+{
+    let names = listed_set(alloc, qrels, t)?;
+    let mut grades = Vec::with_capacity(alloc, docs.len())?;
+    for doc in docs {
+        grades.push(listed_grade(qrels, t, &names, doc.as_bytes()))?;
+    }
+    Ok(grades)
+}
+
+// The topic of this name, which is topic `t` of the qrels.
+fn topic_book(
+    alloc: Global,
+    qrels: &Qrels,
+    t: usize,
+    name: &[u8],
+    runs: &[RunRows],
+) -> Result<TopicBook, OutOfMemory>
+    requires place { position (bytes_eq name.now) (names_of qrels.now) ≡ Some t }
+    requires named { is_name name.now ≡ true }
+    requires rows { rows_of runs.now ≤ MOST_RUN_ROWS }
+    ensures name { IfOk result (λ book. book.name ≡ name.now) }
+    ensures book { IfOk result (λ book. IsBook book) }
+    ensures of_rows { IfOk result (IsBookOf qrels.now runs.now) }
+{
+    // The number of rows is within its limit.
+    let _ = qrels.rows();
+    let names = universe(alloc, listed_set(alloc, qrels, t)?, name, runs)?;
+    let docs = ascending(alloc, &names)?;
+    let grades = listed_grades(alloc, qrels, t, &docs)?;
+    Ok(TopicBook::new(named(alloc, name)?, docs, grades))
+}
+
+fn topic_set(alloc: Global, qrels: &Qrels) -> Result<NameSet, AllocError>
+    ensures topics { IfOk result (λ names. names ≡ names_of qrels.now) }
+    ensures names { IfOk result (λ names. AreNames names) }
+{
+    let mut names = NameSet::new(alloc);
+    for t in 0..qrels.topics() {
+        names.add(alloc, qrels.topic_name(t))?;
+    }
+    Ok(names)
+}
+
+// The topics with these names.
+fn books_of(
+    alloc: Global,
+    qrels: &Qrels,
+    topics: &NameSet,
+    names: &[Name],
+    runs: &[RunRows],
+) -> Result<Vec<TopicBook>, OutOfMemory>
+    requires topics { topics.now ≡ names_of qrels.now }
+    requires names { AreAmong names.now topics.now }
+    requires rows { rows_of runs.now ≤ MOST_RUN_ROWS }
+    ensures names { IfOk result (λ books. topic_names books.items ≡ names.now) }
+    ensures books { IfOk result (λ books. All (λ book. IsBook book) books.items) }
+    ensures of_rows { IfOk result (λ books. All (IsBookOf qrels.now runs.now) books.items) }
+{
+    let mut books = Vec::with_capacity(alloc, names.len())?;
+    for name in names {
+        match topics.place(name.as_bytes()) {
+            Some(t) => books.push(topic_book(alloc, qrels, t, name.as_bytes(), runs)?)?,
+            None => unreachable!(),
+        }
+    }
+    Ok(books)
+}
+
+/// The topics of the qrels in ascending order of their names, each with its universe.
+pub fn topic_books(
+    alloc: Global,
+    qrels: &Qrels,
+    runs: &[RunRows],
+) -> Result<Vec<TopicBook>, OutOfMemory>
+    requires { rows_of runs.now ≤ MOST_RUN_ROWS }
+    ensures { IfOk result (λ books. AreBooksOf qrels.now runs.now books.items) }
+{
+    let topics = topic_set(alloc, qrels)?;
+    let names = ascending(alloc, &topics)?;
+    books_of(alloc, qrels, &topics, &names, runs)
+}

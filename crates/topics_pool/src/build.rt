@@ -1,0 +1,51 @@
+// The desk of rows.
+ghost use Rattle.std.specs.Prelude.{◌≡◌, ◌<◌, ◌≤◌, IfOk, IfErr, vec_len, length};
+ghost use Rattle.run_reader.specs.declared.limits.TheConstants.{MOST_RUN_ROWS};
+ghost use Rattle.topics_pool.specs.Rows.{IsDeskOf, IsNoFault, IsFaultOf, rows_of};
+
+use crate::book::topic_books;
+use crate::fault::{DeskFault, OutOfMemory};
+use crate::limits::MOST_CELLS;
+use crate::rankings::all_rankings;
+use crate::runs::{cell_count, names_of_runs, repeated_run};
+use desk_model::Desk;
+use qrels_reader::Qrels;
+use run_reader::RunRows;
+use std::alloc::Global;
+
+// The desk of rows that have no fault.
+fn desk_of(alloc: Global, qrels: &Qrels, runs: &[RunRows]) -> Result<Desk, OutOfMemory>
+    requires some { 0 < length runs.now }
+    requires few { length runs.now ≤ 256 }
+    requires rows { rows_of runs.now ≤ MOST_RUN_ROWS }
+    requires right { IsNoFault qrels.now runs.now }
+    ensures { IfOk result (λ desk. IsDeskOf qrels.now runs.now desk) }
+{
+    // There is a topic, and there are not too many.
+    let _ = qrels.topics();
+    let books = topic_books(alloc, qrels, runs)?;
+    let rankings = all_rankings(alloc, runs, &books)?;
+    Ok(Desk::new(books, names_of_runs(alloc, runs)?, rankings))
+}
+
+/// The desk of these rows: its topics are those of the qrels, its runs stand in the order in which they are given.
+///
+/// `SameName` comes exactly where a run has the name of an earlier one, and tells the first; else `TooManyCells` exactly
+/// where pairs times topics exceed the limit.
+pub fn build_desk(alloc: Global, qrels: Qrels, runs: Vec<RunRows>) -> Result<Desk, DeskFault>
+    requires some { 0 < vec_len runs }
+    requires few { vec_len runs ≤ 256 }
+    requires rows { rows_of runs.items ≤ MOST_RUN_ROWS }
+    ensures desk { IfOk result (IsDeskOf qrels runs.items) }
+    ensures right { IfOk result (λ _. IsNoFault qrels runs.items) }
+    ensures fault { IfErr result (IsFaultOf qrels runs.items) }
+{
+    if let Some(run) = repeated_run(&runs) {
+        return Err(DeskFault::SameName { run: run as u32 });
+    }
+    let cells = cell_count(&qrels, &runs);
+    if cells > MOST_CELLS {
+        return Err(DeskFault::TooManyCells { cells });
+    }
+    Ok(desk_of(alloc, &qrels, &runs)?)
+}

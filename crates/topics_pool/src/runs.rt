@@ -1,0 +1,60 @@
+// The names and the number of runs.
+ghost use Rattle.std.specs.Prelude.{◌≡◌, ◌<◌, ◌≤◌, true, All, IfOk, IfSome, length};
+ghost use Rattle.desk_model.specs.Name.{is_name};
+ghost use Rattle.topics_pool.specs.Rows.{run_names, is_repeated, first_repeated, cells_of};
+
+use crate::ascending::named;
+use crate::fault::OutOfMemory;
+use desk_model::Name;
+use qrels_reader::Qrels;
+use run_reader::RunRows;
+use std::alloc::Global;
+
+// Whether an earlier run has the name of run `r`.
+fn has_earlier_name(runs: &[RunRows], r: usize) -> bool
+    requires { r < length runs.now }
+    ensures { result ≡ is_repeated (run_names runs.now) r }
+{
+    let name = runs[r].name();
+    for earlier in 0..r {
+        if name == runs[earlier].name() {
+            return true;
+        }
+    }
+    false
+}
+
+/// The first run with the name of an earlier one.
+pub fn repeated_run(runs: &[RunRows]) -> Option<usize>
+    ensures first { result ≡ first_repeated (run_names runs.now) }
+    ensures within { IfSome result (λ r. r < length runs.now) }
+{
+    for r in 0..runs.len() {
+        if has_earlier_name(runs, r) {
+            return Some(r);
+        }
+    }
+    None
+}
+
+/// Pairs of runs times topics.
+pub fn cell_count(qrels: &Qrels, runs: &[RunRows]) -> u64
+    requires some { 0 < length runs.now }
+    requires few { length runs.now ≤ 256 }
+    ensures { result ≡ cells_of qrels.now runs.now }
+{
+    let count = runs.len() as u64;
+    count * (count - 1) / 2 * qrels.topics() as u64
+}
+
+/// The names of runs, in their order.
+pub fn names_of_runs(alloc: Global, runs: &[RunRows]) -> Result<Vec<Name>, OutOfMemory>
+    ensures names { IfOk result (λ names. names.items ≡ run_names runs.now) }
+    ensures named { IfOk result (λ _. All (λ name. is_name name ≡ true) (run_names runs.now)) }
+{
+    let mut names = Vec::with_capacity(alloc, runs.len())?;
+    for run in runs {
+        names.push(named(alloc, run.name())?)?;
+    }
+    Ok(names)
+}
