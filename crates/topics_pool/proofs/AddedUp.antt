@@ -1,5 +1,5 @@
 -- What a run used.
-use Rattle.std.proofs.Common.{◌≡◌, ℕ, ◌+◌, List, length, Option, Some, None, Result, Ok, Err, refl, ap, sym, ◌∙◌}
+use Rattle.std.proofs.Common.{◌≡◌, ℕ, ◌+◌, List, Option, Some, None, Result, Ok, Err, ap, sym, ◌∙◌}
 use Rattle.qrels_reader.specs.Reading.{and_then, rows_of}
 use Rattle.qrels_reader.specs.Grouped.{Topic}
 use Rattle.qrels_reader.specs.declared.fault.FileFault.{FileFault}

@@ -36,7 +36,12 @@ fn expect_ranking(rt: &impl Abort, desk: &Desk, run: u32, t: u32, docs: &[u32]) 
     assert_eq!(rt; desk.ranking(run, t).docs(), docs);
 }
 
-fn read_runs(alloc: Global, qrels: &Qrels, first: &[u8], second: &[u8]) -> Result<Vec<RunRows>, Fail>
+fn read_runs(
+    alloc: Global,
+    qrels: &Qrels,
+    first: &[u8],
+    second: &[u8],
+) -> Result<Vec<RunRows>, Fail>
     ensures two { IfOk result (λ runs. length runs.items ≡ 2) }
     ensures rows { IfOk result (λ runs. rows_of runs.items ≤ MOST_RUN_ROWS) }
 {

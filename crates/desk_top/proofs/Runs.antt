@@ -1,0 +1,78 @@
+-- Runs that are read one after another.
+use Rattle.std.proofs.Common.{◌≡◌, ℕ, ◌+◌, ◌<◌, List, [], ◌∷◌, ◌++◌, length, drop, get_or, refl, ap, sym, subst, ◌∙◌, arith, append_assoc, append-nil, zero-add, inl, inr}
+use Rattle.std.proofs.lemmas.List.Sums.{sum_by-append}
+use Rattle.std.specs.Prelude.{Option, Some, None, Result, Ok, Err, IfSome}
+use Rattle.std.proofs.lemmas.List.{drop_more}
+use Rattle.desk_outside.specs.Outside.{Files}
+use Rattle.desk_words.specs.declared.command.RunWord.{RunWord}
+use Rattle.qrels_reader.specs.Grouped.{Topic}
+use Rattle.desk_text.specs.Lines.{lines}
+use Rattle.qrels_reader.specs.Reading.{IsUnlessMemory, and_then, rows_of as rows_read}
+use Rattle.qrels_reader.specs.declared.fault.FileFault.{FileFault}
+use Rattle.run_reader.specs.Rows.{RunRow, read_row}
+use Rattle.run_reader.specs.Run.{Run, run_of, named, name_of, grouped, used_with, row_count}
+use Rattle.topics_pool.specs.Rows.{rows_of}
+use Rattle.run_reader.proofs.Grouping.{row_count-grouped}
+use Rattle.run_reader.specs.declared.used.Used.{Used}
+use Rattle.desk_top.specs.Files.{Halt, ◌>>=◌, file_as}
+use Rattle.desk_top.specs.Load.{runs_of}
+
+-- the runs that were read, and then those of the words that are left
+abbrev pub with_rest : Files → List Topic → Used → List Run → List RunWord → Result (List Run) Halt
+with_rest held qrels used done words = runs_of held qrels used words >>= (λ rest. Ok (done ++ rest))
+
+-- all runs come of these
+abbrev pub Reaches : Option Files → List Topic → Used → List RunWord → Used → List Run → List RunWord → Type 0
+Reaches told qrels first all used done words = IfSome told (λ held. runs_of held qrels first all ≡ with_rest held qrels used done words)
+
+regrouped : (done : List Run) (run : Run) (r : Result (List Run) Halt) → ((r >>= (λ runs. Ok (run ∷ runs))) >>= (λ rest. Ok (done ++ rest))) ≡ (r >>= (λ rest. Ok ((done ++ run ∷ []) ++ rest)))
+regrouped done run (Ok runs) = ap (λ rs. Ok rs) (sym (append_assoc done (run ∷ []) runs))
+regrouped done run (Err halt) = refl
+
+nothing_done : (r : Result (List Run) Halt) → r ≡ (r >>= (λ rest. Ok ([] ++ rest)))
+nothing_done (Ok runs) = refl
+nothing_done (Err halt) = refl
+
+pub reaches_first : (told : Option Files) (qrels : List Topic) (used : Used) (words : List RunWord) → Reaches told qrels used words used [] words
+reaches_first None qrels used words = tt
+reaches_first (Some held) qrels used words = nothing_done (runs_of held qrels used words)
+
+module _ (qrels : List Topic) (first : Used) (all : List RunWord) (used : Used) (done : List Run) (word : RunWord) (words : List RunWord) where
+  -- one more run
+  pub reaches_more : (told : Option Files) (run : Run) → Reaches told qrels first all used done (word ∷ words) → IfSome told (λ held. file_as (run_of word.name qrels used) held word.path ≡ Ok run) → Reaches told qrels first all run.used (done ++ run ∷ []) words
+  reaches_more None run h k = tt
+  reaches_more (Some held) run h k =
+      h ∙ ap (λ (r : Result Run Halt). (r >>= (λ run. runs_of held qrels run.used words >>= (λ runs. Ok (run ∷ runs)))) >>= (λ rest. Ok (done ++ rest))) k
+      ∙ regrouped done run (runs_of held qrels run.used words)
+
+  -- a file that stops the reading
+  pub stops_all : (held : Files) (halt : Halt) → runs_of held qrels first all ≡ with_rest held qrels used done (word ∷ words) → file_as (run_of word.name qrels used) held word.path ≡ Err halt → runs_of held qrels first all ≡ Err halt
+  stops_all held halt h k =
+      h ∙ ap (λ (r : Result Run Halt). (r >>= (λ run. runs_of held qrels run.used words >>= (λ runs. Ok (run ∷ runs)))) >>= (λ rest. Ok (done ++ rest))) k
+
+-- no word is left
+pub reaches_all : (told : Option Files) (qrels : List Topic) (first : Used) (all : List RunWord) (used : Used) (done : List Run) → Reaches told qrels first all used done [] → IfSome told (λ held. runs_of held qrels first all ≡ Ok done)
+reaches_all None qrels first all used done h = tt
+reaches_all (Some held) qrels first all used done h = h ∙ ap (λ rs. Ok rs) (append-nil done)
+
+-- what a run used is what was used before, and its rows
+pub used_rows : (given : Option (List ℕ)) (qrels : List Topic) (used : Used) (bytes : List ℕ) (run : Run) → run_of given qrels used bytes ≡ Ok run → run.used.rows ≡ used.rows + row_count run.topics
+used_rows given qrels used bytes run e = by_rows (rows_read (read_row qrels used) bytes) e
+  where
+    by_name : (name : Option (List ℕ)) (rows : List RunRow) → named name used rows ≡ Ok run → run.used.rows ≡ used.rows + row_count run.topics
+    by_name None rows e = absurd (cc)
+    by_name (Some name) rows e =
+        let is : record { name = name; topics = grouped rows; used = used_with used rows } ≡ run = cc in
+        let P : Run → Type 0 = λ r. r.used.rows ≡ used.rows + row_count r.topics in
+        subst P is (ap (λ n. used.rows + n) (sym (row_count-grouped rows)))
+
+    by_rows : (r : Result (List RunRow) FileFault) → and_then r (named (name_of given (lines bytes)) used) ≡ Ok run → run.used.rows ≡ used.rows + row_count run.topics
+    by_rows (Ok rows) e = by_name (name_of given (lines bytes)) rows e
+    by_rows (Err fault) e = absurd (cc)
+
+pub read_run_of : (run : Run) (wanted : Result Run FileFault) → IsUnlessMemory (Ok run) wanted → wanted ≡ Ok run
+read_run_of run wanted (inl bad) = absurd (cc)
+read_run_of run wanted (inr is) = sym is
+
+pub rows_of-push : (runs : List Run) (run : Run) → rows_of (runs ++ run ∷ []) ≡ rows_of runs + row_count run.topics
+rows_of-push runs run = sum_by-append (λ (r : Run). row_count r.topics) runs (run ∷ []) ∙ ap (λ n. rows_of runs + n) (zero-add (row_count run.topics))

@@ -1,0 +1,33 @@
+use Rattle.std.proofs.Common.{◌≡◌, ◌+◌, [], ◌∷◌, ◌++◌, ℕ, length, drop, ap, sym, ◌∙◌, arith, length-append}
+use Rattle.std.specs.Prelude.{Err}
+use Rattle.std.proofs.lemmas.List.{drop_more}
+use Rattle.std.proofs.lemmas.Result.{err_from_is_err_and}
+use Rattle.run_reader.specs.Run.{Run, run_of, row_count}
+use Rattle.run_reader.specs.declared.used.Used.{Used}
+use Rattle.topics_pool.specs.Rows.{rows_of}
+use Rattle.desk_top.specs.Files.{file_as}
+use Rattle.desk_top.specs.Load.{runs_of, used_by}
+use Rattle.desk_top.proofs.Runs.{Reaches, reaches_first, reaches_more, reaches_all, stops_all, rows_of-push}
+use Rattle.desk_top.proofs.Stopping.{gives_err}
+use Rattle.desk_top.proofs.load.load_runs.Goals as goal
+
+pub loop-word-preserved : goal.loop-word-preserved
+loop-word-preserved g c =
+    let words = c.args.words.now in
+    let i = c.loop-word.word-index in
+    let word = c.word-item.result in
+    let kept = c.loop-word.invariant in
+    let told = g.F.Shelf.files c.args.files.now in
+    let split : drop i words ≡ word ∷ drop (i + 1) words = drop_more words i word (omega arith) ∙ ap (λ w. w ∷ drop (i + 1) words) (sym c.word-item.is) in
+    let left = rw split at kept.left in
+    let gives = rw kept.files at c.in_ok-run.ensures.gives in
+    let more = reaches_more c.args.qrels.now (used_by c.args.qrels.now) words c.loop-word.used c.loop-word.runs.items word (drop (i + 1) words) told c.in_ok-run.run' left gives in
+    let pushed = c.in_ok-push_run.ensures in
+    record {
+      files = c.in_ok-run.ensures.files ∙ kept.files;
+      later = omega (arith, c.in_ok-run.ensures.later, kept.later);
+      within = c.used-used.ensures.within;
+      count = omega (arith, ap length pushed, length-append c.loop-word.runs.items (c.in_ok-run.run' ∷ []), kept.count);
+      rows = rw pushed (ap (λ (u : Used). u.rows) c.used-used.ensures.value ∙ c.in_ok-run.ensures.rows ∙ ap (λ n. n + row_count c.in_ok-run.run'.topics) kept.rows ∙ sym (rows_of-push c.loop-word.runs.items c.in_ok-run.run'));
+      left = rw (c.used-used.ensures.value, pushed) more;
+    }

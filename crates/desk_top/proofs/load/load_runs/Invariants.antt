@@ -1,0 +1,16 @@
+use Rattle.std.proofs.Common.{◌≡◌, ◌≤◌, drop, vec_len}
+use Rattle.run_reader.specs.Run.{IsWithin}
+use Rattle.topics_pool.specs.Rows.{rows_of}
+use Rattle.desk_top.specs.Load.{used_by}
+use Rattle.desk_top.proofs.Runs.{Reaches}
+use Rattle.desk_top.proofs.load.load_runs.Given as goal
+
+abbrev pub invariant-loop-word : goal.invariant-loop-word
+invariant-loop-word g l = record {
+  files : g.F.Shelf.files l.files ≡ g.F.Shelf.files l.fn.files;
+  later : g.F.Shelf.faults l.fn.files ≤ g.F.Shelf.faults l.files;
+  within : IsWithin l.used;
+  count : vec_len l.runs ≡ l.word-index;
+  rows : l.used.rows ≡ rows_of l.runs.items;
+  left : Reaches (g.F.Shelf.files l.fn.files) l.qrels (used_by l.qrels) l.words l.used l.runs.items (drop l.word-index l.words)
+}

@@ -1,0 +1,10 @@
+pub mod Files
+pub mod Load
+pub mod Views
+pub mod Outcome
+pub mod Stopped
+pub mod Joined
+pub mod Table
+pub mod Ends
+pub mod Told
+pub mod Top

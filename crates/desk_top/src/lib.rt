@@ -1,0 +1,14 @@
+//! The desk's top call.
+#![tactic(auto)]
+
+mod desk;
+mod files;
+mod limits;
+mod load;
+mod stop;
+mod table;
+mod tell;
+mod top;
+
+pub use stop::{Refusal, Stop};
+pub use top::run_desk;

@@ -1,0 +1,47 @@
+// Why a command stops before it prints.
+ghost use Rattle.std.specs.Prelude.{◌≡◌};
+ghost use Rattle.desk_top.specs.declared.stop.Stop.TheVariants.{Memory};
+
+use desk_model::Memory as NoMemory;
+use qrels_reader::FileFault;
+use std::alloc::AllocError;
+
+/// Why files are refused.
+#[derive(Drop)]
+pub enum Refusal<'a> {
+    /// The file of this path has more bytes than it may.
+    TooLong(&'a str),
+    /// The file of this path has a fault.
+    Faulty(&'a str, FileFault),
+    /// A run has this name, and an earlier one too.
+    Repeated(Vec<u8>),
+    /// Pairs times topics are this many, and too many.
+    Excessive(u64),
+}
+
+/// Why a command stops before it prints.
+#[derive(Drop)]
+pub enum Stop<'a> {
+    /// Files are refused.
+    Refused(Refusal<'a>),
+    /// A file is missing, or the outside failed.
+    Outside,
+    /// Memory is wanting.
+    Memory,
+}
+
+impl From<AllocError> for Stop<'_> {
+    ghost from_gives = { λ _ e. e ≡ Memory };
+
+    fn from(_: AllocError) -> Self {
+        Stop::Memory
+    }
+}
+
+impl From<NoMemory> for Stop<'_> {
+    ghost from_gives = { λ _ e. e ≡ Memory };
+
+    fn from(_: NoMemory) -> Self {
+        Stop::Memory
+    }
+}

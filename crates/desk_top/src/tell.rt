@@ -1,0 +1,146 @@
+// What is told on the error output. A failure there changes nothing.
+ghost use Rattle.std.specs.Prelude.{◌≡◌, ◌⊎◌, ℕ, ◌++◌, OnOk, IfOk, codes, decimal};
+ghost use Rattle.desk_top.specs.Told.{Writes, fault_word, fault_text, refusal_text, refusal_line, status_line};
+ghost use Rattle.desk_top.specs.Views.{refusal_of};
+
+use crate::stop::Refusal;
+use desk_outside::{Sink, put_all};
+use itoa::Buffer;
+use qrels_reader::{FileFault, LineFault};
+use std::alloc::{AllocError, Global};
+
+const REFUSED: u8 = 1;
+
+const USAGE: u8 = 2;
+
+const OUTSIDE: u8 = 3;
+
+const MEMORY: u8 = 4;
+
+fn tell<E: Sink>(err: &mut E, line: &[u8])
+    ensures { Writes (E.received err.old) (E.received err.new) (E.faults err.old) (E.faults err.new) line.now }
+{
+    let _ = put_all(err, line);
+}
+
+/// The words are no command, and the status is 2.
+pub fn tell_usage<E: Sink>(err: &mut E) -> u8
+    ensures status { result ≡ 2 }
+    ensures line { Writes (E.received err.old) (E.received err.new) (E.faults err.old) (E.faults err.new) (status_line 2) }
+{
+    tell(
+        err,
+        b"usage: desk COMMAND --qrels FILE --measure NAME [--level N] RUN...\n",
+    );
+    USAGE
+}
+
+/// The outside failed, and the status is 3.
+pub fn tell_outside<E: Sink>(err: &mut E) -> u8
+    ensures status { result ≡ 3 }
+    ensures line { Writes (E.received err.old) (E.received err.new) (E.faults err.old) (E.faults err.new) (status_line 3) }
+{
+    tell(err, b"fault: outside\n");
+    OUTSIDE
+}
+
+/// Memory is wanting, and the status is 4.
+pub fn tell_memory<E: Sink>(err: &mut E) -> u8
+    ensures status { result ≡ 4 }
+    ensures line { Writes (E.received err.old) (E.received err.new) (E.faults err.old) (E.faults err.new) (status_line 4) }
+{
+    tell(err, b"fault: memory\n");
+    MEMORY
+}
+
+fn word_of(fault: LineFault) -> &'static str
+    ensures { result.now ≡ fault_word fault }
+{
+    match fault {
+        LineFault::LineTooLong => "LineTooLong",
+        LineFault::BadByte => "BadByte",
+        LineFault::BadFieldCount => "BadFieldCount",
+        LineFault::NameTooLong => "NameTooLong",
+        LineFault::BadGrade => "BadGrade",
+        LineFault::BadScore => "BadScore",
+        LineFault::ScoreTooLong => "ScoreTooLong",
+        LineFault::ScoreExponent => "ScoreExponent",
+        LineFault::RepeatedDocument => "RepeatedDocument",
+        LineFault::TooManyTopics => "TooManyTopics",
+        LineFault::TooDeep => "TooDeep",
+        LineFault::TooManyRows => "TooManyRows",
+        LineFault::TooManyNameBytes => "TooManyNameBytes",
+    }
+}
+
+fn push_number(line: &mut Vec<u8>, number: u64) -> Result<(), AllocError>
+    ensures { OnOk result (line.new.items ≡ line.old.items ++ decimal number) }
+{
+    line.extend_from_slice(Buffer::new().format(number).as_bytes())
+}
+
+fn push_fault(line: &mut Vec<u8>, fault: FileFault) -> Result<(), AllocError>
+    ensures { OnOk result (line.new.items ≡ line.old.items ++ fault_text fault) }
+{
+    match fault {
+        FileFault::Line {
+            line: number,
+            fault,
+        } => {
+            line.extend_from_slice(b" line ")?;
+            push_number(line, number)?;
+            line.extend_from_slice(b": ")?;
+            line.extend_from_slice(word_of(fault).as_bytes())
+        }
+        FileFault::NoTopics => line.extend_from_slice(b": NoTopics"),
+        FileFault::NoTag => line.extend_from_slice(b": NoTag"),
+        FileFault::Memory => line.extend_from_slice(b": Memory"),
+    }
+}
+
+fn push_refusal(line: &mut Vec<u8>, refusal: &Refusal) -> Result<(), AllocError>
+    ensures { OnOk result (line.new.items ≡ line.old.items ++ refusal_text (refusal_of refusal.now)) }
+{
+    match refusal {
+        Refusal::TooLong(path) => {
+            line.extend_from_slice(path.as_bytes())?;
+            line.extend_from_slice(b": FileTooLong")
+        }
+        Refusal::Faulty(path, fault) => {
+            line.extend_from_slice(path.as_bytes())?;
+            push_fault(line, *fault)
+        }
+        Refusal::Repeated(name) => {
+            line.extend_from_slice(name)?;
+            line.extend_from_slice(b": SameName")
+        }
+        Refusal::Excessive(cells) => {
+            line.extend_from_slice(b"desk: TooManyCells ")?;
+            push_number(line, *cells)
+        }
+    }
+}
+
+fn refusal_line(alloc: Global, refusal: &Refusal) -> Result<Vec<u8>, AllocError>
+    ensures { IfOk result (λ line. line.items ≡ refusal_line (refusal_of refusal.now)) }
+{
+    let mut line = Vec::from_slice(alloc, b"refused: ")?;
+    push_refusal(&mut line, refusal)?;
+    line.push(b'\n')?;
+    Ok(line)
+}
+
+/// The files are refused, and the status is 1; or memory for the line is wanting, and it is 4.
+pub fn tell_refused<E: Sink>(alloc: Global, err: &mut E, refusal: &Refusal) -> u8
+    ensures status { (result ≡ 1) ⊎ (result ≡ 4) }
+    ensures refused { result ≡ 1 → Writes (E.received err.old) (E.received err.new) (E.faults err.old) (E.faults err.new) (refusal_line (refusal_of refusal.now)) }
+    ensures memory { result ≡ 4 → Writes (E.received err.old) (E.received err.new) (E.faults err.old) (E.faults err.new) (status_line 4) }
+{
+    match refusal_line(alloc, refusal) {
+        Ok(line) => {
+            tell(err, &line);
+            REFUSED
+        }
+        Err(_) => tell_memory(err),
+    }
+}
