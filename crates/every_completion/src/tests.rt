@@ -1,12 +1,16 @@
-ghost use Rattle.std.specs.Prelude.{◌≡◌, ◌^◌, ◌≤◌, length, IsTrue, IfOk};
+ghost use Rattle.std.specs.Prelude.{◌≡◌, ◌^◌, ◌<◌, ◌≤◌, length, IsTrue, IfOk};
 ghost use Rattle.desk_model.specs.Ranking.{IsRanking};
+ghost use Rattle.measure_core.specs.Laws.{AreMet};
 ghost use Rattle.every_completion.specs.Walk.{LooksAtNoTail};
 
 use crate::{Ends, EndsFault, extremes};
 use desk_model::{Mark, MeasureName, Ranking};
+use measure_core::{Cell, Measure, Steps};
 use precision::Precision;
 use std::alloc::Global;
+use std::marker::Brand;
 use std::process::Abort;
+use std::sync::ledger::{Blank, Ledger};
 use std::test::Fail;
 
 const R: Mark = Mark::Relevant;
@@ -153,6 +157,22 @@ fn other_measures_by_hand(rt: HostRuntime) -> Result<(), Fail> {
     Ok(())
 }
 
+fn cell_once<L: Ledger>(
+    measure: &Precision,
+    first: &Ranking,
+    second: &Ranking,
+    marks: &[Mark],
+    blank: Blank,
+) -> Cell
+    requires met { AreMet marks.now first.now second.now }
+    requires name { blank.name ≡ L.name }
+    requires parts { blank.parts ≡ L.parts }
+    requires some { 0 < blank.parts }
+{
+    let mut steps: Steps<L> = Steps::new(blank);
+    measure.cell(first, second, marks, &mut steps)
+}
+
 /// Compares precision with the walk, for a pair and for its first run alone.
 fn compare_precision(
     rt: &impl Abort,
@@ -169,16 +189,14 @@ fn compare_precision(
     let first = ranking(rt, alloc, runs.0, universe)?;
     let second = ranking(rt, alloc, runs.1, universe)?;
     let measure = Precision::new(k);
-    let (least, most) = measure.extremes(&first, &second, marks);
-    let (least, most) = (least as i128, most as i128);
+    let cell = cell_once::<Brand>(&measure, &first, &second, marks, Blank::new(1));
     let want = walked(rt, alloc, MeasureName::Precision(k), k as u64, runs, marks)?;
     assert_eq!(rt;
-        ends(least, least, most, most),
+        ends(cell.least.lo, cell.least.hi, cell.most.lo, cell.most.hi),
         want,
         "P_{k} of {runs:?} under {marks:?}"
     );
-    let (low, high) = measure.range(&first, marks);
-    let (low, high) = (low as i128, high as i128);
+    let bounds = measure.bounds(&first, marks);
     let want = walked(
         rt,
         alloc,
@@ -188,7 +206,7 @@ fn compare_precision(
         marks,
     )?;
     assert_eq!(rt;
-        ends(low, low, high, high),
+        ends(bounds.lo, bounds.lo, bounds.hi, bounds.hi),
         want,
         "P_{k} of {runs:?} under {marks:?}"
     );

@@ -46,7 +46,7 @@ impl Precision {
 
     /// k times the least and the greatest difference of the first run's score and the second's, over
     /// every completion of the marks.
-    pub fn extremes(&self, first: &Ranking, second: &Ranking, marks: &[Mark]) -> (i64, i64)
+    fn extremes(&self, first: &Ranking, second: &Ranking, marks: &[Mark]) -> (i64, i64)
         requires first { IsRanking (length marks.now) first.now }
         requires second { IsRanking (length marks.now) second.now }
         ensures ends { AreExtremes (P self.now) self.now marks.now first.now second.now
@@ -62,7 +62,7 @@ impl Precision {
     }
 
     /// k times the least and the greatest score of a run, over every completion of the marks.
-    pub fn range(&self, run: &Ranking, marks: &[Mark]) -> (i64, i64)
+    fn range(&self, run: &Ranking, marks: &[Mark]) -> (i64, i64)
         requires { IsRanking (length marks.now) run.now }
         ensures bounds { AreBounds (P self.now) self.now marks.now run.now result.0 result.1 }
         ensures depth { IsMeasure (P self.now) }

@@ -1,0 +1,14 @@
+use Rattle.std.proofs.Common.{◌∷◌, ◌++◌, [], map, take, sym, ap, ◌∙◌, add-one}
+use Rattle.std.proofs.lemmas.List.{map-append}
+use Rattle.trec_order.specs.Entry.{row_of}
+use Rattle.trec_order.proofs.Ranks.{row_more}
+use Rattle.trec_order.proofs.entry.entries_of.Goals as goal
+
+pub loop-i-preserved : goal.loop-i-preserved
+loop-i-preserved c =
+    let rows = c.args.rows.now in
+    let i = c.loop-i.i in
+    let more = row_more rows i c.document.result.now c.score.result.now c.document.ensures c.score.ensures in
+    ap (map row_of) c.in_ok-push.ensures.items ∙ map-append row_of c.loop-i.entries.items _
+    ∙ (λ j. c.loop-i.invariant j ++ record { document = c.in_ok-document.ensures.items j; score = c.score.result.now } ∷ [])
+    ∙ more ∙ ap (λ k. take k rows) (sym (add-one i))
