@@ -5,7 +5,7 @@ use Rattle.desk_model.specs.declared.types.MeasureName.TheVariants.{Precision, R
 -- a measure that can be made by its name
 abbrev pub IsBuilt : MeasureName → Type 0
 IsBuilt (Precision k) = Unit {0}
-IsBuilt (Recall k) = ⊥
+IsBuilt (Recall k) = Unit {0}
 IsBuilt RPrecision = ⊥
 IsBuilt Reciprocal = Unit {0}
 IsBuilt (Biased top bottom) = ⊥

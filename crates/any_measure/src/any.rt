@@ -6,6 +6,7 @@ ghost use Rattle.any_measure.specs.Any.{measured_by, cell_by, bounds_by};
 
 use desk_model::{MeasureName, Memory};
 use precision::Precision;
+use recall::Recall;
 use recip_rank::RecipRank;
 use std::alloc::Global;
 
@@ -14,6 +15,8 @@ use std::alloc::Global;
 pub enum AnyMeasure {
     /// `P_k`.
     Precision(Precision),
+    /// `recall_k`.
+    Recall(Recall),
     /// `recip_rank`.
     Reciprocal(RecipRank),
 }
@@ -24,8 +27,8 @@ pub fn is_built(name: &MeasureName) -> bool
     ensures no { result ≡ false → IsBuilt name.now → ⊥ }
 {
     match name {
-        MeasureName::Precision(_) | MeasureName::Reciprocal => true,
-        MeasureName::Recall(_) | MeasureName::RPrecision | MeasureName::Biased { .. } => false,
+        MeasureName::Precision(_) | MeasureName::Recall(_) | MeasureName::Reciprocal => true,
+        MeasureName::RPrecision | MeasureName::Biased { .. } => false,
     }
 }
 
@@ -39,10 +42,9 @@ impl AnyMeasure {
         let _ = alloc;
         match name {
             MeasureName::Precision(k) => Ok(AnyMeasure::Precision(Precision::new(k))),
+            MeasureName::Recall(k) => Ok(AnyMeasure::Recall(Recall::new(k))),
             MeasureName::Reciprocal => Ok(AnyMeasure::Reciprocal(RecipRank::new())),
-            MeasureName::Recall(_) | MeasureName::RPrecision | MeasureName::Biased { .. } => {
-                unreachable!()
-            }
+            MeasureName::RPrecision | MeasureName::Biased { .. } => { unreachable!() }
         }
     }
 }

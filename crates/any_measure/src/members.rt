@@ -17,6 +17,7 @@ impl Measure for AnyMeasure {
     fn name(&self) -> MeasureName {
         match self {
             AnyMeasure::Precision(m) => m.name(),
+            AnyMeasure::Recall(m) => m.name(),
             AnyMeasure::Reciprocal(m) => m.name(),
         }
     }
@@ -24,6 +25,7 @@ impl Measure for AnyMeasure {
     fn unit(&self) -> i128 {
         match self {
             AnyMeasure::Precision(m) => m.unit(),
+            AnyMeasure::Recall(m) => m.unit(),
             AnyMeasure::Reciprocal(m) => m.unit(),
         }
     }
@@ -37,6 +39,7 @@ impl Measure for AnyMeasure {
     ) -> Cell {
         match self {
             AnyMeasure::Precision(m) => m.cell(a, b, marks, steps),
+            AnyMeasure::Recall(m) => m.cell(a, b, marks, steps),
             AnyMeasure::Reciprocal(m) => m.cell(a, b, marks, steps),
         }
     }
@@ -44,6 +47,7 @@ impl Measure for AnyMeasure {
     fn bounds(&self, a: &Ranking, marks: &[Mark]) -> Span {
         match self {
             AnyMeasure::Precision(m) => m.bounds(a, marks),
+            AnyMeasure::Recall(m) => m.bounds(a, marks),
             AnyMeasure::Reciprocal(m) => m.bounds(a, marks),
         }
     }
@@ -57,6 +61,7 @@ impl Measure for AnyMeasure {
     ) -> Result<Vec<bool>, Memory> {
         match self {
             AnyMeasure::Precision(m) => m.least_case(alloc, a, b, marks),
+            AnyMeasure::Recall(m) => m.least_case(alloc, a, b, marks),
             AnyMeasure::Reciprocal(m) => m.least_case(alloc, a, b, marks),
         }
     }
@@ -70,6 +75,7 @@ impl Measure for AnyMeasure {
     ) -> Result<Vec<bool>, Memory> {
         match self {
             AnyMeasure::Precision(m) => m.most_case(alloc, a, b, marks),
+            AnyMeasure::Recall(m) => m.most_case(alloc, a, b, marks),
             AnyMeasure::Reciprocal(m) => m.most_case(alloc, a, b, marks),
         }
     }
@@ -77,6 +83,7 @@ impl Measure for AnyMeasure {
     fn weight(&self, a: &Ranking, b: &Ranking, marks: &[Mark], doc: u32) -> u128 {
         match self {
             AnyMeasure::Precision(m) => m.weight(a, b, marks, doc),
+            AnyMeasure::Recall(m) => m.weight(a, b, marks, doc),
             AnyMeasure::Reciprocal(m) => m.weight(a, b, marks, doc),
         }
     }

@@ -93,6 +93,36 @@ fn precision_by_hand(rt: HostRuntime) -> Result<(), Fail> {
 }
 
 #[test]
+fn recall_by_hand(rt: HostRuntime) -> Result<(), Fail> {
+    let alloc = rt.alloc();
+    let a = two(alloc, 0, 2, 3)?;
+    let b = two(alloc, 1, 2, 3)?;
+    let marks: &[Mark] = &[R, O, U];
+    let measure = Common.make(alloc, MeasureName::Recall(1))?;
+    assert_eq!(rt; measure.unit(), WHOLE);
+    let want = Cell {
+        least: span(HALF, HALF),
+        most: span(WHOLE, WHOLE),
+    };
+    assert_eq!(rt;
+        cell_once::<Brand>(&measure, &a, &b, marks, Blank::new(1)),
+        want
+    );
+    assert_eq!(rt; measure.bounds(&a, marks), span(HALF, WHOLE));
+    assert_eq!(rt; measure.bounds(&b, marks), span(0, 0));
+    assert_eq!(rt; measure.weight(&a, &b, marks, 0), 1);
+    assert_eq!(rt; measure.weight(&a, &b, marks, 2), 0);
+    cases(
+        &rt,
+        alloc,
+        &measure,
+        (&a, &b),
+        marks,
+        (&[true, false, true], &[true, false, false]),
+    )
+}
+
+#[test]
 fn reciprocal_rank_by_hand(rt: HostRuntime) -> Result<(), Fail> {
     let alloc = rt.alloc();
     let a = two(alloc, 1, 0, 2)?;

@@ -1,0 +1,2 @@
+pub mod LeastCase
+pub mod Laws

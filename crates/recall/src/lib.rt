@@ -1,0 +1,8 @@
+//! The measure `recall_k` of trec_eval: the relevant documents among the first k of a ranking, out of
+//! all relevant documents of the topic.
+#![tactic(auto)]
+
+pub mod recall;
+pub mod topic;
+
+pub use recall::Recall;

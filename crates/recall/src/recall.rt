@@ -1,0 +1,217 @@
+ghost use Rattle.std.specs.Prelude.{◌≡◌, ℕ, ◌+◌, ◌≤◌, max, nat_lt, List, length, IfOk};
+ghost use Rattle.desk_model.specs.Completion.{with_picked};
+ghost use Rattle.desk_model.specs.Score.{true_among};
+ghost use Rattle.desk_model.specs.declared.types.Mark.{Mark as M};
+ghost use Rattle.desk_model.specs.declared.types.MeasureName.TheVariants.{Recall as R};
+ghost use Rattle.measure_laws.specs.Cases.{recall_pick};
+ghost use Rattle.measure_laws.specs.Fronts.{only_second};
+ghost use Rattle.measure_core.specs.Laws.{AreMet, AreValues};
+ghost use Rattle.measure_core.specs.Made.{IsMadeFor};
+ghost use Rattle.measure_core.specs.Numbers.{exact_least};
+ghost use Rattle.recall.specs.LeastCase.{AreCounts, least_relevant, picked_where};
+
+use crate::topic::all_documents;
+use desk_model::{Mark, MeasureName, Memory, Ranking};
+use fractions::{Span, span_of};
+use measure_core::{Cell, Measure, Steps};
+use precision::counts::{Counts, front_documents, is_among_first, own_documents};
+use std::alloc::Global;
+use std::marker::Model;
+use std::sync::ledger::Ledger;
+
+/// How many units make a score of 1.
+const UNIT: i128 = 1_000_000_000_000_000_000;
+
+/// The measure `recall_k`, for a k from 1 to 10,000. Its unit is 10^18.
+#[derive(Debug, Drop)]
+pub struct Recall {
+    k: u32,
+}
+
+impl Model for Recall {
+    ghost use Rattle.std.specs.Prelude.{ℕ, ◌≤◌};
+
+    ghost Value = { ℕ };
+
+    ghost view = { λ r. r.k };
+
+    ghost invariant = { λ r. (1 ≤ r.k) × (r.k ≤ 10000) };
+}
+
+impl Recall {
+    /// The measure `recall_k`, whose cells and bounds are the floors and ceilings of the extremes.
+    pub fn new(k: u32) -> Recall
+        requires positive { 1 ≤ k }
+        requires limited { k ≤ 10000 }
+        ensures depth { result ≡ k }
+        ensures made { IsMadeFor (R k) (⟦<Recall as Measure>⟧.measured result) (⟦<Recall as Measure>⟧.cell_of result) (⟦<Recall as Measure>⟧.bounds_of result) }
+    {
+        Recall { k }
+    }
+}
+
+/// The number of relevant documents of the least case, or 1 where there is none.
+fn relevant_documents(first: Counts, second: Counts, all: Counts) -> u32
+    requires second { second.relevant + second.unjudged ≤ 10000 }
+    requires all { all.relevant + all.unjudged ≤ 25000000 }
+    requires within { first.relevant + first.unjudged ≤ all.relevant + all.unjudged }
+    ensures value { result ≡ max 1 (least_relevant first second all) }
+    ensures few { result ≤ 25010000 }
+{
+    if second.relevant + second.unjudged < first.relevant {
+        (all.relevant + all.unjudged - first.unjudged).max(1)
+    } else {
+        (all.relevant + second.unjudged).max(1)
+    }
+}
+
+/// The ends of the least difference, in units, from the counts of the documents that one run alone
+/// has among its first k, of those that the other has, and of all documents.
+fn least_span(first: Counts, second: Counts, all: Counts) -> Span
+    requires first { first.relevant + first.unjudged ≤ 10000 }
+    requires second { second.relevant + second.unjudged ≤ 10000 }
+    requires all { all.relevant + all.unjudged ≤ 25000000 }
+    requires within { first.relevant + first.unjudged ≤ all.relevant + all.unjudged }
+    ensures { (k : ℕ) (marks : List M) (a b : List ℕ) → AreCounts k marks a b first second all → result ≡ exact_least (R k) marks a b }
+{
+    let relevant = relevant_documents(first, second, all);
+    let lead = first.least() - second.most();
+    span_of(i128::from(lead), i128::from(relevant), UNIT)
+}
+
+/// Whether the first run has more relevant documents among its first k than the second, where of the
+/// unjudged ones exactly those are relevant that the second run alone has there.
+fn leads(k: u32, a: &Ranking, b: &Ranking, marks: &[Mark]) -> bool
+    requires { AreMet marks.now a.now b.now }
+    ensures { result ≡ nat_lt (true_among (with_picked marks.now (only_second k a.now b.now)) k b.now) (true_among (with_picked marks.now (only_second k a.now b.now)) k a.now) }
+{
+    let first = own_documents(k, a, b, marks);
+    let second = own_documents(k, b, a, marks);
+    second.relevant + second.unjudged < first.relevant
+}
+
+/// Whether the least case makes an unjudged document relevant.
+fn is_picked(leads: bool, k: u32, a: &Ranking, b: &Ranking, doc: u32) -> bool
+    ensures { result ≡ picked_where leads k a.now b.now doc }
+{
+    let in_first = is_among_first(k, a, doc);
+    let in_second = is_among_first(k, b, doc);
+    if in_first {
+        leads && in_second
+    } else {
+        leads || in_second
+    }
+}
+
+/// Whether each document is relevant in that case.
+fn values(
+    alloc: Global,
+    leads: bool,
+    k: u32,
+    a: &Ranking,
+    b: &Ranking,
+    marks: &[Mark],
+) -> Result<Vec<bool>, Memory>
+    requires { length marks.now ≤ 25000000 }
+    ensures { IfOk result (λ values. AreValues (with_picked marks.now (picked_where leads k a.now b.now)) (length marks.now) values.items) }
+{
+    let mut values = Vec::new(alloc);
+    for (place, mark) in marks.iter().enumerate() {
+        let value = match *mark {
+            Mark::Unjudged => is_picked(leads, k, a, b, place as u32),
+            Mark::Relevant => true,
+            Mark::Other => false,
+        };
+        if values.push(value).is_err() {
+            return Err(Memory);
+        }
+    }
+    Ok(values)
+}
+
+/// Whether each document is relevant in the least case of two runs.
+fn least_values(
+    alloc: Global,
+    k: u32,
+    a: &Ranking,
+    b: &Ranking,
+    marks: &[Mark],
+) -> Result<Vec<bool>, Memory>
+    requires { AreMet marks.now a.now b.now }
+    ensures { IfOk result (λ values. AreValues (with_picked marks.now (recall_pick k marks.now a.now b.now)) (length marks.now) values.items) }
+{
+    values(alloc, leads(k, a, b, marks), k, a, b, marks)
+}
+
+impl Measure for Recall {
+    ghost use Rattle.desk_model.specs.declared.types.MeasureName.TheVariants.{Recall as R};
+    ghost use Rattle.measure_core.specs.Numbers.{exact_cell, exact_bounds};
+    ghost use Rattle.recall.specs.Laws as laws;
+
+    ghost measured = { λ k. R k };
+
+    ghost cell_of = { λ k. exact_cell (R k) };
+
+    ghost bounds_of = { λ k. exact_bounds (R k) };
+
+    fn name(&self) -> MeasureName {
+        MeasureName::Recall(self.k)
+    }
+
+    fn unit(&self) -> i128 {
+        UNIT
+    }
+
+    fn cell<L: Ledger>(
+        &self,
+        a: &Ranking,
+        b: &Ranking,
+        marks: &[Mark],
+        steps: &mut Steps<L>,
+    ) -> Cell {
+        steps.tick();
+        let first = own_documents(self.k, a, b, marks);
+        let second = own_documents(self.k, b, a, marks);
+        let all = all_documents(marks);
+        Cell {
+            least: least_span(first, second, all),
+            most: least_span(second, first, all).negate(),
+        }
+    }
+
+    fn bounds(&self, a: &Ranking, marks: &[Mark]) -> Span {
+        let front = front_documents(self.k, a, marks);
+        let all = all_documents(marks);
+        Span {
+            lo: least_span(front, Counts::NONE, all).lo,
+            hi: least_span(Counts::NONE, front, all).negate().hi,
+        }
+    }
+
+    fn least_case(
+        &self,
+        alloc: Global,
+        a: &Ranking,
+        b: &Ranking,
+        marks: &[Mark],
+    ) -> Result<Vec<bool>, Memory> {
+        least_values(alloc, self.k, a, b, marks)
+    }
+
+    fn most_case(
+        &self,
+        alloc: Global,
+        a: &Ranking,
+        b: &Ranking,
+        marks: &[Mark],
+    ) -> Result<Vec<bool>, Memory> {
+        least_values(alloc, self.k, b, a, marks)
+    }
+
+    fn weight(&self, a: &Ranking, b: &Ranking, _marks: &[Mark], doc: u32) -> u128 {
+        let one_alone = is_among_first(self.k, a, doc) != is_among_first(self.k, b, doc);
+        u128::from(one_alone)
+    }
+
+    ghost laws = { laws.laws };
+}
