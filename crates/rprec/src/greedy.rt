@@ -15,8 +15,8 @@ pub struct Candidate {
     pub second: u32,
 }
 
-/// The greedy choice of some of the unjudged documents: the second run's own ones come first, and the
-/// first run's own ones last.
+/// The greedy choice of some of the unjudged documents: the second run's own ones come first, and
+/// the first run's own ones last.
 fn greedy_choice(fronts: Fronts, chosen: u32, all: Counts) -> Candidate
     requires first { fronts.first.relevant + fronts.first.unjudged ≤ 10000 }
     requires second { fronts.second.relevant + fronts.second.unjudged ≤ 10000 }
@@ -77,8 +77,8 @@ fn fronts_at(
     fronts
 }
 
-/// The smallest number of relevant documents with the least difference, and what that gives, for the
-/// first documents that each run shows. No number of relevant documents is left out.
+/// The smallest number of relevant documents with the least difference, and what that gives, for
+/// the first documents that each run shows. No number of relevant documents is left out.
 pub fn least(
     a: &Ranking,
     a_shown: u32,
