@@ -11,28 +11,33 @@ use Rattle.measure_core.specs.Numbers.{exact_cell, exact_bounds}
 use Rattle.precision.specs.Laws as precision
 use Rattle.recall.specs.Laws as recall
 use Rattle.recip_rank.specs.Laws as recip_rank
+use Rattle.rprec.specs.Laws as rprec
 use Rattle.any_measure.specs.declared.any.AnyMeasure.{AnyMeasure}
-use Rattle.any_measure.specs.declared.any.AnyMeasure.TheVariants.{Precision, Recall, Reciprocal}
+use Rattle.any_measure.specs.declared.any.AnyMeasure.TheVariants.{Precision, Recall, RPrecision, Reciprocal}
 
 -- the name that the measure is of
 abbrev pub measured_by : AnyMeasure → MeasureName
 measured_by (Precision k) = name.Precision k
 measured_by (Recall k) = name.Recall k
+measured_by (RPrecision r) = name.RPrecision
 measured_by (Reciprocal r) = name.Reciprocal
 
 -- what its cells are
 abbrev pub cell_by : AnyMeasure → List Mark → List ℕ → List ℕ → Cell
 cell_by (Precision k) = exact_cell (name.Precision k)
 cell_by (Recall k) = exact_cell (name.Recall k)
+cell_by (RPrecision r) = exact_cell name.RPrecision
 cell_by (Reciprocal r) = exact_cell name.Reciprocal
 
 -- what its bounds are
 abbrev pub bounds_by : AnyMeasure → List Mark → List ℕ → Span
 bounds_by (Precision k) = exact_bounds (name.Precision k)
 bounds_by (Recall k) = exact_bounds (name.Recall k)
+bounds_by (RPrecision r) = exact_bounds name.RPrecision
 bounds_by (Reciprocal r) = exact_bounds name.Reciprocal
 
 pub laws : (m : AnyMeasure) → IsMeasure (measured_by m) → MeetsLaws (measured_by m) (cell_by m) (bounds_by m)
 laws (Precision k) valid = precision.laws k valid
 laws (Recall k) valid = recall.laws k valid
+laws (RPrecision r) valid = rprec.laws
 laws (Reciprocal r) valid = recip_rank.laws

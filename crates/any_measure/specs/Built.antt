@@ -6,6 +6,6 @@ use Rattle.desk_model.specs.declared.types.MeasureName.TheVariants.{Precision, R
 abbrev pub IsBuilt : MeasureName → Type 0
 IsBuilt (Precision k) = Unit {0}
 IsBuilt (Recall k) = Unit {0}
-IsBuilt RPrecision = ⊥
+IsBuilt RPrecision = Unit {0}
 IsBuilt Reciprocal = Unit {0}
 IsBuilt (Biased top bottom) = ⊥

@@ -8,6 +8,7 @@ use desk_model::{MeasureName, Memory};
 use precision::Precision;
 use recall::Recall;
 use recip_rank::RecipRank;
+use rprec::RPrecision;
 use std::alloc::Global;
 
 /// One of the measures that are built.
@@ -17,6 +18,8 @@ pub enum AnyMeasure {
     Precision(Precision),
     /// `recall_k`.
     Recall(Recall),
+    /// `Rprec`.
+    RPrecision(RPrecision),
     /// `recip_rank`.
     Reciprocal(RecipRank),
 }
@@ -27,8 +30,11 @@ pub fn is_built(name: &MeasureName) -> bool
     ensures no { result ≡ false → IsBuilt name.now → ⊥ }
 {
     match name {
-        MeasureName::Precision(_) | MeasureName::Recall(_) | MeasureName::Reciprocal => true,
-        MeasureName::RPrecision | MeasureName::Biased { .. } => false,
+        MeasureName::Precision(_)
+        | MeasureName::Recall(_)
+        | MeasureName::RPrecision
+        | MeasureName::Reciprocal => true,
+        MeasureName::Biased { .. } => false,
     }
 }
 
@@ -43,8 +49,9 @@ impl AnyMeasure {
         match name {
             MeasureName::Precision(k) => Ok(AnyMeasure::Precision(Precision::new(k))),
             MeasureName::Recall(k) => Ok(AnyMeasure::Recall(Recall::new(k))),
+            MeasureName::RPrecision => Ok(AnyMeasure::RPrecision(RPrecision::new())),
             MeasureName::Reciprocal => Ok(AnyMeasure::Reciprocal(RecipRank::new())),
-            MeasureName::RPrecision | MeasureName::Biased { .. } => { unreachable!() }
+            MeasureName::Biased { .. } => unreachable!(),
         }
     }
 }

@@ -18,6 +18,7 @@ impl Measure for AnyMeasure {
         match self {
             AnyMeasure::Precision(m) => m.name(),
             AnyMeasure::Recall(m) => m.name(),
+            AnyMeasure::RPrecision(m) => m.name(),
             AnyMeasure::Reciprocal(m) => m.name(),
         }
     }
@@ -26,6 +27,7 @@ impl Measure for AnyMeasure {
         match self {
             AnyMeasure::Precision(m) => m.unit(),
             AnyMeasure::Recall(m) => m.unit(),
+            AnyMeasure::RPrecision(m) => m.unit(),
             AnyMeasure::Reciprocal(m) => m.unit(),
         }
     }
@@ -40,6 +42,7 @@ impl Measure for AnyMeasure {
         match self {
             AnyMeasure::Precision(m) => m.cell(a, b, marks, steps),
             AnyMeasure::Recall(m) => m.cell(a, b, marks, steps),
+            AnyMeasure::RPrecision(m) => m.cell(a, b, marks, steps),
             AnyMeasure::Reciprocal(m) => m.cell(a, b, marks, steps),
         }
     }
@@ -48,6 +51,7 @@ impl Measure for AnyMeasure {
         match self {
             AnyMeasure::Precision(m) => m.bounds(a, marks),
             AnyMeasure::Recall(m) => m.bounds(a, marks),
+            AnyMeasure::RPrecision(m) => m.bounds(a, marks),
             AnyMeasure::Reciprocal(m) => m.bounds(a, marks),
         }
     }
@@ -62,6 +66,7 @@ impl Measure for AnyMeasure {
         match self {
             AnyMeasure::Precision(m) => m.least_case(alloc, a, b, marks),
             AnyMeasure::Recall(m) => m.least_case(alloc, a, b, marks),
+            AnyMeasure::RPrecision(m) => m.least_case(alloc, a, b, marks),
             AnyMeasure::Reciprocal(m) => m.least_case(alloc, a, b, marks),
         }
     }
@@ -76,6 +81,7 @@ impl Measure for AnyMeasure {
         match self {
             AnyMeasure::Precision(m) => m.most_case(alloc, a, b, marks),
             AnyMeasure::Recall(m) => m.most_case(alloc, a, b, marks),
+            AnyMeasure::RPrecision(m) => m.most_case(alloc, a, b, marks),
             AnyMeasure::Reciprocal(m) => m.most_case(alloc, a, b, marks),
         }
     }
@@ -84,6 +90,7 @@ impl Measure for AnyMeasure {
         match self {
             AnyMeasure::Precision(m) => m.weight(a, b, marks, doc),
             AnyMeasure::Recall(m) => m.weight(a, b, marks, doc),
+            AnyMeasure::RPrecision(m) => m.weight(a, b, marks, doc),
             AnyMeasure::Reciprocal(m) => m.weight(a, b, marks, doc),
         }
     }

@@ -123,6 +123,35 @@ fn recall_by_hand(rt: HostRuntime) -> Result<(), Fail> {
 }
 
 #[test]
+fn r_precision_by_hand(rt: HostRuntime) -> Result<(), Fail> {
+    let alloc = rt.alloc();
+    let a = two(alloc, 0, 2, 3)?;
+    let b = two(alloc, 1, 2, 3)?;
+    let marks: &[Mark] = &[U, U, O];
+    let measure = Common.make(alloc, MeasureName::RPrecision)?;
+    assert_eq!(rt; measure.unit(), WHOLE);
+    let want = Cell {
+        least: span(-WHOLE, -WHOLE),
+        most: span(WHOLE, WHOLE),
+    };
+    assert_eq!(rt;
+        cell_once::<Brand>(&measure, &a, &b, marks, Blank::new(1)),
+        want
+    );
+    assert_eq!(rt; measure.bounds(&a, marks), span(0, WHOLE));
+    assert_eq!(rt; measure.weight(&a, &b, marks, 0), 1);
+    assert_eq!(rt; measure.weight(&a, &b, marks, 2), 0);
+    cases(
+        &rt,
+        alloc,
+        &measure,
+        (&a, &b),
+        marks,
+        (&[false, true, false], &[true, false, false]),
+    )
+}
+
+#[test]
 fn reciprocal_rank_by_hand(rt: HostRuntime) -> Result<(), Fail> {
     let alloc = rt.alloc();
     let a = two(alloc, 1, 0, 2)?;

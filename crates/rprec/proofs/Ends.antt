@@ -1,0 +1,76 @@
+-- The numbers of R-precision, from the least candidate.
+use Rattle.std.proofs.Common.{◌≡◌, ℕ, ◌+◌, ◌^◌, ◌≤◌, max, true, false, List, [], length, take, ℤ, pos, neg_ℤ, ◌*ℤ◌, ◌-ℤ◌, arith, ap, ◌∙◌, sym, subst}
+use Rattle.std.proofs.lemmas.Grind.{common_steps}
+use Rattle.desk_model.specs.Completion.{with_picked}
+use Rattle.desk_model.specs.Fraction.{over}
+use Rattle.desk_model.specs.Ranking.{IsRanking}
+use Rattle.desk_model.specs.Score.{true_among, true_count}
+use Rattle.desk_model.specs.declared.types.Mark.{Mark}
+use Rattle.desk_model.specs.declared.types.MeasureName.TheVariants.{RPrecision}
+use Rattle.measure_laws.specs.Classes.{open_in, size_of, judged_count}
+use Rattle.measure_laws.specs.RprecCase.{greedy_truth, rprec_truth, rprec_count}
+use Rattle.measure_laws.proofs.RecallEnds.{over-max}
+use Rattle.measure_laws.proofs.RprecEnds.{greedy_is}
+use Rattle.fractions.specs.Ends.{IsFloor, IsCeiling, IsShort}
+use Rattle.fractions.specs.Numbers.{difference_span}
+use Rattle.fractions.specs.declared.span.Span.{Span}
+use Rattle.fractions.proofs.Spans.{span, span_same}
+use Rattle.measure_core.specs.Laws.{AreMet}
+use Rattle.measure_core.specs.Numbers.{exact_least, exact_cell, exact_bounds}
+use Rattle.measure_core.proofs.Exact.{exact_laws, modest_short}
+use Rattle.precision.specs.declared.counts.Counts.{Counts}
+use Rattle.precision.proofs.Ends.{cell}
+use Rattle.recall.proofs.Ratio.{out_of, ratio_read}
+use Rattle.rprec.specs.declared.greedy.Candidate.{Candidate}
+use Rattle.rprec.specs.Greedy.{AreTopic, IsLeast}
+use Rattle.rprec.proofs.Steps.{IsRanking-take}
+use Rattle.rprec.proofs.Choices.{among_few, all_open}
+
+pub least_is : (marks : List Mark) (a b : List ℕ) (c : Candidate) (num den : ℤ) (s : Span) → IsLeast marks a b c → num ≡ pos c.first -ℤ pos c.second → den ≡ pos (max 1 c.count) →
+    IsFloor (pos (10 ^ 18) *ℤ num) den s.lo → IsCeiling (pos (10 ^ 18) *ℤ num) den s.hi → s ≡ exact_least RPrecision marks a b
+unfolding exact_least
+least_is marks a b c num den s h en ed floor ceiling =
+    let truth = rprec_truth marks a b in
+    let r = c.count in
+    let lead : true_among truth r a + c.second ≡ true_among truth r b + c.first = subst (λ (t : ℕ). true_among (greedy_truth marks a b t) r a + c.second ≡ true_among (greedy_truth marks a b t) r b + c.first) h.chosen h.gains.same in
+    let total : true_count truth (length marks) ≡ r =
+    (greedy_is marks a b (rprec_count marks a b) (subst (λ (t : ℕ). judged_count marks ≤ t) h.chosen h.low) (subst (λ (t : ℕ). t ≤ judged_count marks + size_of (length marks) (open_in marks (λ _. true))) h.chosen h.high)).total ∙ sym h.chosen in
+    let here : s ≡ difference_span (10 ^ 18) (over (true_among truth r a) r) (over (true_among truth r b) r) =
+    ratio_read (10 ^ 18) (true_among truth r a) (true_among truth r b) (max 1 r) c.first c.second num den s (omega arith) lead en ed floor ceiling
+    ∙ ap (λ f. difference_span (10 ^ 18) f (out_of (true_among truth r b) (max 1 r))) (sym (over-max (true_among truth r a) r (among_few truth r a)))
+    ∙ ap (λ f. difference_span (10 ^ 18) (over (true_among truth r a) r) f) (sym (over-max (true_among truth r b) r (among_few truth r b))) in
+    subst (λ (t : ℕ). s ≡ difference_span (10 ^ 18) (over (true_among truth t a) t) (over (true_among truth t b) t)) (sym total) here
+
+pub least_short : (marks : List Mark) (a b : List ℕ) (s : Span) → AreMet marks a b → s ≡ exact_least RPrecision marks a b → IsShort s
+least_short marks a b s met e = subst IsShort (sym e) (modest_short (exact_least RPrecision marks a b) ((exact_laws RPrecision tt tt).cell_modest marks a b met).least)
+
+-- runs that show some of their documents
+pub shown_met : (marks : List Mark) (a b : List ℕ) (m n : ℕ) → AreMet marks a b → AreMet marks (take m a) (take n b)
+shown_met marks a b m n h = record { first = IsRanking-take (length marks) m a h.first; second = IsRanking-take (length marks) n b h.second; small = h.small }
+
+whole : (xs : List ℕ) (i : ℕ) → length xs ≤ i → take i xs ≡ xs
+whole xs i h = grind (arith, common_steps)
+
+pub all_shown : (n : ℕ) (a : List ℕ) → IsRanking n a → take 10000 a ≡ a
+all_shown n a r = whole a 10000 r.short
+
+-- ---- the numbers that they give
+pub cell_is : (marks : List Mark) (a b : List ℕ) (s t turned : Span) → IsRanking (length marks) a → IsRanking (length marks) b → s ≡ exact_least RPrecision marks (take 10000 a) (take 10000 b) → t ≡ exact_least RPrecision marks (take 10000 b) (take 10000 a) →
+    turned.lo ≡ neg_ℤ t.hi → turned.hi ≡ neg_ℤ t.lo → cell s turned ≡ exact_cell RPrecision marks a b
+cell_is marks a b s t turned ra rb es et el eh =
+    let other = exact_least RPrecision marks b a in
+    let first : s ≡ exact_least RPrecision marks a b = es ∙ ap (λ x. exact_least RPrecision marks x (take 10000 b)) (all_shown (length marks) a ra) ∙ ap (λ x. exact_least RPrecision marks a x) (all_shown (length marks) b rb) in
+    let second : t ≡ other = et ∙ ap (λ x. exact_least RPrecision marks x (take 10000 a)) (all_shown (length marks) b rb) ∙ ap (λ x. exact_least RPrecision marks b x) (all_shown (length marks) a ra) in
+    ap (λ (x : Span). cell x turned) first
+    ∙ ap (λ (x : Span). cell (exact_least RPrecision marks a b) x) (span_same turned.lo (neg_ℤ other.hi) turned.hi (neg_ℤ other.lo) (el ∙ ap (λ (x : Span). neg_ℤ x.hi) second) (eh ∙ ap (λ (x : Span). neg_ℤ x.lo) second))
+
+pub bounds_is : (marks : List Mark) (a : List ℕ) (s t : Span) (lo hi : ℤ) → IsRanking (length marks) a → s ≡ exact_least RPrecision marks (take 10000 a) (take 0 a) → t ≡ exact_least RPrecision marks (take 0 a) (take 10000 a) →
+    lo ≡ s.lo → hi ≡ neg_ℤ t.lo → span lo hi ≡ exact_bounds RPrecision marks a
+bounds_is marks a s t lo hi ra es et el eh =
+    let first : s ≡ exact_least RPrecision marks a [] = es ∙ ap (λ x. exact_least RPrecision marks x []) (all_shown (length marks) a ra) in
+    let second : t ≡ exact_least RPrecision marks [] a = et ∙ ap (λ x. exact_least RPrecision marks [] x) (all_shown (length marks) a ra) in
+    span_same lo (exact_least RPrecision marks a []).lo hi (neg_ℤ (exact_least RPrecision marks [] a).lo) (el ∙ ap (λ (x : Span). x.lo) first) (eh ∙ ap (λ (x : Span). neg_ℤ x.lo) second)
+
+-- the counts of all documents
+pub topic_is : (marks : List Mark) (all : Counts) → all.relevant ≡ true_count (with_picked marks (λ _. false)) (length marks) → all.relevant + all.unjudged ≡ true_count (with_picked marks (λ _. true)) (length marks) → AreTopic marks all
+topic_is marks all e f = record { relevant = e; unjudged = omega (arith, e, f, all_open marks) }

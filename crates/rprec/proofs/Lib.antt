@@ -1,0 +1,4 @@
+pub mod Steps
+pub mod Choices
+pub mod Ends
+pub mod Walks

@@ -1,0 +1,129 @@
+-- What one more document changes in the counts of two lists.
+use Rattle.std.proofs.Common.{◌≡◌, ℕ, ◌+◌, ◌<◌, ◌≤◌, Bool, true, false, not, ◌&&◌, nat_eq, List, [], ◌∷◌, ◌++◌, length, take, get_or, count_by, arith, refl, ap, ◌∙◌, sym}
+use Rattle.std.specs.List.{IsDistinct}
+use Rattle.std.proofs.lemmas.Grind.{common_steps}
+use Rattle.std.proofs.lemmas.List.{take_more, get_or-take, length-take}
+use Rattle.std.proofs.lemmas.List.Sums.{sum_by_push, count_by-le-length}
+use Rattle.std.proofs.lemmas.List.Elements.{All-take}
+use Rattle.desk_model.specs.Mark.{mark_at}
+use Rattle.desk_model.specs.Classes.{only_count}
+use Rattle.desk_model.specs.Completion.{picked_value, with_picked}
+use Rattle.desk_model.specs.Ranking.{IsRanking, is_in}
+use Rattle.desk_model.specs.declared.types.Mark.{Mark}
+use Rattle.desk_model.specs.declared.types.Mark.TheVariants.{Unjudged, Relevant, Other}
+use Rattle.desk_model.proofs.Counts.{one_if, count_by-weaker, IsDistinct-take}
+use Rattle.desk_model.proofs.PrecisionEnds.{difference_outside}
+use Rattle.measure_laws.proofs.RecallEnds.{every}
+use Rattle.precision.specs.declared.counts.Counts.{Counts}
+use Rattle.rprec.specs.declared.fronts.Fronts.{Fronts}
+use Rattle.rprec.specs.Greedy.{AreFronts, one_of}
+
+-- ---- lists
+whole : (xs : List ℕ) (i : ℕ) → length xs ≤ i → take i xs ≡ xs
+whole xs i h = grind (arith, common_steps)
+
+-- no document is left
+pub past : (place : ℕ) (xs : List ℕ) → length xs ≤ place → take (place + 1) xs ≡ take place xs
+past place xs h = whole xs (place + 1) (omega (arith, h)) ∙ sym (whole xs place h)
+
+pub past_shown : (place shown : ℕ) (a : List ℕ) → shown ≤ place → length (take shown a) ≤ place
+past_shown place shown a h = omega (arith, length-take {A = ℕ} shown a)
+
+pub past_end : (place shown : ℕ) (a : List ℕ) → length a ≤ place → length (take shown a) ≤ place
+past_end place shown a h = omega (arith, length-take {A = ℕ} shown a)
+
+-- the next document
+pub next_taken : (place shown : ℕ) (a : List ℕ) → place < shown → place < length a → take (place + 1) (take shown a) ≡ take place (take shown a) ++ get_or a place 0 ∷ []
+next_taken place shown a h k =
+    take_more (take shown a) place 0 (omega (arith, h, k, length-take {A = ℕ} shown a)) ∙ ap (λ x. take place (take shown a) ++ x ∷ []) (get_or-take shown a place 0 h)
+
+pub IsRanking-take : (n shown : ℕ) (a : List ℕ) → IsRanking n a → IsRanking n (take shown a)
+IsRanking-take n shown a r = record {
+  distinct = IsDistinct-take shown a r.distinct;
+  within = All-take (λ d. d < n) shown a r.within;
+  short = omega (arith, r.short, length-take {A = ℕ} shown a);
+}
+
+-- ---- counts
+with_true : (b : Bool) → one_if (b && not false) ≡ one_if b
+with_true true = refl
+with_true false = refl
+
+with_false : (b : Bool) → one_if (b && not true) ≡ 0
+with_false true = refl
+with_false false = refl
+
+own_more : (q : ℕ → Bool) (xs longer : List ℕ) (x : ℕ) → longer ≡ xs ++ x ∷ [] → count_by q longer ≡ count_by q xs + one_if (q x)
+own_more q xs longer x e = ap (count_by q) e ∙ sum_by_push (λ d. one_if (q d)) xs x
+
+-- the counts of the list with one more document, and of the other list
+own_next : (taken : Bool) (marks : List Mark) (xs longer ys : List ℕ) (x : ℕ) (v : Bool) → longer ≡ xs ++ x ∷ [] → is_in ys x ≡ v →
+    only_count taken marks longer ys ≡ only_count taken marks xs ys + one_if (picked_value taken (mark_at marks x) && not v)
+own_next taken marks xs longer ys x v e f =
+    own_more (λ d. with_picked marks (λ _. taken) d && not (is_in ys d)) xs longer x e ∙ ap (λ b. only_count taken marks xs ys + one_if (picked_value taken (mark_at marks x) && not b)) f
+
+other_next : (taken : Bool) (marks : List Mark) (xs longer ys : List ℕ) (x : ℕ) (v : Bool) → longer ≡ xs ++ x ∷ [] → is_in ys x ≡ v → IsDistinct nat_eq xs → IsDistinct nat_eq longer → IsDistinct nat_eq ys →
+    only_count taken marks ys longer + one_if (picked_value taken (mark_at marks x)) ≡ only_count taken marks ys xs + one_if (picked_value taken (mark_at marks x) && not v)
+other_next taken marks xs longer ys x v e f dx dl dy =
+    let p = with_picked marks (λ _. taken) in
+    omega (arith, difference_outside p xs ys dx dy, difference_outside p longer ys dl dy, own_more p xs longer x e, own_next taken marks xs longer ys x v e f)
+
+-- those that are relevant are among those that can be
+fewer_relevant : (marks : List Mark) (xs ys : List ℕ) → only_count false marks xs ys ≤ only_count true marks xs ys
+fewer_relevant marks xs ys = count_by-weaker _ _ xs (every _ (λ d. weaker_value (mark_at marks d) (not (is_in ys d))) xs)
+  where
+    weaker_value : (m : Mark) (e : Bool) → (picked_value false m && e) ≡ true → (picked_value true m && e) ≡ true
+    weaker_value Unjudged e h = absurd (cc)
+    weaker_value Relevant e h = h
+    weaker_value Other e h = absurd (cc)
+
+abbrev pub exchanged : Fronts → Fronts
+exchanged f = record { first = f.second; second = f.first }
+
+pub fronts_exchanged : (marks : List Mark) (xs ys : List ℕ) (f g : Fronts) → AreFronts marks xs ys f → g.first ≡ f.second → g.second ≡ f.first → AreFronts marks ys xs g
+fronts_exchanged marks xs ys f g h e k = record {
+  first = record { least = ap (λ (c : Counts). c.relevant) e ∙ h.second.least; most = ap (λ (c : Counts). c.relevant + c.unjudged) e ∙ h.second.most };
+  second = record { least = ap (λ (c : Counts). c.relevant) k ∙ h.first.least; most = ap (λ (c : Counts). c.relevant + c.unjudged) k ∙ h.first.most };
+}
+
+-- a document that the other list has not
+pub fronts_alone : (marks : List Mark) (xs longer ys : List ℕ) (x : ℕ) (f g : Fronts) → longer ≡ xs ++ x ∷ [] → is_in ys x ≡ false → IsDistinct nat_eq xs → IsDistinct nat_eq longer → IsDistinct nat_eq ys → AreFronts marks xs ys f →
+    g.first.relevant ≡ f.first.relevant + one_of false (mark_at marks x) → g.first.relevant + g.first.unjudged ≡ f.first.relevant + f.first.unjudged + one_of true (mark_at marks x) → g.second ≡ f.second → AreFronts marks longer ys g
+fronts_alone marks xs longer ys x f g e v dx dl dy h er eu es = record {
+  first = record {
+    least = omega (arith, er, h.first.least, own_next false marks xs longer ys x false e v, with_true (picked_value false (mark_at marks x)));
+    most = omega (arith, eu, h.first.most, own_next true marks xs longer ys x false e v, with_true (picked_value true (mark_at marks x)));
+  };
+  second = record {
+    least = omega (arith, ap (λ (c : Counts). c.relevant) es, h.second.least, other_next false marks xs longer ys x false e v dx dl dy, with_true (picked_value false (mark_at marks x)));
+    most = omega (arith, ap (λ (c : Counts). c.relevant + c.unjudged) es, h.second.most, other_next true marks xs longer ys x false e v dx dl dy, with_true (picked_value true (mark_at marks x)));
+  };
+}
+
+-- a document that it has
+pub fronts_shared : (marks : List Mark) (xs longer ys : List ℕ) (x : ℕ) (f g : Fronts) → longer ≡ xs ++ x ∷ [] → is_in ys x ≡ true → IsDistinct nat_eq xs → IsDistinct nat_eq longer → IsDistinct nat_eq ys → AreFronts marks xs ys f →
+    g.second.relevant + one_of false (mark_at marks x) ≡ f.second.relevant → g.second.relevant + g.second.unjudged + one_of true (mark_at marks x) ≡ f.second.relevant + f.second.unjudged → g.first ≡ f.first → AreFronts marks longer ys g
+fronts_shared marks xs longer ys x f g e v dx dl dy h er eu es = record {
+  first = record {
+    least = omega (arith, ap (λ (c : Counts). c.relevant) es, h.first.least, own_next false marks xs longer ys x true e v, with_false (picked_value false (mark_at marks x)));
+    most = omega (arith, ap (λ (c : Counts). c.relevant + c.unjudged) es, h.first.most, own_next true marks xs longer ys x true e v, with_false (picked_value true (mark_at marks x)));
+  };
+  second = record {
+    least = omega (arith, er, h.second.least, other_next false marks xs longer ys x true e v dx dl dy, with_false (picked_value false (mark_at marks x)));
+    most = omega (arith, eu, h.second.most, other_next true marks xs longer ys x true e v dx dl dy, with_false (picked_value true (mark_at marks x)));
+  };
+}
+
+-- where it has, there is such a one to take away
+pub some_relevant : (marks : List Mark) (xs longer ys : List ℕ) (x : ℕ) (f : Fronts) → longer ≡ xs ++ x ∷ [] → is_in ys x ≡ true → IsDistinct nat_eq xs → IsDistinct nat_eq longer → IsDistinct nat_eq ys → AreFronts marks xs ys f →
+    one_of false (mark_at marks x) ≤ f.second.relevant
+some_relevant marks xs longer ys x f e v dx dl dy h = omega (arith, h.second.least, other_next false marks xs longer ys x true e v dx dl dy, with_false (picked_value false (mark_at marks x)))
+
+pub some_unjudged : (marks : List Mark) (xs longer ys : List ℕ) (x : ℕ) (f : Fronts) → longer ≡ xs ++ x ∷ [] → is_in ys x ≡ true → IsDistinct nat_eq xs → IsDistinct nat_eq longer → IsDistinct nat_eq ys → AreFronts marks xs ys f →
+    one_of true (mark_at marks x) ≤ one_of false (mark_at marks x) + f.second.unjudged
+some_unjudged marks xs longer ys x f e v dx dl dy h =
+    omega (arith, h.second.least, h.second.most, fewer_relevant marks ys longer, other_next false marks xs longer ys x true e v dx dl dy, with_false (picked_value false (mark_at marks x)), other_next true marks xs longer ys x true e v dx dl dy, with_false (picked_value true (mark_at marks x)))
+
+-- a list holds few
+pub own_few : (marks : List Mark) (xs ys : List ℕ) (f : Fronts) → AreFronts marks xs ys f → f.first.relevant + f.first.unjudged ≤ length xs
+own_few marks xs ys f h = omega (arith, h.first.most, count_by-le-length (λ d. with_picked marks (λ _. true) d && not (is_in ys d)) xs)

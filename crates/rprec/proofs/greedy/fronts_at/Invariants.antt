@@ -1,0 +1,6 @@
+use Rattle.std.proofs.Common.{take}
+use Rattle.rprec.specs.Greedy.{AreFronts}
+use Rattle.rprec.proofs.greedy.fronts_at.Given as goal
+
+abbrev pub invariant-loop-place : goal.invariant-loop-place
+invariant-loop-place l = AreFronts l.marks (take l.place (take l.a_shown l.a)) (take l.place (take l.b_shown l.b)) l.fronts

@@ -1,0 +1,37 @@
+-- The greedy choices of R-precision in counts of documents.
+use Rattle.std.specs.Prelude.{◌≡◌, ℕ, ◌+◌, ◌≤◌, Bool, true, false, if◌then◌else◌, List, length}
+use Rattle.desk_model.specs.Classes.{only_count}
+use Rattle.desk_model.specs.Completion.{picked_value}
+use Rattle.desk_model.specs.Score.{true_among}
+use Rattle.desk_model.specs.declared.types.Mark.{Mark}
+use Rattle.measure_laws.specs.Classes.{open_in, size_of, judged_count}
+use Rattle.measure_laws.specs.RprecCase.{greedy_truth, rprec_count}
+use Rattle.precision.specs.declared.counts.Counts.{Counts}
+use Rattle.recall.specs.LeastCase.{AreCountsOf}
+use Rattle.rprec.specs.declared.fronts.Fronts.{Fronts}
+use Rattle.rprec.specs.declared.greedy.Candidate.{Candidate}
+
+-- one for a mark that is relevant, or that can be
+abbrev pub one_of : Bool → Mark → ℕ
+one_of taken mark = if picked_value taken mark then 1 else 0
+
+-- the counts of the documents that each of two lists alone has
+pub record AreFronts (marks : List Mark) (xs ys : List ℕ) (fronts : Fronts) : Type 0 where
+  pub first : AreCountsOf (only_count false marks xs ys) (only_count true marks xs ys) fronts.first
+  pub second : AreCountsOf (only_count false marks ys xs) (only_count true marks ys xs) fronts.second
+
+-- the counts of all documents of a topic
+pub record AreTopic (marks : List Mark) (all : Counts) : Type 0 where
+  pub relevant : all.relevant ≡ judged_count marks
+  pub unjudged : all.unjudged ≡ size_of (length marks) (open_in marks (λ _. true))
+
+-- the first run's own relevant documents and the second's, less those in both, where a number of relevant documents is chosen greedily
+pub record AreGains (marks : List Mark) (a b : List ℕ) (c : Candidate) : Type 0 where
+  pub same : true_among (greedy_truth marks a b c.count) c.count a + c.second ≡ true_among (greedy_truth marks a b c.count) c.count b + c.first
+
+-- it is the smallest number of relevant documents with the least difference, one that the topic can have
+pub record IsLeast (marks : List Mark) (a b : List ℕ) (c : Candidate) : Type 0 where
+  pub gains : AreGains marks a b c
+  pub chosen : c.count ≡ rprec_count marks a b
+  pub low : judged_count marks ≤ c.count
+  pub high : c.count ≤ judged_count marks + size_of (length marks) (open_in marks (λ _. true))

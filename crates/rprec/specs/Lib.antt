@@ -1,0 +1,3 @@
+pub mod Greedy
+pub mod Picks
+pub mod Laws

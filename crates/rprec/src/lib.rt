@@ -1,0 +1,10 @@
+//! The measure `Rprec` of trec_eval: the relevant documents among the first R of a ranking, out of
+//! R, where R is the number of relevant documents of the topic.
+#![tactic(auto)]
+
+pub mod fronts;
+pub mod greedy;
+pub mod rprec;
+pub mod values;
+
+pub use rprec::RPrecision;
