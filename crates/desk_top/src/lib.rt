@@ -12,3 +12,6 @@ mod top;
 
 pub use stop::{Refusal, Stop};
 pub use top::run_desk;
+
+#[cfg(test)]
+mod tests;

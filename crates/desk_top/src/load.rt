@@ -30,7 +30,11 @@ fn stop_of<'a>(path: &'a str, fault: FileFault) -> Stop<'a>
 }
 
 /// The rows of the qrels file.
-pub fn load_qrels<'a, F: Shelf>(alloc: Global, files: &mut F, path: &'a str) -> Result<Qrels, Stop<'a>>
+pub fn load_qrels<'a, F: Shelf>(
+    alloc: Global,
+    files: &mut F,
+    path: &'a str,
+) -> Result<Qrels, Stop<'a>>
     ensures gives { Gives (F.files files.old) (F.faults files.old) (F.faults files.new) (λ qrels. qrels) result (λ held. file_as qrels_of held path.now) }
     ensures files { F.files files.new ≡ F.files files.old }
     ensures later { F.faults files.old ≤ F.faults files.new }

@@ -13,5 +13,5 @@ loop-run-preserved c =
     let same : name.items ≡ get_or (run_names runs) i [] = c.in_ok-from_slice.ensures.items ∙ c.name.ensures.value ∙ ap (λ (r : Run). r.name) c.run-item.is ∙ sym (get_or-map (λ (r : Run). r.name) runs i c.run-item.result [] (omega arith)) in
     record {
       copied = ap (map items) c.in_ok-push.ensures.items ∙ map-append items c.loop-run.names.items (name ∷ []) ∙ ap (λ xs. xs ++ name.items ∷ []) c.loop-run.invariant.copied
-        ∙ ap (λ n. take i (run_names runs) ++ n ∷ []) same ∙ sym (take_more (run_names runs) i [] (omega (arith, length-map runs (λ (r : Run). r.name))));
+          ∙ ap (λ n. take i (run_names runs) ++ n ∷ []) same ∙ sym (take_more (run_names runs) i [] (omega (arith, length-map runs (λ (r : Run). r.name))));
     }

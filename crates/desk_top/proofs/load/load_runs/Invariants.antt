@@ -12,5 +12,5 @@ invariant-loop-word g l = record {
   within : IsWithin l.used;
   count : vec_len l.runs ≡ l.word-index;
   rows : l.used.rows ≡ rows_of l.runs.items;
-  left : Reaches (g.F.Shelf.files l.fn.files) l.qrels (used_by l.qrels) l.words l.used l.runs.items (drop l.word-index l.words)
+  left : Reaches (g.F.Shelf.files l.fn.files) l.qrels (used_by l.qrels) l.words l.used l.runs.items (drop l.word-index l.words);
 }

@@ -1,0 +1,87 @@
+// The top call over files in memory.
+ghost use Rattle.std.specs.Prelude.{◌≡◌, ◌<◌};
+
+use crate::run_desk;
+use any_measure::Common;
+use desk_outside::{MemShelf, MemSink, MemSource};
+use measure_core::Steps;
+use std::alloc::{AllocError, Global};
+use std::marker::Brand;
+use std::sync::ledger::{Blank, Ledger};
+use std::test::Fail;
+
+fn words(alloc: Global) -> Result<Vec<String>, AllocError> {
+    let mut all = Vec::new(alloc);
+    for word in ["table", "--qrels", "q", "--measure", "P_2", "a", "b"] {
+        all.push(String::from_str(alloc, word)?)?;
+    }
+    Ok(all)
+}
+
+fn shelf(alloc: Global, failing: &[u64]) -> Result<MemShelf, AllocError> {
+    let mut files = Vec::new(alloc);
+    files.push((
+        String::from_str(alloc, "q")?,
+        Vec::from_slice(alloc, b"401 0 d1 1\n401 0 d2 0\n")?,
+    ))?;
+    files.push((
+        String::from_str(alloc, "a")?,
+        Vec::from_slice(alloc, b"401 Q0 d1 1 9 A\n401 Q0 d3 2 8 A\n")?,
+    ))?;
+    files.push((
+        String::from_str(alloc, "b")?,
+        Vec::from_slice(alloc, b"401 Q0 d2 1 9 B\n401 Q0 d3 2 8 B\n")?,
+    ))?;
+    Ok(MemShelf::new(files, failing.to_vec(alloc)?))
+}
+
+fn status_of<L: Ledger>(
+    alloc: Global,
+    words: &[String],
+    files: &mut MemShelf,
+    out: &mut MemSink,
+    err: &mut MemSink,
+    blank: Blank,
+) -> u8
+    requires name { blank.name ≡ L.name }
+    requires parts { blank.parts ≡ L.parts }
+    requires some { 0 < blank.parts }
+{
+    let mut input = MemSource::new(Vec::new(alloc), 1, Vec::new(alloc));
+    let mut steps: Steps<L> = Steps::new(blank);
+    run_desk(
+        alloc, words, files, &mut input, out, err, &Common, &mut steps,
+    )
+}
+
+#[test]
+fn a_table_is_printed(rt: HostRuntime) -> Result<(), Fail> {
+    let alloc = rt.alloc();
+    let mut files = shelf(alloc, &[])?;
+    let mut out = MemSink::new(alloc, 1000, 3, Vec::new(alloc)).map_err(|_| AllocError)?;
+    let mut err = MemSink::new(alloc, 1000, 3, Vec::new(alloc)).map_err(|_| AllocError)?;
+    let words = words(alloc)?;
+    let status = status_of::<Brand>(alloc, &words, &mut files, &mut out, &mut err, Blank::new(1));
+    assert_eq!(rt; status, 0);
+    assert_eq!(rt;
+        out.received(),
+        b"measure P_2\nlevel 1\ntopics 1\nruns 2\nrun A 0.500000 1.000000\nrun B 0.000000 0.500000\npair A above B 0.500000 0.500000\n".as_slice()
+    );
+    assert_eq!(rt; err.received(), b"".as_slice());
+    Ok(())
+}
+
+#[test]
+fn an_output_that_fails_has_a_front(rt: HostRuntime) -> Result<(), Fail> {
+    let alloc = rt.alloc();
+    let mut files = shelf(alloc, &[])?;
+    let failing = [2u64].to_vec(alloc)?;
+    let mut out = MemSink::new(alloc, 1000, 1, failing).map_err(|_| AllocError)?;
+    let mut err = MemSink::new(alloc, 1000, 3, Vec::new(alloc)).map_err(|_| AllocError)?;
+    let words = words(alloc)?;
+    let status = status_of::<Brand>(alloc, &words, &mut files, &mut out, &mut err, Blank::new(1));
+    assert_eq!(rt; status, 3);
+    assert_eq!(rt; out.received(), b"me".as_slice());
+    assert_eq!(rt; err.received(), b"fault: outside\n".as_slice());
+    Ok(())
+}
