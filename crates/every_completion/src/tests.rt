@@ -1,12 +1,14 @@
 ghost use Rattle.std.specs.Prelude.{◌≡◌, ◌^◌, ◌<◌, ◌≤◌, length, IsTrue, IfOk};
 ghost use Rattle.desk_model.specs.Ranking.{IsRanking};
+ghost use Rattle.desk_model.specs.MeasureText.{IsMeasure};
 ghost use Rattle.measure_core.specs.Laws.{AreMet};
+ghost use Rattle.any_measure.specs.Built.{IsBuilt};
 ghost use Rattle.every_completion.specs.Walk.{LooksAtNoTail};
 
 use crate::{Ends, EndsFault, extremes};
+use any_measure::AnyMeasure;
 use desk_model::{Mark, MeasureName, Ranking};
 use measure_core::{Cell, Measure, Steps};
-use precision::Precision;
 use std::alloc::Global;
 use std::marker::Brand;
 use std::process::Abort;
@@ -158,7 +160,7 @@ fn other_measures_by_hand(rt: HostRuntime) -> Result<(), Fail> {
 }
 
 fn cell_once<L: Ledger>(
-    measure: &Precision,
+    measure: &AnyMeasure,
     first: &Ranking,
     second: &Ranking,
     marks: &[Mark],
@@ -173,42 +175,39 @@ fn cell_once<L: Ledger>(
     measure.cell(first, second, marks, &mut steps)
 }
 
-/// Compares precision with the walk, for a pair and for its first run alone.
-fn compare_precision(
+/// Compares a measure with the walk, for a pair and for its first run alone.
+fn compare(
     rt: &impl Abort,
     alloc: Global,
-    k: u32,
+    name: MeasureName,
+    unit: u64,
     runs: (&[u32], &[u32]),
     marks: &[Mark],
 ) -> Result<(), Fail>
-    requires positive { 1 ≤ k }
-    requires limited { k ≤ 10000 }
+    requires tail { LooksAtNoTail name }
+    requires measure { IsMeasure name }
+    requires built { IsBuilt name }
+    requires unit { unit ≤ 10 ^ 18 }
 {
     assert!(rt; marks.len() <= 100);
     let universe = marks.len() as u32;
     let first = ranking(rt, alloc, runs.0, universe)?;
     let second = ranking(rt, alloc, runs.1, universe)?;
-    let measure = Precision::new(k);
+    let measure = AnyMeasure::new(alloc, name)?;
     let cell = cell_once::<Brand>(&measure, &first, &second, marks, Blank::new(1));
-    let want = walked(rt, alloc, MeasureName::Precision(k), k as u64, runs, marks)?;
+    let want = walked(rt, alloc, name, unit, runs, marks)?;
     assert_eq!(rt;
         ends(cell.least.lo, cell.least.hi, cell.most.lo, cell.most.hi),
         want,
-        "P_{k} of {runs:?} under {marks:?}"
+        "{name:?} of {runs:?} under {marks:?}"
     );
     let bounds = measure.bounds(&first, marks);
-    let want = walked(
-        rt,
-        alloc,
-        MeasureName::Precision(k),
-        k as u64,
-        (runs.0, &[]),
-        marks,
-    )?;
+    let want = walked(rt, alloc, name, unit, (runs.0, &[]), marks)?;
+    let want = want.map(|ends| (ends.least_lo, ends.most_hi));
     assert_eq!(rt;
-        ends(bounds.lo, bounds.lo, bounds.hi, bounds.hi),
+        Ok((bounds.lo, bounds.hi)),
         want,
-        "P_{k} of {runs:?} under {marks:?}"
+        "{name:?} of {runs:?} under {marks:?}"
     );
     Ok(())
 }
@@ -220,8 +219,40 @@ fn precision_as_every_completion_has_it(rt: HostRuntime) -> Result<(), Fail> {
         for first in &RANKINGS {
             for second in &RANKINGS {
                 for k in [1, 2, 3, 40] {
-                    compare_precision(&rt, alloc, k, (*first, *second), marks)?;
+                    let name = MeasureName::Precision(k);
+                    compare(&rt, alloc, name, k as u64, (*first, *second), marks)?;
                 }
+            }
+        }
+    }
+    Ok(())
+}
+
+#[test]
+fn recall_as_every_completion_has_it(rt: HostRuntime) -> Result<(), Fail> {
+    let alloc = rt.alloc();
+    for marks in &MARKS {
+        for first in &RANKINGS {
+            for second in &RANKINGS {
+                for k in [1, 2, 3, 40] {
+                    let name = MeasureName::Recall(k);
+                    compare(&rt, alloc, name, S, (*first, *second), marks)?;
+                }
+            }
+        }
+    }
+    Ok(())
+}
+
+#[test]
+fn ranks_as_every_completion_has_them(rt: HostRuntime) -> Result<(), Fail> {
+    let alloc = rt.alloc();
+    for marks in &MARKS {
+        for first in &RANKINGS {
+            for second in &RANKINGS {
+                let runs = (*first, *second);
+                compare(&rt, alloc, MeasureName::Reciprocal, S, runs, marks)?;
+                compare(&rt, alloc, MeasureName::RPrecision, S, runs, marks)?;
             }
         }
     }
