@@ -6,13 +6,14 @@ ghost use Rattle.any_measure.specs.Any.{measured_by, cell_by, bounds_by};
 
 use desk_model::{MeasureName, Memory};
 use precision::Precision;
+use rbp::Rbp;
 use recall::Recall;
 use recip_rank::RecipRank;
 use rprec::RPrecision;
 use std::alloc::Global;
 
 /// One of the measures that are built.
-#[derive(Debug, Drop)]
+#[derive(Drop)]
 pub enum AnyMeasure {
     /// `P_k`.
     Precision(Precision),
@@ -22,6 +23,8 @@ pub enum AnyMeasure {
     RPrecision(RPrecision),
     /// `recip_rank`.
     Reciprocal(RecipRank),
+    /// `rbp_p`.
+    Biased(Rbp),
 }
 
 /// Whether a measure is built.
@@ -33,8 +36,8 @@ pub fn is_built(name: &MeasureName) -> bool
         MeasureName::Precision(_)
         | MeasureName::Recall(_)
         | MeasureName::RPrecision
-        | MeasureName::Reciprocal => true,
-        MeasureName::Biased { .. } => false,
+        | MeasureName::Reciprocal
+        | MeasureName::Biased { .. } => true,
     }
 }
 
@@ -45,13 +48,14 @@ impl AnyMeasure {
         requires built { IsBuilt name }
         ensures { IfOk result (λ made. IsMadeFor name (measured_by made) (cell_by made) (bounds_by made)) }
     {
-        let _ = alloc;
         match name {
             MeasureName::Precision(k) => Ok(AnyMeasure::Precision(Precision::new(k))),
             MeasureName::Recall(k) => Ok(AnyMeasure::Recall(Recall::new(k))),
             MeasureName::RPrecision => Ok(AnyMeasure::RPrecision(RPrecision::new())),
             MeasureName::Reciprocal => Ok(AnyMeasure::Reciprocal(RecipRank::new())),
-            MeasureName::Biased { .. } => unreachable!(),
+            MeasureName::Biased { top, bottom } => {
+                Ok(AnyMeasure::Biased(Rbp::new(alloc, top, bottom)?))
+            }
         }
     }
 }

@@ -20,6 +20,7 @@ impl Measure for AnyMeasure {
             AnyMeasure::Recall(m) => m.name(),
             AnyMeasure::RPrecision(m) => m.name(),
             AnyMeasure::Reciprocal(m) => m.name(),
+            AnyMeasure::Biased(m) => m.name(),
         }
     }
 
@@ -29,6 +30,7 @@ impl Measure for AnyMeasure {
             AnyMeasure::Recall(m) => m.unit(),
             AnyMeasure::RPrecision(m) => m.unit(),
             AnyMeasure::Reciprocal(m) => m.unit(),
+            AnyMeasure::Biased(m) => m.unit(),
         }
     }
 
@@ -44,6 +46,7 @@ impl Measure for AnyMeasure {
             AnyMeasure::Recall(m) => m.cell(a, b, marks, steps),
             AnyMeasure::RPrecision(m) => m.cell(a, b, marks, steps),
             AnyMeasure::Reciprocal(m) => m.cell(a, b, marks, steps),
+            AnyMeasure::Biased(m) => m.cell(a, b, marks, steps),
         }
     }
 
@@ -53,6 +56,7 @@ impl Measure for AnyMeasure {
             AnyMeasure::Recall(m) => m.bounds(a, marks),
             AnyMeasure::RPrecision(m) => m.bounds(a, marks),
             AnyMeasure::Reciprocal(m) => m.bounds(a, marks),
+            AnyMeasure::Biased(m) => m.bounds(a, marks),
         }
     }
 
@@ -68,6 +72,7 @@ impl Measure for AnyMeasure {
             AnyMeasure::Recall(m) => m.least_case(alloc, a, b, marks),
             AnyMeasure::RPrecision(m) => m.least_case(alloc, a, b, marks),
             AnyMeasure::Reciprocal(m) => m.least_case(alloc, a, b, marks),
+            AnyMeasure::Biased(m) => m.least_case(alloc, a, b, marks),
         }
     }
 
@@ -83,6 +88,7 @@ impl Measure for AnyMeasure {
             AnyMeasure::Recall(m) => m.most_case(alloc, a, b, marks),
             AnyMeasure::RPrecision(m) => m.most_case(alloc, a, b, marks),
             AnyMeasure::Reciprocal(m) => m.most_case(alloc, a, b, marks),
+            AnyMeasure::Biased(m) => m.most_case(alloc, a, b, marks),
         }
     }
 
@@ -92,6 +98,7 @@ impl Measure for AnyMeasure {
             AnyMeasure::Recall(m) => m.weight(a, b, marks, doc),
             AnyMeasure::RPrecision(m) => m.weight(a, b, marks, doc),
             AnyMeasure::Reciprocal(m) => m.weight(a, b, marks, doc),
+            AnyMeasure::Biased(m) => m.weight(a, b, marks, doc),
         }
     }
 

@@ -18,6 +18,8 @@ const O: Mark = Mark::Other;
 
 const U: Mark = Mark::Unjudged;
 
+const QUARTER: i128 = 250_000_000_000_000_000;
+
 const HALF: i128 = 500_000_000_000_000_000;
 
 const WHOLE: i128 = 1_000_000_000_000_000_000;
@@ -177,5 +179,35 @@ fn reciprocal_rank_by_hand(rt: HostRuntime) -> Result<(), Fail> {
         (&a, &b),
         marks,
         (&[true, false], &[true, true]),
+    )
+}
+
+#[test]
+fn rank_biased_precision_by_hand(rt: HostRuntime) -> Result<(), Fail> {
+    let alloc = rt.alloc();
+    let a = two(alloc, 0, 1, 2)?;
+    let b = two(alloc, 1, 0, 2)?;
+    let marks: &[Mark] = &[R, U];
+    let name = MeasureName::Biased { top: 5, bottom: 10 };
+    let measure = Common.make(alloc, name)?;
+    assert_eq!(rt; measure.unit(), WHOLE);
+    let want = Cell {
+        least: span(-QUARTER, 1 - QUARTER),
+        most: span(HALF - 1, HALF),
+    };
+    assert_eq!(rt;
+        cell_once::<Brand>(&measure, &a, &b, marks, Blank::new(1)),
+        want
+    );
+    assert_eq!(rt; measure.bounds(&a, marks), span(HALF, WHOLE));
+    assert_eq!(rt; measure.bounds(&b, marks), span(QUARTER, WHOLE));
+    assert_eq!(rt; measure.weight(&a, &b, marks, 0), QUARTER as u128);
+    cases(
+        &rt,
+        alloc,
+        &measure,
+        (&a, &b),
+        marks,
+        (&[true, true], &[true, false]),
     )
 }

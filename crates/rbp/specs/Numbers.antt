@@ -1,0 +1,18 @@
+-- What the cell and the bounds of rank-biased precision are: sums of shares and of weights.
+use Rattle.std.specs.Prelude.{ℕ, List, pos}
+use Rattle.measure_laws.specs.Shares.{biased_least_lo, biased_least_hi, biased_bound_lo, biased_bound_hi}
+use Rattle.desk_model.specs.declared.types.Mark.{Mark}
+use Rattle.fractions.specs.declared.span.Span.{Span}
+use Rattle.fractions.specs.Numbers.{negated}
+use Rattle.measure_core.specs.declared.cell.Cell.{Cell}
+
+-- the ends of the least difference
+abbrev pub biased_least : ℕ → ℕ → List Mark → List ℕ → List ℕ → Span
+biased_least top bottom marks a b = record { lo = biased_least_lo top bottom marks a b; hi = biased_least_hi top bottom marks a b }
+
+-- the greatest difference is the mirror image
+unfoldable pub biased_cell : ℕ → ℕ → List Mark → List ℕ → List ℕ → Cell
+biased_cell top bottom marks a b = record { least = biased_least top bottom marks a b; most = negated (biased_least top bottom marks b a) }
+
+unfoldable pub biased_bounds : ℕ → ℕ → List Mark → List ℕ → Span
+biased_bounds top bottom marks a = record { lo = pos (biased_bound_lo top bottom marks a); hi = pos (biased_bound_hi top bottom marks a) }

@@ -1,0 +1,29 @@
+-- The persistence of a measure, and the terms of its sums.
+use Rattle.std.specs.Prelude.{◌≡◌, ℕ, ◌<◌, ◌^◌, if◌then◌else◌, List, Option, ℤ, pos, neg_ℤ, ◌≤ℤ◌}
+use Rattle.desk_model.specs.MeasureText.{IsPersistence}
+use Rattle.desk_model.specs.Ranking.{rank}
+use Rattle.measure_laws.specs.Shares.{biased_truth}
+use Rattle.desk_model.specs.declared.types.Mark.{Mark}
+use Rattle.fractions.specs.Places.{Known}
+use Rattle.fractions.specs.declared.span.Span.{Span}
+
+-- top over bottom
+pub record Persistence : Type 0 where
+  pub top : ℕ
+  pub bottom : ℕ
+
+-- the kept powers are those of the persistence, up to the 10,000th
+pub record IsKept (top bottom : ℕ) (known : Known) : Type 0 where
+  pub persistence : IsPersistence top bottom
+  pub below : top < bottom
+  pub top_is : known.top ≡ top
+  pub bottom_is : known.bottom ≡ bottom
+  pub last_is : known.last ≡ 10000
+
+-- what a document adds to the sum of shares
+abbrev pub share_at : (Option ℕ → Option ℕ → ℤ) → List Mark → List ℕ → List ℕ → ℕ → ℤ
+share_at share marks a b doc = if biased_truth marks a b doc then share (rank a doc) (rank b doc) else pos 0
+
+-- from -10^26 to 10^26
+abbrev pub IsLoose : Span → Type 0
+IsLoose s = ((neg_ℤ (pos (10 ^ 26)) ≤ℤ s.lo) × (s.lo ≤ℤ pos (10 ^ 26))) × ((neg_ℤ (pos (10 ^ 26)) ≤ℤ s.hi) × (s.hi ≤ℤ pos (10 ^ 26)))

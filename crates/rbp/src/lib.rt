@@ -1,0 +1,7 @@
+//! The measure `rbp_p`, rank-biased precision (Moffat and Zobel 2008): each rank weighs as much as the
+//! one before it times the persistence p.
+#![tactic(auto)]
+
+pub mod rbp;
+
+pub use rbp::Rbp;
