@@ -10,9 +10,13 @@ use std::marker::Brand;
 use std::sync::ledger::{Blank, Ledger};
 use std::test::Fail;
 
-fn words(alloc: Global) -> Result<Vec<String>, AllocError> {
+const ROW: [&str; 7] = ["table", "--qrels", "q", "--measure", "P_2", "a", "b"];
+
+const USAGE: &[u8] = b"usage: desk COMMAND --qrels FILE --measure NAME [--level N] RUN...\n";
+
+fn words(alloc: Global, list: &[&str]) -> Result<Vec<String>, AllocError> {
     let mut all = Vec::new(alloc);
-    for word in ["table", "--qrels", "q", "--measure", "P_2", "a", "b"] {
+    for word in list {
         all.push(String::from_str(alloc, word)?)?;
     }
     Ok(all)
@@ -60,7 +64,7 @@ fn a_table_is_printed(rt: HostRuntime) -> Result<(), Fail> {
     let mut files = shelf(alloc, &[])?;
     let mut out = MemSink::new(alloc, 1000, 3, Vec::new(alloc)).map_err(|_| AllocError)?;
     let mut err = MemSink::new(alloc, 1000, 3, Vec::new(alloc)).map_err(|_| AllocError)?;
-    let words = words(alloc)?;
+    let words = words(alloc, &ROW)?;
     let status = status_of::<Brand>(alloc, &words, &mut files, &mut out, &mut err, Blank::new(1));
     assert_eq!(rt; status, 0);
     assert_eq!(rt;
@@ -75,13 +79,53 @@ fn a_table_is_printed(rt: HostRuntime) -> Result<(), Fail> {
 fn an_output_that_fails_has_a_front(rt: HostRuntime) -> Result<(), Fail> {
     let alloc = rt.alloc();
     let mut files = shelf(alloc, &[])?;
-    let failing = [2u64].to_vec(alloc)?;
+    let failing = [16u64].to_vec(alloc)?;
     let mut out = MemSink::new(alloc, 1000, 1, failing).map_err(|_| AllocError)?;
     let mut err = MemSink::new(alloc, 1000, 3, Vec::new(alloc)).map_err(|_| AllocError)?;
-    let words = words(alloc)?;
+    let words = words(alloc, &ROW)?;
     let status = status_of::<Brand>(alloc, &words, &mut files, &mut out, &mut err, Blank::new(1));
     assert_eq!(rt; status, 3);
-    assert_eq!(rt; out.received(), b"me".as_slice());
+    assert_eq!(rt; out.received(), b"measure P_2\nleve".as_slice());
     assert_eq!(rt; err.received(), b"fault: outside\n".as_slice());
+    Ok(())
+}
+
+#[test]
+fn wrong_words_are_usage(rt: HostRuntime) -> Result<(), Fail> {
+    let alloc = rt.alloc();
+    let lists: [&[&str]; 6] = [
+        &[],
+        &["table", "--qrels", "q", "a"],
+        &["table", "--qrels", "q", "--measure", "P_0", "a", "b"],
+        &["table", "--qrels", "q", "--measure", "P_10001", "a", "b"],
+        &[
+            "table",
+            "--qrels",
+            "q",
+            "--measure",
+            "P_1",
+            "--level",
+            "0",
+            "a",
+        ],
+        &["session", "--qrels", "q", "--measure", "P_2", "a", "b"],
+    ];
+    for list in lists {
+        let mut files = shelf(alloc, &[0])?;
+        let mut out = MemSink::new(alloc, 1000, 3, Vec::new(alloc)).map_err(|_| AllocError)?;
+        let mut err = MemSink::new(alloc, 1000, 3, Vec::new(alloc)).map_err(|_| AllocError)?;
+        let words = words(alloc, list)?;
+        let status = status_of::<Brand>(
+            alloc,
+            &words,
+            &mut files,
+            &mut out,
+            &mut err,
+            Blank::new(1),
+        );
+        assert_eq!(rt; status, 2);
+        assert_eq!(rt; out.received(), b"".as_slice());
+        assert_eq!(rt; err.received(), USAGE);
+    }
     Ok(())
 }
