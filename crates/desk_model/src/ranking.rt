@@ -1,4 +1,4 @@
-ghost use Rattle.std.specs.Prelude.{◌≡◌, ◌≤◌, length, nat_eq, IfOk, IfSome};
+ghost use Rattle.std.specs.Prelude.{◌≡◌, ℕ, ◌≤◌, length, nat_eq, IfOk, IfSome};
 ghost use Rattle.std.specs.List.{IsDistinct};
 ghost use Rattle.std.specs.List.Sorted.{IsPermutation};
 ghost use Rattle.desk_model.specs.Ranking.{IsRanking, rank};
@@ -53,6 +53,7 @@ impl Ranking {
     /// The documents with their ranks, ascending by document.
     pub fn by_doc(&self) -> &[Placed]
         ensures ascending { IsAscending result.now }
+        ensures ranks { (doc : ℕ) → lookup result.now doc ≡ rank self.now doc }
     {
         &self.by_doc
     }
