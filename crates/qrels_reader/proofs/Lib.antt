@@ -1,5 +1,6 @@
 pub mod Cutting
 pub mod Mapped
+pub mod Numbering
 pub mod Zipped
 pub mod Seen
 pub mod Grouping

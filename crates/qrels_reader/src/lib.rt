@@ -6,6 +6,7 @@ mod groups;
 mod judgements;
 mod limits;
 mod line;
+mod name_index;
 mod name_set;
 mod names;
 mod qrels;
@@ -16,6 +17,7 @@ pub use fault::{FileFault, LineFault};
 pub use limits::{
     GREATEST_GRADE, LEAST_GRADE, LONGEST_NAME, MOST_NAME_BYTES, MOST_QRELS_ROWS, MOST_TOPICS,
 };
+pub use name_index::NameIndex;
 pub use name_set::NameSet;
 pub use names::Names;
 pub use qrels::Qrels;
