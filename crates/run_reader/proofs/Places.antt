@@ -1,6 +1,6 @@
 -- The place of a topic among the topics.
 use Rattle.std.proofs.Common.{◌≡◌, ℕ, zero, suc, ◌+◌, ◌<◌, ◌≤◌, List, [], ◌∷◌, ◌++◌, length, get_or, set, true, false, cond, refl, ap, ap₂, sym, subst, ◌∙◌, arith, inl, inr, ◌⊎◌}
-use Rattle.std.specs.Prelude.{pos, Bool, not, ◌||◌, map, Option, Some, None, option_map, position, nat_lt, is_some}
+use Rattle.std.specs.Prelude.{pos, Bool, All, not, ◌||◌, map, Option, Some, None, option_map, position, nat_lt, is_some}
 use Rattle.std.specs.List.{list_any, position_or_len}
 use Rattle.std.specs.Str.{bytes_eq}
 use Rattle.std.proofs.lemmas.Bool.{lt-ltb, ltb-true, le-ltb, ltb-false}
@@ -8,7 +8,7 @@ use Rattle.std.proofs.lemmas.List.{map-append, length-map, get_or_default}
 use Rattle.run_reader.specs.Rows.{RunRow}
 use Rattle.run_reader.specs.Run.{Scored, RunTopic, scored_of, names_of, is_topic, rows_at, rows_in, with_scored, with_row_on}
 use Rattle.run_reader.specs.Reader.{documents_seen, place_of}
-use Rattle.qrels_reader.proofs.Seen.{or-false}
+use Rattle.qrels_reader.proofs.Seen.{or-false, same}
 use Rattle.qrels_reader.proofs.Mapped.{list_any-map}
 
 later : (b : Bool) (n m : ℕ) → nat_lt n m ≡ b → cond (nat_lt (1 + n) (suc m)) (Some (1 + n)) None ≡ option_map suc (cond b (Some n) None)
@@ -134,3 +134,35 @@ seen_more ts seen t x x' scored e lt f g =
 -- the rows of a topic that has a place, by its name
 pub at_name : (ts : List RunTopic) (name : List ℕ) (t : ℕ) → place_of name ts ≡ Some t → (t < length ts) × (rows_at ts t ≡ rows_in name ts)
 at_name ts name t e = let at = at_place ts (record { topic = name; document = []; score = pos 0 }) t e in (at.within, at.rows)
+
+-- one more row leaves the names of the topics
+pub names_of-with_scored : (ts : List RunTopic) (t : ℕ) (scored : Scored) → names_of (with_scored ts t scored) ≡ names_of ts
+names_of-with_scored [] t scored = refl
+names_of-with_scored (x ∷ ts) zero scored = refl
+names_of-with_scored (x ∷ ts) (suc t) scored = ap (λ ns. x.name ∷ ns) (names_of-with_scored ts t scored)
+
+-- the documents of a new topic at the end
+pub seen_new : (ts : List RunTopic) (name : List ℕ) (scored : Scored) → documents_seen (with_scored (ts ++ new_topic name ∷ []) (length ts) scored) ≡ documents_seen ts ++ (scored.document ∷ []) ∷ []
+seen_new [] name scored = refl
+seen_new (x ∷ ts) name scored = ap (λ ds. map (λ (j : Scored). j.document) x.rows ∷ ds) (seen_new ts name scored)
+
+all_cons : (P : List ℕ → Type 0) (x : List ℕ) (xs : List (List ℕ)) → P x → All P xs → All P (x ∷ xs)
+all_cons P x xs here rest zero d lt = here
+all_cons P x xs here rest (suc k) d lt = rest k d (omega arith)
+
+-- a property of the names of topics that have a place holds of a name that has one
+pub placed_has : (P : List ℕ → Type 0) (name : List ℕ) (ts : List RunTopic) (t : ℕ) → All P (names_of ts) → place_of name ts ≡ Some t → P name
+placed_has P name [] t h e = absurd (let k : None ≡ Some t = e in cc)
+placed_has P name (x ∷ ts) t h e = elim (located (bytes_eq name) x.name (names_of ts) t e) [
+  | inl w ↦ subst P (sym (same name x.name w.0)) (h 0 x.name (omega arith))
+  | inr w ↦ placed_has P name ts w.place (λ k d lt. h (suc k) d (omega arith)) w.found
+]
+
+-- and stays with a row of a topic that has it
+pub names_with : (P : List ℕ → Type 0) (ts : List RunTopic) (row : RunRow) → All P (names_of ts) → P row.topic → All P (names_of (with_row_on ts row))
+names_with P [] row h new = all_cons P row.topic [] new (λ k d lt. absurd (omega arith))
+names_with P (x ∷ ts) row h new = by (bytes_eq row.topic x.name) (names_with P ts row (λ k d lt. h (suc k) d (omega arith)) new)
+  where
+    by : (b : Bool) → All P (names_of (with_row_on ts row)) → All P (names_of (cond b (record { name = x.name; rows = x.rows ++ scored_of row ∷ [] } ∷ ts) (x ∷ with_row_on ts row)))
+    by true rest = h
+    by false rest = all_cons P x.name (names_of (with_row_on ts row)) (h 0 x.name (omega arith)) rest

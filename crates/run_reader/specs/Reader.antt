@@ -1,9 +1,9 @@
 -- What a reader of a run file has read.
-use Rattle.std.specs.Prelude.{◌≡◌, ◌⊎◌, ℕ, ◌+◌, ◌≤◌, List, map, Option, Some, None, option_map, unwrap_or, Result, Ok, Err, position, if◌then◌else◌}
+use Rattle.std.specs.Prelude.{◌≡◌, true, All, ◌⊎◌, ℕ, ◌+◌, ◌≤◌, List, map, Option, Some, None, option_map, unwrap_or, Result, Ok, Err, position, if◌then◌else◌}
 use Rattle.std.specs.Str.{bytes_eq}
 use Rattle.desk_text.specs.Lines.{is_blank}
 use Rattle.qrels_reader.specs.Reading.{read_line, with_row}
-use Rattle.qrels_reader.specs.Grouped.{Topic}
+use Rattle.qrels_reader.specs.Grouped.{Topic, is_topic}
 use Rattle.qrels_reader.specs.declared.fault.FileFault.{FileFault}
 use Rattle.qrels_reader.specs.declared.fault.FileFault.TheVariants.{Memory, NoTag}
 use Rattle.qrels_reader.specs.declared.limits.TheConstants.{MOST_NAME_BYTES}
@@ -13,7 +13,7 @@ use Rattle.run_reader.specs.declared.line.RowText.{RowText}
 use Rattle.run_reader.specs.declared.gathered.Gathered.{Gathered}
 use Rattle.run_reader.specs.declared.reader.RunReader.{RunReader}
 use Rattle.run_reader.specs.Rows.{RunRow, tag_of, read_row}
-use Rattle.run_reader.specs.Run.{RunTopic, Run, grouped, names_of, row_count, name_bytes_in}
+use Rattle.run_reader.specs.Run.{Scored, RunTopic, Run, scored_of, with_scored, grouped, names_of, row_count, name_bytes_in}
 
 -- the row that is said by the parts of a line
 abbrev pub row_said : RowText → RunRow
@@ -31,13 +31,25 @@ place_of name topics = position (bytes_eq name) (names_of topics)
 abbrev pub name_in : RunReader → Option (List ℕ)
 name_in reader = option_map (λ name. name.items) reader.name
 
--- the documents that were seen are those of the topics
-abbrev pub IsTracked : Gathered → Type 0
-IsTracked gathered = gathered.seen.items ≡ documents_seen gathered.kept
+-- the documents that were seen are those of the topics, and the place of the topic that was looked up last is known
+pub record IsTracked (gathered : Gathered) : Type 0 where
+  pub seen : gathered.seen.items ≡ documents_seen gathered.kept
+  pub last : gathered.last ≡ place_of gathered.last_topic.now gathered.kept
 
--- the documents that were seen are those of the topics, and the limits hold
+-- the documents of topics after one more of a topic that has a place
+abbrev pub documents_noted : List RunTopic → Option ℕ → Scored → List (List (List ℕ))
+documents_noted topics None scored = documents_seen topics
+documents_noted topics (Some t) scored = documents_seen (with_scored topics t scored)
+
+-- the same, where the document of the next row was seen already, if its topic has a place
+pub record IsNoted (place : Option ℕ) (row : RunRow) (gathered : Gathered) : Type 0 where
+  pub seen : gathered.seen.items ≡ documents_noted gathered.kept place (scored_of row)
+  pub last : gathered.last ≡ place_of gathered.last_topic.now gathered.kept
+
+-- the documents that were seen are those of the topics, these stand in the qrels, and the limits hold
 pub record IsSound (reader : RunReader) : Type 0 where
   pub tracked : IsTracked reader.gathered
+  pub known : All (λ name. is_topic name reader.qrels.now ≡ true) (names_of reader.gathered.kept)
   pub few : reader.used.rows + row_count reader.gathered.kept ≤ MOST_RUN_ROWS
   pub small : reader.used.name_bytes + name_bytes_in reader.gathered.kept ≤ MOST_NAME_BYTES
 

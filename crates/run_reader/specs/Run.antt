@@ -118,11 +118,15 @@ rows_in name (topic ∷ topics) = if bytes_eq name topic.name then topic.rows el
 abbrev pub rows_on_topic : Run → List ℕ → List Scored
 rows_on_topic run topic = rows_in topic run.topics
 
--- what is wrong with a row after the rows of these topics and what earlier files used, in the order in which it is told
-abbrev pub faults_after : Used → List RunTopic → RunRow → List (Bool × LineFault)
-faults_after used topics row =
-    (list_any (λ scored. bytes_eq row.document scored.document) (rows_in row.topic topics), RepeatedDocument)
-    ∷ (nat_le MOST_RANKS (length (rows_in row.topic topics)), TooDeep)
+-- the limits that a row would pass after the rows of these topics and what earlier files used, in the order in which they are told
+abbrev pub limits_after : Used → List RunTopic → RunRow → List (Bool × LineFault)
+limits_after used topics row =
+    (nat_le MOST_RANKS (length (rows_in row.topic topics)), TooDeep)
     ∷ (nat_le MOST_RUN_ROWS (used.rows + row_count topics), TooManyRows)
     ∷ (nat_lt MOST_NAME_BYTES (used.name_bytes + name_bytes_in topics + length row.document), TooManyNameBytes)
     ∷ []
+
+-- what is wrong with a row there: first, that its document is repeated
+abbrev pub faults_after : Used → List RunTopic → RunRow → List (Bool × LineFault)
+faults_after used topics row =
+    (list_any (λ scored. bytes_eq row.document scored.document) (rows_in row.topic topics), RepeatedDocument) ∷ limits_after used topics row

@@ -1,25 +1,28 @@
 // The rows of a run that is being read.
-ghost use Rattle.std.specs.Prelude.{◌≡◌, ◌+◌, ◌^◌, ◌<◌, [], false, length, OnOk};
+ghost use Rattle.std.specs.Prelude.{◌≡◌, ◌+◌, ◌^◌, ◌<◌, [], false, true, length, IfOk, OnOk};
 ghost use Rattle.std.specs.List.{list_any};
 ghost use Rattle.std.specs.Str.{bytes_eq};
-ghost use Rattle.run_reader.specs.Run.{with_row_on, rows_in, rows_at, with_scored, scored_of, row_count, name_bytes_in};
-ghost use Rattle.run_reader.specs.Reader.{row_said, place_of, IsTracked};
+ghost use Rattle.run_reader.specs.Run.{is_topic, with_row_on, rows_in, row_count, name_bytes_in};
+ghost use Rattle.run_reader.specs.Reader.{row_said, place_of, IsTracked, IsNoted};
 
 use crate::line::RowText;
 use crate::topic_rows::TopicRows;
-use qrels_reader::NameSet;
+use qrels_reader::NameIndex;
 use std::alloc::{AllocError, Global};
 
 /// The kept rows so far, and the documents of each topic, in which repeated ones are found. After an error it is given up.
 #[derive(Drop)]
-pub struct Gathered {
+pub struct Gathered<'a> {
     pub alloc: Global,
     pub kept: TopicRows,
-    pub seen: Vec<NameSet>,
+    pub seen: Vec<NameIndex<'a>>,
+    // The topic that was looked up last, and its place: the rows of one topic mostly stand together.
+    pub last_topic: &'a [u8],
+    pub last: Option<usize>,
 }
 
-impl Gathered {
-    pub fn new(alloc: Global) -> Gathered
+impl<'a> Gathered<'a> {
+    pub fn new(alloc: Global) -> Gathered<'a>
         ensures none { result.kept ≡ [] }
         ensures tracked { IsTracked result }
     {
@@ -27,19 +30,23 @@ impl Gathered {
             alloc,
             kept: TopicRows::new(alloc),
             seen: Vec::new(alloc),
+            last_topic: &[],
+            last: None,
         }
     }
 
-    /// Whether the row's document stood in its topic.
-    pub fn has_seen(&self, place: Option<usize>, row: &RowText<'_>) -> bool
-        requires tracked { IsTracked self.now }
-        requires place { place ≡ place_of row.now.topic.now self.now.kept }
-        ensures { result ≡ list_any (λ scored. bytes_eq row.now.document.now scored.document) (rows_in row.now.topic.now self.now.kept) }
+    /// The number of a topic.
+    pub fn place(&mut self, topic: &'a [u8]) -> Option<usize>
+        requires { IsTracked self.old }
+        ensures place { result ≡ place_of topic.now self.old.kept }
+        ensures kept { self.new.kept ≡ self.old.kept }
+        ensures tracked { IsTracked self.new }
     {
-        match place {
-            Some(t) => self.seen[t].contains(row.document),
-            None => false,
+        if topic != self.last_topic {
+            self.last = self.kept.place(topic);
+            self.last_topic = topic;
         }
+        self.last
     }
 
     /// How many rows a topic has.
@@ -53,39 +60,56 @@ impl Gathered {
         }
     }
 
-    /// Puts a row that is right into its topic.
-    pub fn put(&mut self, place: Option<usize>, row: &RowText<'_>) -> Result<(), AllocError>
+    /// Notes the document of a row, and answers whether it stood in its topic.
+    pub fn note(&mut self, place: Option<usize>, row: &RowText<'a>) -> Result<bool, AllocError>
         requires tracked { IsTracked self.old }
         requires place { place ≡ place_of row.now.topic.now self.old.kept }
-        requires new { list_any (λ scored. bytes_eq row.now.document.now scored.document) (rows_in row.now.topic.now self.old.kept) ≡ false }
+        ensures kept { OnOk result (self.new.kept ≡ self.old.kept) }
+        ensures repeated { IfOk result (λ repeated. repeated ≡ list_any (λ scored. bytes_eq row.now.document.now scored.document) (rows_in row.now.topic.now self.old.kept)) }
+        ensures noted { IfOk result (λ repeated. repeated ≡ false → IsNoted place (row_said row.now) self.new) }
+    {
+        match place {
+            Some(t) => {
+                let seen = &mut self.seen[t];
+                let is_new = seen.add(row.document)?;
+                Ok(!is_new)
+            }
+            None => Ok(false),
+        }
+    }
+
+    /// Puts a row that is right and noted into its topic.
+    pub fn put(&mut self, place: Option<usize>, row: &RowText<'a>) -> Result<(), AllocError>
+        requires noted { IsNoted place (row_said row.now) self.old }
+        requires place { place ≡ place_of row.now.topic.now self.old.kept }
         requires rows { row_count self.old.kept + 1 < 2 ^ 32 }
         requires names { name_bytes_in self.old.kept + length row.now.document.now < 2 ^ 32 }
         ensures added { OnOk result (self.new.kept ≡ with_row_on self.old.kept (row_said row.now)) }
         ensures tracked { OnOk result (IsTracked self.new) }
     {
         match place {
-            Some(t) => self.put_at(t, row),
-            None => {
-                let t = self.kept.topics();
-                self.kept.add_topic(self.alloc, row.topic)?;
-                self.seen.push(NameSet::new(self.alloc))?;
-                self.put_at(t, row)
-            }
+            Some(t) => self.kept.add_document(t, row.document, row.score),
+            None => self.put_new(row),
         }
     }
 
-    // A row whose topic has a place.
-    fn put_at(&mut self, t: usize, row: &RowText<'_>) -> Result<(), AllocError>
+    // A row of a topic that has no place.
+    fn put_new(&mut self, row: &RowText<'a>) -> Result<(), AllocError>
         requires tracked { IsTracked self.old }
-        requires topic { t < length self.old.kept }
-        requires new { list_any (λ scored. bytes_eq row.now.document.now scored.document) (rows_at self.old.kept t) ≡ false }
+        requires new { is_topic row.now.topic.now self.old.kept ≡ false }
         requires rows { row_count self.old.kept + 1 < 2 ^ 32 }
         requires names { name_bytes_in self.old.kept + length row.now.document.now < 2 ^ 32 }
-        ensures added { OnOk result (self.new.kept ≡ with_scored self.old.kept t (scored_of (row_said row.now))) }
+        ensures added { OnOk result (self.new.kept ≡ with_row_on self.old.kept (row_said row.now)) }
         ensures tracked { OnOk result (IsTracked self.new) }
     {
+        let t = self.kept.topics();
+        self.kept.add_topic(self.alloc, row.topic)?;
         self.kept.add_document(t, row.document, row.score)?;
-        let seen = &mut self.seen[t];
-        seen.add(self.alloc, row.document)
+        let mut seen = NameIndex::new(self.alloc);
+        seen.add(row.document)?;
+        self.seen.push(seen)?;
+        self.last = self.kept.place(row.topic);
+        self.last_topic = row.topic;
+        Ok(())
     }
 }

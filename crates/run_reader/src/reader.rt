@@ -1,11 +1,11 @@
 // A reader of the lines of a run file.
-ghost use Rattle.std.specs.Prelude.{length, ◌≡◌, ◌⊎◌, ◌+◌, ◌^◌, ◌<◌, ◌≤◌, [], List, option_map, true, false, unwrap_or, IfErr, IfSome, OnOk, Ok, Err, Some};
+ghost use Rattle.std.specs.Prelude.{length, ◌≡◌, ◌⊎◌, ◌+◌, ◌^◌, ◌<◌, ◌≤◌, [], List, option_map, true, false, not, if◌then◌else◌, unwrap_or, IfErr, IfSome, OnOk, Ok, Err, Some};
 ghost use Rattle.qrels_reader.specs.Reading.{checked};
 ghost use Rattle.qrels_reader.specs.Grouped.{is_topic};
 ghost use Rattle.qrels_reader.specs.declared.limits.TheConstants.{MOST_NAME_BYTES};
 ghost use Rattle.desk_model.specs.Name.{is_name};
 ghost use Rattle.run_reader.specs.Rows.{RunRow};
-ghost use Rattle.run_reader.specs.Run.{grouped, faults_after, with_row_on, row_count, name_bytes_in, IsRun, IsWithin};
+ghost use Rattle.run_reader.specs.Run.{grouped, limits_after, faults_after, with_row_on, row_count, name_bytes_in, IsRun, IsWithin};
 ghost use Rattle.run_reader.specs.Reader.{row_said, place_of, name_in, name_after, IsSound, StaysBeside, ReadsLine, run_with};
 
 use crate::gathered::Gathered;
@@ -19,16 +19,21 @@ use std::alloc::{AllocError, Global};
 
 /// Reads a run file line by line. After an error it is given up.
 #[derive(Drop)]
-pub struct RunReader<'q> {
+pub struct RunReader<'q, 'a> {
     qrels: &'q Qrels,
     used: Used,
     name: Option<Vec<u8>>,
-    gathered: Gathered,
+    gathered: Gathered<'a>,
     lines: u64,
 }
 
-impl<'q> RunReader<'q> {
-    pub fn new(alloc: Global, name: Option<Vec<u8>>, used: Used, qrels: &'q Qrels) -> RunReader<'q>
+impl<'q, 'a> RunReader<'q, 'a> {
+    pub fn new(
+        alloc: Global,
+        name: Option<Vec<u8>>,
+        used: Used,
+        qrels: &'q Qrels,
+    ) -> RunReader<'q, 'a>
         requires { IsWithin used }
         ensures none { result.gathered.kept ≡ [] }
         ensures sound { IsSound result }
@@ -47,7 +52,7 @@ impl<'q> RunReader<'q> {
     }
 
     /// Reads the next line.
-    pub fn feed(&mut self, line: &[u8]) -> Result<(), FileFault>
+    pub fn feed(&mut self, line: &'a [u8]) -> Result<(), FileFault>
         requires sound { IsSound self.old }
         requires lines { self.old.lines + 1 < 2 ^ 64 }
         ensures read { (rows : List RunRow) → self.old.gathered.kept ≡ grouped rows →
@@ -112,7 +117,7 @@ impl<'q> RunReader<'q> {
     }
 
     // A row of the line that was read last, which is dropped where the qrels lack its topic.
-    fn add(&mut self, row: &RowText<'_>) -> Result<(), FileFault>
+    fn add(&mut self, row: &RowText<'a>) -> Result<(), FileFault>
         requires { IsSound self.old }
         ensures dropped { is_topic row.now.topic.now self.old.qrels.now ≡ false → (result ≡ Ok (tt {0})) × (self.new.gathered.kept ≡ self.old.gathered.kept) }
         ensures right { OnOk result (is_topic row.now.topic.now self.old.qrels.now ≡ true → checked (faults_after self.old.used self.old.gathered.kept (row_said row.now)) ≡ Ok (tt {0})) }
@@ -124,11 +129,13 @@ impl<'q> RunReader<'q> {
         ensures name { OnOk result (name_in self.new ≡ name_in self.old) }
         ensures beside { OnOk result (StaysBeside self.old self.new) }
     {
-        if !self.qrels.has_topic(row.topic) {
+        let place = self.gathered.place(row.topic);
+        if self.lacks(place, row.topic) {
             return Ok(());
         }
-        let place = self.gathered.kept.place(row.topic);
-        match self.check(place, row) {
+        let room = self.room(place, row);
+        let is_repeated = self.gathered.note(place, row)?;
+        match first_fault(is_repeated, room) {
             Ok(()) => {
                 self.gathered.put(place, row)?;
                 Ok(())
@@ -140,17 +147,26 @@ impl<'q> RunReader<'q> {
         }
     }
 
-    // What is wrong with a row after those that were read, where its topic has a place.
-    fn check(&self, place: Option<usize>, row: &RowText<'_>) -> Result<(), LineFault>
+    // Whether the qrels lack a topic, where it has a place among the kept ones if these have it.
+    fn lacks(&self, place: Option<usize>, topic: &[u8]) -> bool
+        requires sound { IsSound self.now }
+        requires place { place ≡ place_of topic.now self.now.gathered.kept }
+        ensures { result ≡ not (is_topic topic.now self.now.qrels.now) }
+    {
+        match place {
+            Some(_) => false,
+            None => !self.qrels.has_topic(topic),
+        }
+    }
+
+    // Which limit a row would pass after those that were read, where its topic has a place.
+    fn room(&self, place: Option<usize>, row: &RowText<'_>) -> Result<(), LineFault>
         requires sound { IsSound self.now }
         requires place { place ≡ place_of row.now.topic.now self.now.gathered.kept }
-        ensures fault { result ≡ checked (faults_after self.now.used self.now.gathered.kept (row_said row.now)) }
+        ensures fault { result ≡ checked (limits_after self.now.used self.now.gathered.kept (row_said row.now)) }
         ensures few { OnOk result (self.now.used.rows + row_count self.now.gathered.kept + 1 ≤ MOST_RUN_ROWS) }
         ensures small { OnOk result (self.now.used.name_bytes + name_bytes_in self.now.gathered.kept + length row.now.document.now ≤ MOST_NAME_BYTES) }
     {
-        if self.gathered.has_seen(place, row) {
-            return Err(LineFault::RepeatedDocument);
-        }
         if self.gathered.depth(row.topic, place) >= MOST_RANKS {
             return Err(LineFault::TooDeep);
         }
@@ -163,5 +179,17 @@ impl<'q> RunReader<'q> {
             return Err(LineFault::TooManyNameBytes);
         }
         Ok(())
+    }
+}
+
+// A repeated document is told before a limit.
+fn first_fault(is_repeated: bool, room: Result<(), LineFault>) -> Result<(), LineFault>
+    ensures first { result ≡ (if is_repeated then Err LineFault.RepeatedDocument else room) }
+    ensures none { OnOk result (room ≡ Ok (tt {0})) }
+{
+    if is_repeated {
+        Err(LineFault::RepeatedDocument)
+    } else {
+        room
     }
 }
