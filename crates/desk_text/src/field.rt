@@ -1,6 +1,6 @@
 // The fields of a line.
 ghost use Rattle.std.specs.Prelude.{◌≡◌, ◌<◌, ◌≤◌, ◌∷◌, [], ◌⊎◌, length, drop, slice_range, MatchOption, slice_index, position, option_map, IfOk, Some, true, false};
-ghost use Rattle.std.specs.List.{list_all};
+ghost use Rattle.std.specs.List.{list_all, list_any};
 ghost use Rattle.std.specs.Result.{result_err};
 ghost use Rattle.desk_text.specs.Lines.{fields_of, pieces, is_separator, is_bad, is_blank, AreFields};
 ghost use Rattle.desk_text.specs.Places.{count_of, places_of};
@@ -63,10 +63,25 @@ fn field_end(line: &[u8], start: usize) -> usize
     end
 }
 
+// Whether a byte of the line is bad. Every byte is looked at, so that the compiler may take many at once.
+fn has_bad(line: &[u8]) -> bool
+    ensures { result ≡ list_any is_bad line.now }
+{
+    let mut found = false;
+    for byte in line {
+        found |= is_bad(*byte);
+    }
+    found
+}
+
 fn first_bad(line: &[u8]) -> Option<usize>
     ensures { result ≡ position is_bad line.now }
 {
-    line.iter().position(|byte| is_bad(*byte))
+    if has_bad(line) {
+        line.iter().position(|byte| is_bad(*byte))
+    } else {
+        None
+    }
 }
 
 /// The fields of a line, or its first bad byte: one below 0x21 that is no separator, or 0x7F. It takes no memory.

@@ -2,6 +2,8 @@
 ghost use Rattle.std.specs.Prelude.{◌≡◌, ◌<◌, ◌≤◌, ◌∷◌, length, drop, slice_range};
 ghost use Rattle.desk_text.specs.Lines.{lines};
 
+use memchr::memchr;
+
 /// The most bytes that a line may hold, without its line feed.
 pub const LONGEST_LINE: usize = 4096;
 
@@ -29,20 +31,16 @@ pub fn next_line(bytes: &[u8], from: usize) -> Line
     ensures more { from < result.next }
     ensures within { result.next ≤ length bytes.now }
 {
-    let mut end = from;
-    while end < bytes.len() {
-        if bytes[end] == LINE_FEED {
-            return Line {
-                start: from,
-                end,
-                next: end + 1,
-            };
-        }
-        end += 1;
-    }
-    Line {
-        start: from,
-        end,
-        next: end,
+    match memchr(LINE_FEED, &bytes[from..]) {
+        Some(length) => Line {
+            start: from,
+            end: from + length,
+            next: from + length + 1,
+        },
+        None => Line {
+            start: from,
+            end: bytes.len(),
+            next: bytes.len(),
+        },
     }
 }
