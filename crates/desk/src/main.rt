@@ -5,18 +5,22 @@ ghost use Rattle.std.specs.Prelude.{◌≡◌, ◌<◌};
 
 use any_measure::Common;
 use desk_outside::{HostShelf, HostSink, HostSource};
-use desk_top::run_desk;
+use desk_top::{run_desk, tell_memory, tell_outside};
 use measure_core::Steps;
 use std::env;
+use std::io::ErrorKind;
 use std::marker::Brand;
 use std::process::ExitCode;
 use std::sync::ledger::{Blank, Ledger};
 
-// The system did not give the words.
-const NO_WORDS: u8 = 3;
-
-// Memory for the words is wanting.
-const NO_MEMORY: u8 = 4;
+// Why there are no words.
+#[derive(Clone, Copy)]
+enum NoWords {
+    // The system did not give them.
+    Outside,
+    // Memory for them is wanting.
+    Memory,
+}
 
 fn run<L: Ledger>(rt: &HostRuntime, words: &[String], blank: Blank) -> u8
     requires name { blank.name ≡ L.name }
@@ -40,13 +44,23 @@ fn run<L: Ledger>(rt: &HostRuntime, words: &[String], blank: Blank) -> u8
     )
 }
 
+// The words after the program's name.
+fn words(rt: &HostRuntime) -> Result<Vec<String>, NoWords> {
+    match env::args(rt) {
+        Ok(all) => all
+            .skip(1)
+            .collect::<Vec<String>>(rt.alloc())
+            .map_err(|_| NoWords::Memory),
+        Err(error) if error.kind() == ErrorKind::OutOfMemory => Err(NoWords::Memory),
+        Err(_) => Err(NoWords::Outside),
+    }
+}
+
 fn status(rt: &HostRuntime) -> u8 {
-    let Ok(all) = env::args(rt) else {
-        return NO_WORDS;
-    };
-    match all.skip(1).collect::<Vec<String>>(rt.alloc()) {
+    match words(rt) {
         Ok(words) => run::<Brand>(rt, &words, Blank::new(1)),
-        Err(_) => NO_MEMORY,
+        Err(NoWords::Outside) => tell_outside(&mut HostSink::new(rt.stderr())),
+        Err(NoWords::Memory) => tell_memory(&mut HostSink::new(rt.stderr())),
     }
 }
 

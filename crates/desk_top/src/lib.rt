@@ -11,6 +11,7 @@ mod tell;
 mod top;
 
 pub use stop::{Refusal, Stop};
+pub use tell::{tell_memory, tell_outside};
 pub use top::run_desk;
 
 #[cfg(test)]

@@ -1,4 +1,6 @@
 // The top call over files in memory.
+mod cases;
+
 ghost use Rattle.std.specs.Prelude.{◌≡◌, ◌<◌};
 
 use crate::run_desk;
@@ -22,21 +24,28 @@ fn words(alloc: Global, list: &[&str]) -> Result<Vec<String>, AllocError> {
     Ok(all)
 }
 
-fn shelf(alloc: Global, failing: &[u64]) -> Result<MemShelf, AllocError> {
+fn shelf_of(
+    alloc: Global,
+    held: &[(&str, &[u8])],
+    failing: &[u64],
+) -> Result<MemShelf, AllocError> {
     let mut files = Vec::new(alloc);
-    files.push((
-        String::from_str(alloc, "q")?,
-        Vec::from_slice(alloc, b"401 0 d1 1\n401 0 d2 0\n")?,
-    ))?;
-    files.push((
-        String::from_str(alloc, "a")?,
-        Vec::from_slice(alloc, b"401 Q0 d1 1 9 A\n401 Q0 d3 2 8 A\n")?,
-    ))?;
-    files.push((
-        String::from_str(alloc, "b")?,
-        Vec::from_slice(alloc, b"401 Q0 d2 1 9 B\n401 Q0 d3 2 8 B\n")?,
-    ))?;
+    for (name, bytes) in held {
+        files.push((
+            String::from_str(alloc, name)?,
+            Vec::from_slice(alloc, bytes)?,
+        ))?;
+    }
     Ok(MemShelf::new(files, failing.to_vec(alloc)?))
+}
+
+fn shelf(alloc: Global, failing: &[u64]) -> Result<MemShelf, AllocError> {
+    let held: [(&str, &[u8]); 3] = [
+        ("q", b"401 0 d1 1\n401 0 d2 0\n"),
+        ("a", b"401 Q0 d1 1 9 A\n401 Q0 d3 2 8 A\n"),
+        ("b", b"401 Q0 d2 1 9 B\n401 Q0 d3 2 8 B\n"),
+    ];
+    shelf_of(alloc, &held, failing)
 }
 
 fn status_of<L: Ledger>(
