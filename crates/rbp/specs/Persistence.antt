@@ -1,9 +1,6 @@
 -- The persistence of a measure, and the terms of its sums.
-use Rattle.std.specs.Prelude.{◌≡◌, ℕ, ◌<◌, ◌^◌, if◌then◌else◌, List, Option, ℤ, pos, neg_ℤ, ◌≤ℤ◌}
+use Rattle.std.specs.Prelude.{◌≡◌, ℕ, ◌<◌, ◌^◌, pos, neg_ℤ, ◌≤ℤ◌}
 use Rattle.desk_model.specs.MeasureText.{IsPersistence}
-use Rattle.desk_model.specs.Ranking.{rank}
-use Rattle.measure_laws.specs.Shares.{biased_truth}
-use Rattle.desk_model.specs.declared.types.Mark.{Mark}
 use Rattle.fractions.specs.Places.{Known}
 use Rattle.fractions.specs.declared.span.Span.{Span}
 
@@ -19,10 +16,6 @@ pub record IsKept (top bottom : ℕ) (known : Known) : Type 0 where
   pub top_is : known.top ≡ top
   pub bottom_is : known.bottom ≡ bottom
   pub last_is : known.last ≡ 10000
-
--- what a document adds to the sum of shares
-abbrev pub share_at : (Option ℕ → Option ℕ → ℤ) → List Mark → List ℕ → List ℕ → ℕ → ℤ
-share_at share marks a b doc = if biased_truth marks a b doc then share (rank a doc) (rank b doc) else pos 0
 
 -- from -10^26 to 10^26
 abbrev pub IsLoose : Span → Type 0

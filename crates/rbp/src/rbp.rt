@@ -1,11 +1,12 @@
-ghost use Rattle.std.specs.Prelude.{◌≡◌, ◌+◌, ◌-◌, ◌≤◌, ◌<◌, ◌^◌, ◌≤ℤ◌, pos, neg_ℤ, length, map, All, Some, IfOk};
+ghost use Rattle.std.specs.Prelude.{◌≡◌, ◌+◌, ◌-◌, ◌≤◌, ◌<◌, ◌^◌, ◌≤ℤ◌, ◌+ℤ◌, ◌-ℤ◌, pos, neg_ℤ, length, map, All, Some, IfOk};
 ghost use Rattle.desk_model.specs.Completion.{with_picked};
 ghost use Rattle.measure_laws.specs.Ranks.{IsWithin, comes_before};
 ghost use Rattle.desk_model.specs.Score.{gained};
 ghost use Rattle.measure_laws.specs.Powers.{low_weight, high_weight, low_power, high_power};
-ghost use Rattle.measure_laws.specs.Shares.{low_share, high_share, biased_truth, share_sum, biased_least_lo, biased_least_hi};
+ghost use Rattle.measure_laws.specs.Shares.{low_share, high_share, biased_truth, share_sum};
 ghost use Rattle.fractions.specs.Ends.{IsShort};
 ghost use Rattle.rbp.specs.Persistence.{IsLoose};
+ghost use Rattle.rbp.specs.Walk.{share_of, is_in_least, is_in_most};
 ghost use Rattle.measure_core.specs.Laws.{AreMet, AreValues};
 ghost use Rattle.measure_core.specs.Made.{IsMadeFor};
 ghost use Rattle.desk_model.specs.MeasureText.{IsPersistence};
@@ -14,6 +15,7 @@ ghost use Rattle.desk_model.specs.declared.types.MeasureName.TheVariants.{Biased
 use desk_model::{Mark, MeasureName, Memory, Ranking};
 use fractions::{Powers, Span};
 use measure_core::{Cell, Measure, Steps};
+use measure_laws::{after, next_pair};
 use recip_rank::firsts::{is_true, rank_in};
 use std::alloc::Global;
 use std::marker::Model;
@@ -38,6 +40,13 @@ impl Model for Rbp {
     ghost view = { λ r. record { top = r.top; bottom = r.bottom } };
 
     ghost invariant = { λ r. IsKept r.top r.bottom r.powers };
+}
+
+/// The sums of the shares of the documents that are relevant in the least case and in the most case.
+#[derive(Clone, Copy)]
+struct Shares {
+    least: Span,
+    most: Span,
 }
 
 /// Whether a rank comes before another, where an absent one comes last.
@@ -135,22 +144,69 @@ impl Rbp {
         }
     }
 
-    /// The ends of the shares of all documents that the least case makes true.
-    fn shares(&self, a: &Ranking, b: &Ranking, marks: &[Mark]) -> Span
-        requires { AreMet marks.now a.now b.now }
-        ensures lo { result.lo ≡ share_sum (low_share self.now.top self.now.bottom) marks.now a.now b.now }
-        ensures hi { result.hi ≡ share_sum (high_share self.now.top self.now.bottom) marks.now a.now b.now }
-        ensures loose { IsLoose result }
+    /// The sums with one more document, by its two ranks and its mark.
+    #[inline]
+    fn with_share(&self, sums: Shares, x: Option<u32>, y: Option<u32>, mark: Mark) -> Shares
+        requires first { IsWithin 10000 x }
+        requires second { IsWithin 10000 y }
+        requires least { IsLoose sums.least }
+        requires most { IsLoose sums.most }
+        ensures least_lo { result.least.lo ≡ sums.least.lo +ℤ share_of (low_share self.now.top self.now.bottom) is_in_least mark x y }
+        ensures least_hi { result.least.hi ≡ sums.least.hi +ℤ share_of (high_share self.now.top self.now.bottom) is_in_least mark x y }
+        ensures most_lo { result.most.lo ≡ sums.most.lo +ℤ share_of (low_share self.now.top self.now.bottom) is_in_most mark x y }
+        ensures most_hi { result.most.hi ≡ sums.most.hi +ℤ share_of (high_share self.now.top self.now.bottom) is_in_most mark x y }
     {
-        let mut total = Span { lo: 0, hi: 0 };
-        for (doc, mark) in marks.iter().enumerate() {
-            let x = rank_in(a, doc as u32);
-            let y = rank_in(b, doc as u32);
-            if is_true(is_before(y, x), *mark) {
-                total = total.add(self.share(x, y));
+        match mark {
+            Mark::Other => sums,
+            Mark::Relevant => {
+                let share = self.share(x, y);
+                Shares {
+                    least: sums.least.add(share),
+                    most: sums.most.add(share),
+                }
+            }
+            Mark::Unjudged => {
+                let share = self.share(x, y);
+                if is_before(y, x) {
+                    Shares {
+                        least: sums.least.add(share),
+                        most: sums.most,
+                    }
+                } else {
+                    Shares {
+                        least: sums.least,
+                        most: sums.most.add(share),
+                    }
+                }
             }
         }
-        total
+    }
+
+    /// The sums of shares, by one walk over the documents that either run ranks: no other document
+    /// has a share.
+    fn shares(&self, a: &Ranking, b: &Ranking, marks: &[Mark]) -> Shares
+        requires { AreMet marks.now a.now b.now }
+        ensures least_lo { result.least.lo ≡ share_sum (low_share self.now.top self.now.bottom) marks.now a.now b.now }
+        ensures least_hi { result.least.hi ≡ share_sum (high_share self.now.top self.now.bottom) marks.now a.now b.now }
+        ensures most_lo { result.most.lo ≡ neg_ℤ (share_sum (high_share self.now.top self.now.bottom) marks.now b.now a.now) }
+        ensures most_hi { result.most.hi ≡ neg_ℤ (share_sum (low_share self.now.top self.now.bottom) marks.now b.now a.now) }
+        ensures least_loose { IsLoose result.least }
+        ensures most_loose { IsLoose result.most }
+    {
+        // What is kept of the persistence bounds the sums.
+        let _ = &self.top;
+        let mut sums = Shares {
+            least: Span { lo: 0, hi: 0 },
+            most: Span { lo: 0, hi: 0 },
+        };
+        let mut first = a.by_doc();
+        let mut second = b.by_doc();
+        while let Some(pair) = next_pair(first, second) {
+            first = after(first, pair.doc);
+            second = after(second, pair.doc);
+            sums = self.with_share(sums, pair.first, pair.second, marks[pair.doc as usize]);
+        }
+        sums
     }
 
     /// 10^18 times what a tail after so many ranks adds at most.
@@ -172,15 +228,15 @@ impl Rbp {
         if kept > 0 { kept - 1 } else { 0 }
     }
 
-    /// The ends of 10^18 times the least difference.
-    fn least(&self, a: &Ranking, b: &Ranking, marks: &[Mark]) -> Span
-        requires { AreMet marks.now a.now b.now }
-        ensures lo { result.lo ≡ biased_least_lo self.now.top self.now.bottom marks.now a.now b.now }
-        ensures hi { result.hi ≡ biased_least_hi self.now.top self.now.bottom marks.now a.now b.now }
+    /// The ends of 10^18 times the least difference, by the shares of documents and how many ranks the
+    /// second run has.
+    fn less_tail(&self, shares: Span, ranks: u32) -> Span
+        requires shares { IsLoose shares }
+        requires ranks { ranks ≤ 10000 }
+        ensures lo { result.lo ≡ shares.lo -ℤ pos (high_power self.now.top self.now.bottom ranks) }
+        ensures hi { result.hi ≡ shares.hi -ℤ pos (low_power self.now.top self.now.bottom ranks - 1) }
         ensures short { IsShort result }
     {
-        let shares = self.shares(a, b, marks);
-        let ranks = ranks_of(b);
         let most = self.tail_most(ranks);
         let least = self.tail_least(ranks);
         Span {
@@ -238,9 +294,12 @@ impl Measure for Rbp {
         steps: &mut Steps<L>,
     ) -> Cell {
         steps.tick();
+        let shares = self.shares(a, b, marks);
+        let least = self.less_tail(shares.least, ranks_of(b));
+        let turned = self.less_tail(shares.most.negate(), ranks_of(a));
         Cell {
-            least: self.least(a, b, marks),
-            most: self.least(b, a, marks).negate(),
+            least,
+            most: turned.negate(),
         }
     }
 

@@ -1,47 +1,110 @@
-use Rattle.std.proofs.Common.{◌≡◌, ◌≤◌, true, false, pos, ◌+ℤ◌, arith, ap, ◌∙◌, sym}
-use Rattle.std.proofs.lemmas.Int.{ints}
-use Rattle.measure_laws.specs.Shares.{low_share, high_share, biased_truth}
-use Rattle.fractions.specs.declared.span.Span.{Span}
-use Rattle.rbp.specs.Persistence.{share_at}
-use Rattle.rbp.proofs.Sums.{sum_more, counted, share_taken, share_left, nothing_added}
-use Rattle.rbp.proofs.rbp.Rbp.shares.Goals.{then-is_true, else-is_true}
+use Rattle.std.proofs.Common.{◌<◌, ◌∙◌, length, arith, refl, ap}
+use Rattle.desk_model.specs.Mark.{mark_at}
+use Rattle.measure_laws.specs.Shares.{low_share, high_share}
+use Rattle.rbp.specs.Persistence.{Persistence}
+use Rattle.rbp.specs.Walk.{is_in_least, is_in_most, sum_of}
+use Rattle.rbp.proofs.Walk.{is_low, is_high, so_far_small, all_left, none_left, one_less, left_first, left_after, most_low, most_high}
 use Rattle.rbp.proofs.rbp.Rbp.shares.Goals as goal
 
-pub add-total-requires-clause-first : goal.add-total-requires-clause-first
-add-total-requires-clause-first c = let few : c.loop-doc.doc ≤ 25000000 = omega arith in ((omega (arith, ints), omega (arith, ints)), (omega (arith, ints), omega (arith, ints)))
-
-pub loop-doc-preserved : goal.loop-doc-preserved
-loop-doc-preserved c =
+pub loop-pair-init : goal.loop-pair-init
+loop-pair-init c =
+    let low = low_share c.args.self.now.top c.args.self.now.bottom in
+    let high = high_share c.args.self.now.top c.args.self.now.bottom in
     let marks = c.args.marks.now in
     let a = c.args.a.now in
     let b = c.args.b.now in
-    let doc = c.loop-doc.doc in
-    let low = low_share c.args.self.now.top c.args.self.now.bottom in
-    let high = high_share c.args.self.now.top c.args.self.now.bottom in
-    let here = counted marks a b doc c.rank_in-x.result c.rank_in-y.result c.is_before.result c.is_true.result c.rank_in-x.ensures.rank c.rank_in-y.ensures.rank c.is_before.ensures c.is_true.ensures in
-    elim c.if-is_true.branch [
-      | then-is_true w ↦
-          let taken : biased_truth marks a b doc ≡ true = sym here ∙ w.if-is_true.true in
-          let lo : c.if-is_true.total.lo ≡ c.loop-doc.total.lo +ℤ w.share.result.lo = ap (λ (s : Span). s.lo) w.total-is ∙ w.add-total.ensures.lo in
-          let hi : c.if-is_true.total.hi ≡ c.loop-doc.total.hi +ℤ w.share.result.hi = ap (λ (s : Span). s.hi) w.total-is ∙ w.add-total.ensures.hi in
-          record {
-            lo = lo ∙ sum_more (share_at low marks a b) doc c.loop-doc.total.lo w.share.result.lo c.loop-doc.invariant.lo (share_taken low marks a b doc c.rank_in-x.result c.rank_in-y.result w.share.result.lo c.rank_in-x.ensures.rank c.rank_in-y.ensures.rank taken w.share.ensures.lo);
-            hi = hi ∙ sum_more (share_at high marks a b) doc c.loop-doc.total.hi w.share.result.hi c.loop-doc.invariant.hi (share_taken high marks a b doc c.rank_in-x.result c.rank_in-y.result w.share.result.hi c.rank_in-x.ensures.rank c.rank_in-y.ensures.rank taken w.share.ensures.hi);
-            lo_least = omega (arith, ints, lo);
-            lo_most = omega (arith, ints, lo);
-            hi_least = omega (arith, ints, hi);
-            hi_most = omega (arith, ints, hi);
-          }
-      | else-is_true w ↦
-          let left : biased_truth marks a b doc ≡ false = sym here ∙ w.if-is_true.false in
-          let lo : c.if-is_true.total.lo ≡ c.loop-doc.total.lo = ap (λ (s : Span). s.lo) w.total-is in
-          let hi : c.if-is_true.total.hi ≡ c.loop-doc.total.hi = ap (λ (s : Span). s.hi) w.total-is in
-          record {
-            lo = lo ∙ nothing_added c.loop-doc.total.lo ∙ sum_more (share_at low marks a b) doc c.loop-doc.total.lo (pos 0) c.loop-doc.invariant.lo (share_left low marks a b doc left);
-            hi = hi ∙ nothing_added c.loop-doc.total.hi ∙ sum_more (share_at high marks a b) doc c.loop-doc.total.hi (pos 0) c.loop-doc.invariant.hi (share_left high marks a b doc left);
-            lo_least = omega (arith, ints, lo);
-            lo_most = omega (arith, ints, lo);
-            hi_least = omega (arith, ints, hi);
-            hi_most = omega (arith, ints, hi);
-          }
-    ]
+    let xs = c.by_doc-first in
+    let ys = c.by_doc-second in
+    record {
+      first = left_first (length marks) a xs.result.now c.requires.first xs.ensures.ascending xs.ensures.ranks;
+      second = left_first (length marks) b ys.result.now c.requires.second ys.ensures.ascending ys.ensures.ranks;
+      least_lo = all_left low is_in_least marks a b xs.result.now ys.result.now xs.ensures.ranks ys.ensures.ranks;
+      least_hi = all_left high is_in_least marks a b xs.result.now ys.result.now xs.ensures.ranks ys.ensures.ranks;
+      most_lo = all_left low is_in_most marks a b xs.result.now ys.result.now xs.ensures.ranks ys.ensures.ranks;
+      most_hi = all_left high is_in_most marks a b xs.result.now ys.result.now xs.ensures.ranks ys.ensures.ranks;
+    }
+
+pub with_share-sums-requires-clause-least : goal.with_share-sums-requires-clause-least
+with_share-sums-requires-clause-least c =
+    let r = c.args.self.now in
+    let l = c.loop-pair in
+    let below : r.top < r.bottom = omega (arith, c.self.invariant.below, ap (λ (p : Persistence). p.top) c.self.view_is, ap (λ (p : Persistence). p.bottom) c.self.view_is) in (
+      so_far_small (low_share r.top r.bottom) is_in_least c.args.marks.now c.args.a.now c.args.b.now l.first.now l.second.now l.sums.least.lo (is_low r.top r.bottom below) c.requires.small l.invariant.least_lo,
+      so_far_small (high_share r.top r.bottom) is_in_least c.args.marks.now c.args.a.now c.args.b.now l.first.now l.second.now l.sums.least.hi (is_high r.top r.bottom below) c.requires.small l.invariant.least_hi,
+    )
+
+pub with_share-sums-requires-clause-most : goal.with_share-sums-requires-clause-most
+with_share-sums-requires-clause-most c =
+    let r = c.args.self.now in
+    let l = c.loop-pair in
+    let below : r.top < r.bottom = omega (arith, c.self.invariant.below, ap (λ (p : Persistence). p.top) c.self.view_is, ap (λ (p : Persistence). p.bottom) c.self.view_is) in (
+      so_far_small (low_share r.top r.bottom) is_in_most c.args.marks.now c.args.a.now c.args.b.now l.first.now l.second.now l.sums.most.lo (is_low r.top r.bottom below) c.requires.small l.invariant.most_lo,
+      so_far_small (high_share r.top r.bottom) is_in_most c.args.marks.now c.args.a.now c.args.b.now l.first.now l.second.now l.sums.most.hi (is_high r.top r.bottom below) c.requires.small l.invariant.most_hi,
+    )
+
+pub loop-pair-preserved : goal.loop-pair-preserved
+loop-pair-preserved c =
+    let r = c.args.self.now in
+    let l = c.loop-pair in
+    let low = low_share r.top r.bottom in
+    let high = high_share r.top r.bottom in
+    let below : r.top < r.bottom = omega (arith, c.self.invariant.below, ap (λ (p : Persistence). p.top) c.self.view_is, ap (λ (p : Persistence). p.bottom) c.self.view_is) in
+    let marks = c.args.marks.now in
+    let pair = c.in-Some.pair in
+    let mark = mark_at marks pair.doc in
+    let t = c.in-Some.ensures.pair in
+    let within = t.known (length marks) l.invariant.first.within l.invariant.second.within in
+    record {
+      first = left_after (length marks) pair.doc pair.first l.first.now c.after-first.result.now l.invariant.first t.first c.after-first.ensures;
+      second = left_after (length marks) pair.doc pair.second l.second.now c.after-second.result.now l.invariant.second t.second c.after-second.ensures;
+      least_lo = one_less low is_in_least marks l.first.now l.second.now c.after-first.result.now c.after-second.result.now pair mark l.sums.least.lo c.with_share-sums.result.least.lo (sum_of low is_in_least marks c.args.a.now c.args.b.now) (is_low r.top r.bottom below) t within c.after-first.ensures c.after-second.ensures refl c.with_share-sums.ensures.least_lo l.invariant.least_lo;
+      least_hi = one_less high is_in_least marks l.first.now l.second.now c.after-first.result.now c.after-second.result.now pair mark l.sums.least.hi c.with_share-sums.result.least.hi (sum_of high is_in_least marks c.args.a.now c.args.b.now) (is_high r.top r.bottom below) t within c.after-first.ensures c.after-second.ensures refl c.with_share-sums.ensures.least_hi l.invariant.least_hi;
+      most_lo = one_less low is_in_most marks l.first.now l.second.now c.after-first.result.now c.after-second.result.now pair mark l.sums.most.lo c.with_share-sums.result.most.lo (sum_of low is_in_most marks c.args.a.now c.args.b.now) (is_low r.top r.bottom below) t within c.after-first.ensures c.after-second.ensures refl c.with_share-sums.ensures.most_lo l.invariant.most_lo;
+      most_hi = one_less high is_in_most marks l.first.now l.second.now c.after-first.result.now c.after-second.result.now pair mark l.sums.most.hi c.with_share-sums.result.most.hi (sum_of high is_in_most marks c.args.a.now c.args.b.now) (is_high r.top r.bottom below) t within c.after-first.ensures c.after-second.ensures refl c.with_share-sums.ensures.most_hi l.invariant.most_hi;
+    }
+
+pub returns-clause-least_lo : goal.returns-clause-least_lo
+returns-clause-least_lo c =
+    let r = c.args.self.now in
+    let l = c.loop-pair in
+    let below : r.top < r.bottom = omega (arith, c.self.invariant.below, ap (λ (p : Persistence). p.top) c.self.view_is, ap (λ (p : Persistence). p.bottom) c.self.view_is) in
+    none_left (low_share r.top r.bottom) is_in_least c.args.marks.now l.first.now l.second.now l.sums.least.lo (sum_of (low_share r.top r.bottom) is_in_least c.args.marks.now c.args.a.now c.args.b.now) (is_low r.top r.bottom below) (c.in_default.ensures.end.0 refl) l.invariant.least_lo
+
+pub returns-clause-least_hi : goal.returns-clause-least_hi
+returns-clause-least_hi c =
+    let r = c.args.self.now in
+    let l = c.loop-pair in
+    let below : r.top < r.bottom = omega (arith, c.self.invariant.below, ap (λ (p : Persistence). p.top) c.self.view_is, ap (λ (p : Persistence). p.bottom) c.self.view_is) in
+    none_left (high_share r.top r.bottom) is_in_least c.args.marks.now l.first.now l.second.now l.sums.least.hi (sum_of (high_share r.top r.bottom) is_in_least c.args.marks.now c.args.a.now c.args.b.now) (is_high r.top r.bottom below) (c.in_default.ensures.end.0 refl) l.invariant.least_hi
+
+pub returns-clause-most_lo : goal.returns-clause-most_lo
+returns-clause-most_lo c =
+    let r = c.args.self.now in
+    let l = c.loop-pair in
+    let below : r.top < r.bottom = omega (arith, c.self.invariant.below, ap (λ (p : Persistence). p.top) c.self.view_is, ap (λ (p : Persistence). p.bottom) c.self.view_is) in
+    none_left (low_share r.top r.bottom) is_in_most c.args.marks.now l.first.now l.second.now l.sums.most.lo (sum_of (low_share r.top r.bottom) is_in_most c.args.marks.now c.args.a.now c.args.b.now) (is_low r.top r.bottom below) (c.in_default.ensures.end.0 refl) l.invariant.most_lo ∙ most_low r.top r.bottom c.args.marks.now c.args.a.now c.args.b.now
+
+pub returns-clause-most_hi : goal.returns-clause-most_hi
+returns-clause-most_hi c =
+    let r = c.args.self.now in
+    let l = c.loop-pair in
+    let below : r.top < r.bottom = omega (arith, c.self.invariant.below, ap (λ (p : Persistence). p.top) c.self.view_is, ap (λ (p : Persistence). p.bottom) c.self.view_is) in
+    none_left (high_share r.top r.bottom) is_in_most c.args.marks.now l.first.now l.second.now l.sums.most.hi (sum_of (high_share r.top r.bottom) is_in_most c.args.marks.now c.args.a.now c.args.b.now) (is_high r.top r.bottom below) (c.in_default.ensures.end.0 refl) l.invariant.most_hi ∙ most_high r.top r.bottom c.args.marks.now c.args.a.now c.args.b.now
+
+pub returns-clause-least_loose : goal.returns-clause-least_loose
+returns-clause-least_loose c =
+    let r = c.args.self.now in
+    let l = c.loop-pair in
+    let below : r.top < r.bottom = omega (arith, c.self.invariant.below, ap (λ (p : Persistence). p.top) c.self.view_is, ap (λ (p : Persistence). p.bottom) c.self.view_is) in (
+      so_far_small (low_share r.top r.bottom) is_in_least c.args.marks.now c.args.a.now c.args.b.now l.first.now l.second.now l.sums.least.lo (is_low r.top r.bottom below) c.requires.small l.invariant.least_lo,
+      so_far_small (high_share r.top r.bottom) is_in_least c.args.marks.now c.args.a.now c.args.b.now l.first.now l.second.now l.sums.least.hi (is_high r.top r.bottom below) c.requires.small l.invariant.least_hi,
+    )
+
+pub returns-clause-most_loose : goal.returns-clause-most_loose
+returns-clause-most_loose c =
+    let r = c.args.self.now in
+    let l = c.loop-pair in
+    let below : r.top < r.bottom = omega (arith, c.self.invariant.below, ap (λ (p : Persistence). p.top) c.self.view_is, ap (λ (p : Persistence). p.bottom) c.self.view_is) in (
+      so_far_small (low_share r.top r.bottom) is_in_most c.args.marks.now c.args.a.now c.args.b.now l.first.now l.second.now l.sums.most.lo (is_low r.top r.bottom below) c.requires.small l.invariant.most_lo,
+      so_far_small (high_share r.top r.bottom) is_in_most c.args.marks.now c.args.a.now c.args.b.now l.first.now l.second.now l.sums.most.hi (is_high r.top r.bottom below) c.requires.small l.invariant.most_hi,
+    )

@@ -1,16 +1,20 @@
-use Rattle.std.proofs.Common.{◌≡◌, ◌*◌, ◌^◌, map, pos, neg_ℤ, ◌≤ℤ◌}
-use Rattle.std.specs.List.{range_with_len}
-use Rattle.desk_model.specs.Verdict.{whole_sum}
+use Rattle.std.proofs.Common.{◌≡◌, ◌+◌, length, ◌+ℤ◌}
 use Rattle.measure_laws.specs.Shares.{low_share, high_share}
-use Rattle.rbp.specs.Persistence.{share_at}
+use Rattle.rbp.specs.Walk.{is_in_least, is_in_most, sum_of, sum_left, IsLeft}
 use Rattle.rbp.proofs.rbp.Rbp.shares.Given as goal
 
-abbrev pub invariant-loop-doc : goal.invariant-loop-doc
-invariant-loop-doc l = record {
-  lo : l.total.lo ≡ whole_sum (map (share_at (low_share l.self.top l.self.bottom) l.marks l.a l.b) (range_with_len 0 l.doc));
-  hi : l.total.hi ≡ whole_sum (map (share_at (high_share l.self.top l.self.bottom) l.marks l.a l.b) (range_with_len 0 l.doc));
-  lo_least : neg_ℤ (pos (l.doc * 10 ^ 18)) ≤ℤ l.total.lo;
-  lo_most : l.total.lo ≤ℤ pos (l.doc * 10 ^ 18);
-  hi_least : neg_ℤ (pos (l.doc * 10 ^ 18)) ≤ℤ l.total.hi;
-  hi_most : l.total.hi ≤ℤ pos (l.doc * 10 ^ 18);
-}
+abbrev pub invariant-loop-pair : goal.invariant-loop-pair
+invariant-loop-pair l =
+    let low = low_share l.self.top l.self.bottom in
+    let high = high_share l.self.top l.self.bottom in
+    record {
+      first : IsLeft (length l.marks) l.first;
+      second : IsLeft (length l.marks) l.second;
+      least_lo : l.sums.least.lo +ℤ sum_left low is_in_least l.marks l.first l.second ≡ sum_of low is_in_least l.marks l.a l.b;
+      least_hi : l.sums.least.hi +ℤ sum_left high is_in_least l.marks l.first l.second ≡ sum_of high is_in_least l.marks l.a l.b;
+      most_lo : l.sums.most.lo +ℤ sum_left low is_in_most l.marks l.first l.second ≡ sum_of low is_in_most l.marks l.a l.b;
+      most_hi : l.sums.most.hi +ℤ sum_left high is_in_most l.marks l.first l.second ≡ sum_of high is_in_most l.marks l.a l.b;
+    }
+
+abbrev pub decreases-loop-pair : goal.decreases-loop-pair
+decreases-loop-pair l = length l.first + length l.second
