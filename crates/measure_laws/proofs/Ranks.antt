@@ -63,7 +63,7 @@ none_later g x start (suc n) h =
     omega (arith, sum_by-cons (λ d. if nat_eq x d then g d else 0) start (range_with_len (start + 1) n), ap (λ b. if b then g start else 0) (apart_above x start h), none_later g x (start + 1) n (omega arith))
 
 -- a sum in which one document alone counts
-one_counts : (g : ℕ → ℕ) (x : ℕ) (start n : ℕ) → start ≤ x → x < start + n → sum_by (λ d. if nat_eq x d then g d else 0) (range_with_len start n) ≡ g x
+pub one_counts : (g : ℕ → ℕ) (x : ℕ) (start n : ℕ) → start ≤ x → x < start + n → sum_by (λ d. if nat_eq x d then g d else 0) (range_with_len start n) ≡ g x
 one_counts g x start zero p q = absurd (omega arith)
 one_counts g x start (suc n) p q = elim (split start x p) [
   | inl here ↦

@@ -1,2 +1,4 @@
 pub mod Fronts
+pub mod Walk
 pub mod Ends
+pub mod Own

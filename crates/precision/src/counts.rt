@@ -2,7 +2,9 @@ ghost use Rattle.std.specs.Prelude.{◌≡◌, ◌+◌, ◌≤◌, ◌<◌, leng
 ghost use Rattle.desk_model.specs.Completion.{picked_value};
 ghost use Rattle.desk_model.specs.Ranking.{IsRanking, is_in};
 ghost use Rattle.desk_model.specs.Classes.{only_count, front_count};
+ghost use Rattle.precision.specs.Own.{AreOwn};
 
+use crate::shared::shared_documents;
 use desk_model::{Mark, Ranking};
 
 /// How many of some documents are relevant, and how many unjudged.
@@ -37,6 +39,19 @@ impl Counts {
         }
     }
 
+    /// Without some of them.
+    fn without(self, some: Counts) -> Counts
+        requires relevant { some.relevant ≤ self.relevant }
+        requires unjudged { some.unjudged ≤ self.unjudged }
+        ensures relevant { result.relevant + some.relevant ≡ self.relevant }
+        ensures unjudged { result.unjudged + some.unjudged ≡ self.unjudged }
+    {
+        Counts {
+            relevant: self.relevant - some.relevant,
+            unjudged: self.unjudged - some.unjudged,
+        }
+    }
+
     /// The number of them that are true where no unjudged one is.
     pub fn least(self) -> i64
         ensures { result ≡ pos self.relevant }
@@ -52,6 +67,16 @@ impl Counts {
         (self.relevant + self.unjudged) as i64
     }
 }
+
+/// The counts of the documents that each of two rankings has among its first k, and the other not.
+#[derive(Clone, Copy, PartialEq, Eq, Debug)]
+pub struct OwnCounts {
+    pub first: Counts,
+    pub second: Counts,
+}
+
+/// Up to which k it is faster to look each document up in the other ranking than to walk over both.
+const LOOKED_UP: u32 = 256;
 
 /// The first k documents, or all where there are fewer.
 fn front(docs: &[u32], k: u32) -> &[u32]
@@ -103,4 +128,24 @@ pub fn own_documents(k: u32, ranking: &Ranking, other: &Ranking, marks: &[Mark])
         }
     }
     counts
+}
+
+/// The counts of the documents that each of two rankings has among its first k, and the other not.
+pub fn own_counts(k: u32, a: &Ranking, b: &Ranking, marks: &[Mark]) -> OwnCounts
+    requires first { IsRanking (length marks.now) a.now }
+    requires second { IsRanking (length marks.now) b.now }
+    ensures first { AreOwn k marks.now a.now b.now result.first }
+    ensures second { AreOwn k marks.now b.now a.now result.second }
+{
+    if k <= LOOKED_UP {
+        return OwnCounts {
+            first: own_documents(k, a, b, marks),
+            second: own_documents(k, b, a, marks),
+        };
+    }
+    let shared = shared_documents(k, a, b, marks);
+    OwnCounts {
+        first: front_documents(k, a, marks).without(shared),
+        second: front_documents(k, b, marks).without(shared),
+    }
 }

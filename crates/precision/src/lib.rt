@@ -3,5 +3,6 @@
 
 pub mod counts;
 pub mod precision;
+pub mod shared;
 
 pub use precision::Precision;

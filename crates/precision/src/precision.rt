@@ -8,7 +8,7 @@ ghost use Rattle.measure_laws.specs.Fronts.{only_second};
 ghost use Rattle.measure_core.specs.Laws.{AreValues};
 ghost use Rattle.measure_core.specs.Made.{IsMadeFor};
 
-use crate::counts::{front_documents, is_among_first, own_documents};
+use crate::counts::{front_documents, is_among_first, own_counts};
 use desk_model::{Mark, MeasureName, Memory, Ranking};
 use fractions::Span;
 use measure_core::{Cell, Measure, Steps};
@@ -53,11 +53,10 @@ impl Precision {
             (record { least_lo = result.0; least_hi = result.0; most_lo = result.1; most_hi = result.1 }) }
         ensures depth { IsMeasure (P self.now) }
     {
-        let first_own = own_documents(self.k, first, second, marks);
-        let second_own = own_documents(self.k, second, first, marks);
+        let own = own_counts(self.k, first, second, marks);
         (
-            first_own.least() - second_own.most(),
-            first_own.most() - second_own.least(),
+            own.first.least() - own.second.most(),
+            own.first.most() - own.second.least(),
         )
     }
 

@@ -3,6 +3,8 @@ use Rattle.std.proofs.Common.{◌≡◌, ℕ, zero, suc, ◌+◌, ◌-◌, ◌^�
 use Rattle.std.specs.Prelude.{if◌then◌else◌}
 use Rattle.std.specs.List.{range_with_len}
 use Rattle.std.proofs.lemmas.Bool.Decides.{nat_tests}
+use Rattle.std.proofs.lemmas.List.{nil_from_length, take_all}
+use Rattle.std.proofs.lemmas.List.Sums.{sum_by_more}
 use Rattle.desk_model.specs.Mark.{mark_at}
 use Rattle.desk_model.specs.Classes.{only_count, front_count}
 use Rattle.desk_model.specs.Completion.{picked_value, with_picked}
@@ -11,6 +13,7 @@ use Rattle.desk_model.specs.Ranking.{IsRanking, is_in}
 use Rattle.desk_model.specs.Score.{true_count, true_among}
 use Rattle.desk_model.specs.MeasureText.{IsMeasure}
 use Rattle.desk_model.specs.declared.types.Mark.{Mark}
+use Rattle.desk_model.specs.declared.types.Mark.TheVariants.{Unjudged}
 use Rattle.desk_model.specs.declared.types.MeasureName.TheVariants.{Recall}
 use Rattle.desk_model.proofs.Counts.{one_if, count_by-agree, IsDistinct-take}
 use Rattle.desk_model.proofs.PrecisionEnds.{weaker, front_within, is_in_members, difference_outside, least_attained}
@@ -165,17 +168,22 @@ none_alone taken k marks a = sym (ap (λ (xs : List ℕ). only_count taken marks
 pub least_short : (k : ℕ) (marks : List Mark) (a b : List ℕ) (s : Span) → IsMeasure (Recall k) → AreMet marks a b → s ≡ exact_least (Recall k) marks a b → IsShort s
 least_short k marks a b s valid met e = subst IsShort (sym e) (modest_short (exact_least (Recall k) marks a b) ((exact_laws (Recall k) valid tt).cell_modest marks a b met).least)
 
--- ---- one more document of a topic
-pub counted_more : (marks : List Mark) (taken : Bool) (place before after : ℕ) (m : Mark) → m ≡ mark_at marks place → before ≡ count_by (with_picked marks (λ _. taken)) (range_with_len 0 place) →
-    after ≡ before + (if picked_value taken m then 1 else 0) → after ≡ count_by (with_picked marks (λ _. taken)) (range_with_len 0 (place + 1))
-counted_more marks taken place before after m em eb ea =
-    let next : suc place ≡ place + 1 = omega arith in
-    ea ∙ ap (λ n. n + one_if (picked_value taken m)) eb ∙ ap (λ x. count_by (with_picked marks (λ _. taken)) (range_with_len 0 place) + one_if (picked_value taken x)) em
-    ∙ sym (count_more (with_picked marks (λ _. taken)) place) ∙ ap (λ n. count_by (with_picked marks (λ _. taken)) (range_with_len 0 n)) next
+-- ---- the marks of a topic, one by one
+counted_to : (taken : Bool) (marks : List Mark) (n : ℕ) → n ≤ length marks → count_by (with_picked marks (λ _. taken)) (range_with_len 0 n) ≡ count_by (picked_value taken) (take n marks)
+counted_to taken marks zero h = refl
+counted_to taken marks (suc n) h =
+    let next : n + 1 ≡ suc n = omega arith in
+    count_more (with_picked marks (λ _. taken)) n ∙ ap (λ m. m + one_if (with_picked marks (λ _. taken) n)) (counted_to taken marks n (omega arith))
+    ∙ sym (sum_by_more (λ m. one_if (picked_value taken m)) marks n Unjudged h) ∙ ap (λ m. count_by (picked_value taken) (take m marks)) next
 
-pub at_most_one : (b : Bool) → (if b then 1 else 0) ≤ 1
-at_most_one true = omega arith
-at_most_one false = omega arith
+pub true_count_marks : (taken : Bool) (marks : List Mark) → true_count (with_picked marks (λ _. taken)) (length marks) ≡ count_by (picked_value taken) marks
+true_count_marks taken marks = counted_to taken marks (length marks) (omega arith) ∙ ap (count_by (picked_value taken)) (take_all (length marks) marks (omega arith))
+
+-- where no mark is left
+pub all_counted : (taken : Bool) (marks rest : List Mark) (count : ℕ) → count + count_by (picked_value taken) rest ≡ count_by (picked_value taken) marks → length rest ≡ 0 →
+    count ≡ true_count (with_picked marks (λ _. taken)) (length marks)
+all_counted taken marks rest count e none =
+    omega (arith, e, ap (count_by (picked_value taken)) (nil_from_length rest none), true_count_marks taken marks)
 
 -- ---- the counts that the code makes
 -- of two runs, also exchanged

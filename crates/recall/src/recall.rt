@@ -14,7 +14,7 @@ use crate::topic::all_documents;
 use desk_model::{Mark, MeasureName, Memory, Ranking};
 use fractions::{Span, span_of};
 use measure_core::{Cell, Measure, Steps};
-use precision::counts::{Counts, front_documents, is_among_first, own_documents};
+use precision::counts::{Counts, front_documents, is_among_first, own_counts};
 use std::alloc::Global;
 use std::marker::Model;
 use std::sync::ledger::Ledger;
@@ -85,9 +85,8 @@ fn leads(k: u32, a: &Ranking, b: &Ranking, marks: &[Mark]) -> bool
     requires { AreMet marks.now a.now b.now }
     ensures { result ≡ nat_lt (true_among (with_picked marks.now (only_second k a.now b.now)) k b.now) (true_among (with_picked marks.now (only_second k a.now b.now)) k a.now) }
 {
-    let first = own_documents(k, a, b, marks);
-    let second = own_documents(k, b, a, marks);
-    second.relevant + second.unjudged < first.relevant
+    let own = own_counts(k, a, b, marks);
+    own.second.relevant + own.second.unjudged < own.first.relevant
 }
 
 /// Whether the least case makes an unjudged document relevant.
@@ -170,12 +169,11 @@ impl Measure for Recall {
         steps: &mut Steps<L>,
     ) -> Cell {
         steps.tick();
-        let first = own_documents(self.k, a, b, marks);
-        let second = own_documents(self.k, b, a, marks);
+        let own = own_counts(self.k, a, b, marks);
         let all = all_documents(marks);
         Cell {
-            least: least_span(first, second, all),
-            most: least_span(second, first, all).negate(),
+            least: least_span(own.first, own.second, all),
+            most: least_span(own.second, own.first, all).negate(),
         }
     }
 

@@ -1,26 +1,29 @@
-ghost use Rattle.std.specs.Prelude.{◌≡◌, ◌+◌, ◌≤◌, ◌<◌, length, true, false, if◌then◌else◌};
+ghost use Rattle.std.specs.Prelude.{◌≡◌, ◌+◌, ◌≤◌, length, count_by, true, false};
 ghost use Rattle.desk_model.specs.Completion.{picked_value, with_picked};
 ghost use Rattle.desk_model.specs.Score.{true_count};
 
 use desk_model::Mark;
 use precision::counts::Counts;
 
-/// Counts with one more document of this mark.
-fn counted(counts: Counts, mark: Mark) -> Counts
-    requires { counts.relevant + counts.unjudged < 25000000 }
-    ensures relevant { result.relevant ≡ counts.relevant + (if picked_value false mark then 1 else 0) }
-    ensures either { result.relevant + result.unjudged ≡ counts.relevant + counts.unjudged + (if picked_value true mark then 1 else 0) }
+/// How many marks are counted at a time: as many as a byte can count.
+const BLOCK: usize = 255;
+
+/// The counts of the documents with these marks, counted in bytes, which the compiler makes vector
+/// code of.
+fn block_documents(marks: &[Mark]) -> Counts
+    requires { length marks.now ≤ 255 }
+    ensures relevant { result.relevant ≡ count_by (picked_value false) marks.now }
+    ensures either { result.relevant + result.unjudged ≡ count_by (picked_value true) marks.now }
 {
-    match mark {
-        Mark::Relevant => Counts {
-            relevant: counts.relevant + 1,
-            unjudged: counts.unjudged,
-        },
-        Mark::Unjudged => Counts {
-            relevant: counts.relevant,
-            unjudged: counts.unjudged + 1,
-        },
-        Mark::Other => counts,
+    let mut relevant: u8 = 0;
+    let mut unjudged: u8 = 0;
+    for mark in marks {
+        relevant += u8::from(*mark == Mark::Relevant);
+        unjudged += u8::from(*mark == Mark::Unjudged);
+    }
+    Counts {
+        relevant: u32::from(relevant),
+        unjudged: u32::from(unjudged),
     }
 }
 
@@ -32,8 +35,12 @@ pub fn all_documents(marks: &[Mark]) -> Counts
     ensures few { result.relevant + result.unjudged ≤ length marks.now }
 {
     let mut counts = Counts::NONE;
-    for mark in marks {
-        counts = counted(counts, *mark);
+    for block in marks.chunks(BLOCK) {
+        let more = block_documents(block);
+        counts = Counts {
+            relevant: counts.relevant + more.relevant,
+            unjudged: counts.unjudged + more.unjudged,
+        };
     }
     counts
 }

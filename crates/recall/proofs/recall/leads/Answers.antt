@@ -2,4 +2,4 @@ use Rattle.recall.proofs.Ends.{leads_is}
 use Rattle.recall.proofs.recall.leads.Goals as goal
 
 pub returns : goal.returns
-returns c = leads_is c.args.k c.args.marks.now c.args.a.now c.args.b.now _ _ c.requires.first c.requires.second c.own_documents-first.ensures.least c.own_documents-second.ensures.most
+returns c = leads_is c.args.k c.args.marks.now c.args.a.now c.args.b.now _ _ c.requires.first c.requires.second c.own_counts-own.ensures.first.least c.own_counts-own.ensures.second.most

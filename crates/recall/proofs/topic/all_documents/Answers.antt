@@ -1,12 +1,9 @@
-use Rattle.std.proofs.Common.{arith, true, false, refl}
-use Rattle.desk_model.specs.Mark.{mark_at}
-use Rattle.desk_model.specs.Completion.{picked_value}
-use Rattle.recall.proofs.Ends.{counted_more, at_most_one}
+use Rattle.std.proofs.Common.{true, false}
+use Rattle.recall.proofs.Ends.{all_counted}
 use Rattle.recall.proofs.topic.all_documents.Goals as goal
 
-pub loop-mark-preserved : goal.loop-mark-preserved
-loop-mark-preserved c = record {
-  least = counted_more c.args.marks.now false c.loop-mark.mark-index _ _ _ refl c.loop-mark.invariant.least c.counted-counts.ensures.relevant;
-  most = counted_more c.args.marks.now true c.loop-mark.mark-index _ _ _ refl c.loop-mark.invariant.most c.counted-counts.ensures.either;
-  few = omega (arith, c.counted-counts.ensures.either, c.loop-mark.invariant.few, at_most_one (picked_value true (mark_at c.args.marks.now c.loop-mark.mark-index)));
-}
+pub returns-clause-least : goal.returns-clause-least
+returns-clause-least c = all_counted false c.args.marks.now _ _ c.loop-block.invariant.least c.in-None.ensures.steps.1.0
+
+pub returns-clause-most : goal.returns-clause-most
+returns-clause-most c = all_counted true c.args.marks.now _ _ c.loop-block.invariant.most c.in-None.ensures.steps.1.0

@@ -1,11 +1,11 @@
-use Rattle.std.proofs.Common.{◌≡◌, ◌+◌, ◌≤◌, count_by, true, false}
-use Rattle.std.specs.List.{range_with_len}
-use Rattle.desk_model.specs.Completion.{with_picked}
+use Rattle.std.proofs.Common.{◌≡◌, ◌+◌, count_by, true, false}
+use Rattle.std.specs.Slice.Iter.{chunks_rest, chunks_size}
+use Rattle.desk_model.specs.Completion.{picked_value}
 use Rattle.recall.proofs.topic.all_documents.Given as goal
 
-abbrev pub invariant-loop-mark : goal.invariant-loop-mark
-invariant-loop-mark l = record {
-  least : l.counts.relevant ≡ count_by (with_picked l.marks (λ _. false)) (range_with_len 0 l.mark-index);
-  most : l.counts.relevant + l.counts.unjudged ≡ count_by (with_picked l.marks (λ _. true)) (range_with_len 0 l.mark-index);
-  few : l.counts.relevant + l.counts.unjudged ≤ l.mark-index;
+abbrev pub invariant-loop-block : goal.invariant-loop-block
+invariant-loop-block l = record {
+  size : chunks_size l.block-iterator ≡ 255;
+  least : l.counts.relevant + count_by (picked_value false) (chunks_rest l.block-iterator) ≡ count_by (picked_value false) l.marks;
+  most : l.counts.relevant + l.counts.unjudged + count_by (picked_value true) (chunks_rest l.block-iterator) ≡ count_by (picked_value true) l.marks;
 }

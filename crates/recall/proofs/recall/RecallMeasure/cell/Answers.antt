@@ -6,33 +6,33 @@ use Rattle.recall.proofs.recall.RecallMeasure.cell.Goals as goal
 
 pub least_span-requires-clause-within : goal.least_span-requires-clause-within
 least_span-requires-clause-within g c =
-    let counts : AreCounts c.self.inside.k c.args.marks.now c.args.a.now c.args.b.now c.own_documents-first.result c.own_documents-second.result c.all_documents-all.result = record {
+    let counts : AreCounts c.self.inside.k c.args.marks.now c.args.a.now c.args.b.now c.own_counts-own.result.first c.own_counts-own.result.second c.all_documents-all.result = record {
       ranking_first = c.requires.first;
       ranking_second = c.requires.second;
-      first = record { least = c.own_documents-first.ensures.least; most = c.own_documents-first.ensures.most };
-      second = record { least = c.own_documents-second.ensures.least; most = c.own_documents-second.ensures.most };
+      first = record { least = c.own_counts-own.ensures.first.least; most = c.own_counts-own.ensures.first.most };
+      second = record { least = c.own_counts-own.ensures.second.least; most = c.own_counts-own.ensures.second.most };
       all = record { least = c.all_documents-all.ensures.least; most = c.all_documents-all.ensures.most };
     } in
     own_few _ _ _ _ _ _ _ counts
 
 pub least_span-requires-2-clause-within : goal.least_span-requires-2-clause-within
 least_span-requires-2-clause-within g c =
-    let counts : AreCounts c.self.inside.k c.args.marks.now c.args.b.now c.args.a.now c.own_documents-second.result c.own_documents-first.result c.all_documents-all.result = record {
+    let counts : AreCounts c.self.inside.k c.args.marks.now c.args.b.now c.args.a.now c.own_counts-own.result.second c.own_counts-own.result.first c.all_documents-all.result = record {
       ranking_first = c.requires.second;
       ranking_second = c.requires.first;
-      first = record { least = c.own_documents-second.ensures.least; most = c.own_documents-second.ensures.most };
-      second = record { least = c.own_documents-first.ensures.least; most = c.own_documents-first.ensures.most };
+      first = record { least = c.own_counts-own.ensures.second.least; most = c.own_counts-own.ensures.second.most };
+      second = record { least = c.own_counts-own.ensures.first.least; most = c.own_counts-own.ensures.first.most };
       all = record { least = c.all_documents-all.ensures.least; most = c.all_documents-all.ensures.most };
     } in
     own_few _ _ _ _ _ _ _ counts
 
 pub negate-requires : goal.negate-requires
 negate-requires g c =
-    let counts : AreCounts c.self.inside.k c.args.marks.now c.args.b.now c.args.a.now c.own_documents-second.result c.own_documents-first.result c.all_documents-all.result = record {
+    let counts : AreCounts c.self.inside.k c.args.marks.now c.args.b.now c.args.a.now c.own_counts-own.result.second c.own_counts-own.result.first c.all_documents-all.result = record {
       ranking_first = c.requires.second;
       ranking_second = c.requires.first;
-      first = record { least = c.own_documents-second.ensures.least; most = c.own_documents-second.ensures.most };
-      second = record { least = c.own_documents-first.ensures.least; most = c.own_documents-first.ensures.most };
+      first = record { least = c.own_counts-own.ensures.second.least; most = c.own_counts-own.ensures.second.most };
+      second = record { least = c.own_counts-own.ensures.first.least; most = c.own_counts-own.ensures.first.most };
       all = record { least = c.all_documents-all.ensures.least; most = c.all_documents-all.ensures.most };
     } in
     let met : AreMet c.args.marks.now c.args.b.now c.args.a.now = record { first = c.requires.second; second = c.requires.first; small = c.requires.small } in
@@ -40,11 +40,11 @@ negate-requires g c =
 
 pub returns-clause-cell : goal.returns-clause-cell
 returns-clause-cell g c =
-    let counts : AreCounts c.self.inside.k c.args.marks.now c.args.a.now c.args.b.now c.own_documents-first.result c.own_documents-second.result c.all_documents-all.result = record {
+    let counts : AreCounts c.self.inside.k c.args.marks.now c.args.a.now c.args.b.now c.own_counts-own.result.first c.own_counts-own.result.second c.all_documents-all.result = record {
       ranking_first = c.requires.first;
       ranking_second = c.requires.second;
-      first = record { least = c.own_documents-first.ensures.least; most = c.own_documents-first.ensures.most };
-      second = record { least = c.own_documents-second.ensures.least; most = c.own_documents-second.ensures.most };
+      first = record { least = c.own_counts-own.ensures.first.least; most = c.own_counts-own.ensures.first.most };
+      second = record { least = c.own_counts-own.ensures.second.least; most = c.own_counts-own.ensures.second.most };
       all = record { least = c.all_documents-all.ensures.least; most = c.all_documents-all.ensures.most };
     } in
     let k : c.args.self.now ≡ c.self.inside.k = cc in
