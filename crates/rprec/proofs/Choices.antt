@@ -24,7 +24,7 @@ use Rattle.measure_laws.proofs.RprecEnds.{count-is_among_first, greedy_second}
 use Rattle.precision.specs.declared.counts.Counts.{Counts}
 use Rattle.rprec.specs.declared.fronts.Fronts.{Fronts}
 use Rattle.rprec.specs.declared.greedy.Candidate.{Candidate}
-use Rattle.rprec.specs.Greedy.{AreFronts, AreTopic, AreGains}
+use Rattle.rprec.specs.Greedy.{AreFronts, AreTopic, AreGains, beats}
 use Rattle.rprec.proofs.Steps.{own_few, exchanged, fronts_exchanged}
 
 -- ---- the true documents of a class: those judged relevant, and those picked
@@ -139,10 +139,10 @@ gains_are marks a b r chosen f all c ra rb h topic er small ec e1 e2 =
     record { same = subst (λ (s : ℕ). true_among (greedy_truth marks a b s) s a + c.second ≡ true_among (greedy_truth marks a b s) s b + c.first) (sym ec) here }
 
 -- ---- one candidate against another
-same_test : (m n p q : ℕ) → p + n ≡ m + q → nat_lt q p ≡ nat_lt n m
+pub same_test : (m n p q : ℕ) → p + n ≡ m + q → nat_lt q p ≡ nat_lt n m
 same_test m n p q h = grind (arith, nat_tests)
 
-scaled_test : (m n k : ℕ) → 0 < k → nat_lt (m * k) (n * k) ≡ nat_lt m n
+pub scaled_test : (m n k : ℕ) → 0 < k → nat_lt (m * k) (n * k) ≡ nat_lt m n
 scaled_test m n k h = by_test (nat_lt m n) refl
   where
     by_test : (b : Bool) → nat_lt m n ≡ b → nat_lt (m * k) (n * k) ≡ b
@@ -166,7 +166,7 @@ test_step m n x y r s first second first' second' pr ps e f =
     ∙ same_test (first' * r + second * s) (first * s + second' * r) (x * r + n * s) (m * s + y * r) (omega (arith, ap (λ k. k * s) e, ap (λ k. k * r) f))
 
 pub smaller_is : (marks : List Mark) (a b : List ℕ) (c best : Candidate) → AreGains marks a b c → AreGains marks a b best →
-    is_smaller (greedy_scores marks a b c.count) (greedy_scores marks a b best.count) ≡ nat_lt (c.first * max 1 best.count + best.second * max 1 c.count) (best.first * max 1 c.count + c.second * max 1 best.count)
+    is_smaller (greedy_scores marks a b c.count) (greedy_scores marks a b best.count) ≡ beats c best
 smaller_is marks a b c best h k =
     let r = c.count in
     let s = best.count in
@@ -176,59 +176,40 @@ smaller_is marks a b c best h k =
     (test_step (true_among here r a) (true_among here r b) (true_among there s a) (true_among there s b) (max 1 r) (max 1 s) c.first c.second best.first best.second (omega arith) (omega arith) h.same k.same)
 
 -- ---- one more candidate
-first_least-append : {X : Type 0} (scores : X → Scores) (best : X) (xs ys : List X) → first_least scores best (xs ++ ys) ≡ first_least scores (first_least scores best xs) ys
+pub first_least-append : {X : Type 0} (scores : X → Scores) (best : X) (xs ys : List X) → first_least scores best (xs ++ ys) ≡ first_least scores (first_least scores best xs) ys
 first_least-append scores best [] ys = refl
 first_least-append scores best (x ∷ xs) ys = first_least-append scores (if is_smaller (scores x) (scores best) then x else best) xs ys
 
-range_push : (s n : ℕ) → range_with_len s (suc n) ≡ range_with_len s n ++ (s + n) ∷ []
+pub range_push : (s n : ℕ) → range_with_len s (suc n) ≡ range_with_len s n ++ (s + n) ∷ []
 range_push s zero = ap (λ k. k ∷ []) (omega arith)
 range_push s (suc n) = ap (λ ks. s ∷ ks) (range_push (s + 1) n ∙ ap (λ k. range_with_len (s + 1) n ++ k ∷ []) (omega arith))
-
--- the best of some numbers, and of one more
-pub best_more : (marks : List Mark) (a b : List ℕ) (j step : ℕ) (c best after : Candidate) → AreGains marks a b c → AreGains marks a b best → c.count ≡ j + 1 + step → best.count ≡ first_least (greedy_scores marks a b) j (range_with_len (j + 1) step) →
-    after ≡ (if nat_lt (c.first * max 1 best.count + best.second * max 1 c.count) (best.first * max 1 c.count + c.second * max 1 best.count) then c else best) →
-    (after.count ≡ first_least (greedy_scores marks a b) j (range_with_len (j + 1) (step + 1))) × AreGains marks a b after
-best_more marks a b j step c best after h k ec eb ea =
-    let scores = greedy_scores marks a b in
-    let test = is_smaller (scores c.count) (scores best.count) in
-    let chosen : after ≡ (if test then c else best) = ea ∙ ap (λ (v : Bool). if v then c else best) (sym (smaller_is marks a b c best h k)) in
-    let next : suc step ≡ step + 1 = omega arith in
-    let later : first_least scores j (range_with_len (j + 1) (step + 1)) ≡ first_least scores best.count (c.count ∷ []) =
-    ap (λ n. first_least scores j (range_with_len (j + 1) n)) (sym next) ∙ ap (first_least scores j) (range_push (j + 1) step) ∙ first_least-append scores j (range_with_len (j + 1) step) ((j + 1 + step) ∷ [])
-    ∙ ap (λ (x : ℕ). first_least scores x ((j + 1 + step) ∷ [])) (sym eb) ∙ ap (λ (x : ℕ). first_least scores best.count (x ∷ [])) (sym ec) in
-    (ap (λ (x : Candidate). x.count) chosen ∙ count_of test c best ∙ sym later, subst (AreGains marks a b) (sym chosen) (either test c best h k))
-  where
-    count_of : (v : Bool) (x y : Candidate) → (if v then x else y).count ≡ (if v then x.count else y.count)
-    count_of true x y = refl
-    count_of false x y = refl
-
-    either : (v : Bool) (x y : Candidate) → AreGains marks a b x → AreGains marks a b y → AreGains marks a b (if v then x else y)
-    either true x y p q = p
-    either false x y p q = q
 
 pub one_of_two : (P : Candidate → Type 0) (v : Bool) (x y after : Candidate) → after ≡ (if v then x else y) → P x → P y → P after
 one_of_two P true x y after e p q = subst P (sym e) p
 one_of_two P false x y after e p q = subst P (sym e) q
 
 -- ---- sizes
-pub own_open : (marks : List Mark) (a b : List ℕ) (r : ℕ) (f : Fronts) (all : Counts) → IsRanking (length marks) a → AreFronts marks (take r a) (take r b) f → AreTopic marks all → f.first.unjudged ≤ all.unjudged
-own_open marks a b r f all ra h topic =
-    let zs = range_with_len 0 (length marks) in
+-- the sizes of the three classes together
+pub class_sizes : (marks : List Mark) (a b : List ℕ) (r : ℕ) → size_of (length marks) (open_in marks (λ _. true)) ≡
+    size_of (length marks) (open_in marks (only_second r b a)) + size_of (length marks) (open_in marks (only_second r a b)) + size_of (length marks) (open_in marks (neutral r a b))
+class_sizes marks a b r =
+    let zs = range_with_len 0 (length marks) in count_by-agree _ _ zs (every _ (λ d. and_true (is_unjudged (mark_at marks d))) zs) ∙ count_three (λ d. is_unjudged (mark_at marks d)) r a b zs
+
+-- the own unjudged documents of both are among all
+pub own_both : (marks : List Mark) (a b : List ℕ) (r : ℕ) (f : Fronts) (all : Counts) → IsRanking (length marks) a → IsRanking (length marks) b → AreFronts marks (take r a) (take r b) f → AreTopic marks all → f.first.unjudged + f.second.unjudged ≤ all.unjudged
+own_both marks a b r f all ra rb h topic =
     omega (
       arith,
       topic.unjudged,
       open_size marks a b r f.first.relevant f.first.unjudged ra h.first.least h.first.most,
-      count_by-agree _ _ zs (every _ (λ d. and_true (is_unjudged (mark_at marks d))) zs) ∙ count_three (λ d. is_unjudged (mark_at marks d)) r a b zs,
+      open_size marks b a r f.second.relevant f.second.unjudged rb h.second.least h.second.most,
+      class_sizes marks a b r,
     )
 
 pub fronts_small : (marks : List Mark) (a b : List ℕ) (r : ℕ) (f : Fronts) → IsRanking (length marks) a → IsRanking (length marks) b → AreFronts marks (take r a) (take r b) f →
     (f.first.relevant + f.first.unjudged ≤ 10000) × (f.second.relevant + f.second.unjudged ≤ 10000)
 fronts_small marks a b r f ra rb h =
     (omega (arith, own_few marks (take r a) (take r b) f h, length-take {A = ℕ} r a, ra.short), omega (arith, own_few marks (take r b) (take r a) (exchanged f) (fronts_exchanged marks (take r a) (take r b) f (exchanged f) h refl refl), length-take {A = ℕ} r b, rb.short))
-
--- the whole of the loop is the whole of the numbers that a topic can have
-pub none_more : (marks : List Mark) (a b : List ℕ) (r s : ℕ) (f : Fronts) → r ≡ s → AreFronts marks (take r a) (take r b) f → AreFronts marks (take s a) (take s b) f
-none_more marks a b r s f e h = subst (λ (t : ℕ). AreFronts marks (take t a) (take t b) f) e h
 
 -- all unjudged documents
 pub all_open : (marks : List Mark) → true_count (with_picked marks (λ _. true)) (length marks) ≡ judged_count marks + size_of (length marks) (open_in marks (λ _. true))
@@ -238,9 +219,3 @@ all_open marks =
     let none : count_by (λ d. with_picked marks (λ _. false) d && true) zs ≡ judged_count marks = count_by-agree _ _ zs (every _ (λ d. and_true (with_picked marks (λ _. false) d)) zs) in
     let open_here : count_by (λ d. open_in marks (λ _. true) d && true) zs ≡ size_of (length marks) (open_in marks (λ _. true)) = count_by-agree _ _ zs (every _ (λ d. and_true (open_in marks (λ _. true) d)) zs) in
     omega (arith, here, none, open_here, count_picked marks (λ _. true) (λ _. true) zs)
-
--- the sizes of the three classes together
-pub class_sizes : (marks : List Mark) (a b : List ℕ) (r : ℕ) → size_of (length marks) (open_in marks (λ _. true)) ≡
-    size_of (length marks) (open_in marks (only_second r b a)) + size_of (length marks) (open_in marks (only_second r a b)) + size_of (length marks) (open_in marks (neutral r a b))
-class_sizes marks a b r =
-    let zs = range_with_len 0 (length marks) in count_by-agree _ _ zs (every _ (λ d. and_true (is_unjudged (mark_at marks d))) zs) ∙ count_three (λ d. is_unjudged (mark_at marks d)) r a b zs

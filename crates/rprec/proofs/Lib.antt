@@ -2,3 +2,4 @@ pub mod Steps
 pub mod Choices
 pub mod Ends
 pub mod Walks
+pub mod Tails

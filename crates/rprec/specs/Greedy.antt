@@ -1,5 +1,5 @@
 -- The greedy choices of R-precision in counts of documents.
-use Rattle.std.specs.Prelude.{◌≡◌, ℕ, ◌+◌, ◌≤◌, Bool, true, false, if◌then◌else◌, List, length}
+use Rattle.std.specs.Prelude.{◌≡◌, ℕ, ◌+◌, ◌-◌, ◌*◌, ◌≤◌, min, max, nat_lt, Bool, true, false, if◌then◌else◌, List, length}
 use Rattle.desk_model.specs.Classes.{only_count}
 use Rattle.desk_model.specs.Completion.{picked_value}
 use Rattle.desk_model.specs.Score.{true_among}
@@ -28,6 +28,27 @@ pub record AreTopic (marks : List Mark) (all : Counts) : Type 0 where
 -- the first run's own relevant documents and the second's, less those in both, where a number of relevant documents is chosen greedily
 pub record AreGains (marks : List Mark) (a b : List ℕ) (c : Candidate) : Type 0 where
   pub same : true_among (greedy_truth marks a b c.count) c.count a + c.second ≡ true_among (greedy_truth marks a b c.count) c.count b + c.first
+
+-- whether the difference of one candidate is smaller than that of another
+abbrev pub beats : Candidate → Candidate → Bool
+beats c best = nat_lt (c.first * max 1 best.count + best.second * max 1 c.count) (best.first * max 1 c.count + c.second * max 1 best.count)
+
+-- the one of two candidates with the smaller difference, and of equal ones the second
+abbrev pub better_of : Candidate → Candidate → Candidate
+better_of c best = if beats c best then c else best
+
+-- the greedy choice of some of the unjudged documents, by the counts of two fronts
+abbrev pub candidate : Fronts → Counts → ℕ → Candidate
+candidate fronts all chosen = record {
+  count = all.relevant + chosen;
+  first = fronts.first.relevant + (chosen - (all.unjudged - fronts.first.unjudged));
+  second = fronts.second.relevant + min chosen fronts.second.unjudged;
+}
+
+-- the best so far, against the choices where the second run's own unjudged documents are used up, and all but the first run's own
+abbrev pub best_beyond : Fronts → Counts → ℕ → Candidate → Candidate
+best_beyond fronts all chosen best =
+    better_of (candidate fronts all (max chosen (all.unjudged - fronts.first.unjudged))) (better_of (candidate fronts all (max chosen fronts.second.unjudged)) best)
 
 -- it is the smallest number of relevant documents with the least difference, one that the topic can have
 pub record IsLeast (marks : List Mark) (a b : List ℕ) (c : Candidate) : Type 0 where

@@ -1,67 +1,95 @@
-use Rattle.std.proofs.Common.{◌≡◌, ◌+◌, ◌*◌, ◌≤◌, max, nat_lt, take, arith}
-use Rattle.rprec.specs.declared.greedy.Candidate.{Candidate}
-use Rattle.rprec.specs.Greedy.{AreGains}
+use Rattle.std.proofs.Common.{◌≡◌, ◌+◌, ◌-◌, min, take, length, arith, ap, refl, sym, subst}
+use Rattle.rprec.specs.Greedy.{AreFronts, AreGains, best_beyond}
 use Rattle.rprec.proofs.Steps.{IsRanking-take}
-use Rattle.rprec.proofs.Choices.{own_open, fronts_small, gains_are, best_more, one_of_two, none_more}
+use Rattle.rprec.proofs.Choices.{own_both}
+use Rattle.rprec.proofs.Tails.{choice_gains, best_alone, best_next, best_within, better_small, settled, IsBest, beyond_is_least}
 use Rattle.rprec.proofs.greedy.least.Goals as goal
 
 pub greedy_choice-best-requires-clause-within : goal.greedy_choice-best-requires-clause-within
 greedy_choice-best-requires-clause-within c =
-    own_open c.args.marks.now (take c.args.a_shown c.args.a.now) (take c.args.b_shown c.args.b.now) c.args.all.relevant c.fronts_at-fronts.result c.args.all (IsRanking-take _ c.args.a_shown c.args.a.now c.requires.a) c.fronts_at-fronts.ensures c.requires.topic
+    let ra = IsRanking-take (length c.args.marks.now) c.args.a_shown c.args.a.now c.requires.a in
+    let rb = IsRanking-take (length c.args.marks.now) c.args.b_shown c.args.b.now c.requires.b in
+    omega (arith, own_both c.args.marks.now (take c.args.a_shown c.args.a.now) (take c.args.b_shown c.args.b.now) c.args.all.relevant c.fronts_at-fronts.result c.args.all ra rb c.fronts_at-fronts.ensures c.requires.topic)
 
 pub loop-chosen-init : goal.loop-chosen-init
 loop-chosen-init c =
+    let marks = c.args.marks.now in
     let a = take c.args.a_shown c.args.a.now in
     let b = take c.args.b_shown c.args.b.now in
-    let same : c.args.all.relevant ≡ c.args.all.relevant + 0 = omega arith in
-    let count : c.greedy_choice-best.result.count ≡ c.args.all.relevant = omega (arith, c.greedy_choice-best.ensures.count) in
+    let ra = IsRanking-take (length marks) c.args.a_shown c.args.a.now c.requires.a in
+    let rb = IsRanking-take (length marks) c.args.b_shown c.args.b.now c.requires.b in
+    let j = c.args.all.relevant in
+    let same : j ≡ j + 0 = omega arith in
+    let gains : AreGains marks a b c.greedy_choice-best.result = choice_gains marks a b j 0 c.fronts_at-fronts.result c.args.all c.greedy_choice-best.result ra rb c.fronts_at-fronts.ensures c.requires.topic same (omega arith) c.greedy_choice-best.ensures.value in
     record {
-      fronts = none_more c.args.marks.now a b c.args.all.relevant (c.args.all.relevant + 0) c.fronts_at-fronts.result same c.fronts_at-fronts.ensures;
-      gains = gains_are c.args.marks.now a b c.args.all.relevant 0 c.fronts_at-fronts.result c.args.all c.greedy_choice-best.result (IsRanking-take _ c.args.a_shown c.args.a.now c.requires.a) (IsRanking-take _ c.args.b_shown c.args.b.now c.requires.b)
-          c.fronts_at-fronts.ensures c.requires.topic same (omega arith) count c.greedy_choice-best.ensures.first c.greedy_choice-best.ensures.second;
-      count = count;
-      low = omega (arith, count);
-      high = omega (arith, count);
+      fronts = subst (λ r. AreFronts marks (take r a) (take r b) c.fronts_at-fronts.result) same c.fronts_at-fronts.ensures;
+      best = best_alone marks a b j c.greedy_choice-best.result gains (omega (arith, ap (λ x. x.count) c.greedy_choice-best.ensures.value));
       first = c.greedy_choice-best.ensures.first_small;
       second = c.greedy_choice-best.ensures.second_small;
     }
 
-pub greedy_choice-next-requires-clause-first : goal.greedy_choice-next-requires-clause-first
-greedy_choice-next-requires-clause-first c =
-    (fronts_small c.args.marks.now (take c.args.a_shown c.args.a.now) (take c.args.b_shown c.args.b.now) _ c.deepened-fronts.result (IsRanking-take _ c.args.a_shown c.args.a.now c.requires.a) (IsRanking-take _ c.args.b_shown c.args.b.now c.requires.b) c.deepened-fronts.ensures).0
+pub greedy_choice-requires-clause-within : goal.greedy_choice-requires-clause-within
+greedy_choice-requires-clause-within c =
+    let ra = IsRanking-take (length c.args.marks.now) c.args.a_shown c.args.a.now c.requires.a in
+    let rb = IsRanking-take (length c.args.marks.now) c.args.b_shown c.args.b.now c.requires.b in
+    omega (arith, own_both c.args.marks.now (take c.args.a_shown c.args.a.now) (take c.args.b_shown c.args.b.now) (c.args.all.relevant + c.loop-chosen.chosen + 1) c.deepened-fronts.result c.args.all ra rb c.deepened-fronts.ensures c.requires.topic)
 
-pub greedy_choice-next-requires-clause-second : goal.greedy_choice-next-requires-clause-second
-greedy_choice-next-requires-clause-second c =
-    (fronts_small c.args.marks.now (take c.args.a_shown c.args.a.now) (take c.args.b_shown c.args.b.now) _ c.deepened-fronts.result (IsRanking-take _ c.args.a_shown c.args.a.now c.requires.a) (IsRanking-take _ c.args.b_shown c.args.b.now c.requires.b) c.deepened-fronts.ensures).1
-
-pub greedy_choice-next-requires-clause-within : goal.greedy_choice-next-requires-clause-within
-greedy_choice-next-requires-clause-within c =
-    own_open c.args.marks.now (take c.args.a_shown c.args.a.now) (take c.args.b_shown c.args.b.now) _ c.deepened-fronts.result c.args.all (IsRanking-take _ c.args.a_shown c.args.a.now c.requires.a) c.deepened-fronts.ensures c.requires.topic
+pub better-best-requires-clause-count : goal.better-best-requires-clause-count
+better-best-requires-clause-count c =
+    omega (arith, best_within c.args.marks.now (take c.args.a_shown c.args.a.now) (take c.args.b_shown c.args.b.now) c.args.all.relevant c.loop-chosen.chosen c.loop-chosen.best.count c.loop-chosen.invariant.best.count)
 
 pub loop-chosen-preserved : goal.loop-chosen-preserved
 loop-chosen-preserved c =
+    let marks = c.args.marks.now in
     let a = take c.args.a_shown c.args.a.now in
     let b = take c.args.b_shown c.args.b.now in
-    let r = c.args.all.relevant + c.loop-chosen.chosen + 1 in
-    let same : r ≡ c.args.all.relevant + (c.loop-chosen.chosen + 1) = omega arith in
-    let next = c.greedy_choice-next.result in
-    let best = c.loop-chosen.best in
-    let count : next.count ≡ r = omega (arith, c.greedy_choice-next.ensures.count) in
-    let gains : AreGains c.args.marks.now a b next =
-    gains_are c.args.marks.now a b r (c.loop-chosen.chosen + 1) c.deepened-fronts.result c.args.all next (IsRanking-take _ c.args.a_shown c.args.a.now c.requires.a) (IsRanking-take _ c.args.b_shown c.args.b.now c.requires.b)
-    c.deepened-fronts.ensures c.requires.topic same (omega arith) count c.greedy_choice-next.ensures.first c.greedy_choice-next.ensures.second in
-    let more = best_more c.args.marks.now a b c.args.all.relevant c.loop-chosen.chosen next best c.better-best.result gains c.loop-chosen.invariant.gains (omega (arith, count)) c.loop-chosen.invariant.count c.better-best.ensures in
-    let test = nat_lt (next.first * max 1 best.count + best.second * max 1 next.count) (best.first * max 1 next.count + next.second * max 1 best.count) in
-    let sizes =
-    one_of_two (λ (x : Candidate). (c.args.all.relevant ≤ x.count) × ((x.count ≤ c.args.all.relevant + (c.loop-chosen.chosen + 1)) × ((x.first ≤ 10000) × (x.second ≤ 10000)))) test next best c.better-best.result c.better-best.ensures
-    (omega (arith, count), (omega (arith, count), (c.greedy_choice-next.ensures.first_small, c.greedy_choice-next.ensures.second_small)))
-    (c.loop-chosen.invariant.low, (omega (arith, c.loop-chosen.invariant.high), (c.loop-chosen.invariant.first, c.loop-chosen.invariant.second))) in
+    let ra = IsRanking-take (length marks) c.args.a_shown c.args.a.now c.requires.a in
+    let rb = IsRanking-take (length marks) c.args.b_shown c.args.b.now c.requires.b in
+    let j = c.args.all.relevant in
+    let r = j + c.loop-chosen.chosen + 1 in
+    let same : r ≡ j + (c.loop-chosen.chosen + 1) = omega arith in
+    let next = c.greedy_choice.result in
+    let gains : AreGains marks a b next = choice_gains marks a b r (c.loop-chosen.chosen + 1) c.deepened-fronts.result c.args.all next ra rb c.deepened-fronts.ensures c.requires.topic same (omega arith) c.greedy_choice.ensures.value in
+    let small = better_small next c.loop-chosen.best c.better-best.result c.better-best.ensures c.greedy_choice.ensures.first_small c.greedy_choice.ensures.second_small c.loop-chosen.invariant.first c.loop-chosen.invariant.second in
     record {
-      fronts = none_more c.args.marks.now a b r (c.args.all.relevant + (c.loop-chosen.chosen + 1)) c.deepened-fronts.result same c.deepened-fronts.ensures;
-      gains = more.1;
-      count = more.0;
-      low = sizes.0;
-      high = sizes.1.0;
-      first = sizes.1.1.0;
-      second = sizes.1.1.1;
+      fronts = subst (λ r. AreFronts marks (take r a) (take r b) c.deepened-fronts.result) same c.deepened-fronts.ensures;
+      best = subst (IsBest marks a b j (c.loop-chosen.chosen + 1)) (sym c.better-best.ensures) (best_next marks a b j c.loop-chosen.chosen next c.loop-chosen.best c.loop-chosen.invariant.best gains (omega (arith, ap (λ x. x.count) c.greedy_choice.ensures.value)));
+      first = small.0;
+      second = small.1;
     }
+
+pub best_beyond-requires-clause-within : goal.best_beyond-requires-clause-within
+best_beyond-requires-clause-within c =
+    let ra = IsRanking-take (length c.args.marks.now) c.args.a_shown c.args.a.now c.requires.a in
+    let rb = IsRanking-take (length c.args.marks.now) c.args.b_shown c.args.b.now c.requires.b in
+    own_both c.args.marks.now (take c.args.a_shown c.args.a.now) (take c.args.b_shown c.args.b.now) (c.args.all.relevant + c.loop-chosen.chosen) c.loop-chosen.fronts c.args.all ra rb c.loop-chosen.invariant.fronts c.requires.topic
+
+pub best_beyond-requires-clause-best_count : goal.best_beyond-requires-clause-best_count
+best_beyond-requires-clause-best_count c =
+    omega (arith, best_within c.args.marks.now (take c.args.a_shown c.args.a.now) (take c.args.b_shown c.args.b.now) c.args.all.relevant c.loop-chosen.chosen c.loop-chosen.best.count c.loop-chosen.invariant.best.count)
+
+pub returns-clause-least : goal.returns-clause-least
+returns-clause-least c =
+    let marks = c.args.marks.now in
+    let a = take c.args.a_shown c.args.a.now in
+    let b = take c.args.b_shown c.args.b.now in
+    let ra = IsRanking-take (length marks) c.args.a_shown c.args.a.now c.requires.a in
+    let rb = IsRanking-take (length marks) c.args.b_shown c.args.b.now c.requires.b in
+    let all = c.args.all in
+    let f = c.loop-chosen.fronts in
+    let start = c.min-steps.result in
+    let ended : c.loop-chosen.chosen ≡ start = omega arith in
+    let fronts : AreFronts marks (take (all.relevant + start) a) (take (all.relevant + start) b) f = subst (λ s. AreFronts marks (take (all.relevant + s) a) (take (all.relevant + s) b) f) ended c.loop-chosen.invariant.fronts in
+    let steps : start ≡ min (c.longest.result - all.relevant) all.unjudged = omega (arith, c.min-steps.ensures, c.saturating_sub-steps.ensures) in
+    let still = settled marks a b all f start c.longest.result ra rb c.requires.topic c.longest.ensures.first c.longest.ensures.second c.longest.ensures.positive steps fronts in
+    let best : IsBest marks a b all.relevant start c.loop-chosen.best = subst (λ s. IsBest marks a b all.relevant s c.loop-chosen.best) ended c.loop-chosen.invariant.best in
+    beyond_is_least marks a b all f start c.loop-chosen.best c.best_beyond.result ra rb c.requires.topic (omega arith) still best
+    (subst (λ s. c.best_beyond.result ≡ best_beyond f all s c.loop-chosen.best) refl c.best_beyond.ensures.value)
+
+pub returns-clause-low : goal.returns-clause-low
+returns-clause-low c =
+    let least = returns-clause-least c in omega (arith, least.low, c.requires.topic.relevant)
+
+pub returns-clause-few : goal.returns-clause-few
+returns-clause-few c =
+    let least = returns-clause-least c in omega (arith, least.high, c.requires.topic.relevant, c.requires.topic.unjudged)

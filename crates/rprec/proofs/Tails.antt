@@ -1,0 +1,297 @@
+-- Where the fronts stay as they are, three numbers of relevant documents hold the least difference.
+use Rattle.std.proofs.Common.{◌≡◌, ℕ, zero, suc, ◌+◌, ◌-◌, ◌*◌, ◌<◌, ◌≤◌, min, max, Bool, true, false, nat_lt, List, [], ◌∷◌, ◌++◌, length, take, arith, refl, ap, ◌∙◌, sym, subst, inl, inr}
+use Rattle.std.specs.Prelude.{if◌then◌else◌}
+use Rattle.std.specs.List.{AllByRecursion, range_with_len}
+use Rattle.std.proofs.lemmas.Bool.{cases_lt}
+use Rattle.std.proofs.lemmas.Bool.Decides.{nat_tests}
+use Rattle.std.proofs.lemmas.List.{take_all, length-take}
+use Rattle.desk_model.specs.Ranking.{IsRanking}
+use Rattle.desk_model.specs.declared.types.Mark.{Mark}
+use Rattle.measure_laws.specs.Differences.{ArePositive, Scores, is_smaller, first_least}
+use Rattle.measure_laws.specs.RprecCase.{greedy_scores, rprec_count}
+use Rattle.measure_laws.specs.Classes.{judged_count}
+use Rattle.measure_laws.proofs.Picks.{NoGreater, NoGreater-trans, NoGreater-refl, first_least-all}
+use Rattle.measure_laws.proofs.RprecEnds.{greedy_positive}
+use Rattle.precision.specs.declared.counts.Counts.{Counts}
+use Rattle.rprec.specs.declared.fronts.Fronts.{Fronts}
+use Rattle.rprec.specs.declared.greedy.Candidate.{Candidate}
+use Rattle.rprec.specs.Greedy.{AreFronts, AreTopic, AreGains, IsLeast, beats, better_of, candidate, best_beyond}
+use Rattle.rprec.proofs.Choices.{same_test, scaled_test, smaller_is, first_least-append, range_push, gains_are, own_both, one_of_two}
+use Rattle.rprec.proofs.Steps.{own_few}
+
+-- ---- tests
+less_of : (m n : ℕ) → nat_lt m n ≡ true → m < n
+less_of m n h = grind (arith, nat_tests)
+
+more_of : (m n : ℕ) → nat_lt m n ≡ false → n ≤ m
+more_of m n h = grind (arith, nat_tests)
+
+no_less : (m n : ℕ) → n ≤ m → nat_lt m n ≡ false
+no_less m n h = grind (arith, nat_tests)
+
+smaller_no_greater : (s t : Scores) → is_smaller s t ≡ true → NoGreater s t
+smaller_no_greater s t e = let less = less_of _ _ e in omega (arith, less)
+
+not_smaller : (s t : Scores) → is_smaller t s ≡ false → NoGreater s t
+not_smaller s t e = let more = more_of _ _ e in omega (arith, more)
+
+no_smaller : (s t : Scores) → NoGreater s t → is_smaller t s ≡ false
+no_smaller s t h = no_less _ _ (omega (arith, h))
+
+-- ---- ranges
+range_all : (P : ℕ → Type 0) (start n : ℕ) → ((d : ℕ) → start ≤ d → d < start + n → P d) → AllByRecursion P (range_with_len start n)
+range_all P start zero f = tt
+range_all P start (suc n) f = (f start (omega arith) (omega arith), range_all P (start + 1) n (λ d h k. f d (omega arith) (omega arith)))
+
+range_append : (s m n : ℕ) → range_with_len s (m + n) ≡ range_with_len s m ++ range_with_len (s + m) n
+range_append s zero n = let e : s ≡ s + 0 = omega arith in let h : 0 + n ≡ n = omega arith in ap (range_with_len s) h ∙ ap (λ (k : ℕ). range_with_len k n) e
+range_append s (suc m) n = let h : suc m + n ≡ suc (m + n) = omega arith in ap (range_with_len s) h ∙ ap (λ ks. s ∷ ks) (range_append (s + 1) m n ∙ ap (λ k. range_with_len (s + 1) m ++ range_with_len k n) (omega arith))
+
+-- ---- the first of the least over a stretch
+none_better : (scores : ℕ → Scores) (best s n : ℕ) → ((d : ℕ) → s ≤ d → d < s + n → is_smaller (scores d) (scores best) ≡ false) → first_least scores best (range_with_len s n) ≡ best
+none_better scores best s zero f = refl
+none_better scores best s (suc n) f =
+    ap (λ (b : Bool). first_least scores (if b then s else best) (range_with_len (s + 1) n)) (f s (omega arith) (omega arith)) ∙ none_better scores best (s + 1) n (λ d h k. f d (omega arith) (omega arith))
+
+-- the last of a stretch is smaller than each before it
+last_better : (scores : ℕ → Scores) → ((x : ℕ) → ArePositive (scores x)) → (best s n : ℕ) → ((d : ℕ) → s ≤ d → d < s + n → is_smaller (scores (s + n)) (scores d) ≡ true) →
+    first_least scores best (range_with_len s (suc n)) ≡ (if is_smaller (scores (s + n)) (scores best) then s + n else best)
+last_better scores positive best s n f = by_test (is_smaller (scores (s + n)) (scores best)) refl
+  where
+    by_test : (b : Bool) → is_smaller (scores (s + n)) (scores best) ≡ b → first_least scores best (range_with_len s (suc n)) ≡ (if b then s + n else best)
+    by_test true e =
+        let before = first_least scores best (range_with_len s n) in
+        let beaten : is_smaller (scores (s + n)) (scores before) ≡ true = first_least-all (λ d. is_smaller (scores (s + n)) (scores d) ≡ true) scores best (range_with_len s n) e (range_all _ s n f) in
+        ap (first_least scores best) (range_push s n) ∙ first_least-append scores best (range_with_len s n) ((s + n) ∷ []) ∙ ap (λ (b : Bool). if b then s + n else before) beaten
+    by_test false e =
+        let last : NoGreater (scores best) (scores (s + n)) = not_smaller (scores best) (scores (s + n)) e in
+        let before = none_better scores best s n (λ d h k.
+        no_smaller (scores best) (scores d) (NoGreater-trans (scores best) (scores (s + n)) (scores d) (positive (s + n)) last (smaller_no_greater (scores (s + n)) (scores d) (f d h k)))) in
+        ap (first_least scores best) (range_push s n) ∙ first_least-append scores best (range_with_len s n) ((s + n) ∷ []) ∙ ap (λ (x : ℕ). first_least scores x ((s + n) ∷ [])) before ∙ ap (λ (b : Bool). if b then s + n else best) e
+
+-- a stretch along which the difference falls at each step, or at none
+stretch_least : (scores : ℕ → Scores) → ((x : ℕ) → ArePositive (scores x)) → (best s n : ℕ) (falls : Bool) → NoGreater (scores best) (scores s) →
+    ((i j : ℕ) → i < j → j ≤ n → is_smaller (scores (s + j)) (scores (s + i)) ≡ falls) →
+    first_least scores best (range_with_len (s + 1) n) ≡ (if is_smaller (scores (s + n)) (scores best) then s + n else best)
+stretch_least scores positive best s n false h f =
+    let none : (j : ℕ) → j ≤ n → is_smaller (scores (s + j)) (scores best) ≡ false = from_start in
+    none_better scores best (s + 1) n (λ d k l. subst (λ (x : ℕ). is_smaller (scores x) (scores best) ≡ false) (omega (arith, k)) (none (d - s) (omega arith)))
+    ∙ sym (ap (λ (b : Bool). if b then s + n else best) (none n (omega arith)))
+  where
+    from_start : (j : ℕ) → j ≤ n → is_smaller (scores (s + j)) (scores best) ≡ false
+    from_start zero k = no_smaller (scores best) (scores (s + 0)) (subst (λ (x : ℕ). NoGreater (scores best) (scores x)) (omega arith) h)
+    from_start (suc j) k =
+        let first : NoGreater (scores (s + 0)) (scores (s + suc j)) = not_smaller (scores (s + 0)) (scores (s + suc j)) (f 0 (suc j) (omega arith) k) in
+        no_smaller (scores best) (scores (s + suc j)) (NoGreater-trans (scores best) (scores (s + 0)) (scores (s + suc j)) (positive (s + 0)) (subst (λ (x : ℕ). NoGreater (scores best) (scores x)) (omega arith) h) first)
+stretch_least scores positive best s zero true h f =
+    sym (ap (λ (b : Bool). if b then s + 0 else best) (no_smaller (scores best) (scores (s + 0)) (subst (λ (x : ℕ). NoGreater (scores best) (scores x)) (omega arith) h)))
+stretch_least scores positive best s (suc n) true h f =
+    let last : s + 1 + n ≡ s + suc n = omega arith in
+    last_better scores positive best (s + 1) n (λ d k l.
+    subst (λ (x : ℕ). is_smaller (scores x) (scores d) ≡ true) (omega arith)
+    (subst (λ (x : ℕ). is_smaller (scores (s + suc n)) (scores x) ≡ true) (omega (arith, k)) (f (d - s) (suc n) (omega arith) (omega arith))))
+    ∙ ap (λ (x : ℕ). if is_smaller (scores x) (scores best) then x else best) last
+
+-- ---- the best of the numbers so far
+-- a number of later ones is tried: the best is the first of the least, and no greater than the last
+pub record IsBest (marks : List Mark) (a b : List ℕ) (j tried : ℕ) (best : Candidate) : Type 0 where
+  pub gains : AreGains marks a b best
+  pub count : best.count ≡ first_least (greedy_scores marks a b) j (range_with_len (j + 1) tried)
+  pub last : NoGreater (greedy_scores marks a b best.count) (greedy_scores marks a b (j + tried))
+
+pub best_alone : (marks : List Mark) (a b : List ℕ) (j : ℕ) (c : Candidate) → AreGains marks a b c → c.count ≡ j → IsBest marks a b j 0 c
+best_alone marks a b j c h e = record {
+  gains = h;
+  count = e;
+  last = subst (λ (x : ℕ). NoGreater (greedy_scores marks a b c.count) (greedy_scores marks a b x)) (omega (arith, e)) (NoGreater-refl (greedy_scores marks a b c.count));
+}
+
+-- the last of a stretch beside the best before it
+pub best_over : (marks : List Mark) (a b : List ℕ) (j tried n : ℕ) (falls : Bool) (c best : Candidate) → IsBest marks a b j tried best → AreGains marks a b c → c.count ≡ j + tried + n →
+    ((m k : ℕ) → m < k → k ≤ n → is_smaller (greedy_scores marks a b (j + tried + k)) (greedy_scores marks a b (j + tried + m)) ≡ falls) → IsBest marks a b j (tried + n) (better_of c best)
+best_over marks a b j tried n falls c best h k e f =
+    let scores = greedy_scores marks a b in
+    let test : is_smaller (scores (j + tried + n)) (scores best.count) ≡ beats c best =
+    ap (λ (x : ℕ). is_smaller (scores x) (scores best.count)) (sym e) ∙ smaller_is marks a b c best k h.gains in
+    let later : first_least scores j (range_with_len (j + 1) (tried + n)) ≡ (if is_smaller (scores (j + tried + n)) (scores best.count) then j + tried + n else best.count) =
+    ap (first_least scores j) (range_append (j + 1) tried n) ∙ first_least-append scores j (range_with_len (j + 1) tried) (range_with_len (j + 1 + tried) n)
+    ∙ ap (λ (x : ℕ). first_least scores x (range_with_len (j + 1 + tried) n)) (sym h.count) ∙ ap (λ (x : ℕ). first_least scores best.count (range_with_len x n)) (omega arith)
+    ∙ stretch_least scores (greedy_positive marks a b) best.count (j + tried) n falls h.last f in
+    either (beats c best) refl (later ∙ ap (λ (v : Bool). if v then j + tried + n else best.count) test) test
+  where
+    either : (v : Bool) → beats c best ≡ v → first_least (greedy_scores marks a b) j (range_with_len (j + 1) (tried + n)) ≡ (if v then j + tried + n else best.count) →
+        is_smaller (greedy_scores marks a b (j + tried + n)) (greedy_scores marks a b best.count) ≡ v → IsBest marks a b j (tried + n) (if v then c else best)
+    either true ev el et = record {
+      gains = k;
+      count = e ∙ sym el;
+      last = subst (λ (x : ℕ). NoGreater (greedy_scores marks a b c.count) (greedy_scores marks a b x)) (omega (arith, e)) (NoGreater-refl (greedy_scores marks a b c.count));
+    }
+    either false ev el et = record {
+      gains = h.gains;
+      count = sym el;
+      last = subst (λ (x : ℕ). NoGreater (greedy_scores marks a b best.count) (greedy_scores marks a b x)) (omega arith) (not_smaller (greedy_scores marks a b best.count) (greedy_scores marks a b (j + tried + n)) et);
+    }
+
+-- the next number beside the best so far
+pub best_next : (marks : List Mark) (a b : List ℕ) (j tried : ℕ) (c best : Candidate) → IsBest marks a b j tried best → AreGains marks a b c → c.count ≡ j + tried + 1 → IsBest marks a b j (tried + 1) (better_of c best)
+best_next marks a b j tried c best h k e =
+    let scores = greedy_scores marks a b in
+    best_over marks a b j tried 1 (is_smaller (scores (j + tried + 1)) (scores (j + tried + 0))) c best h k e (λ m n lt le.
+    ap (λ (x : ℕ). is_smaller (scores (j + tried + x)) (scores (j + tried + m))) (omega arith) ∙ ap (λ (x : ℕ). is_smaller (scores (j + tried + 1)) (scores (j + tried + x))) (omega arith))
+
+-- it is one of the numbers so far
+pub best_within : (marks : List Mark) (a b : List ℕ) (j tried : ℕ) (count : ℕ) → count ≡ first_least (greedy_scores marks a b) j (range_with_len (j + 1) tried) → (j ≤ count) × (count ≤ j + tried)
+best_within marks a b j tried count e =
+    subst (λ (x : ℕ). (j ≤ x) × (x ≤ j + tried)) (sym e)
+    (first_least-all (λ d. (j ≤ d) × (d ≤ j + tried)) (greedy_scores marks a b) j (range_with_len (j + 1) tried) (omega arith, omega arith) (range_all _ (j + 1) tried (λ d h k. (omega (arith, h), omega (arith, k)))))
+
+-- a stretch along which the difference never falls
+pub best_still : (marks : List Mark) (a b : List ℕ) (j tried n : ℕ) (best : Candidate) → IsBest marks a b j tried best →
+    ((m k : ℕ) → m < k → k ≤ n → is_smaller (greedy_scores marks a b (j + tried + k)) (greedy_scores marks a b (j + tried + m)) ≡ false) → best.count ≡ first_least (greedy_scores marks a b) j (range_with_len (j + 1) (tried + n))
+best_still marks a b j tried n best h f =
+    let scores = greedy_scores marks a b in
+    h.count
+    ∙ sym (ap (first_least scores j) (range_append (j + 1) tried n) ∙ first_least-append scores j (range_with_len (j + 1) tried) (range_with_len (j + 1 + tried) n)
+    ∙ ap (λ (x : ℕ). first_least scores x (range_with_len (j + 1 + tried) n)) (sym h.count) ∙ ap (λ (x : ℕ). first_least scores best.count (range_with_len x n)) (omega arith)
+    ∙ none_better scores best.count (j + tried + 1) n (λ d k l. later d k l) ∙ h.count)
+  where
+    start : NoGreater (greedy_scores marks a b best.count) (greedy_scores marks a b (j + tried + 0))
+    start = subst (λ (x : ℕ). NoGreater (greedy_scores marks a b best.count) (greedy_scores marks a b x)) (omega arith) h.last
+
+    from_last : (k : ℕ) → k ≤ n → NoGreater (greedy_scores marks a b best.count) (greedy_scores marks a b (j + tried + k))
+    from_last zero l = start
+    from_last (suc k) l =
+        let first : NoGreater (greedy_scores marks a b (j + tried + 0)) (greedy_scores marks a b (j + tried + suc k)) = not_smaller _ _ (f 0 (suc k) (omega arith) l) in
+        NoGreater-trans (greedy_scores marks a b best.count) (greedy_scores marks a b (j + tried + 0)) (greedy_scores marks a b (j + tried + suc k)) (greedy_positive marks a b (j + tried + 0)) start first
+
+    later : (d : ℕ) → j + tried + 1 ≤ d → d < j + tried + 1 + n → is_smaller (greedy_scores marks a b d) (greedy_scores marks a b best.count) ≡ false
+    later d k l = no_smaller _ _ (subst (λ (x : ℕ). NoGreater (greedy_scores marks a b best.count) (greedy_scores marks a b x)) (omega (arith, k)) (from_last (d - (j + tried)) (omega arith)))
+
+-- ---- stretches of even choices
+-- the test of two choices of a stretch along which both counts grow evenly
+stretch_test : (r f g up down i e : ℕ) → 0 < e →
+    nat_lt ((f + up * (i + e)) * (r + i) + (g + down * i) * (r + (i + e))) ((f + up * i) * (r + (i + e)) + (g + down * (i + e)) * (r + i)) ≡ nat_lt (up * r + g) (f + down * r)
+stretch_test r f g up down i e h =
+    same_test ((f + down * r) * e) ((up * r + g) * e) ((f + up * i) * (r + (i + e)) + (g + down * (i + e)) * (r + i)) ((f + up * (i + e)) * (r + i) + (g + down * i) * (r + (i + e))) (omega arith)
+    ∙ scaled_test (up * r + g) (f + down * r) e h
+
+-- choices from a number on, along which both counts grow evenly
+pub record IsStretch (marks : List Mark) (a b : List ℕ) (p : ℕ → Candidate) (r n up down : ℕ) : Type 0 where
+  pub positive : 0 < n → 0 < r
+  pub gains : (i : ℕ) → i ≤ n → AreGains marks a b (p i)
+  pub count : (i : ℕ) → i ≤ n → (p i).count ≡ r + i
+  pub first : (i : ℕ) → i ≤ n → (p i).first ≡ (p 0).first + up * i
+  pub second : (i : ℕ) → i ≤ n → (p i).second ≡ (p 0).second + down * i
+
+test_by : (c best : Candidate) (r s f g x y : ℕ) → 0 < r → 0 < s → c.count ≡ r → best.count ≡ s → c.first ≡ f → c.second ≡ g → best.first ≡ x → best.second ≡ y → beats c best ≡ nat_lt (f * s + y * r) (x * r + g * s)
+test_by c best r s f g x y pr ps er es ef eg ex ey =
+    let here : max 1 c.count ≡ r = omega (arith, er, pr) in
+    let there : max 1 best.count ≡ s = omega (arith, es, ps) in
+    ap (λ (k : ℕ). nat_lt (c.first * max 1 best.count + best.second * k) (best.first * k + c.second * max 1 best.count)) here
+    ∙ ap (λ (k : ℕ). nat_lt (c.first * k + best.second * r) (best.first * r + c.second * k)) there
+    ∙ ap (λ (k : ℕ). nat_lt (k * s + best.second * r) (best.first * r + c.second * s)) ef ∙ ap (λ (k : ℕ). nat_lt (f * s + best.second * r) (best.first * r + k * s)) eg
+    ∙ ap (λ (k : ℕ). nat_lt (f * s + best.second * r) (k * r + g * s)) ex ∙ ap (λ (k : ℕ). nat_lt (f * s + k * r) (x * r + g * s)) ey
+
+pub stretch_falls : (marks : List Mark) (a b : List ℕ) (p : ℕ → Candidate) (r n up down : ℕ) → IsStretch marks a b p r n up down → (m k : ℕ) → m < k → k ≤ n →
+    is_smaller (greedy_scores marks a b (r + k)) (greedy_scores marks a b (r + m)) ≡ nat_lt (up * r + (p 0).second) ((p 0).first + down * r)
+stretch_falls marks a b p r n up down h m k lt le =
+    let scores = greedy_scores marks a b in
+    let more = h.positive (omega arith) in
+    let e = k - m in
+    let k_is : k ≡ m + e = omega arith in
+    ap (λ (x : ℕ). is_smaller (scores x) (scores (r + m))) (sym (h.count k le)) ∙ ap (λ (x : ℕ). is_smaller (scores (p k).count) (scores x)) (sym (h.count m (omega arith)))
+    ∙ smaller_is marks a b (p k) (p m) (h.gains k le) (h.gains m (omega arith))
+    ∙ test_by (p k) (p m) (r + (m + e)) (r + m) ((p 0).first + up * (m + e)) ((p 0).second + down * (m + e)) ((p 0).first + up * m) ((p 0).second + down * m) (omega arith) (omega arith)
+    (h.count k le ∙ ap (λ (x : ℕ). r + x) k_is) (h.count m (omega arith)) (h.first k le ∙ ap (λ (x : ℕ). (p 0).first + up * x) k_is) (h.second k le ∙ ap (λ (x : ℕ). (p 0).second + down * x) k_is) (h.first m (omega arith)) (h.second m (omega arith))
+    ∙ stretch_test r (p 0).first (p 0).second up down m e (omega arith)
+
+-- ---- the choices from where the fronts stay as they are
+-- a front beyond the length of its list
+same_take : (xs : List ℕ) (r s longest : ℕ) → length xs ≤ longest → r ≤ s → (r < s → longest ≤ r) → take s xs ≡ take r xs
+same_take xs r s longest h le f = elim (cases_lt r s) [
+  | inl less ↦ let short = f less in take_all s xs (omega arith) ∙ sym (take_all r xs (omega arith))
+  | inr more ↦ let e : s ≡ r = omega arith in ap (λ (k : ℕ). take k xs) e
+]
+
+pub same_fronts : (marks : List Mark) (a b : List ℕ) (f : Fronts) (r s longest : ℕ) → length a ≤ longest → length b ≤ longest → r ≤ s → (r < s → longest ≤ r) → AreFronts marks (take r a) (take r b) f → AreFronts marks (take s a) (take s b) f
+same_fronts marks a b f r s longest ha hb le g h =
+    subst (λ (ys : List ℕ). AreFronts marks (take s a) ys f) (sym (same_take b r s longest hb le g)) (subst (λ (xs : List ℕ). AreFronts marks xs (take r b) f) (sym (same_take a r s longest ha le g)) h)
+
+pub choice_gains : (marks : List Mark) (a b : List ℕ) (r chosen : ℕ) (f : Fronts) (all : Counts) (c : Candidate) → IsRanking (length marks) a → IsRanking (length marks) b →
+    AreFronts marks (take r a) (take r b) f → AreTopic marks all → r ≡ all.relevant + chosen → chosen ≤ all.unjudged → c ≡ candidate f all chosen → AreGains marks a b c
+choice_gains marks a b r chosen f all c ra rb h topic er small e =
+    subst (AreGains marks a b) (sym e) (gains_are marks a b r chosen f all (candidate f all chosen) ra rb h topic er small (sym er) refl refl)
+
+pub record IsSettled (marks : List Mark) (a b : List ℕ) (all : Counts) (f : Fronts) (start : ℕ) : Type 0 where
+  pub fronts : (c : ℕ) → start ≤ c → c ≤ all.unjudged → AreFronts marks (take (all.relevant + c) a) (take (all.relevant + c) b) f
+  pub positive : start < all.unjudged → 0 < all.relevant + start
+  pub short : start < all.unjudged → f.first.relevant + f.first.unjudged ≤ all.relevant + start
+  pub within : f.first.unjudged + f.second.unjudged ≤ all.unjudged
+
+pub settled : (marks : List Mark) (a b : List ℕ) (all : Counts) (f : Fronts) (start longest : ℕ) → IsRanking (length marks) a → IsRanking (length marks) b → AreTopic marks all → length a ≤ longest → length b ≤ longest → 0 < longest →
+    start ≡ min (longest - all.relevant) all.unjudged → AreFronts marks (take (all.relevant + start) a) (take (all.relevant + start) b) f → IsSettled marks a b all f start
+settled marks a b all f start longest ra rb topic ha hb positive e h = record {
+  fronts = λ c lo hi. same_fronts marks a b f (all.relevant + start) (all.relevant + c) longest ha hb (omega arith) (λ l. omega arith) h;
+  positive = λ l. omega arith;
+  short = λ l. omega (arith, own_few marks (take (all.relevant + start) a) (take (all.relevant + start) b) f h, length-take {A = ℕ} (all.relevant + start) a);
+  within = own_both marks a b (all.relevant + start) f all ra rb h topic;
+}
+
+settled_gains : (marks : List Mark) (a b : List ℕ) (all : Counts) (f : Fronts) (start c : ℕ) → IsRanking (length marks) a → IsRanking (length marks) b → AreTopic marks all → IsSettled marks a b all f start →
+    start ≤ c → c ≤ all.unjudged → AreGains marks a b (candidate f all c)
+settled_gains marks a b all f start c ra rb topic h lo hi = gains_are marks a b (all.relevant + c) c f all (candidate f all c) ra rb (h.fronts c lo hi) topic refl hi refl refl refl
+
+settled_stretch : (marks : List Mark) (a b : List ℕ) (all : Counts) (f : Fronts) (start c d up down : ℕ) → IsRanking (length marks) a → IsRanking (length marks) b → AreTopic marks all → IsSettled marks a b all f start →
+    start ≤ c → c ≤ d → d ≤ all.unjudged → ((i : ℕ) → c + i ≤ d → (candidate f all (c + i)).first ≡ (candidate f all (c + 0)).first + up * i) → ((i : ℕ) → c + i ≤ d → (candidate f all (c + i)).second ≡ (candidate f all (c + 0)).second + down * i) →
+    IsStretch marks a b (λ i. candidate f all (c + i)) (all.relevant + c) (d - c) up down
+settled_stretch marks a b all f start c d up down ra rb topic h lo le hi first second = record {
+  positive = λ l. omega (arith, h.positive (omega arith));
+  gains = λ i l. settled_gains marks a b all f start (c + i) ra rb topic h (omega arith) (omega arith);
+  count = λ i l. omega arith;
+  first = λ i l. first i (omega arith);
+  second = λ i l. second i (omega arith);
+}
+
+-- from one place to another, along an even stretch
+advanced : (marks : List Mark) (a b : List ℕ) (all : Counts) (f : Fronts) (start c d up down : ℕ) (best : Candidate) → IsRanking (length marks) a → IsRanking (length marks) b → AreTopic marks all → IsSettled marks a b all f start →
+    start ≤ c → c ≤ d → d ≤ all.unjudged → ((i : ℕ) → c + i ≤ d → (candidate f all (c + i)).first ≡ (candidate f all (c + 0)).first + up * i) → ((i : ℕ) → c + i ≤ d → (candidate f all (c + i)).second ≡ (candidate f all (c + 0)).second + down * i) →
+    IsBest marks a b all.relevant c best → IsBest marks a b all.relevant d (better_of (candidate f all d) best)
+advanced marks a b all f start c d up down best ra rb topic h lo le hi first second k =
+    let p : ℕ → Candidate = λ i. candidate f all (c + i) in
+    let even = settled_stretch marks a b all f start c d up down ra rb topic h lo le hi first second in
+    subst (λ (x : ℕ). IsBest marks a b all.relevant x (better_of (candidate f all d) best)) (omega arith)
+    (best_over marks a b all.relevant c (d - c) (nat_lt (up * (all.relevant + c) + (p 0).second) ((p 0).first + down * (all.relevant + c))) (candidate f all d) best k
+    (settled_gains marks a b all f start d ra rb topic h (omega arith) hi) (omega arith) (stretch_falls marks a b p (all.relevant + c) (d - c) up down even))
+
+-- beyond the places where the second run's own documents, and then all but the first run's own, are used up, the difference rises
+pub beyond_least : (marks : List Mark) (a b : List ℕ) (all : Counts) (f : Fronts) (start : ℕ) (best : Candidate) → IsRanking (length marks) a → IsRanking (length marks) b → AreTopic marks all → start ≤ all.unjudged → IsSettled marks a b all f start → IsBest marks a b all.relevant start best →
+    ((best_beyond f all start best).count ≡ first_least (greedy_scores marks a b) all.relevant (range_with_len (all.relevant + 1) all.unjudged)) × AreGains marks a b (best_beyond f all start best)
+beyond_least marks a b all f start best ra rb topic small h k =
+    let others = all.unjudged - f.first.unjudged in
+    let one = max start f.second.unjudged in
+    let two = max start others in
+    let within = h.within in
+    let first = advanced marks a b all f start start one 0 1 best ra rb topic h (omega arith) (omega arith) (omega arith) (λ i l. omega arith) (λ i l. omega arith) k in
+    let second = advanced marks a b all f start one two 0 0 (better_of (candidate f all one) best) ra rb topic h (omega arith) (omega arith) (omega arith) (λ i l. omega arith) (λ i l. omega arith) first in
+    let after = best_beyond f all start best in
+    let even : IsStretch marks a b (λ i. candidate f all (two + i)) (all.relevant + two) (all.unjudged - two) 1 0 =
+    settled_stretch marks a b all f start two all.unjudged 1 0 ra rb topic h (omega arith) (omega arith) (omega arith) (λ i l. omega arith) (λ i l. omega arith) in
+    let whole : two + (all.unjudged - two) ≡ all.unjudged = omega arith in
+    let rises : (m n : ℕ) → m < n → n ≤ all.unjudged - two → is_smaller (greedy_scores marks a b (all.relevant + two + n)) (greedy_scores marks a b (all.relevant + two + m)) ≡ false =
+    λ m n lt le. stretch_falls marks a b (λ i. candidate f all (two + i)) (all.relevant + two) (all.unjudged - two) 1 0 even m n lt le
+    ∙ no_less (1 * (all.relevant + two) + (candidate f all (two + 0)).second) ((candidate f all (two + 0)).first + 0 * (all.relevant + two)) (omega (arith, h.short (omega arith))) in
+    (best_still marks a b all.relevant two (all.unjudged - two) after second rises ∙ ap (λ (x : ℕ). first_least (greedy_scores marks a b) all.relevant (range_with_len (all.relevant + 1) x)) whole, second.gains)
+
+-- it is the least of all
+pub beyond_is_least : (marks : List Mark) (a b : List ℕ) (all : Counts) (f : Fronts) (start : ℕ) (best after : Candidate) → IsRanking (length marks) a → IsRanking (length marks) b → AreTopic marks all → start ≤ all.unjudged → IsSettled marks a b all f start → IsBest marks a b all.relevant start best →
+    after ≡ best_beyond f all start best → IsLeast marks a b after
+beyond_is_least marks a b all f start best after ra rb topic small h k e =
+    let found = beyond_least marks a b all f start best ra rb topic small h k in
+    let within = best_within marks a b all.relevant all.unjudged (best_beyond f all start best).count found.0 in
+    let chosen : (best_beyond f all start best).count ≡ rprec_count marks a b =
+    found.0 ∙ ap (λ (j : ℕ). first_least (greedy_scores marks a b) j (range_with_len (j + 1) all.unjudged)) topic.relevant ∙ ap (λ (u : ℕ). first_least (greedy_scores marks a b) (judged_count marks) (range_with_len (judged_count marks + 1) u)) topic.unjudged in
+    subst (IsLeast marks a b) (sym e) (record { gains = found.1; chosen = chosen; low = omega (arith, topic.relevant, within.0); high = omega (arith, topic.relevant, topic.unjudged, within.1) })
+
+-- two small ones
+pub better_small : (c best after : Candidate) → after ≡ better_of c best → c.first ≤ 10000 → c.second ≤ 10000 → best.first ≤ 10000 → best.second ≤ 10000 → (after.first ≤ 10000) × (after.second ≤ 10000)
+better_small c best after e h k l m = one_of_two (λ x. (x.first ≤ 10000) × (x.second ≤ 10000)) (beats c best) c best after e (h, k) (l, m)
