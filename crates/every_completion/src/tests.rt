@@ -8,8 +8,9 @@ ghost use Rattle.every_completion.specs.Walk.{LooksAtNoTail};
 use crate::{Ends, EndsFault, extremes};
 use any_measure::AnyMeasure;
 use desk_model::{Mark, MeasureName, Ranking};
+use fractions::Span;
 use measure_core::{Cell, Measure, Steps};
-use std::alloc::Global;
+use std::alloc::{AllocError, Global};
 use std::marker::Brand;
 use std::process::Abort;
 use std::sync::ledger::{Blank, Ledger};
@@ -175,7 +176,39 @@ fn cell_once<L: Ledger>(
     measure.cell(first, second, marks, &mut steps)
 }
 
-/// Compares a measure with the walk, for a pair and for its first run alone.
+/// Marks under which each document is judged.
+fn judged(alloc: Global, values: &[bool]) -> Result<Vec<Mark>, AllocError> {
+    let mut marks = Vec::new(alloc);
+    for value in values {
+        marks.push(if *value { R } else { O })?;
+    }
+    Ok(marks)
+}
+
+/// Whether the difference in one completion has these two whole numbers next to it.
+fn expect_case(
+    rt: &impl Abort,
+    alloc: Global,
+    name: MeasureName,
+    unit: u64,
+    runs: (&[u32], &[u32]),
+    case: &[bool],
+    span: Span,
+) -> Result<(), Fail>
+    requires tail { LooksAtNoTail name }
+    requires unit { unit ≤ 10 ^ 18 }
+{
+    let marks = judged(alloc, case)?;
+    let found = walked(rt, alloc, name, unit, runs, &marks)?;
+    assert_eq!(rt;
+        found.map(|ends| (ends.least_lo, ends.least_hi)),
+        Ok((span.lo, span.hi)),
+        "{name:?} of {runs:?} in {case:?}"
+    );
+    Ok(())
+}
+
+/// Compares a measure with the walk, for a pair, for its least and its most case, and for its first run alone.
 fn compare(
     rt: &impl Abort,
     alloc: Global,
@@ -201,6 +234,10 @@ fn compare(
         want,
         "{name:?} of {runs:?} under {marks:?}"
     );
+    let case = measure.least_case(alloc, &first, &second, marks)?;
+    expect_case(rt, alloc, name, unit, runs, &case, cell.least)?;
+    let case = measure.most_case(alloc, &first, &second, marks)?;
+    expect_case(rt, alloc, name, unit, runs, &case, cell.most)?;
     let bounds = measure.bounds(&first, marks);
     let want = walked(rt, alloc, name, unit, (runs.0, &[]), marks)?;
     let want = want.map(|ends| (ends.least_lo, ends.most_hi));
