@@ -48,6 +48,17 @@ impl<'a> NameIndex<'a> {
         self.names.get_index_of(name)
     }
 
+    /// Name `i`.
+    pub fn get(&self, i: usize) -> &'a [u8]
+        requires { i < length self.now }
+        ensures { slice_get self.now i ≡ Some result.now }
+    {
+        match self.names.get_index(i) {
+            Some(name) => *name,
+            None => unreachable!(),
+        }
+    }
+
     /// Puts a name at the end where it is not there yet, and answers whether it was not.
     pub fn add(&mut self, name: &'a [u8]) -> Result<bool, AllocError>
         ensures new { IfOk result (λ is_new. is_new ≡ not (list_any (bytes_eq name.now) self.old)) }

@@ -1,11 +1,12 @@
 -- What a run ranks.
-use Rattle.std.proofs.Common.{◌≡◌, ℕ, ◌+◌, ◌<◌, ◌≤◌, Bool, true, false, true≢false, nat_eq, List, [], ◌∷◌, ◌++◌, length, get_or, take, map, refl, ap, sym, ◌∙◌, subst, arith}
-use Rattle.std.specs.Prelude.{All}
+use Rattle.std.proofs.Common.{◌≡◌, ◌≢◌, ℕ, suc, set, below_more, ◌+◌, ◌<◌, ◌≤◌, Bool, true, false, true≢false, nat_eq, List, [], ◌∷◌, ◌++◌, length, get_or, take, map, refl, ap, sym, ◌∙◌, subst, arith}
+use Rattle.std.specs.Prelude.{All, slice_get, Some}
+use Rattle.std.proofs.lemmas.Option.{slice_get_within, get_or_from_slice_get}
 use Rattle.std.specs.List.{AllZip, AllByRecursion, IsDistinct}
 use Rattle.std.specs.List.Sorted.{IsPermutation}
 use Rattle.std.specs.Str.{bytes_eq}
 use Rattle.std.proofs.lemmas.Bool.Decides.{nat_tests}
-use Rattle.std.proofs.lemmas.List.{take_more, length-map}
+use Rattle.std.proofs.lemmas.List.{take_more, length-map, get_or-set_other, get_or-set_same}
 use Rattle.std.proofs.lemmas.List.Sorted.{IsPermutation-map, list_any-IsPermutation, length_permutation}
 use Rattle.std.proofs.lemmas.Map.Keys.{IsDistinct-IsPermutation}
 use Rattle.desk_model.specs.Book.{Book}
@@ -16,6 +17,8 @@ use Rattle.run_reader.specs.declared.limits.TheConstants.{MOST_RANKS}
 use Rattle.trec_order.specs.Order.{IsTrecOrder}
 use Rattle.topics_pool.specs.Names.{AreAmong}
 use Rattle.topics_pool.specs.Rows.{retrieved, doc_names}
+use Rattle.topics_pool.specs.Made.{IsRankingOf, AreRankingsOf, IsOneMore, HaveOneMore}
+use Rattle.desk_model.proofs.Nested.{zipped_at, length-zipped}
 
 -- the ranked names are the documents of the rows, in another order
 pub ranked_documents : (rows : List Scored) (names : List (List ℕ)) → IsTrecOrder rows names → IsPermutation (map (λ (row : Scored). row.document) rows) names
@@ -69,3 +72,46 @@ pub zip_step : {A B : Type 0} (R : A → B → Type 0) (xs : List A) (ys ys' : L
 zip_step R xs ys ys' i x y lt is h r pushed =
     let taken : take (i + 1) xs ≡ take i xs ++ x ∷ [] = take_more xs i x lt ∙ ap (λ z. take i xs ++ z ∷ []) (sym is) in
     subst (λ zs. AllZip R zs ys') (sym taken) (subst (AllZip R (take i xs ++ x ∷ [])) (sym pushed) (AllZip-end R (take i xs) ys x y h r))
+
+-- ---- one more topic
+-- the runs before one have one more ranking, that of a topic, and the others have what they had
+pub record AreRankedBefore (r : ℕ) (runs : List Run) (book : Book) (old new : List (List (List ℕ))) : Type 0 where
+  pub ranked : (k : ℕ) (run : Run) → k < r → slice_get runs k ≡ Some run → IsOneMore run book (get_or old k []) (get_or new k [])
+  pub rest : (k : ℕ) → r ≤ k → get_or new k [] ≡ get_or old k []
+
+pub ranked_step : (r : ℕ) (runs : List Run) (book : Book) (old now new : List (List (List ℕ))) (run : Run) (docs : List ℕ) → AreRankedBefore r runs book old now → r < length now → r < length runs → run ≡ get_or runs r run →
+    IsRankingOf run book docs → new ≡ set now r (get_or now r [] ++ docs ∷ []) → AreRankedBefore (r + 1) runs book old new
+ranked_step r runs book old now new run docs before within known is ranking pushed = record {
+  ranked = λ k each lt got.
+      below_more (λ k. (each : Run) → slice_get runs k ≡ Some each → IsOneMore each book (get_or old k []) (get_or new k [])) r
+      (λ k below each got. subst (IsOneMore each book (get_or old k [])) (sym (kept k (omega arith))) (before.ranked k each below got))
+      (λ each got. record { docs = docs; ranking = subst (λ (one : Run). IsRankingOf one book docs) (this each got) ranking; added = here })
+      k lt each got;
+  rest = λ k le. kept k (omega arith) ∙ before.rest k (omega arith);
+}
+  where
+    kept : (k : ℕ) → k ≢ r → get_or new k [] ≡ get_or now k []
+    kept k other = ap (λ all. get_or all k []) pushed ∙ get_or-set_other now r k (get_or now r [] ++ docs ∷ []) [] other
+
+    here : get_or new r [] ≡ get_or old r [] ++ docs ∷ []
+    here = ap (λ all. get_or all r []) pushed ∙ get_or-set_same now r (get_or now r [] ++ docs ∷ []) [] within ∙ ap (λ per. per ++ docs ∷ []) (before.rest r (omega arith))
+
+    this : (each : Run) → slice_get runs r ≡ Some each → run ≡ each
+    this each got = is ∙ get_or_from_slice_get runs r each run got
+
+pub all_ranked : (r : ℕ) (runs : List Run) (book : Book) (old new : List (List (List ℕ))) → AreRankedBefore r runs book old new → length runs ≤ r → HaveOneMore runs book old new
+all_ranked r runs book old new before past k run got = let within = slice_get_within runs k run got in before.ranked k run (omega arith) got
+
+-- what relates each to the one at its number relates the lists
+zipped_from : {A : Type 0} (R : A → List (List ℕ) → Type 0) (xs : List A) (ys : List (List (List ℕ))) → length ys ≡ length xs → ((k : ℕ) (x : A) → slice_get xs k ≡ Some x → R x (get_or ys k [])) → AllZip R xs ys
+zipped_from R [] [] long h = tt
+zipped_from R [] (y ∷ ys) long h = absurd (omega arith)
+zipped_from R (x ∷ xs) [] long h = absurd (omega arith)
+zipped_from R (x ∷ xs) (y ∷ ys) long h = (h 0 x refl, zipped_from R xs ys (omega arith) (λ k z got. h (suc k) z got))
+
+pub topic_step : (runs : List Run) (books : List Book) (i : ℕ) (book : Book) (old new : List (List (List ℕ))) → AllZip (AreRankingsOf (take i books)) runs old → i < length books → book ≡ get_or books i book → length new ≡ length old →
+    HaveOneMore runs book old new → AllZip (AreRankingsOf (take (i + 1) books)) runs new
+topic_step runs books i book old new before within is long more =
+    zipped_from (AreRankingsOf (take (i + 1) books)) runs new (long ∙ length-zipped (AreRankingsOf (take i books)) runs old before) (λ k run got.
+    let one = more k run got in
+    zip_step (IsRankingOf run) books (get_or old k []) (get_or new k []) i book one.docs within is (zipped_at (AreRankingsOf (take i books)) runs old k run [] before got) one.ranking one.added)

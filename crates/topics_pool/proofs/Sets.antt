@@ -108,8 +108,9 @@ AreNames-with_names names [] are all = are
 AreNames-with_names names (n ∷ more) are all =
     AreNames-with_names (with_name names n) more (AreNames-with_name names n are (All-head (λ name. is_name name ≡ true) n more all)) (All-tail (λ name. is_name name ≡ true) n more all)
 
-pub AreNames-push : (names : List (List ℕ)) (n : List ℕ) → AreNames names → is_name n ≡ true → list_any (bytes_eq n) names ≡ false → AreNames (names ++ n ∷ [])
-AreNames-push names n are is new = record { named = All-push (λ name. is_name name ≡ true) names n are.named is; distinct = IsDistinct-push laws names n are.distinct new }
+-- a name that is not there yet goes to the end
+pub added_new : (names : List (List ℕ)) (n : List ℕ) → list_any (bytes_eq n) names ≡ false → with_name names n ≡ names ++ n ∷ []
+added_new names n new = ap (λ b. cond b names (names ++ n ∷ [])) new
 
 -- a name of names that differ is not among those before it
 pub fresh : (xs : List (List ℕ)) (i : ℕ) (n : List ℕ) → IsDistinct bytes_eq xs → slice_get xs i ≡ Some n → list_any (bytes_eq n) (take i xs) ≡ false

@@ -1,5 +1,5 @@
 -- The parts of a desk while it is made.
-use Rattle.std.specs.Prelude.{◌≡◌, ℕ, All, List, length}
+use Rattle.std.specs.Prelude.{◌≡◌, ℕ, All, List, [], ◌∷◌, ◌++◌, length, slice_get, slice_index_or, Some}
 use Rattle.std.specs.List.{AllZip}
 use Rattle.desk_model.specs.Book.{Book, IsBook}
 use Rattle.desk_model.specs.Name.{AreAscending}
@@ -30,3 +30,13 @@ pub record IsRankingOf (run : Run) (book : Book) (docs : List ℕ) : Type 0 wher
 -- a run's ranking of each topic
 abbrev pub AreRankingsOf : List Book → Run → List (List ℕ) → Type 0
 AreRankingsOf books run rankings = AllZip (IsRankingOf run) books rankings
+
+-- one more ranking at the end of those of a run: that of a topic
+pub record IsOneMore (run : Run) (book : Book) (old new : List (List ℕ)) : Type 0 where
+  pub docs : List ℕ
+  pub ranking : IsRankingOf run book docs
+  pub added : new ≡ old ++ docs ∷ []
+
+-- each run has one more ranking: that of a topic
+abbrev pub HaveOneMore : List Run → Book → List (List (List ℕ)) → List (List (List ℕ)) → Type 0
+HaveOneMore runs book old new = (r : ℕ) (run : Run) → slice_get runs r ≡ Some run → IsOneMore run book (slice_index_or old r []) (slice_index_or new r [])

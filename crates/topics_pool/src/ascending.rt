@@ -6,7 +6,7 @@ ghost use Rattle.topics_pool.specs.Names.{AreNames};
 
 use crate::fault::OutOfMemory;
 use desk_model::{Name, NameFault};
-use qrels_reader::NameSet;
+use qrels_reader::NameIndex;
 use std::alloc::Global;
 
 // The name of these bytes.
@@ -21,7 +21,7 @@ pub fn named(alloc: Global, bytes: &[u8]) -> Result<Name, OutOfMemory>
     }
 }
 
-fn copied(alloc: Global, names: &NameSet) -> Result<Vec<Name>, OutOfMemory>
+fn copied(alloc: Global, names: &NameIndex<'_>) -> Result<Vec<Name>, OutOfMemory>
     requires { AreNames names.now }
     ensures { IfOk result (λ copies. copies.items ≡ names.now) }
 {
@@ -33,7 +33,7 @@ fn copied(alloc: Global, names: &NameSet) -> Result<Vec<Name>, OutOfMemory>
 }
 
 /// The names in ascending order.
-pub fn ascending(alloc: Global, names: &NameSet) -> Result<Vec<Name>, OutOfMemory>
+pub fn ascending(alloc: Global, names: &NameIndex<'_>) -> Result<Vec<Name>, OutOfMemory>
     requires { AreNames names.now }
     ensures ascending { IfOk result (λ sorted. AreAscending sorted.items) }
     ensures moved { IfOk result (λ sorted. IsPermutation names.now sorted.items) }

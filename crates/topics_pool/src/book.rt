@@ -12,14 +12,14 @@ ghost use Rattle.topics_pool.specs.Made.{AreBooksOf};
 
 use crate::ascending::{ascending, named};
 use crate::fault::OutOfMemory;
-use crate::universe::{listed_set, universe};
+use crate::universe::{listed_names, universe};
 use desk_model::{Name, TopicBook};
-use qrels_reader::{NameSet, Qrels};
+use qrels_reader::{NameIndex, Qrels};
 use run_reader::RunRows;
 use std::alloc::{AllocError, Global};
 
 // The grade that the qrels give a document of topic `t`, where they list it.
-fn listed_grade(qrels: &Qrels, t: usize, names: &NameSet, doc: &[u8]) -> Option<i32>
+fn listed_grade(qrels: &Qrels, t: usize, names: &NameIndex<'_>, doc: &[u8]) -> Option<i32>
     requires { names.now ≡ listed (documents_at qrels.now t) }
     ensures { result ≡ grade_in (documents_at qrels.now t) doc.now }
 {
@@ -38,7 +38,7 @@ fn listed_grades(
     requires { t < length qrels.now }
     ensures { IfOk result (λ grades. grades.items ≡ map (grade_in (documents_at qrels.now t)) docs.now) }
 {
-    let names = listed_set(alloc, qrels, t)?;
+    let names = listed_names(alloc, qrels, t)?;
     let mut grades = Vec::with_capacity(alloc, docs.len())?;
     for doc in docs {
         grades.push(listed_grade(qrels, t, &names, doc.as_bytes()))?;
@@ -63,19 +63,19 @@ fn topic_book(
 {
     // The number of rows is within its limit.
     let _ = qrels.rows();
-    let names = universe(alloc, listed_set(alloc, qrels, t)?, name, runs)?;
+    let names = universe(listed_names(alloc, qrels, t)?, name, runs)?;
     let docs = ascending(alloc, &names)?;
     let grades = listed_grades(alloc, qrels, t, &docs)?;
     Ok(TopicBook::new(named(alloc, name)?, docs, grades))
 }
 
-fn topic_set(alloc: Global, qrels: &Qrels) -> Result<NameSet, AllocError>
+fn qrels_topics(alloc: Global, qrels: &Qrels) -> Result<NameIndex<'_>, AllocError>
     ensures topics { IfOk result (λ names. names ≡ names_of qrels.now) }
     ensures names { IfOk result (λ names. AreNames names) }
 {
-    let mut names = NameSet::new(alloc);
+    let mut names = NameIndex::new(alloc);
     for t in 0..qrels.topics() {
-        names.add(alloc, qrels.topic_name(t))?;
+        names.add(qrels.topic_name(t))?;
     }
     Ok(names)
 }
@@ -84,7 +84,7 @@ fn topic_set(alloc: Global, qrels: &Qrels) -> Result<NameSet, AllocError>
 fn books_of(
     alloc: Global,
     qrels: &Qrels,
-    topics: &NameSet,
+    topics: &NameIndex<'_>,
     names: &[Name],
     runs: &[RunRows],
 ) -> Result<Vec<TopicBook>, OutOfMemory>
@@ -114,7 +114,7 @@ pub fn topic_books(
     requires { rows_of runs.now ≤ MOST_RUN_ROWS }
     ensures { IfOk result (λ books. AreBooksOf qrels.now runs.now books.items) }
 {
-    let topics = topic_set(alloc, qrels)?;
+    let topics = qrels_topics(alloc, qrels)?;
     let names = ascending(alloc, &topics)?;
     books_of(alloc, qrels, &topics, &names, runs)
 }

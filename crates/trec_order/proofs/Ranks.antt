@@ -1,8 +1,6 @@
 -- The order of rows.
-use Rattle.std.proofs.Common.{◌≡◌, ℕ, zero, suc, ◌+◌, ◌<◌, ℤ, false, true≢false, List, [], ◌∷◌, ◌++◌, length, get_or, take, map, refl, sym, ap, ◌∙◌, arith, rules}
-use Rattle.std.specs.Prelude.{Some, None, option_map, slice_get}
-use Rattle.std.specs.Global.{Vec}
-use Rattle.std.specs.declared.cmp.Reverse.{Reverse}
+use Rattle.std.proofs.Common.{◌≡◌, ℕ, zero, suc, ◌+◌, ◌-◌, ◌<◌, ℤ, false, true≢false, List, [], ◌∷◌, ◌++◌, length, get_or, take, map, refl, sym, ap, ap₂, below_more, ◌∙◌, arith, rules}
+use Rattle.std.specs.Prelude.{Result, Ok, Err, IfOk, Some, None, option_map, slice_get}
 use Rattle.std.specs.declared.cmp.Ordering.{Ordering}
 use Rattle.std.specs.declared.cmp.Ordering.TheVariants.{Less, Equal, Greater}
 use Rattle.std.specs.Cmp.{IsTotalOrder}
@@ -11,14 +9,14 @@ use Rattle.std.specs.List.{IsDistinct}
 use Rattle.std.specs.List.Sorted.{IsStrictlySortedBy}
 use Rattle.std.specs.Ordering.{is_lt, int_cmp, ordering_then, ordering_reverse}
 use Rattle.std.specs.Str.{bytes_eq}
-use Rattle.std.proofs.lemmas.List.{get_or-map, length-map}
+use Rattle.std.proofs.lemmas.List.{get_or_default, get_or-map, length-map}
 use Rattle.std.proofs.lemmas.Map.Keys.{apart_from_distinct, sorted_from_all_adjacent}
 use Rattle.std.proofs.lemmas.Map.Lookups.{exact_bytes}
 use Rattle.desk_model.specs.Name.{name_cmp}
 use Rattle.qrels_reader.proofs.Seen.{laws}
 use Rattle.run_reader.specs.Run.{Scored}
 use Rattle.trec_order.specs.Order.{trec_cmp}
-use Rattle.trec_order.specs.Entry.{row_of}
+use Rattle.trec_order.specs.Entry.{Entry, row_of, AreInOrder}
 
 pub trec_total : IsTotalOrder trec_cmp
 trec_total = search (comparing, rules) depth 9
@@ -41,9 +39,23 @@ stands_before a b early other = by (trec_cmp a b) refl
         let less : trec_cmp b a ≡ Less = trec_total.antisymm b a ∙ ap ordering_reverse e in
         absurd (true≢false (sym (ap is_lt less) ∙ early))
 
+-- one more row that does not belong before its neighbour
+pub one_more_in_order : (es : List Entry) (i : ℕ) (x y : Entry) → x ≡ get_or es i x → y ≡ get_or es (i - 1) y → 0 < i → i < length es → is_lt (trec_cmp (row_of x) (row_of y)) ≡ false
+    → ((k : ℕ) (d : Entry) → k + 1 < i → is_lt (trec_cmp (row_of (get_or es (k + 1) d)) (row_of (get_or es k d))) ≡ false)
+    → (k : ℕ) (d : Entry) → k + 1 < i + 1 → is_lt (trec_cmp (row_of (get_or es (k + 1) d)) (row_of (get_or es k d))) ≡ false
+one_more_in_order es i x y here before some within not_less so_far k d lt =
+    below_more (λ m. (k : ℕ) → k + 1 ≡ m → is_lt (trec_cmp (row_of (get_or es (k + 1) d)) (row_of (get_or es k d))) ≡ false) i (λ m below k is. so_far k d (omega (arith, is, below))) last (k + 1) lt k refl
+  where
+    last : (k : ℕ) → k + 1 ≡ i → is_lt (trec_cmp (row_of (get_or es (k + 1) d)) (row_of (get_or es k d))) ≡ false
+    last k is =
+        let at : k ≡ i - 1 = omega arith in
+        let row : get_or es (k + 1) d ≡ x = ap (λ n. get_or es n d) is ∙ get_or_default es i d x within ∙ sym here in
+        let earlier : get_or es k d ≡ y = ap (λ n. get_or es n d) at ∙ get_or_default es (i - 1) d y (omega arith) ∙ sym before in
+        ap₂ (λ a b. is_lt (trec_cmp (row_of a) (row_of b))) row earlier ∙ not_less
+
 -- neighbours in order make a list in order
-pub in_order : (es : List (Reverse ℤ × Reverse (Vec ℕ))) → IsDistinct bytes_eq (map (λ row. row.document) (map row_of es))
-    → ((k : ℕ) (d : Reverse ℤ × Reverse (Vec ℕ)) → k + 1 < length es → is_lt (trec_cmp (row_of (get_or es (k + 1) d)) (row_of (get_or es k d))) ≡ false) → IsStrictlySortedBy trec_cmp (map row_of es)
+pub in_order : (es : List Entry) → IsDistinct bytes_eq (map (λ row. row.document) (map row_of es))
+    → AreInOrder es → IsStrictlySortedBy trec_cmp (map row_of es)
 unfolding IsStrictlySortedBy
 in_order [] distinct h = tt
 in_order (e ∷ es) distinct h = sorted_from_all_adjacent trec_total (map row_of (e ∷ es)) (row_of e) (λ k lt. next k (let n = length-map (e ∷ es) row_of in omega arith))
@@ -70,3 +82,8 @@ row_more (x ∷ xs) zero document score d s =
     let q : x.score ≡ score = cc in
     λ j. record { document = sym p j; score = sym q j } ∷ []
 row_more (x ∷ xs) (suc i) document score d s = ap (λ rest. x ∷ rest) (row_more xs i document score d s)
+
+-- what holds of a result in two parts holds as a whole
+pub both_ok : {A E : Type 0} (r : Result A E) (P Q : A → Type 0) → IfOk r P → IfOk r Q → IfOk r (λ a. P a × Q a)
+both_ok (Ok a) P Q p q = (p, q)
+both_ok (Err e) P Q p q = tt

@@ -9,13 +9,13 @@ use run_reader::RunRows;
 use std::alloc::Global;
 use std::marker::Model;
 
-/// The names of documents from the first rank on.
+/// The names of documents from the first rank on, as they stand in the rows.
 #[derive(Drop)]
-pub struct RankedNames {
-    entries: Vec<Entry>,
+pub struct RankedNames<'r> {
+    entries: Vec<Entry<'r>>,
 }
 
-impl Model for RankedNames {
+impl<'r> Model for RankedNames<'r> {
     ghost use Rattle.std.specs.Prelude.{List, ℕ, map};
     ghost use Rattle.trec_order.specs.Entry.{row_of};
 
@@ -24,7 +24,7 @@ impl Model for RankedNames {
     ghost view = { λ r. map (λ row. row.document) (map row_of r.entries.items) };
 }
 
-impl RankedNames {
+impl<'r> RankedNames<'r> {
     /// How many names there are.
     pub fn len(&self) -> usize
         ensures { result ≡ length self.now }
@@ -33,17 +33,21 @@ impl RankedNames {
     }
 
     /// Name `i`, counted from 0: that of rank `i + 1`.
-    pub fn get(&self, i: usize) -> &[u8]
+    pub fn get(&self, i: usize) -> &'r [u8]
         requires { i < length self.now }
         ensures { slice_get self.now i ≡ Some result.now }
     {
-        self.entries[i].1.0.as_slice()
+        self.entries[i].1.0
     }
 }
 
 /// The names of a topic's rows in trec_eval's order: by score, the greatest first, and names of equal score by name, the greatest
 /// first. A topic without rows has the empty list. The rank column is not looked at.
-pub fn ranking(alloc: Global, rows: &RunRows, topic: &[u8]) -> Result<RankedNames, Memory>
+pub fn ranking<'r>(
+    alloc: Global,
+    rows: &'r RunRows,
+    topic: &[u8],
+) -> Result<RankedNames<'r>, Memory>
     ensures { IfOk result (λ names. IsTrecOrder (rows_on_topic rows.now topic.now) names) }
 {
     match rows.rows_on(topic) {

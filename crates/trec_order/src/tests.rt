@@ -5,7 +5,7 @@ use run_reader::{Used, read_run};
 use std::process::Abort;
 use std::test::Fail;
 
-fn expect_order(rt: &impl Abort, names: &RankedNames, first: &[u8], second: &[u8]) {
+fn expect_order(rt: &impl Abort, names: &RankedNames<'_>, first: &[u8], second: &[u8]) {
     assert_eq!(rt; names.len(), 2);
     if names.len() == 2 {
         assert_eq!(rt; names.get(0), first);

@@ -5,5 +5,5 @@ use Rattle.std.specs.declared.alloc.Global.{Global}
 use Rattle.topics_pool.specs.Made.{AreRankingsOf}
 use Rattle.topics_pool.proofs.rankings.all_rankings.Given as goal
 
-abbrev pub invariant-loop-run : goal.invariant-loop-run
-invariant-loop-run l = AllZip (AreRankingsOf l.books) (take l.run-index l.runs) (map (λ (each : Vec (List ℕ) Global). each.items) l.rankings.items)
+abbrev pub invariant-loop-book : goal.invariant-loop-book
+invariant-loop-book l = AllZip (AreRankingsOf (take l.book-index l.books)) l.runs (map (λ (each : Vec (List ℕ) Global). each.items) l.rankings.items)

@@ -1,7 +1,6 @@
-use Rattle.std.proofs.Common.{◌≡◌, ◌<◌, length, take}
+use Rattle.std.proofs.Common.{◌≡◌, ◌<◌, [], length, take, map, get_or}
 use Rattle.std.specs.Prelude.{All}
-use Rattle.topics_pool.specs.Rows.{doc_names}
 use Rattle.topics_pool.proofs.rankings.numbers.Given as goal
 
 abbrev pub invariant-loop-i : goal.invariant-loop-i
-invariant-loop-i l = record { names : doc_names l.book l.docs.items ≡ take l.i l.names; within : All (λ doc. doc < length l.book.docs) l.docs.items }
+invariant-loop-i l = record { names : map (λ doc. get_or l.universe doc []) l.docs.items ≡ take l.i l.names; within : All (λ doc. doc < length l.universe) l.docs.items }

@@ -9,4 +9,4 @@ pub loop-i-preserved : goal.loop-i-preserved
 loop-i-preserved c =
     let rows = c.args.rows.now in
     let got : slice_get (map (λ (d : Scored). d.document) rows) c.loop-i.i ≡ Some c.document.result.now = slice_get-map (λ (d : Scored). d.document) rows c.loop-i.i ∙ c.document.ensures in
-    gather_step _ (map (λ (d : Scored). d.document) rows) c.loop-i.i c.document.result.now _ _ got c.loop-i.invariant c.in_ok-add_new.ensures
+    gather_step _ (map (λ (d : Scored). d.document) rows) c.loop-i.i c.document.result.now _ _ got c.loop-i.invariant c.in_ok-add.ensures.names

@@ -1,5 +1,6 @@
-use Rattle.std.proofs.Common.{◌∷◌, ◌++◌, [], map, take, sym, ap, ◌∙◌, add-one}
+use Rattle.std.proofs.Common.{List, ◌∷◌, ◌++◌, [], map, take, sym, ap, ◌∙◌, add-one}
 use Rattle.std.proofs.lemmas.List.{map-append}
+use Rattle.run_reader.specs.Run.{Scored}
 use Rattle.trec_order.specs.Entry.{row_of}
 use Rattle.trec_order.proofs.Ranks.{row_more}
 use Rattle.trec_order.proofs.entry.entries_of.Goals as goal
@@ -10,5 +11,5 @@ loop-i-preserved c =
     let i = c.loop-i.i in
     let more = row_more rows i c.document.result.now c.score.result.now c.document.ensures c.score.ensures in
     ap (map row_of) c.in_ok-push.ensures.items ∙ map-append row_of c.loop-i.entries.items _
-    ∙ (λ j. c.loop-i.invariant j ++ record { document = c.in_ok-document.ensures.items j; score = c.score.result.now } ∷ [])
+    ∙ ap (λ (before : List Scored). before ++ record { document = c.document.result.now; score = c.score.result.now } ∷ []) c.loop-i.invariant
     ∙ more ∙ ap (λ k. take k rows) (sym (add-one i))

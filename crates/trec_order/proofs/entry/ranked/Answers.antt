@@ -1,21 +1,22 @@
-use Rattle.std.proofs.Common.{map, subst, arith}
+use Rattle.std.proofs.Common.{map, subst, ◌∙◌}
 use Rattle.std.specs.Prelude.{IsPermutation}
 use Rattle.std.specs.Str.{bytes_eq}
 use Rattle.std.proofs.lemmas.List.Sorted.{IsPermutation-map}
 use Rattle.std.proofs.lemmas.Map.Keys.{IsDistinct-IsPermutation}
+use Rattle.std.proofs.lemmas.Result.{IfOk-weaker}
 use Rattle.qrels_reader.proofs.Seen.{laws}
 use Rattle.run_reader.specs.Run.{Scored}
 use Rattle.trec_order.specs.Entry.{row_of}
-use Rattle.trec_order.proofs.Ranks.{in_order}
+use Rattle.trec_order.proofs.Ranks.{in_order, both_ok}
 use Rattle.trec_order.proofs.entry.ranked.Goals as goal
 
 pub returns-clause-once : goal.returns-clause-once
 returns-clause-once c =
-    subst (λ rows. IsPermutation rows (map row_of c.sort.new.self.items)) c.in_ok-entries.ensures (IsPermutation-map row_of c.in_ok-entries.entries.items c.sort.new.self.items c.in_ok-sort.ensures.permutation)
+    IfOk-weaker c.in_order.result _ _ (λ sorted moved. subst (λ rows. IsPermutation rows (map row_of sorted.items)) c.in_ok-entries_of.ensures (IsPermutation-map row_of _ sorted.items moved)) c.in_order.ensures.once
 
 pub returns-clause-ordered : goal.returns-clause-ordered
 returns-clause-ordered c =
-    let sorted = c.sort.new.self.items in
-    let names = IsPermutation-map (λ (row : Scored). row.document) c.args.rows.now (map row_of sorted) (returns-clause-once c) in
-    in_order sorted (IsDistinct-IsPermutation bytes_eq laws.symm (map (λ row. row.document) c.args.rows.now) (map (λ row. row.document) (map row_of sorted)) names c.requires)
-    (λ k d lt. c.in_ok-sort.ensures.sorted k d (omega arith) lt)
+    IfOk-weaker c.in_order.result _ _
+    (λ sorted parts. let names = IsPermutation-map (λ (row : Scored). row.document) c.args.rows.now (map row_of sorted.items) parts.0 in
+    in_order sorted.items (IsDistinct-IsPermutation bytes_eq laws.symm (map (λ row. row.document) c.args.rows.now) (map (λ row. row.document) (map row_of sorted.items)) names c.requires) parts.1)
+    (both_ok c.in_order.result _ _ (returns-clause-once c) c.in_order.ensures.ordered)

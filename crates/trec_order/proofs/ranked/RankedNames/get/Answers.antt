@@ -15,4 +15,3 @@ returns c =
     ∙ slice_get-map (λ (row : Scored). row.document) (map row_of entries) c.args.i
     ∙ ap (option_map (λ (row : Scored). row.document)) (slice_get-map row_of entries c.args.i)
     ∙ ap (λ o. option_map (λ (row : Scored). row.document) (option_map row_of o)) (slice_get_read entries (length entries) c.args.i c.index.result.now refl within c.index.ensures)
-    ∙ ap Some (sym c.as_slice.ensures.value)

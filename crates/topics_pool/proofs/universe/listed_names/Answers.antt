@@ -6,7 +6,7 @@ use Rattle.qrels_reader.specs.Grouped.{Judged, documents_at}
 use Rattle.topics_pool.specs.Names.{with_names, AreNames}
 use Rattle.topics_pool.specs.Rows.{listed}
 use Rattle.topics_pool.proofs.Sets.{AreNames-nil, AreNames-with_name, gather_step, added-whole}
-use Rattle.topics_pool.proofs.universe.listed_set.Goals as goal
+use Rattle.topics_pool.proofs.universe.listed_names.Goals as goal
 
 pub loop-i-init : goal.loop-i-init
 loop-i-init c = record { documents = c.new-names.ensures; names = subst AreNames (sym c.new-names.ensures) AreNames-nil }
@@ -16,8 +16,8 @@ loop-i-preserved c =
     let docs = documents_at c.args.qrels.now c.args.t in
     let got : slice_get (listed docs) c.loop-i.i ≡ Some c.doc_name.result.now = slice_get-map (λ (d : Judged). d.document) docs c.loop-i.i ∙ c.doc_name.ensures.bytes in
     record {
-      documents = gather_step [] (listed docs) c.loop-i.i c.doc_name.result.now _ _ got c.loop-i.invariant.documents c.in_ok-add_new.ensures;
-      names = subst AreNames (sym c.in_ok-add_new.ensures) (AreNames-with_name _ c.doc_name.result.now c.loop-i.invariant.names c.doc_name.ensures.name);
+      documents = gather_step [] (listed docs) c.loop-i.i c.doc_name.result.now _ _ got c.loop-i.invariant.documents c.in_ok-add.ensures.names;
+      names = subst AreNames (sym c.in_ok-add.ensures.names) (AreNames-with_name _ c.doc_name.result.now c.loop-i.invariant.names c.doc_name.ensures.name);
     }
 
 pub returns-clause-documents : goal.returns-clause-documents

@@ -1,7 +1,7 @@
 use Rattle.std.proofs.Common.{◌≡◌, take}
 use Rattle.qrels_reader.specs.Grouped.{names_of}
 use Rattle.topics_pool.specs.Names.{AreNames}
-use Rattle.topics_pool.proofs.book.topic_set.Given as goal
+use Rattle.topics_pool.proofs.book.qrels_topics.Given as goal
 
 abbrev pub invariant-loop-t : goal.invariant-loop-t
 invariant-loop-t l = record { topics : l.names ≡ take l.t (names_of l.qrels); names : AreNames l.names }
