@@ -24,8 +24,8 @@ use Rattle.measure_laws.proofs.RprecEnds.{count-is_among_first, greedy_second}
 use Rattle.precision.specs.declared.counts.Counts.{Counts}
 use Rattle.rprec.specs.declared.fronts.Fronts.{Fronts}
 use Rattle.rprec.specs.declared.greedy.Candidate.{Candidate}
-use Rattle.rprec.specs.Greedy.{AreFronts, AreTopic, AreGains, beats}
-use Rattle.rprec.proofs.Steps.{own_few, exchanged, fronts_exchanged}
+use Rattle.rprec.specs.Greedy.{AreFronts, AreTopic, AreFew, AreGains, beats, exchanged}
+use Rattle.rprec.proofs.Steps.{own_few, fronts_exchanged}
 
 -- ---- the true documents of a class: those judged relevant, and those picked
 one_if_picked : (b : Bool) (m : Mark) (e : Bool) → one_if (picked_value b m && e) ≡ one_if (picked_value false m && e) + one_if ((is_unjudged m && e) && b)
@@ -184,10 +184,6 @@ pub range_push : (s n : ℕ) → range_with_len s (suc n) ≡ range_with_len s n
 range_push s zero = ap (λ k. k ∷ []) (omega arith)
 range_push s (suc n) = ap (λ ks. s ∷ ks) (range_push (s + 1) n ∙ ap (λ k. range_with_len (s + 1) n ++ k ∷ []) (omega arith))
 
-pub one_of_two : (P : Candidate → Type 0) (v : Bool) (x y after : Candidate) → after ≡ (if v then x else y) → P x → P y → P after
-one_of_two P true x y after e p q = subst P (sym e) p
-one_of_two P false x y after e p q = subst P (sym e) q
-
 -- ---- sizes
 -- the sizes of the three classes together
 pub class_sizes : (marks : List Mark) (a b : List ℕ) (r : ℕ) → size_of (length marks) (open_in marks (λ _. true)) ≡
@@ -209,7 +205,7 @@ own_both marks a b r f all ra rb h topic =
 pub fronts_small : (marks : List Mark) (a b : List ℕ) (r : ℕ) (f : Fronts) → IsRanking (length marks) a → IsRanking (length marks) b → AreFronts marks (take r a) (take r b) f →
     (f.first.relevant + f.first.unjudged ≤ 10000) × (f.second.relevant + f.second.unjudged ≤ 10000)
 fronts_small marks a b r f ra rb h =
-    (omega (arith, own_few marks (take r a) (take r b) f h, length-take {A = ℕ} r a, ra.short), omega (arith, own_few marks (take r b) (take r a) (exchanged f) (fronts_exchanged marks (take r a) (take r b) f (exchanged f) h refl refl), length-take {A = ℕ} r b, rb.short))
+    (omega (arith, own_few marks (take r a) (take r b) f h, length-take {A = ℕ} r a, ra.short), omega (arith, own_few marks (take r b) (take r a) (exchanged f) (fronts_exchanged marks (take r a) (take r b) f h), length-take {A = ℕ} r b, rb.short))
 
 -- all unjudged documents
 pub all_open : (marks : List Mark) → true_count (with_picked marks (λ _. true)) (length marks) ≡ judged_count marks + size_of (length marks) (open_in marks (λ _. true))
@@ -219,3 +215,10 @@ all_open marks =
     let none : count_by (λ d. with_picked marks (λ _. false) d && true) zs ≡ judged_count marks = count_by-agree _ _ zs (every _ (λ d. and_true (with_picked marks (λ _. false) d)) zs) in
     let open_here : count_by (λ d. open_in marks (λ _. true) d && true) zs ≡ size_of (length marks) (open_in marks (λ _. true)) = count_by-agree _ _ zs (every _ (λ d. and_true (open_in marks (λ _. true) d)) zs) in
     omega (arith, here, none, open_here, count_picked marks (λ _. true) (λ _. true) zs)
+
+pub few_are : (marks : List Mark) (a b : List ℕ) (r : ℕ) (f : Fronts) (all : Counts) → IsRanking (length marks) a → IsRanking (length marks) b → AreFronts marks (take r a) (take r b) f → AreTopic marks all → all.relevant + all.unjudged ≤ 25000000 → AreFew f all
+few_are marks a b r f all ra rb h topic few =
+    let small = fronts_small marks a b r f ra rb h in record { first = small.0; second = small.1; within = own_both marks a b r f all ra rb h topic; total = few }
+
+pub few_exchanged : (f g : Fronts) (all : Counts) → AreFew f all → g ≡ exchanged f → AreFew g all
+few_exchanged f g all h e = subst (λ x. AreFew x all) (sym e) (record { first = h.second; second = h.first; within = omega (arith, h.within); total = h.total })

@@ -1,6 +1,7 @@
 -- The numbers of R-precision, from the least candidate.
-use Rattle.std.proofs.Common.{◌≡◌, ℕ, ◌+◌, ◌^◌, ◌≤◌, max, true, false, List, [], length, take, ℤ, pos, neg_ℤ, ◌*ℤ◌, ◌-ℤ◌, arith, ap, ◌∙◌, sym, subst}
-use Rattle.std.proofs.lemmas.Grind.{common_steps}
+use Rattle.std.proofs.Common.{◌≡◌, ℕ, ◌+◌, ◌^◌, ◌<◌, ◌≤◌, max, true, false, List, [], length, ℤ, pos, ◌*ℤ◌, ◌-ℤ◌, arith, ap, ◌∙◌, sym, subst}
+use Rattle.std.specs.List.{IsDistinct}
+use Rattle.std.proofs.lemmas.List.Elements.{All-nil}
 use Rattle.desk_model.specs.Completion.{with_picked}
 use Rattle.desk_model.specs.Fraction.{over}
 use Rattle.desk_model.specs.Ranking.{IsRanking}
@@ -14,16 +15,13 @@ use Rattle.measure_laws.proofs.RprecEnds.{greedy_is}
 use Rattle.fractions.specs.Ends.{IsFloor, IsCeiling, IsShort}
 use Rattle.fractions.specs.Numbers.{difference_span}
 use Rattle.fractions.specs.declared.span.Span.{Span}
-use Rattle.fractions.proofs.Spans.{span, span_same}
 use Rattle.measure_core.specs.Laws.{AreMet}
-use Rattle.measure_core.specs.Numbers.{exact_least, exact_cell, exact_bounds}
+use Rattle.measure_core.specs.Numbers.{exact_least}
 use Rattle.measure_core.proofs.Exact.{exact_laws, modest_short}
 use Rattle.precision.specs.declared.counts.Counts.{Counts}
-use Rattle.precision.proofs.Ends.{cell}
 use Rattle.recall.proofs.Ratio.{out_of, ratio_read}
 use Rattle.rprec.specs.declared.greedy.Candidate.{Candidate}
 use Rattle.rprec.specs.Greedy.{AreTopic, IsLeast}
-use Rattle.rprec.proofs.Steps.{IsRanking-take}
 use Rattle.rprec.proofs.Choices.{among_few, all_open}
 
 pub least_is : (marks : List Mark) (a b : List ℕ) (c : Candidate) (num den : ℤ) (s : Span) → IsLeast marks a b c → num ≡ pos c.first -ℤ pos c.second → den ≡ pos (max 1 c.count) →
@@ -44,32 +42,10 @@ least_is marks a b c num den s h en ed floor ceiling =
 pub least_short : (marks : List Mark) (a b : List ℕ) (s : Span) → AreMet marks a b → s ≡ exact_least RPrecision marks a b → IsShort s
 least_short marks a b s met e = subst IsShort (sym e) (modest_short (exact_least RPrecision marks a b) ((exact_laws RPrecision tt tt).cell_modest marks a b met).least)
 
--- runs that show some of their documents
-pub shown_met : (marks : List Mark) (a b : List ℕ) (m n : ℕ) → AreMet marks a b → AreMet marks (take m a) (take n b)
-shown_met marks a b m n h = record { first = IsRanking-take (length marks) m a h.first; second = IsRanking-take (length marks) n b h.second; small = h.small }
-
-whole : (xs : List ℕ) (i : ℕ) → length xs ≤ i → take i xs ≡ xs
-whole xs i h = grind (arith, common_steps)
-
-pub all_shown : (n : ℕ) (a : List ℕ) → IsRanking n a → take 10000 a ≡ a
-all_shown n a r = whole a 10000 r.short
-
--- ---- the numbers that they give
-pub cell_is : (marks : List Mark) (a b : List ℕ) (s t turned : Span) → IsRanking (length marks) a → IsRanking (length marks) b → s ≡ exact_least RPrecision marks (take 10000 a) (take 10000 b) → t ≡ exact_least RPrecision marks (take 10000 b) (take 10000 a) →
-    turned.lo ≡ neg_ℤ t.hi → turned.hi ≡ neg_ℤ t.lo → cell s turned ≡ exact_cell RPrecision marks a b
-cell_is marks a b s t turned ra rb es et el eh =
-    let other = exact_least RPrecision marks b a in
-    let first : s ≡ exact_least RPrecision marks a b = es ∙ ap (λ x. exact_least RPrecision marks x (take 10000 b)) (all_shown (length marks) a ra) ∙ ap (λ x. exact_least RPrecision marks a x) (all_shown (length marks) b rb) in
-    let second : t ≡ other = et ∙ ap (λ x. exact_least RPrecision marks x (take 10000 a)) (all_shown (length marks) b rb) ∙ ap (λ x. exact_least RPrecision marks b x) (all_shown (length marks) a ra) in
-    ap (λ (x : Span). cell x turned) first
-    ∙ ap (λ (x : Span). cell (exact_least RPrecision marks a b) x) (span_same turned.lo (neg_ℤ other.hi) turned.hi (neg_ℤ other.lo) (el ∙ ap (λ (x : Span). neg_ℤ x.hi) second) (eh ∙ ap (λ (x : Span). neg_ℤ x.lo) second))
-
-pub bounds_is : (marks : List Mark) (a : List ℕ) (s t : Span) (lo hi : ℤ) → IsRanking (length marks) a → s ≡ exact_least RPrecision marks (take 10000 a) (take 0 a) → t ≡ exact_least RPrecision marks (take 0 a) (take 10000 a) →
-    lo ≡ s.lo → hi ≡ neg_ℤ t.lo → span lo hi ≡ exact_bounds RPrecision marks a
-bounds_is marks a s t lo hi ra es et el eh =
-    let first : s ≡ exact_least RPrecision marks a [] = es ∙ ap (λ x. exact_least RPrecision marks x []) (all_shown (length marks) a ra) in
-    let second : t ≡ exact_least RPrecision marks [] a = et ∙ ap (λ x. exact_least RPrecision marks [] x) (all_shown (length marks) a ra) in
-    span_same lo (exact_least RPrecision marks a []).lo hi (neg_ℤ (exact_least RPrecision marks [] a).lo) (el ∙ ap (λ (x : Span). x.lo) first) (eh ∙ ap (λ (x : Span). neg_ℤ x.lo) second)
+-- a run of no document
+pub nothing_ranked : (n : ℕ) → IsRanking n []
+unfolding IsDistinct
+nothing_ranked n = record { distinct = tt; within = All-nil (λ doc. doc < n); short = omega arith }
 
 -- the counts of all documents
 pub topic_is : (marks : List Mark) (all : Counts) → all.relevant ≡ true_count (with_picked marks (λ _. false)) (length marks) → all.relevant + all.unjudged ≡ true_count (with_picked marks (λ _. true)) (length marks) → AreTopic marks all

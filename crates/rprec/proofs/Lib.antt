@@ -3,3 +3,4 @@ pub mod Choices
 pub mod Ends
 pub mod Walks
 pub mod Tails
+pub mod Flags

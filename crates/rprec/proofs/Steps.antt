@@ -1,22 +1,20 @@
 -- What one more document changes in the counts of two lists.
-use Rattle.std.proofs.Common.{◌≡◌, ℕ, ◌+◌, ◌<◌, ◌≤◌, Bool, true, false, not, ◌&&◌, nat_eq, List, [], ◌∷◌, ◌++◌, length, take, get_or, count_by, arith, refl, ap, ◌∙◌, sym}
+use Rattle.std.proofs.Common.{◌≡◌, ℕ, ◌+◌, ◌≤◌, Bool, true, false, not, ◌&&◌, nat_eq, List, [], ◌∷◌, ◌++◌, length, take, count_by, arith, refl, ap, ◌∙◌, sym}
 use Rattle.std.specs.List.{IsDistinct}
 use Rattle.std.proofs.lemmas.Grind.{common_steps}
-use Rattle.std.proofs.lemmas.List.{take_more, get_or-take, length-take}
 use Rattle.std.proofs.lemmas.List.Sums.{sum_by_push, count_by-le-length}
-use Rattle.std.proofs.lemmas.List.Elements.{All-take}
 use Rattle.desk_model.specs.Mark.{mark_at}
 use Rattle.desk_model.specs.Classes.{only_count}
 use Rattle.desk_model.specs.Completion.{picked_value, with_picked}
-use Rattle.desk_model.specs.Ranking.{IsRanking, is_in}
+use Rattle.desk_model.specs.Ranking.{is_in}
 use Rattle.desk_model.specs.declared.types.Mark.{Mark}
 use Rattle.desk_model.specs.declared.types.Mark.TheVariants.{Unjudged, Relevant, Other}
-use Rattle.desk_model.proofs.Counts.{one_if, count_by-weaker, IsDistinct-take}
+use Rattle.desk_model.proofs.Counts.{one_if, count_by-weaker}
 use Rattle.desk_model.proofs.PrecisionEnds.{difference_outside}
 use Rattle.measure_laws.proofs.RecallEnds.{every}
 use Rattle.precision.specs.declared.counts.Counts.{Counts}
 use Rattle.rprec.specs.declared.fronts.Fronts.{Fronts}
-use Rattle.rprec.specs.Greedy.{AreFronts, one_of}
+use Rattle.rprec.specs.Greedy.{AreFronts, exchanged, one_of}
 
 -- ---- lists
 whole : (xs : List ℕ) (i : ℕ) → length xs ≤ i → take i xs ≡ xs
@@ -25,24 +23,6 @@ whole xs i h = grind (arith, common_steps)
 -- no document is left
 pub past : (place : ℕ) (xs : List ℕ) → length xs ≤ place → take (place + 1) xs ≡ take place xs
 past place xs h = whole xs (place + 1) (omega (arith, h)) ∙ sym (whole xs place h)
-
-pub past_shown : (place shown : ℕ) (a : List ℕ) → shown ≤ place → length (take shown a) ≤ place
-past_shown place shown a h = omega (arith, length-take {A = ℕ} shown a)
-
-pub past_end : (place shown : ℕ) (a : List ℕ) → length a ≤ place → length (take shown a) ≤ place
-past_end place shown a h = omega (arith, length-take {A = ℕ} shown a)
-
--- the next document
-pub next_taken : (place shown : ℕ) (a : List ℕ) → place < shown → place < length a → take (place + 1) (take shown a) ≡ take place (take shown a) ++ get_or a place 0 ∷ []
-next_taken place shown a h k =
-    take_more (take shown a) place 0 (omega (arith, h, k, length-take {A = ℕ} shown a)) ∙ ap (λ x. take place (take shown a) ++ x ∷ []) (get_or-take shown a place 0 h)
-
-pub IsRanking-take : (n shown : ℕ) (a : List ℕ) → IsRanking n a → IsRanking n (take shown a)
-IsRanking-take n shown a r = record {
-  distinct = IsDistinct-take shown a r.distinct;
-  within = All-take (λ d. d < n) shown a r.within;
-  short = omega (arith, r.short, length-take {A = ℕ} shown a);
-}
 
 -- ---- counts
 with_true : (b : Bool) → one_if (b && not false) ≡ one_if b
@@ -77,14 +57,8 @@ fewer_relevant marks xs ys = count_by-weaker _ _ xs (every _ (λ d. weaker_value
     weaker_value Relevant e h = h
     weaker_value Other e h = absurd (cc)
 
-abbrev pub exchanged : Fronts → Fronts
-exchanged f = record { first = f.second; second = f.first }
-
-pub fronts_exchanged : (marks : List Mark) (xs ys : List ℕ) (f g : Fronts) → AreFronts marks xs ys f → g.first ≡ f.second → g.second ≡ f.first → AreFronts marks ys xs g
-fronts_exchanged marks xs ys f g h e k = record {
-  first = record { least = ap (λ (c : Counts). c.relevant) e ∙ h.second.least; most = ap (λ (c : Counts). c.relevant + c.unjudged) e ∙ h.second.most };
-  second = record { least = ap (λ (c : Counts). c.relevant) k ∙ h.first.least; most = ap (λ (c : Counts). c.relevant + c.unjudged) k ∙ h.first.most };
-}
+pub fronts_exchanged : (marks : List Mark) (xs ys : List ℕ) (f : Fronts) → AreFronts marks xs ys f → AreFronts marks ys xs (exchanged f)
+fronts_exchanged marks xs ys f h = record { first = h.second; second = h.first }
 
 -- a document that the other list has not
 pub fronts_alone : (marks : List Mark) (xs longer ys : List ℕ) (x : ℕ) (f g : Fronts) → longer ≡ xs ++ x ∷ [] → is_in ys x ≡ false → IsDistinct nat_eq xs → IsDistinct nat_eq longer → IsDistinct nat_eq ys → AreFronts marks xs ys f →

@@ -16,7 +16,7 @@ use Rattle.precision.specs.declared.counts.Counts.{Counts}
 use Rattle.rprec.specs.declared.fronts.Fronts.{Fronts}
 use Rattle.rprec.specs.declared.greedy.Candidate.{Candidate}
 use Rattle.rprec.specs.Greedy.{AreFronts, AreTopic, AreGains, IsLeast, beats, better_of, candidate, best_beyond}
-use Rattle.rprec.proofs.Choices.{same_test, scaled_test, smaller_is, first_least-append, range_push, gains_are, own_both, one_of_two}
+use Rattle.rprec.proofs.Choices.{same_test, scaled_test, smaller_is, first_least-append, range_push, gains_are, own_both}
 use Rattle.rprec.proofs.Steps.{own_few}
 
 -- ---- tests
@@ -291,7 +291,3 @@ beyond_is_least marks a b all f start best after ra rb topic small h k e =
     let chosen : (best_beyond f all start best).count ≡ rprec_count marks a b =
     found.0 ∙ ap (λ (j : ℕ). first_least (greedy_scores marks a b) j (range_with_len (j + 1) all.unjudged)) topic.relevant ∙ ap (λ (u : ℕ). first_least (greedy_scores marks a b) (judged_count marks) (range_with_len (judged_count marks + 1) u)) topic.unjudged in
     subst (IsLeast marks a b) (sym e) (record { gains = found.1; chosen = chosen; low = omega (arith, topic.relevant, within.0); high = omega (arith, topic.relevant, topic.unjudged, within.1) })
-
--- two small ones
-pub better_small : (c best after : Candidate) → after ≡ better_of c best → c.first ≤ 10000 → c.second ≤ 10000 → best.first ≤ 10000 → best.second ≤ 10000 → (after.first ≤ 10000) × (after.second ≤ 10000)
-better_small c best after e h k l m = one_of_two (λ x. (x.first ≤ 10000) × (x.second ≤ 10000)) (beats c best) c best after e (h, k) (l, m)

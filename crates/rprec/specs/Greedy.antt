@@ -1,7 +1,9 @@
 -- The greedy choices of R-precision in counts of documents.
-use Rattle.std.specs.Prelude.{◌≡◌, ℕ, ◌+◌, ◌-◌, ◌*◌, ◌≤◌, min, max, nat_lt, Bool, true, false, if◌then◌else◌, List, length}
+use Rattle.std.specs.Prelude.{◌≡◌, ℕ, ◌+◌, ◌-◌, ◌*◌, ◌<◌, ◌≤◌, min, max, nat_eq, nat_lt, Bool, true, false, if◌then◌else◌, List, length, take, slice_index}
+use Rattle.std.specs.List.{IsDistinct}
 use Rattle.desk_model.specs.Classes.{only_count}
 use Rattle.desk_model.specs.Completion.{picked_value}
+use Rattle.desk_model.specs.Ranking.{is_in}
 use Rattle.desk_model.specs.Score.{true_among}
 use Rattle.desk_model.specs.declared.types.Mark.{Mark}
 use Rattle.measure_laws.specs.Classes.{open_in, size_of, judged_count}
@@ -19,6 +21,16 @@ one_of taken mark = if picked_value taken mark then 1 else 0
 pub record AreFronts (marks : List Mark) (xs ys : List ℕ) (fronts : Fronts) : Type 0 where
   pub first : AreCountsOf (only_count false marks xs ys) (only_count true marks xs ys) fronts.first
   pub second : AreCountsOf (only_count false marks ys xs) (only_count true marks ys xs) fronts.second
+
+-- the counts of two lists that are to be told of the next document of a third, whose first ones the first list is, and whether the second list has it
+pub record AreBefore (marks : List Mark) (docs ys : List ℕ) (place : ℕ) (is_shared : Bool) (fronts : Fronts) : Type 0 where
+  pub counts : AreFronts marks (take place docs) ys fronts
+  pub next : place < length docs → is_in ys (slice_index docs place) ≡ is_shared
+  pub distinct : IsDistinct nat_eq ys
+
+-- the counts of the lists exchanged
+abbrev pub exchanged : Fronts → Fronts
+exchanged f = record { first = f.second; second = f.first }
 
 -- the counts of all documents of a topic
 pub record AreTopic (marks : List Mark) (all : Counts) : Type 0 where
@@ -44,6 +56,19 @@ candidate fronts all chosen = record {
   first = fronts.first.relevant + (chosen - (all.unjudged - fronts.first.unjudged));
   second = fronts.second.relevant + min chosen fronts.second.unjudged;
 }
+
+-- counts that are no more than a run and a topic have
+pub record AreFew (fronts : Fronts) (all : Counts) : Type 0 where
+  pub first : fronts.first.relevant + fronts.first.unjudged ≤ 10000
+  pub second : fronts.second.relevant + fronts.second.unjudged ≤ 10000
+  pub within : fronts.first.unjudged + fronts.second.unjudged ≤ all.unjudged
+  pub total : all.relevant + all.unjudged ≤ 25000000
+
+-- a candidate with no more than a run and a topic have
+pub record IsSmall (c : Candidate) : Type 0 where
+  pub few : c.count ≤ 25000000
+  pub first_few : c.first ≤ 10000
+  pub second_few : c.second ≤ 10000
 
 -- the best so far, against the choices where the second run's own unjudged documents are used up, and all but the first run's own
 abbrev pub best_beyond : Fronts → Counts → ℕ → Candidate → Candidate

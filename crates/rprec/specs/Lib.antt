@@ -1,3 +1,4 @@
+pub mod Shared
 pub mod Greedy
 pub mod Picks
 pub mod Laws

@@ -1,9 +1,11 @@
-ghost use Rattle.std.specs.Prelude.{◌≡◌, ◌+◌, ◌≤◌, ◌<◌, length, take, min, slice_get, true, false, Some};
-ghost use Rattle.desk_model.specs.Ranking.{IsRanking, is_in};
-ghost use Rattle.rprec.specs.Greedy.{AreFronts, one_of};
+ghost use Rattle.std.specs.Prelude.{◌≡◌, ℕ, ◌+◌, ◌≤◌, ◌<◌, List, length, take, true, false};
+ghost use Rattle.desk_model.specs.Ranking.{IsRanking};
+ghost use Rattle.rprec.specs.Greedy.{AreFronts, AreBefore, exchanged, one_of};
+ghost use Rattle.rprec.specs.Shared.{AreShared};
 
-use desk_model::{Mark, Ranking};
-use precision::counts::{Counts, is_among_first};
+use crate::shared::Shared;
+use desk_model::Mark;
+use precision::counts::Counts;
 
 /// The counts of the documents that each of two runs alone has among its first ones.
 #[derive(Clone, Copy, PartialEq, Eq, Debug)]
@@ -14,9 +16,8 @@ pub struct Fronts {
 
 impl Fronts {
     /// With the runs exchanged.
-    fn exchanged(self) -> Fronts
-        ensures first { result.first ≡ self.second }
-        ensures second { result.second ≡ self.first }
+    pub fn exchanged(self) -> Fronts
+        ensures { result ≡ exchanged self }
     {
         Fronts {
             first: self.second,
@@ -45,37 +46,17 @@ fn without(counts: Counts, mark: Mark) -> Counts
     }
 }
 
-/// Whether a document is among the first ones of a run that shows only some of its documents.
-fn is_shown(run: &Ranking, shown: u32, depth: u32, doc: u32) -> bool
-    ensures { result ≡ is_in (take depth (take shown run.now)) doc }
+/// With the next document of one list, where it is known whether another list has it.
+fn with_next(fronts: Fronts, docs: &[u32], place: u32, is_shared: bool, marks: &[Mark]) -> Fronts
+    requires docs { IsRanking (length marks.now) docs.now }
+    requires fronts { (ys : List ℕ) × AreBefore marks.now docs.now ys place is_shared fronts }
+    ensures { (ys : List ℕ) → AreBefore marks.now docs.now ys place is_shared fronts → AreFronts marks.now (take (place + 1) docs.now) ys result }
 {
-    is_among_first(depth.min(shown), run, doc)
-}
-
-/// With the next document of the first run, if there is one.
-fn with_next(
-    fronts: Fronts,
-    run: &Ranking,
-    shown: u32,
-    place: u32,
-    other: &Ranking,
-    other_shown: u32,
-    depth: u32,
-    marks: &[Mark],
-) -> Fronts
-    requires fronts { AreFronts marks.now (take place (take shown run.now)) (take depth (take other_shown other.now)) fronts }
-    requires run { IsRanking (length marks.now) run.now }
-    requires other { IsRanking (length marks.now) other.now }
-    requires place { place < 25000000 }
-    ensures { AreFronts marks.now (take (place + 1) (take shown run.now)) (take depth (take other_shown other.now)) result }
-{
-    let docs = run.docs();
-    if place >= shown || place as usize >= docs.len() {
+    if place as usize >= docs.len() {
         return fronts;
     }
-    let doc = docs[place as usize];
-    let mark = marks[doc as usize];
-    if is_shown(other, other_shown, depth, doc) {
+    let mark = marks[docs[place as usize] as usize];
+    if is_shared {
         Fronts {
             first: fronts.first,
             second: without(fronts.second, mark),
@@ -91,29 +72,20 @@ fn with_next(
 /// The counts of one more document of each run.
 pub fn deepened(
     fronts: Fronts,
-    a: &Ranking,
-    a_shown: u32,
-    b: &Ranking,
-    b_shown: u32,
+    a: &[u32],
+    b: &[u32],
+    shared: &Shared,
     depth: u32,
     marks: &[Mark],
 ) -> Fronts
-    requires fronts { AreFronts marks.now (take depth (take a_shown a.now)) (take depth (take b_shown b.now)) fronts }
+    requires fronts { AreFronts marks.now (take depth a.now) (take depth b.now) fronts }
     requires a { IsRanking (length marks.now) a.now }
     requires b { IsRanking (length marks.now) b.now }
-    requires depth { depth < 25000000 }
-    ensures { AreFronts marks.now (take (depth + 1) (take a_shown a.now)) (take (depth + 1) (take b_shown b.now)) result }
+    requires shared { AreShared a.now b.now shared.now.first shared.now.second }
+    requires depth { depth < 10000 }
+    ensures { AreFronts marks.now (take (depth + 1) a.now) (take (depth + 1) b.now) result }
 {
-    let one = with_next(fronts, a, a_shown, depth, b, b_shown, depth, marks);
-    with_next(
-        one.exchanged(),
-        b,
-        b_shown,
-        depth,
-        a,
-        a_shown,
-        depth + 1,
-        marks,
-    )
-    .exchanged()
+    let place = depth as usize;
+    let one = with_next(fronts, a, depth, shared.first[place], marks);
+    with_next(one.exchanged(), b, depth, shared.second[place], marks).exchanged()
 }

@@ -1,9 +1,11 @@
-ghost use Rattle.std.specs.Prelude.{◌≡◌, ◌+◌, ◌-◌, ◌*◌, ◌≤◌, ◌<◌, length, take, max, min, nat_lt, if◌then◌else◌};
+ghost use Rattle.std.specs.Prelude.{◌≡◌, ◌+◌, ◌≤◌, length, take};
 ghost use Rattle.desk_model.specs.Ranking.{IsRanking};
-ghost use Rattle.rprec.specs.Greedy.{AreFronts, AreTopic, IsLeast, beats, best_beyond as beyond, better_of, candidate};
+ghost use Rattle.rprec.specs.Greedy.{AreFronts, AreFew, AreTopic, IsLeast, IsSmall, beats, best_beyond as beyond, better_of, candidate, exchanged};
+ghost use Rattle.rprec.specs.Shared.{AreShared};
 
 use crate::fronts::{Fronts, deepened};
-use desk_model::{Mark, Ranking};
+use crate::shared::Shared;
+use desk_model::Mark;
 use precision::counts::Counts;
 
 /// A number of relevant documents, and how many of them each run has among as many first documents,
@@ -15,17 +17,21 @@ pub struct Candidate {
     pub second: u32,
 }
 
+/// The least candidate of two runs, and that of the runs exchanged, whose difference is the greatest
+/// one negated.
+#[derive(Clone, Copy, PartialEq, Eq, Debug)]
+pub struct Extremes {
+    pub least: Candidate,
+    pub most: Candidate,
+}
+
 /// The greedy choice of some of the unjudged documents: the second run's own ones come first, and
 /// the first run's own ones last.
 fn greedy_choice(fronts: Fronts, chosen: u32, all: Counts) -> Candidate
-    requires first { fronts.first.relevant + fronts.first.unjudged ≤ 10000 }
-    requires second { fronts.second.relevant + fronts.second.unjudged ≤ 10000 }
-    requires within { fronts.first.unjudged ≤ all.unjudged }
-    requires all { all.relevant + all.unjudged ≤ 25000000 }
+    requires few { AreFew fronts all }
     requires chosen { chosen ≤ all.unjudged }
     ensures value { result ≡ candidate fronts all chosen }
-    ensures first_small { result.first ≤ 10000 }
-    ensures second_small { result.second ≤ 10000 }
+    ensures small { IsSmall result }
 {
     let others = all.unjudged - fronts.first.unjudged;
     Candidate {
@@ -37,12 +43,8 @@ fn greedy_choice(fronts: Fronts, chosen: u32, all: Counts) -> Candidate
 
 /// Whether the difference of one candidate is smaller than that of another.
 fn is_less(c: Candidate, best: Candidate) -> bool
-    requires c_first { c.first ≤ 10000 }
-    requires c_second { c.second ≤ 10000 }
-    requires c_count { c.count ≤ 25000000 }
-    requires first { best.first ≤ 10000 }
-    requires second { best.second ≤ 10000 }
-    requires count { best.count ≤ 25000000 }
+    requires candidate { IsSmall c }
+    requires best { IsSmall best }
     ensures { result ≡ beats c best }
 {
     let here = u64::from(c.count.max(1));
@@ -51,103 +53,117 @@ fn is_less(c: Candidate, best: Candidate) -> bool
         < u64::from(best.first) * here + u64::from(c.second) * there
 }
 
-/// How many documents the longer of two runs shows, and at least 1.
-fn longest(a: &Ranking, a_shown: u32, b: &Ranking, b_shown: u32) -> u32
-    ensures first { length (take a_shown a.now) ≤ result }
-    ensures second { length (take b_shown b.now) ≤ result }
+/// The one of two candidates with the smaller difference, and of equal ones the second.
+fn better(c: Candidate, best: Candidate) -> Candidate
+    requires candidate { IsSmall c }
+    requires best { IsSmall best }
+    ensures value { result ≡ better_of c best }
+    ensures small { IsSmall result }
+{
+    if is_less(c, best) { c } else { best }
+}
+
+/// How many documents the longer of two runs has, and at least 1.
+fn longest(a: &[u32], b: &[u32]) -> u32
+    requires first { length a.now ≤ 10000 }
+    requires second { length b.now ≤ 10000 }
+    ensures first { length a.now ≤ result }
+    ensures second { length b.now ≤ result }
     ensures positive { 1 ≤ result }
     ensures few { result ≤ 10000 }
 {
-    let first = a_shown.min(a.docs().len() as u32);
-    let second = b_shown.min(b.docs().len() as u32);
-    first.max(second).max(1)
+    a.len().max(b.len()).max(1) as u32
 }
 
 /// The counts at the number of documents judged relevant.
-fn fronts_at(
-    a: &Ranking,
-    a_shown: u32,
-    b: &Ranking,
-    b_shown: u32,
-    depth: u32,
-    marks: &[Mark],
-) -> Fronts
+fn fronts_at(depth: u32, a: &[u32], b: &[u32], shared: &Shared, marks: &[Mark]) -> Fronts
     requires a { IsRanking (length marks.now) a.now }
     requires b { IsRanking (length marks.now) b.now }
-    ensures { AreFronts marks.now (take depth (take a_shown a.now)) (take depth (take b_shown b.now)) result }
+    requires shared { AreShared a.now b.now shared.now.first shared.now.second }
+    ensures { AreFronts marks.now (take depth a.now) (take depth b.now) result }
 {
     let mut fronts = Fronts {
         first: Counts::NONE,
         second: Counts::NONE,
     };
-    for place in 0..depth.min(longest(a, a_shown, b, b_shown)) {
-        fronts = deepened(fronts, a, a_shown, b, b_shown, place, marks);
+    for place in 0..depth.min(longest(a, b)) {
+        fronts = deepened(fronts, a, b, shared, place, marks);
     }
     fronts
 }
 
-/// The smallest number of relevant documents with the least difference, and what that gives, for
-/// the first documents that each run shows. No number of relevant documents is left out.
-pub fn least(
-    a: &Ranking,
-    a_shown: u32,
-    b: &Ranking,
-    b_shown: u32,
-    all: Counts,
-    marks: &[Mark],
-) -> Candidate
+/// The greedy choices of two runs, and of the runs exchanged.
+fn greedy_choices(fronts: Fronts, chosen: u32, all: Counts) -> Extremes
+    requires few { AreFew fronts all }
+    requires chosen { chosen ≤ all.unjudged }
+    ensures least { result.least ≡ candidate fronts all chosen }
+    ensures most { result.most ≡ candidate (exchanged fronts) all chosen }
+    ensures least_small { IsSmall result.least }
+    ensures most_small { IsSmall result.most }
+{
+    Extremes {
+        least: greedy_choice(fronts, chosen, all),
+        most: greedy_choice(fronts.exchanged(), chosen, all),
+    }
+}
+
+/// The better ones of two pairs of candidates.
+fn better_extremes(c: Extremes, best: Extremes) -> Extremes
+    requires least { IsSmall c.least }
+    requires most { IsSmall c.most }
+    requires best_least { IsSmall best.least }
+    requires best_most { IsSmall best.most }
+    ensures least { result.least ≡ better_of c.least best.least }
+    ensures most { result.most ≡ better_of c.most best.most }
+    ensures least_small { IsSmall result.least }
+    ensures most_small { IsSmall result.most }
+{
+    Extremes {
+        least: better(c.least, best.least),
+        most: better(c.most, best.most),
+    }
+}
+
+/// The smallest number of relevant documents with the least difference, and what that gives, for two
+/// runs and for the runs exchanged. No number of relevant documents is left out.
+pub fn find_extremes(a: &[u32], b: &[u32], shared: &Shared, all: Counts, marks: &[Mark]) -> Extremes
     requires a { IsRanking (length marks.now) a.now }
     requires b { IsRanking (length marks.now) b.now }
+    requires shared { AreShared a.now b.now shared.now.first shared.now.second }
     requires topic { AreTopic marks.now all }
     requires few { all.relevant + all.unjudged ≤ 25000000 }
-    ensures least { IsLeast marks.now (take a_shown a.now) (take b_shown b.now) result }
-    ensures first_small { result.first ≤ 10000 }
-    ensures second_small { result.second ≤ 10000 }
-    ensures low { all.relevant ≤ result.count }
-    ensures few { result.count ≤ 25000000 }
+    ensures least { IsLeast marks.now a.now b.now result.least }
+    ensures most { IsLeast marks.now b.now a.now result.most }
+    ensures least_small { IsSmall result.least }
+    ensures most_small { IsSmall result.most }
+    ensures low { all.relevant ≤ result.least.count }
 {
-    let mut fronts = fronts_at(a, a_shown, b, b_shown, all.relevant, marks);
-    let mut best = greedy_choice(fronts, 0, all);
-    let steps = longest(a, a_shown, b, b_shown).saturating_sub(all.relevant);
+    let mut fronts = fronts_at(all.relevant, a, b, shared, marks);
+    let mut best = greedy_choices(fronts, 0, all);
+    let steps = longest(a, b).saturating_sub(all.relevant);
     let steps = steps.min(all.unjudged);
     for chosen in 0..steps {
-        fronts = deepened(fronts, a, a_shown, b, b_shown, all.relevant + chosen, marks);
-        best = better(greedy_choice(fronts, chosen + 1, all), best);
+        fronts = deepened(fronts, a, b, shared, all.relevant + chosen, marks);
+        best = better_extremes(greedy_choices(fronts, chosen + 1, all), best);
     }
-    best_beyond(fronts, steps, all, best)
+    Extremes {
+        least: best_beyond(fronts, steps, all, best.least),
+        most: best_beyond(fronts.exchanged(), steps, all, best.most),
+    }
 }
 
 /// The best of all, where the best up to some number is known and the fronts stay as they are from
 /// there on. The difference falls or rises evenly up to where the second run's own documents are
 /// used up, and from there up to where only the first run's own ones are left; then it rises.
 fn best_beyond(fronts: Fronts, chosen: u32, all: Counts, best: Candidate) -> Candidate
-    requires first { fronts.first.relevant + fronts.first.unjudged ≤ 10000 }
-    requires second { fronts.second.relevant + fronts.second.unjudged ≤ 10000 }
-    requires within { fronts.first.unjudged + fronts.second.unjudged ≤ all.unjudged }
-    requires all { all.relevant + all.unjudged ≤ 25000000 }
+    requires few { AreFew fronts all }
     requires chosen { chosen ≤ all.unjudged }
-    requires best_first { best.first ≤ 10000 }
-    requires best_second { best.second ≤ 10000 }
-    requires best_count { best.count ≤ 25000000 }
+    requires best { IsSmall best }
     ensures value { result ≡ beyond fronts all chosen best }
-    ensures first_small { result.first ≤ 10000 }
-    ensures second_small { result.second ≤ 10000 }
+    ensures small { IsSmall result }
 {
     let others = all.unjudged - fronts.first.unjudged;
     let second_used = greedy_choice(fronts, chosen.max(fronts.second.unjudged), all);
     let others_used = greedy_choice(fronts, chosen.max(others), all);
     better(others_used, better(second_used, best))
-}
-
-/// The one of two candidates with the smaller difference, and of equal ones the second.
-fn better(c: Candidate, best: Candidate) -> Candidate
-    requires c_first { c.first ≤ 10000 }
-    requires c_second { c.second ≤ 10000 }
-    requires c_count { c.count ≤ 25000000 }
-    requires first { best.first ≤ 10000 }
-    requires second { best.second ≤ 10000 }
-    requires count { best.count ≤ 25000000 }
-    ensures { result ≡ better_of c best }
-{
-    if is_less(c, best) { c } else { best }
 }

@@ -5,6 +5,7 @@
 pub mod fronts;
 pub mod greedy;
 pub mod rprec;
+pub mod shared;
 pub mod values;
 
 pub use rprec::RPrecision;

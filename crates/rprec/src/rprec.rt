@@ -1,14 +1,15 @@
-ghost use Rattle.std.specs.Prelude.{◌≡◌, ℕ, ◌+◌, ◌≤◌, List, take, length, IfOk};
+ghost use Rattle.std.specs.Prelude.{◌≡◌, ℕ, ◌+◌, ◌≤◌, List, length, IfOk};
 ghost use Rattle.desk_model.specs.declared.types.Mark.{Mark as M};
 ghost use Rattle.desk_model.specs.declared.types.MeasureName.TheVariants.{RPrecision as R};
 ghost use Rattle.measure_laws.specs.RprecCase.{rprec_truth};
-ghost use Rattle.fractions.specs.Ends.{IsShort};
 ghost use Rattle.measure_core.specs.Laws.{AreMet, AreValues};
 ghost use Rattle.measure_core.specs.Made.{IsMadeFor};
-ghost use Rattle.measure_core.specs.Numbers.{exact_least};
-ghost use Rattle.rprec.specs.Greedy.{AreTopic, IsLeast};
+ghost use Rattle.measure_core.specs.Numbers.{exact_least, exact_cell};
+ghost use Rattle.rprec.specs.Greedy.{AreTopic, IsLeast, IsSmall};
+ghost use Rattle.rprec.specs.Shared.{AreShared};
 
-use crate::greedy::{Candidate, least};
+use crate::greedy::{Candidate, find_extremes};
+use crate::shared::Shared;
 use crate::values::{values, wanted_for};
 use desk_model::{Mark, MeasureName, Memory, Ranking};
 use fractions::{Span, span_of};
@@ -20,9 +21,6 @@ use std::sync::ledger::Ledger;
 
 /// How many units make a score of 1.
 const UNIT: i128 = 1_000_000_000_000_000_000;
-
-/// All documents that a run can have.
-const ALL: u32 = 10_000;
 
 /// The measure `Rprec`. Its unit is 10^18.
 #[derive(Debug, Drop)]
@@ -39,9 +37,7 @@ impl RPrecision {
 
 /// The ends of the difference of a candidate, in units.
 fn span(c: Candidate) -> Span
-    requires first { c.first ≤ 10000 }
-    requires second { c.second ≤ 10000 }
-    requires few { c.count ≤ 25000000 }
+    requires { IsSmall c }
     ensures { (marks : List M) (a b : List ℕ) → IsLeast marks a b c → result ≡ exact_least R marks a b }
 {
     span_of(
@@ -60,22 +56,18 @@ fn topic(marks: &[Mark]) -> Counts
     all_documents(marks)
 }
 
-/// The ends of the least difference, in units, of the first documents that two runs show.
-fn least_span(
-    a: &Ranking,
-    a_shown: u32,
-    b: &Ranking,
-    b_shown: u32,
-    all: Counts,
-    marks: &[Mark],
-) -> Span
+/// The ends of the least and the greatest difference, in units.
+fn cell_of(a: &[u32], b: &[u32], shared: &Shared, marks: &[Mark]) -> Cell
     requires met { AreMet marks.now a.now b.now }
-    requires topic { AreTopic marks.now all }
-    requires few { all.relevant + all.unjudged ≤ 25000000 }
-    ensures span { result ≡ exact_least R marks.now (take a_shown a.now) (take b_shown b.now) }
-    ensures short { IsShort result }
+    requires shared { AreShared a.now b.now shared.now.first shared.now.second }
+    ensures { result ≡ exact_cell R marks.now a.now b.now }
 {
-    span(least(a, a_shown, b, b_shown, all, marks))
+    let all = topic(marks);
+    let extremes = find_extremes(a, b, shared, all, marks);
+    Cell {
+        least: span(extremes.least),
+        most: span(extremes.most).negate(),
+    }
 }
 
 /// Whether each document is relevant in the least case of two runs.
@@ -89,7 +81,10 @@ fn least_values(
     ensures { IfOk result (λ values. AreValues (rprec_truth marks.now a.now b.now) (length marks.now) values.items) }
 {
     let all = topic(marks);
-    let count = least(a, ALL, b, ALL, all, marks).count;
+    let shared = Shared::between(a, b);
+    let count = find_extremes(a.docs(), b.docs(), &shared, all, marks)
+        .least
+        .count;
     values(
         alloc,
         wanted_for(count, a, b, all, marks),
@@ -127,18 +122,14 @@ impl Measure for RPrecision {
         steps: &mut Steps<L>,
     ) -> Cell {
         steps.tick();
-        let all = topic(marks);
-        Cell {
-            least: least_span(a, ALL, b, ALL, all, marks),
-            most: least_span(b, ALL, a, ALL, all, marks).negate(),
-        }
+        cell_of(a.docs(), b.docs(), &Shared::between(a, b), marks)
     }
 
     fn bounds(&self, a: &Ranking, marks: &[Mark]) -> Span {
-        let all = topic(marks);
+        let cell = cell_of(a.docs(), &[], &Shared::none(), marks);
         Span {
-            lo: least_span(a, ALL, a, 0, all, marks).lo,
-            hi: least_span(a, 0, a, ALL, all, marks).negate().hi,
+            lo: cell.least.lo,
+            hi: cell.most.hi,
         }
     }
 

@@ -3,4 +3,4 @@ use Rattle.rprec.specs.Greedy.{AreFronts}
 use Rattle.rprec.proofs.greedy.fronts_at.Given as goal
 
 abbrev pub invariant-loop-place : goal.invariant-loop-place
-invariant-loop-place l = AreFronts l.marks (take l.place (take l.a_shown l.a)) (take l.place (take l.b_shown l.b)) l.fronts
+invariant-loop-place l = AreFronts l.marks (take l.place l.a) (take l.place l.b) l.fronts

@@ -1,11 +1,9 @@
-use Rattle.std.proofs.Common.{◌≡◌, to_z, of_z, neg_ℤ, arith}
-use Rattle.std.specs.Int.{w128}
-use Rattle.std.proofs.lemmas.Int.{ints}
-use Rattle.rprec.proofs.Ends.{bounds_is}
+use Rattle.std.proofs.Common.{ℕ, List, length, sym, subst}
+use Rattle.desk_model.specs.Ranking.{IsRanking}
+use Rattle.rprec.proofs.Ends.{nothing_ranked}
 use Rattle.rprec.proofs.rprec.RPrecisionMeasure.bounds.Goals as goal
 
-pub returns : goal.returns
-returns c =
-    let lo : to_z w128 (of_z w128 c.least_span.result.lo) ≡ c.least_span.result.lo = omega (arith, ints) in
-    let hi : to_z w128 (of_z w128 c.negate.result.hi) ≡ neg_ℤ c.least_span-2.result.lo = omega (arith, ints) in
-    bounds_is c.args.marks.now c.args.a.now c.least_span.result c.least_span-2.result _ _ c.requires.ranking c.least_span.ensures.span c.least_span-2.ensures.span lo hi
+pub cell_of-cell-requires-clause-met : goal.cell_of-cell-requires-clause-met
+cell_of-cell-requires-clause-met c =
+    let n = length c.args.marks.now in
+    record { first = subst (λ (docs : List ℕ). IsRanking n docs) (sym c.docs.ensures.docs) c.requires.ranking; second = nothing_ranked n; small = c.requires.small }
