@@ -20,22 +20,15 @@ impl Counts {
         unjudged: 0,
     };
 
-    /// With one more document of this mark.
+    /// With one more document of this mark, without a branch: marks come in no order that a processor could foresee.
     pub fn with(self, mark: Mark) -> Counts
         requires { self.relevant + self.unjudged < 10000 }
         ensures relevant { result.relevant ≡ self.relevant + (if picked_value false mark then 1 else 0) }
         ensures either { result.relevant + result.unjudged ≡ self.relevant + self.unjudged + (if picked_value true mark then 1 else 0) }
     {
-        match mark {
-            Mark::Relevant => Counts {
-                relevant: self.relevant + 1,
-                unjudged: self.unjudged,
-            },
-            Mark::Unjudged => Counts {
-                relevant: self.relevant,
-                unjudged: self.unjudged + 1,
-            },
-            Mark::Other => self,
+        Counts {
+            relevant: self.relevant + u32::from(mark == Mark::Relevant),
+            unjudged: self.unjudged + u32::from(mark == Mark::Unjudged),
         }
     }
 
