@@ -1,21 +1,22 @@
 -- The walk over two runs by document finds what they share.
-use Rattle.std.proofs.Common.{◌≡◌, ◌≢◌, ℕ, zero, suc, ◌+◌, ◌-◌, ◌<◌, ◌≤◌, Bool, true, false, cond, not, ◌&&◌, nat_eq, nat_le, List, [], ◌∷◌, length, take, get_or, set, replicate, Option, Some, None, arith, refl, ap, ◌∙◌, sym, subst, inl, inr, ◌⊎◌}
+use Rattle.std.proofs.Common.{◌≡◌, ◌≢◌, ℕ, zero, suc, ◌+◌, ◌-◌, ◌<◌, ◌≤◌, Bool, true, false, cond, not, ◌&&◌, nat_eq, nat_le, List, [], ◌∷◌, length, take, drop, get_or, set, replicate, Option, Some, None, arith, refl, ap, ◌∙◌, sym, subst, inl, inr, ◌⊎◌}
 use Rattle.std.specs.Prelude.{if◌then◌else◌}
 use Rattle.std.specs.List.{AllByRecursion, IsDistinct, position_from}
+use Rattle.std.proofs.Math.Seq.{drop-cons}
 use Rattle.std.proofs.lemmas.Bool.Decides.{nat_tests}
 use Rattle.std.proofs.lemmas.List.{get_or-set_same, get_or-set_other, length-set}
-use Rattle.desk_model.specs.Placed.{lookup}
+use Rattle.desk_model.specs.Placed.{lookup, IsAscending}
 use Rattle.desk_model.specs.Ranking.{is_in, rank}
 use Rattle.desk_model.specs.declared.placed.Placed.{Placed}
 use Rattle.measure_laws.specs.Pairs.{after, Taken}
 use Rattle.measure_laws.specs.Ranks.{IsWithin}
-use Rattle.measure_laws.proofs.Merge.{absent_below, further}
+use Rattle.measure_laws.proofs.Merge.{absent_below, further, taken_head, taken_none}
 use Rattle.precision.proofs.Fronts.{is_by, rank_by}
 use Rattle.desk_model.specs.declared.types.Mark.{Mark}
 use Rattle.desk_model.proofs.Counts.{IsDistinct-take}
 use Rattle.rprec.specs.declared.fronts.Fronts.{Fronts}
 use Rattle.rprec.specs.Greedy.{AreFronts, AreBefore, exchanged}
-use Rattle.rprec.specs.Shared.{AreFlags, flagged}
+use Rattle.rprec.specs.Shared.{AreFlags, entered, flagged}
 use Rattle.rprec.proofs.Steps.{fronts_exchanged}
 
 -- ---- ranks and places
@@ -63,6 +64,12 @@ pub rank_at : (xs : List ℕ) (place : ℕ) → IsDistinct nat_eq xs → place <
 rank_at xs place h lt = placed_at 1 xs place h lt ∙ ap Some (omega arith)
 
 -- ---- the walk
+-- the flags with that of a document of these ranks, if it is in both lists
+abbrev raised : (ℕ → ℕ) → Option ℕ → Option ℕ → List Bool → List Bool
+raised depth (Some x) (Some y) flags = flagged depth x y flags
+raised depth (Some x) None flags = flags
+raised depth None y flags = flags
+
 pub all_down : (n place : ℕ) → get_or (replicate n false) place false ≡ false
 all_down zero place = refl
 all_down (suc n) zero = refl
@@ -110,7 +117,7 @@ unfolding AreRanksOf
 rank_within xs es doc None h f short = tt
 rank_within xs es doc (Some r) h f short = let here = rank_place xs doc r (f doc r (sym h.here)) in (here.0, omega (arith, here.1.0))
 
-flag_kept : (depth : ℕ → ℕ) (x y : Option ℕ) (flags : List Bool) (place : ℕ) → ((r : ℕ) → x ≡ Some r → place ≢ r - 1) → get_or (flagged depth x y flags) place false ≡ get_or flags place false
+flag_kept : (depth : ℕ → ℕ) (x y : Option ℕ) (flags : List Bool) (place : ℕ) → ((r : ℕ) → x ≡ Some r → place ≢ r - 1) → get_or (raised depth x y flags) place false ≡ get_or flags place false
 flag_kept depth None y flags place f = refl
 flag_kept depth (Some x) None flags place f = refl
 flag_kept depth (Some x) (Some y) flags place f = at (nat_le y (depth (x - 1)))
@@ -128,7 +135,7 @@ and_true true = refl
 and_true false = refl
 
 flag_here : (ys : List ℕ) (depth : ℕ → ℕ) (doc place : ℕ) (x y : Option ℕ) (flags : List Bool) → place < length flags → ((r : ℕ) → x ≡ Some r → r ≡ place + 1) → ((r : ℕ) → y ≡ Some r → rank ys doc ≡ Some r) →
-    get_or flags place false ≡ (is_in (take (depth place) ys) doc && not (both x y)) → get_or (flagged depth x y flags) place false ≡ (is_in (take (depth place) ys) doc && true)
+    get_or flags place false ≡ (is_in (take (depth place) ys) doc && not (both x y)) → get_or (raised depth x y flags) place false ≡ (is_in (take (depth place) ys) doc && true)
 flag_here ys depth doc place None y flags lt fx fy e = e
 flag_here ys depth doc place (Some x) None flags lt fx fy e = e
 flag_here ys depth doc place (Some x) (Some y) flags lt fx fy e =
@@ -140,10 +147,10 @@ flag_here ys depth doc place (Some x) (Some y) flags lt fx fy e =
     at true eb here = ap (λ (k : ℕ). get_or (set flags k true) place false) here ∙ get_or-set_same flags place true false lt ∙ sym (ap (λ b. b && true) eb)
     at false eb here = e ∙ and_false (is_in (take (depth place) ys) doc) ∙ sym (ap (λ b. b && true) eb)
 
-flagged_length : (depth : ℕ → ℕ) (x y : Option ℕ) (flags : List Bool) → length (flagged depth x y flags) ≡ length flags
-flagged_length depth None y flags = refl
-flagged_length depth (Some x) None flags = refl
-flagged_length depth (Some x) (Some y) flags = at (nat_le y (depth (x - 1)))
+raised_length : (depth : ℕ → ℕ) (x y : Option ℕ) (flags : List Bool) → length (raised depth x y flags) ≡ length flags
+raised_length depth None y flags = refl
+raised_length depth (Some x) None flags = refl
+raised_length depth (Some x) (Some y) flags = at (nat_le y (depth (x - 1)))
   where
     at : (b : Bool) → length (if b then set flags (x - 1) true else flags) ≡ length flags
     at true = length-set flags (x - 1) true
@@ -151,18 +158,18 @@ flagged_length depth (Some x) (Some y) flags = at (nat_le y (depth (x - 1)))
 
 -- one document more
 pub walked_more : (xs ys : List ℕ) (depth : ℕ → ℕ) (es fs : List Placed) (flags : List Bool) (doc : ℕ) (x y : Option ℕ) → IsDistinct nat_eq xs → Taken es doc x → Taken fs doc y → AreRanksOf xs es → AreRanksOf ys fs →
-    AreWalked xs ys depth es fs flags → AreWalked xs ys depth (after es doc) (after fs doc) (flagged depth x y flags)
+    AreWalked xs ys depth es fs flags → AreWalked xs ys depth (after es doc) (after fs doc) (raised depth x y flags)
 unfolding AreRanksOf
-walked_more xs ys depth es fs flags doc x y distinct hx hy rx ry w = record { long = omega (arith, flagged_length depth x y flags, w.long); each = more }
+walked_more xs ys depth es fs flags doc x y distinct hx hy rx ry w = record { long = omega (arith, raised_length depth x y flags, w.long); each = more }
   where
-    kept : (place : ℕ) → place < length xs → get_or xs place 0 ≢ doc → get_or (flagged depth x y flags) place false ≡ (is_in (take (depth place) ys) (get_or xs place 0) && not (both (lookup (after es doc) (get_or xs place 0)) (lookup (after fs doc) (get_or xs place 0))))
+    kept : (place : ℕ) → place < length xs → get_or xs place 0 ≢ doc → get_or (raised depth x y flags) place false ≡ (is_in (take (depth place) ys) (get_or xs place 0) && not (both (lookup (after es doc) (get_or xs place 0)) (lookup (after fs doc) (get_or xs place 0))))
     kept place lt ne =
         let d = get_or xs place 0 in
         let test = is_in (take (depth place) ys) d in
         let apart : (r : ℕ) → x ≡ Some r → place ≢ r - 1 = λ r e same. ne (ap (λ (k : ℕ). get_or xs k 0) same ∙ (rank_place xs doc r (rx doc r (sym hx.here ∙ e))).1.1) in
         flag_kept depth x y flags place apart ∙ w.each place lt ∙ ap (λ o. test && not (both o (lookup fs d))) (sym (after_other es doc d x hx ne)) ∙ ap (λ o. test && not (both (lookup (after es doc) d) o)) (sym (after_other fs doc d y hy ne))
 
-    here : (place : ℕ) → place < length xs → get_or xs place 0 ≡ doc → get_or (flagged depth x y flags) place false ≡ (is_in (take (depth place) ys) (get_or xs place 0) && not (both (lookup (after es doc) (get_or xs place 0)) (lookup (after fs doc) (get_or xs place 0))))
+    here : (place : ℕ) → place < length xs → get_or xs place 0 ≡ doc → get_or (raised depth x y flags) place false ≡ (is_in (take (depth place) ys) (get_or xs place 0) && not (both (lookup (after es doc) (get_or xs place 0)) (lookup (after fs doc) (get_or xs place 0))))
     here place lt same =
         let d = get_or xs place 0 in
         let test = is_in (take (depth place) ys) d in
@@ -175,7 +182,7 @@ walked_more xs ys depth es fs flags doc x y distinct hx hy rx ry w = record { lo
         flag_here ys depth d place x y flags (omega (arith, w.long)) place_of (λ r e. ry d r (second ∙ e)) before
         ∙ sym (ap (λ o. test && not (both o (lookup (after fs doc) d))) (ap (lookup (after es doc)) same ∙ after_same es doc x hx))
 
-    more : (place : ℕ) → place < length xs → get_or (flagged depth x y flags) place false ≡ (is_in (take (depth place) ys) (get_or xs place 0) && not (both (lookup (after es doc) (get_or xs place 0)) (lookup (after fs doc) (get_or xs place 0))))
+    more : (place : ℕ) → place < length xs → get_or (raised depth x y flags) place false ≡ (is_in (take (depth place) ys) (get_or xs place 0) && not (both (lookup (after es doc) (get_or xs place 0)) (lookup (after fs doc) (get_or xs place 0))))
     more place lt = elim (split (get_or xs place 0) doc) [ inl same ↦ here place lt same | inr other ↦ kept place lt other ]
 
 -- before the first document
@@ -198,14 +205,134 @@ pub ranks_start : (xs : List ℕ) (es : List Placed) → ((doc : ℕ) → lookup
 unfolding AreRanksOf
 ranks_start xs es f doc r e = sym (f doc) ∙ e
 
--- after the last one
-pub walked_end : (xs ys : List ℕ) (depth : ℕ → ℕ) (es fs : List Placed) (flags : List Bool) → es ≡ [] → AreWalked xs ys depth es fs flags → AreFlags xs ys depth flags
+-- after the last one of either list
+pub walked_end : (xs ys : List ℕ) (depth : ℕ → ℕ) (es fs : List Placed) (flags : List Bool) → (es ≡ []) ⊎ (fs ≡ []) → AreWalked xs ys depth es fs flags → AreFlags xs ys depth flags
 walked_end xs ys depth es fs flags e w = record {
   each = λ place lt.
       let d = get_or xs place 0 in
       let test = is_in (take (depth place) ys) d in
-      w.each place lt ∙ ap (λ o. test && not (both o (lookup fs d))) (ap (λ (gs : List Placed). lookup gs d) e) ∙ and_true test;
+      w.each place lt ∙ ap (λ b. test && not b) (none d e) ∙ and_true test;
 }
+  where
+    both_none : (o : Option ℕ) → both o None ≡ false
+    both_none None = refl
+    both_none (Some x) = refl
+
+    none : (d : ℕ) → (es ≡ []) ⊎ (fs ≡ []) → both (lookup es d) (lookup fs d) ≡ false
+    none d (inl h) = ap (λ (gs : List Placed). both (lookup gs d) (lookup fs d)) h
+    none d (inr h) = ap (λ (gs : List Placed). both (lookup es d) (lookup gs d)) h ∙ both_none (lookup es d)
+
+-- ---- the walk over both lists
+pub record IsWalk (xs ys : List ℕ) (es fs : List Placed) (in_second in_first : List Bool) : Type 0 where
+  pub first_ascends : IsAscending es
+  pub second_ascends : IsAscending fs
+  pub first_ranks : AreRanksOf xs es
+  pub second_ranks : AreRanksOf ys fs
+  pub first : AreWalked xs ys (λ place. place) es fs in_second
+  pub second : AreWalked ys xs (λ place. place + 1) fs es in_first
+
+walk_by : (xs ys : List ℕ) (es fs : List Placed) (f s : List Bool) (doc : ℕ) (x y : Option ℕ) → IsDistinct nat_eq xs → IsDistinct nat_eq ys → Taken es doc x → Taken fs doc y → IsWalk xs ys es fs f s →
+    IsWalk xs ys (after es doc) (after fs doc) (raised (λ place. place) x y f) (raised (λ place. place + 1) y x s)
+walk_by xs ys es fs f s doc x y dx dy hx hy w = record {
+  first_ascends = hx.ascending;
+  second_ascends = hy.ascending;
+  first_ranks = ranks_after xs es doc x hx w.first_ranks;
+  second_ranks = ranks_after ys fs doc y hy w.second_ranks;
+  first = walked_more xs ys (λ place. place) es fs f doc x y dx hx hy w.first_ranks w.second_ranks w.first;
+  second = walked_more ys xs (λ place. place + 1) fs es s doc y x dy hy hx w.second_ranks w.first_ranks w.second;
+}
+
+after_head : (x : Placed) (es : List Placed) → after (x ∷ es) x.doc ≡ es
+after_head x es = ap (λ b. if b then es else x ∷ es) (self x.doc)
+  where
+    self : (m : ℕ) → nat_eq m m ≡ true
+    self m = grind (arith, nat_tests)
+
+after_none : (doc : ℕ) (x : Placed) (es : List Placed) → doc < x.doc → after (x ∷ es) doc ≡ x ∷ es
+after_none doc x es h = ap (λ b. if b then es else x ∷ es) (apart x.doc doc h)
+  where
+    apart : (m n : ℕ) → n < m → nat_eq m n ≡ false
+    apart m n h = grind (arith, nat_tests)
+
+all_later : (doc : ℕ) (x : Placed) (es : List Placed) → doc < x.doc → IsAscending (x ∷ es) → AllByRecursion (λ (e : Placed). doc < e.doc) (x ∷ es)
+all_later doc x es lt h = (lt, further doc x.doc es (omega arith) h.0)
+
+-- the lists after the first places of both
+abbrev pub left : Placed → Placed → List Placed → List Placed
+left x y es = if nat_le x.doc y.doc then es else x ∷ es
+
+left_by : (b : Bool) (x y : Placed) (es : List Placed) → nat_le x.doc y.doc ≡ b → left x y es ≡ (if b then es else x ∷ es)
+left_by b x y es e = ap (λ c. if c then es else x ∷ es) e
+
+entered_by : (b : Bool) (depth : ℕ → ℕ) (x y : Placed) (flags : List Bool) → nat_eq x.doc y.doc ≡ b → entered depth x y flags ≡ (if b then flagged depth x.rank y.rank flags else flags)
+entered_by b depth x y flags e = ap (λ c. if c then flagged depth x.rank y.rank flags else flags) e
+
+tests : (m n : ℕ) → (m < n → (nat_le m n ≡ true) × ((nat_le n m ≡ false) × ((nat_eq m n ≡ false) × (nat_eq n m ≡ false))))
+tests m n h = (grind (arith, nat_tests), (grind (arith, nat_tests), (grind (arith, nat_tests), grind (arith, nat_tests))))
+
+same_tests : (m n : ℕ) → m ≡ n → (nat_le m n ≡ true) × ((nat_le n m ≡ true) × ((nat_eq m n ≡ true) × (nat_eq n m ≡ true)))
+same_tests m n h = (grind (arith, nat_tests), (grind (arith, nat_tests), (grind (arith, nat_tests), grind (arith, nat_tests))))
+
+abbrev After : List ℕ → List ℕ → Placed → Placed → List Placed → List Placed → List Bool → List Bool → Type 0
+After xs ys x y es fs f s = IsWalk xs ys (left x y es) (left y x fs) (entered (λ place. place) x y f) (entered (λ place. place + 1) y x s)
+
+same_walk : (xs ys : List ℕ) (es es' fs fs' : List Placed) (f f' s s' : List Bool) → es ≡ es' → fs ≡ fs' → f ≡ f' → s ≡ s' → IsWalk xs ys es fs f s → IsWalk xs ys es' fs' f' s'
+same_walk xs ys es es' fs fs' f f' s s' e g h k w =
+    subst (λ (x : List Placed). IsWalk xs ys x fs' f' s') e (subst (λ (x : List Placed). IsWalk xs ys es x f' s') g (subst (λ (x : List Bool). IsWalk xs ys es fs x s') h (subst (λ (x : List Bool). IsWalk xs ys es fs f x) k w)))
+
+-- one step of it
+pub walk_next : (xs ys : List ℕ) (x y : Placed) (es fs : List Placed) (f s : List Bool) → IsDistinct nat_eq xs → IsDistinct nat_eq ys → IsWalk xs ys (x ∷ es) (y ∷ fs) f s → After xs ys x y es fs f s
+walk_next xs ys x y es fs f s dx dy w = elim (split x.doc y.doc) [
+  | inl same ↦
+      let t = same_tests x.doc y.doc same in
+      let second : Taken (y ∷ fs) x.doc (Some y.rank) = subst (λ (d : ℕ). Taken (y ∷ fs) d (Some y.rank)) (sym same) (taken_head y fs w.second_ascends) in
+      let here = walk_by xs ys (x ∷ es) (y ∷ fs) f s x.doc (Some x.rank) (Some y.rank) dx dy (taken_head x es w.first_ascends) second w in
+      let gone : after (y ∷ fs) x.doc ≡ fs = ap (after (y ∷ fs)) same ∙ after_head y fs in
+      same_walk xs ys _ (left x y es) _ (left y x fs) _ (entered (λ place. place) x y f) _ (entered (λ place. place + 1) y x s) (after_head x es ∙ sym (left_by true x y es t.0)) (gone ∙ sym (left_by true y x fs t.1.0)) (sym (entered_by true (λ place. place) x y f t.1.1.0)) (sym (entered_by true (λ place. place + 1) y x s t.1.1.1)) here
+  | inr other ↦ apart (split_less x.doc y.doc other)
+]
+  where
+    apart : (x.doc < y.doc) ⊎ (y.doc < x.doc) → After xs ys x y es fs f s
+    apart (inl less) =
+        let t = tests x.doc y.doc less in
+        let here = walk_by xs ys (x ∷ es) (y ∷ fs) f s x.doc (Some x.rank) None dx dy (taken_head x es w.first_ascends) (taken_none (y ∷ fs) x.doc (all_later x.doc y fs less w.second_ascends) w.second_ascends) w in
+        same_walk xs ys _ (left x y es) _ (left y x fs) _ (entered (λ place. place) x y f) _ (entered (λ place. place + 1) y x s) (after_head x es ∙ sym (left_by true x y es t.0)) (after_none x.doc y fs less ∙ sym (left_by false y x fs t.1.0)) (sym (entered_by false (λ place. place) x y f t.1.1.0)) (sym (entered_by false (λ place. place + 1) y x s t.1.1.1)) here
+    apart (inr more) =
+        let t = tests y.doc x.doc more in
+        let here = walk_by xs ys (x ∷ es) (y ∷ fs) f s y.doc None (Some y.rank) dx dy (taken_none (x ∷ es) y.doc (all_later y.doc x es more w.first_ascends) w.first_ascends) (taken_head y fs w.second_ascends) w in
+        same_walk xs ys _ (left x y es) _ (left y x fs) _ (entered (λ place. place) x y f) _ (entered (λ place. place + 1) y x s) (after_none y.doc x es more ∙ sym (left_by false x y es t.1.0)) (after_head y fs ∙ sym (left_by true y x fs t.0)) (sym (entered_by false (λ place. place) x y f t.1.1.1)) (sym (entered_by false (λ place. place + 1) y x s t.1.1.0)) here
+
+-- the ranks of its first places
+pub head_rank : (xs : List ℕ) (x : Placed) (es : List Placed) → IsAscending (x ∷ es) → AreRanksOf xs (x ∷ es) → length xs ≤ 10000 → (1 ≤ x.rank) × (x.rank ≤ 10000)
+head_rank xs x es h f short = rank_within xs (x ∷ es) x.doc (Some x.rank) (taken_head x es h) f short
+
+opened : (es : List Placed) (i : ℕ) (d : Placed) → i < length es → drop i es ≡ get_or es i d ∷ drop (i + 1) es
+opened es i d h = let next : suc i ≡ i + 1 = omega arith in drop-cons es i d h ∙ ap (λ (k : ℕ). get_or es i d ∷ drop k es) next
+
+left_drop : (es : List Placed) (i p : ℕ) (d y : Placed) → i < length es → p ≡ (if nat_le (get_or es i d).doc y.doc then 1 else 0) → drop (i + p) es ≡ left (get_or es i d) y (drop (i + 1) es)
+left_drop es i p d y h e = at (nat_le (get_or es i d).doc y.doc) e
+  where
+    at : (b : Bool) → p ≡ (if b then 1 else 0) → drop (i + p) es ≡ (if b then drop (i + 1) es else get_or es i d ∷ drop (i + 1) es)
+    at true h' = ap (λ (k : ℕ). drop (i + k) es) h'
+    at false h' = let here : i + p ≡ i = omega (arith, h') in ap (λ (k : ℕ). drop k es) here ∙ opened es i d h
+
+-- one step of the places
+pub walk_step : (xs ys : List ℕ) (es fs : List Placed) (i j p q : ℕ) (d : Placed) (f s : List Bool) → IsDistinct nat_eq xs → IsDistinct nat_eq ys → i < length es → j < length fs →
+    p ≡ (if nat_le (get_or es i d).doc (get_or fs j d).doc then 1 else 0) → q ≡ (if nat_le (get_or fs j d).doc (get_or es i d).doc then 1 else 0) → IsWalk xs ys (drop i es) (drop j fs) f s →
+    IsWalk xs ys (drop (i + p) es) (drop (j + q) fs) (entered (λ place. place) (get_or es i d) (get_or fs j d) f) (entered (λ place. place + 1) (get_or fs j d) (get_or es i d) s)
+walk_step xs ys es fs i j p q d f s dx dy hi hj ep eq w =
+    let x = get_or es i d in
+    let y = get_or fs j d in
+    let here = same_walk xs ys (drop i es) (x ∷ drop (i + 1) es) (drop j fs) (y ∷ drop (j + 1) fs) f f s s (opened es i d hi) (opened fs j d hj) refl refl w in
+    same_walk xs ys _ (drop (i + p) es) _ (drop (j + q) fs) _ (entered (λ place. place) x y f) _ (entered (λ place. place + 1) y x s) (sym (left_drop es i p d y hi ep)) (sym (left_drop fs j q d x hj eq)) refl refl (walk_next xs ys x y (drop (i + 1) es) (drop (j + 1) fs) f s dx dy here)
+
+pub rank_first : (xs ys : List ℕ) (es fs : List Placed) (i : ℕ) (d : Placed) (f s : List Bool) → i < length es → IsWalk xs ys (drop i es) fs f s → length xs ≤ 10000 → (1 ≤ (get_or es i d).rank) × ((get_or es i d).rank ≤ 10000)
+rank_first xs ys es fs i d f s h w short =
+    head_rank xs (get_or es i d) (drop (i + 1) es) (subst IsAscending (opened es i d h) w.first_ascends) (subst (AreRanksOf xs) (opened es i d h) w.first_ranks) short
+
+pub rank_second : (xs ys : List ℕ) (es fs : List Placed) (j : ℕ) (d : Placed) (f s : List Bool) → j < length fs → IsWalk xs ys es (drop j fs) f s → length ys ≤ 10000 → (1 ≤ (get_or fs j d).rank) × ((get_or fs j d).rank ≤ 10000)
+rank_second xs ys es fs j d f s h w short =
+    head_rank ys (get_or fs j d) (drop (j + 1) fs) (subst IsAscending (opened fs j d h) w.second_ascends) (subst (AreRanksOf ys) (opened fs j d h) w.second_ranks) short
 
 -- ---- what the flags say of the next documents
 pub next_first : (marks : List Mark) (xs ys : List ℕ) (place : ℕ) (flags : List Bool) (f : Fronts) → AreFronts marks (take place xs) (take place ys) f → AreFlags xs ys (λ p. p) flags → IsDistinct nat_eq ys → AreBefore marks xs (take place ys) place (get_or flags place false) f

@@ -22,6 +22,10 @@ pub record AreFronts (marks : List Mark) (xs ys : List ℕ) (fronts : Fronts) : 
   pub first : AreCountsOf (only_count false marks xs ys) (only_count true marks xs ys) fronts.first
   pub second : AreCountsOf (only_count false marks ys xs) (only_count true marks ys xs) fronts.second
 
+-- some counts, or none
+abbrev pub counts_if : Bool → Counts → Counts
+counts_if taken counts = if taken then counts else record { relevant = 0; unjudged = 0 }
+
 -- the counts of two lists that are to be told of the next document of a third, whose first ones the first list is, and whether the second list has it
 pub record AreBefore (marks : List Mark) (docs ys : List ℕ) (place : ℕ) (is_shared : Bool) (fronts : Fronts) : Type 0 where
   pub counts : AreFronts marks (take place docs) ys fronts

@@ -1,5 +1,6 @@
 -- Which documents of one list another list has among its first ones.
-use Rattle.std.specs.Prelude.{◌≡◌, ℕ, ◌+◌, ◌-◌, ◌<◌, Bool, true, false, nat_le, if◌then◌else◌, List, length, take, slice_index, slice_index_or, slice_set, Option, Some, None}
+use Rattle.std.specs.Prelude.{◌≡◌, ℕ, ◌+◌, ◌-◌, ◌<◌, Bool, true, false, nat_eq, nat_le, if◌then◌else◌, List, length, take, slice_index, slice_index_or, slice_set}
+use Rattle.desk_model.specs.declared.placed.Placed.{Placed}
 use Rattle.desk_model.specs.Ranking.{is_in}
 
 -- for each place of a list, whether another has the document among so many first ones
@@ -11,8 +12,10 @@ pub record AreShared (xs ys : List ℕ) (in_second in_first : List Bool) : Type 
   pub first : AreFlags xs ys (λ place. place) in_second
   pub second : AreFlags ys xs (λ place. place + 1) in_first
 
--- the flags with those of a document of these ranks
-abbrev pub flagged : (ℕ → ℕ) → Option ℕ → Option ℕ → List Bool → List Bool
-flagged depth (Some x) (Some y) flags = if nat_le y (depth (x - 1)) then slice_set flags (x - 1) true else flags
-flagged depth (Some x) None flags = flags
-flagged depth None y flags = flags
+-- the flags with that of a document of these ranks in both lists
+abbrev pub flagged : (ℕ → ℕ) → ℕ → ℕ → List Bool → List Bool
+flagged depth x y flags = if nat_le y (depth (x - 1)) then slice_set flags (x - 1) true else flags
+
+-- the flags after two places, where they are of one document
+abbrev pub entered : (ℕ → ℕ) → Placed → Placed → List Bool → List Bool
+entered depth x y flags = if nat_eq x.doc y.doc then flagged depth x.rank y.rank flags else flags

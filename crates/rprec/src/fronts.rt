@@ -1,6 +1,6 @@
 ghost use Rattle.std.specs.Prelude.{◌≡◌, ℕ, ◌+◌, ◌≤◌, ◌<◌, List, length, take, true, false};
 ghost use Rattle.desk_model.specs.Ranking.{IsRanking};
-ghost use Rattle.rprec.specs.Greedy.{AreFronts, AreBefore, exchanged, one_of};
+ghost use Rattle.rprec.specs.Greedy.{AreFronts, AreBefore, counts_if, exchanged, one_of};
 ghost use Rattle.rprec.specs.Shared.{AreShared};
 
 use crate::shared::Shared;
@@ -26,27 +26,26 @@ impl Fronts {
     }
 }
 
-/// Counts with one document less of this mark.
-fn without(counts: Counts, mark: Mark) -> Counts
-    requires relevant { one_of false mark ≤ counts.relevant }
-    requires unjudged { one_of true mark ≤ one_of false mark + counts.unjudged }
-    ensures relevant { result.relevant + one_of false mark ≡ counts.relevant }
-    ensures either { result.relevant + result.unjudged + one_of true mark ≡ counts.relevant + counts.unjudged }
+/// The counts of one document of this mark.
+fn counts_of(mark: Mark) -> Counts
+    ensures relevant { result.relevant ≡ one_of false mark }
+    ensures either { result.relevant + result.unjudged ≡ one_of true mark }
 {
-    match mark {
-        Mark::Relevant => Counts {
-            relevant: counts.relevant - 1,
-            unjudged: counts.unjudged,
-        },
-        Mark::Unjudged => Counts {
-            relevant: counts.relevant,
-            unjudged: counts.unjudged - 1,
-        },
-        Mark::Other => counts,
+    Counts {
+        relevant: u32::from(mark == Mark::Relevant),
+        unjudged: u32::from(mark == Mark::Unjudged),
     }
 }
 
-/// With the next document of one list, where it is known whether another list has it.
+/// These counts, or none.
+fn counts_if(taken: bool, counts: Counts) -> Counts
+    ensures { result ≡ counts_if taken counts }
+{
+    if taken { counts } else { Counts::NONE }
+}
+
+/// With the next document of one list, where it is known whether another list has it. Whether it has
+/// decides no jump here, as no processor could foresee it.
 fn with_next(fronts: Fronts, docs: &[u32], place: u32, is_shared: bool, marks: &[Mark]) -> Fronts
     requires docs { IsRanking (length marks.now) docs.now }
     requires fronts { (ys : List ℕ) × AreBefore marks.now docs.now ys place is_shared fronts }
@@ -55,17 +54,18 @@ fn with_next(fronts: Fronts, docs: &[u32], place: u32, is_shared: bool, marks: &
     if place as usize >= docs.len() {
         return fronts;
     }
-    let mark = marks[docs[place as usize] as usize];
-    if is_shared {
-        Fronts {
-            first: fronts.first,
-            second: without(fronts.second, mark),
-        }
-    } else {
-        Fronts {
-            first: fronts.first.with(mark),
-            second: fronts.second,
-        }
+    let one = counts_of(marks[docs[place as usize] as usize]);
+    let own = counts_if(!is_shared, one);
+    let gone = counts_if(is_shared, one);
+    Fronts {
+        first: Counts {
+            relevant: fronts.first.relevant + own.relevant,
+            unjudged: fronts.first.unjudged + own.unjudged,
+        },
+        second: Counts {
+            relevant: fronts.second.relevant - gone.relevant,
+            unjudged: fronts.second.unjudged - gone.unjudged,
+        },
     }
 }
 

@@ -1,10 +1,8 @@
-ghost use Rattle.std.specs.Prelude.{◌≡◌, ℕ, ◌+◌, ◌≤◌, length, false, nat_eq, slice_index_or};
+ghost use Rattle.std.specs.Prelude.{◌≡◌, ℕ, ◌+◌, ◌≤◌, length, false, nat_eq, nat_le, slice_index_or, if◌then◌else◌};
 ghost use Rattle.std.specs.List.{IsDistinct};
-ghost use Rattle.measure_laws.specs.Ranks.{IsWithin};
-ghost use Rattle.rprec.specs.Shared.{AreShared, flagged};
+ghost use Rattle.rprec.specs.Shared.{AreShared, entered};
 
-use desk_model::Ranking;
-use measure_laws::{after, next_pair};
+use desk_model::{Placed, Ranking};
 
 /// For each place of two runs, whether the other run has the document before: the second run at an
 /// earlier place than the first, the first run at no later place than the second.
@@ -28,20 +26,22 @@ impl Shared {
         }
     }
 
-    /// With a document of these ranks.
-    fn enter(&mut self, first: Option<u32>, second: Option<u32>)
-        requires first { IsWithin 10000 first }
-        requires second { IsWithin 10000 second }
-        ensures first { self.new.first ≡ flagged (λ place. place) first second self.old.first }
-        ensures second { self.new.second ≡ flagged (λ place. place + 1) second first self.old.second }
+    /// With the document of two places, if it is one document. Whether it is decides no jump here, as
+    /// no processor could foresee it.
+    fn enter(&mut self, x: Placed, y: Placed)
+        requires first_low { 1 ≤ x.rank }
+        requires first_high { x.rank ≤ 10000 }
+        requires second_low { 1 ≤ y.rank }
+        requires second_high { y.rank ≤ 10000 }
+        ensures first { self.new.first ≡ entered (λ place. place) x y self.old.first }
+        ensures second { self.new.second ≡ entered (λ place. place + 1) y x self.old.second }
     {
-        if let (Some(x), Some(y)) = (first, second) {
-            if y < x {
-                self.first[x as usize - 1] = true;
-            } else {
-                self.second[y as usize - 1] = true;
-            }
-        }
+        let same = x.doc == y.doc;
+        let before = y.rank < x.rank;
+        let first = x.rank as usize - 1;
+        let second = y.rank as usize - 1;
+        self.first[first] = self.first[first] | (same & before);
+        self.second[second] = self.second[second] | (same & !before);
     }
 
     /// That of two runs, by one walk over the documents of both.
@@ -53,13 +53,24 @@ impl Shared {
         ensures { AreShared a.now b.now result.first result.second }
     {
         let mut shared = Shared::none();
-        let mut first = a.by_doc();
-        let mut second = b.by_doc();
-        while let Some(pair) = next_pair(first, second) {
-            shared.enter(pair.first, pair.second);
-            first = after(first, pair.doc);
-            second = after(second, pair.doc);
+        let first = a.by_doc();
+        let second = b.by_doc();
+        let mut i = 0;
+        let mut j = 0;
+        while i < first.len() && j < second.len() {
+            let x = first[i];
+            let y = second[j];
+            shared.enter(x, y);
+            i += passed(x, y);
+            j += passed(y, x);
         }
         shared
     }
+}
+
+/// How many places the walk goes on from the first of two: none where its document comes later.
+fn passed(x: Placed, y: Placed) -> usize
+    ensures { result ≡ (if nat_le x.doc y.doc then 1 else 0) }
+{
+    usize::from(x.doc <= y.doc)
 }
