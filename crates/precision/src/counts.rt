@@ -1,4 +1,4 @@
-ghost use Rattle.std.specs.Prelude.{◌≡◌, ◌+◌, ◌≤◌, ◌<◌, length, take, All, pos, true, false, if◌then◌else◌};
+ghost use Rattle.std.specs.Prelude.{◌≡◌, ◌+◌, ◌≤◌, ◌<◌, length, take, All, pos, true, false, ◌&&◌, if◌then◌else◌};
 ghost use Rattle.desk_model.specs.Completion.{picked_value};
 ghost use Rattle.desk_model.specs.Ranking.{IsRanking, is_in};
 ghost use Rattle.desk_model.specs.Classes.{only_count, front_count};
@@ -20,15 +20,24 @@ impl Counts {
         unjudged: 0,
     };
 
-    /// With one more document of this mark, without a branch: marks come in no order that a processor could foresee.
+    /// With one more document of this mark.
     pub fn with(self, mark: Mark) -> Counts
         requires { self.relevant + self.unjudged < 10000 }
         ensures relevant { result.relevant ≡ self.relevant + (if picked_value false mark then 1 else 0) }
         ensures either { result.relevant + result.unjudged ≡ self.relevant + self.unjudged + (if picked_value true mark then 1 else 0) }
     {
+        self.with_if(true, mark)
+    }
+
+    /// With one more document of this mark if it is to be counted, without a branch.
+    pub fn with_if(self, counted: bool, mark: Mark) -> Counts
+        requires { self.relevant + self.unjudged ≤ 10000 }
+        ensures relevant { result.relevant ≡ self.relevant + (if picked_value false mark && counted then 1 else 0) }
+        ensures either { result.relevant + result.unjudged ≡ self.relevant + self.unjudged + (if picked_value true mark && counted then 1 else 0) }
+    {
         Counts {
-            relevant: self.relevant + u32::from(mark == Mark::Relevant),
-            unjudged: self.unjudged + u32::from(mark == Mark::Unjudged),
+            relevant: self.relevant + u32::from(counted & (mark == Mark::Relevant)),
+            unjudged: self.unjudged + u32::from(counted & (mark == Mark::Unjudged)),
         }
     }
 

@@ -1,5 +1,4 @@
 ghost use Rattle.std.specs.Prelude.{◌≡◌, ◌+◌, ◌≤◌, length, take, true, false, ◌&&◌, nat_eq, nat_le, if◌then◌else◌};
-ghost use Rattle.desk_model.specs.Completion.{picked_value};
 ghost use Rattle.desk_model.specs.Ranking.{IsRanking};
 ghost use Rattle.precision.specs.Own.{shared_count};
 
@@ -20,18 +19,6 @@ fn passed(x: Placed, y: Placed) -> usize
     usize::from(x.doc <= y.doc)
 }
 
-/// Counts with one more document of this mark if it is to be counted, without a branch.
-fn with_if(counts: Counts, counted: bool, mark: Mark) -> Counts
-    requires { counts.relevant + counts.unjudged ≤ 10000 }
-    ensures relevant { result.relevant ≡ counts.relevant + (if picked_value false mark && counted then 1 else 0) }
-    ensures either { result.relevant + result.unjudged ≡ counts.relevant + counts.unjudged + (if picked_value true mark && counted then 1 else 0) }
-{
-    Counts {
-        relevant: counts.relevant + u32::from(counted & (mark == Mark::Relevant)),
-        unjudged: counts.unjudged + u32::from(counted & (mark == Mark::Unjudged)),
-    }
-}
-
 /// The counts of the documents that are among the first k of two rankings, by one walk over both in
 /// order of the documents.
 pub fn shared_documents(k: u32, a: &Ranking, b: &Ranking, marks: &[Mark]) -> Counts
@@ -48,7 +35,7 @@ pub fn shared_documents(k: u32, a: &Ranking, b: &Ranking, marks: &[Mark]) -> Cou
     while i < first.len() && j < second.len() {
         let x = first[i];
         let y = second[j];
-        counts = with_if(counts, is_shared(k, x, y), marks[x.doc as usize]);
+        counts = counts.with_if(is_shared(k, x, y), marks[x.doc as usize]);
         i += passed(x, y);
         j += passed(y, x);
     }
