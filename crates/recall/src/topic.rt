@@ -5,8 +5,8 @@ ghost use Rattle.desk_model.specs.Score.{true_count};
 use desk_model::Mark;
 use precision::counts::Counts;
 
-/// How many marks are counted at a time: as many as a byte can count.
-const BLOCK: usize = 255;
+/// How many marks are counted at a time: as many whole vectors of 32 as a byte can count.
+const BLOCK: usize = 224;
 
 /// The counts of the documents with these marks, counted in bytes, which the compiler makes vector
 /// code of.
