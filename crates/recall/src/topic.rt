@@ -5,13 +5,13 @@ ghost use Rattle.desk_model.specs.Score.{true_count};
 use desk_model::Mark;
 use precision::counts::Counts;
 
-/// How many marks are counted at a time: a byte can count them, and they fill whole vectors.
-const BLOCK: usize = 192;
+/// How many marks are counted at a time: as many whole vectors of 32 as a byte can count.
+const BLOCK: usize = 224;
 
 /// The counts of the documents with these marks, counted in bytes, which the compiler makes vector
 /// code of.
 fn block_documents(marks: &[Mark]) -> Counts
-    requires { length marks.now ≤ 192 }
+    requires { length marks.now ≤ 255 }
     ensures relevant { result.relevant ≡ count_by (picked_value false) marks.now }
     ensures either { result.relevant + result.unjudged ≡ count_by (picked_value true) marks.now }
 {

@@ -5,7 +5,7 @@ use Rattle.recall.proofs.topic.all_documents.Given as goal
 
 abbrev pub invariant-loop-block : goal.invariant-loop-block
 invariant-loop-block l = record {
-  size : chunks_size l.block-iterator ≡ 192;
+  size : chunks_size l.block-iterator ≡ 224;
   least : l.counts.relevant + count_by (picked_value false) (chunks_rest l.block-iterator) ≡ count_by (picked_value false) l.marks;
   most : l.counts.relevant + l.counts.unjudged + count_by (picked_value true) (chunks_rest l.block-iterator) ≡ count_by (picked_value true) l.marks;
 }
