@@ -18,10 +18,9 @@ use Rattle.qrels_reader.proofs.Zipped.{part-le}
 use Rattle.run_reader.specs.Run as reader
 use Rattle.run_reader.specs.Run.{Run, RunTopic, Scored, rows_in, rows_on_topic}
 use Rattle.run_reader.specs.declared.limits.TheConstants.{MOST_RUN_ROWS}
-use Rattle.topics_pool.specs.Names.{with_names, AreNames}
+use Rattle.topics_pool.specs.Names.{Gathers}
 use Rattle.topics_pool.specs.Rows.{IsBookOf, listed, retrieved, grade_in, rows_of, names_on, topic_names}
 use Rattle.topics_pool.specs.Made.{AreBooksOf}
-use Rattle.topics_pool.proofs.Sets.{length-with_names, gathered_same}
 
 -- the topic that has a name is found where it stands
 pub at_number : (qrels : List Topic) (name : List ℕ) (t : ℕ) → position (bytes_eq name) (names_of qrels) ≡ Some t → (t < length qrels) × (documents_at qrels t ≡ documents_on name qrels)
@@ -50,24 +49,22 @@ all_rows_within (run ∷ runs) name =
 
 module _ (qrels : List Topic) (runs : List Run) (name : List ℕ) (t : ℕ) (set docs : List (List ℕ)) (grades : List (Option ℤ))
     (place : position (bytes_eq name) (names_of qrels) ≡ Some t)
-    (gathered : set ≡ with_names (listed (documents_at qrels t)) (flat_map (retrieved name) runs))
-    (are : AreNames set) (moved : IsPermutation set docs)
+    (gathered : Gathers (listed (documents_at qrels t)) (flat_map (retrieved name) runs) set) (moved : IsPermutation set docs)
     (graded : grades ≡ map (grade_in (documents_at qrels t)) docs)
   where
-    few_documents : row_count qrels ≤ MOST_QRELS_ROWS → rows_of runs ≤ MOST_RUN_ROWS → length docs ≤ 25000000
+    pub few_documents : row_count qrels ≤ MOST_QRELS_ROWS → rows_of runs ≤ MOST_RUN_ROWS → length docs ≤ 25000000
     few_documents few rows =
         let long = length_permutation set docs moved in
-        let whole = ap length gathered in
-        let parts = length-with_names (listed (documents_at qrels t)) (flat_map (retrieved name) runs) in
+        let parts = gathered.few in
         let first = length-map (documents_at qrels t) (λ (d : Judged). d.document) in
         let part = part-le (λ documents. length documents) qrels t refl in
         let rest = all_rows_within runs name in
-        omega (arith, long, whole, parts, first, part, rest, few, rows)
+        omega (arith, long, parts, first, part, rest, few, rows)
 
     pub is_book : (copy : List ℕ) → copy ≡ name → is_name name ≡ true → AreAscending docs → row_count qrels ≤ MOST_QRELS_ROWS → rows_of runs ≤ MOST_RUN_ROWS → IsBook (record { name = copy; docs = docs; grades = grades })
     is_book copy same named up few rows = record {
       named = ap is_name same ∙ named;
-      documents = All-permutation (λ each. is_name each ≡ true) set docs moved are.named;
+      documents = All-permutation (λ each. is_name each ≡ true) set docs moved gathered.names.named;
       ascending = up;
       small = few_documents few rows;
       graded = ap length graded ∙ length-map docs (grade_in (documents_at qrels t));
@@ -76,8 +73,7 @@ module _ (qrels : List Topic) (runs : List Run) (name : List ℕ) (t : ℕ) (set
     same_names : (m : List ℕ) → list_any (bytes_eq m) docs ≡ list_any (bytes_eq m) (names_on qrels runs name)
     same_names m =
         sym (list_any-IsPermutation (bytes_eq m) set docs moved)
-        ∙ ap (list_any (bytes_eq m)) gathered
-        ∙ gathered_same (listed (documents_at qrels t)) (flat_map (retrieved name) runs) m
+        ∙ gathered.same m
         ∙ ap (λ documents. list_any (bytes_eq m) (listed documents ++ flat_map (retrieved name) runs)) ((at_number qrels name t place).1)
 
     right_grades : (doc : ℕ) (each : List ℕ) → slice_get docs doc ≡ Some each → get_or grades doc None ≡ grade_in (documents_on name qrels) each

@@ -1,40 +1,23 @@
 -- The parts of a desk make a desk.
 use Rattle.std.proofs.Common.{◌≡◌, ℕ, zero, suc, ◌+◌, ◌*◌, ◌<◌, ◌≤◌, Bool, true, false, true≢false, List, [], ◌∷◌, length, get_or, take, Some, None, refl, ap, ap₂, sym, ◌∙◌, subst, arith}
-use Rattle.std.specs.Prelude.{All, ◌||◌, flat_map, find}
+use Rattle.std.specs.Prelude.{All, find}
 use Rattle.std.specs.List.{AllZip, IsDistinct, list_any, range_with_len}
 use Rattle.std.specs.Str.{bytes_eq}
 use Rattle.std.proofs.lemmas.List.{length-map, get_or_default}
 use Rattle.std.proofs.lemmas.List.Elements.{All-nil, All-cons}
-use Rattle.std.proofs.lemmas.List.Folds.{list_any-append}
 use Rattle.std.proofs.lemmas.Map.Keys.{IsDistinct-from_apart}
 use Rattle.desk_model.specs.Name.{is_name}
 use Rattle.desk_model.specs.Book.{Book}
 use Rattle.desk_model.specs.Ranking.{IsRanking}
 use Rattle.desk_model.specs.Desk.{Desk, IsDesk, AreRankingsOver, pair_count}
 use Rattle.desk_model.proofs.Nested.{zipped_at, length-zipped}
-use Rattle.qrels_reader.specs.Grouped.{Topic, documents_on}
+use Rattle.qrels_reader.specs.Grouped.{Topic}
 use Rattle.qrels_reader.specs.declared.limits.TheConstants.{MOST_TOPICS}
 use Rattle.qrels_reader.proofs.Seen.{laws}
 use Rattle.run_reader.specs.Run.{Run}
-use Rattle.topics_pool.specs.Rows.{IsBookOf, IsDeskOf, IsNoFault, listed, retrieved, run_names, first_repeated, is_repeated}
-use Rattle.topics_pool.specs.Made.{AreBooksOf, Covers, IsRankingOf, AreRankingsOf}
-
--- ---- a universe covers each run
-or-true : (a : Bool) → a || true ≡ true
-or-true true = refl
-or-true false = refl
-
-any-flat : {X : Type 0} (p : List ℕ → Bool) (f : X → List (List ℕ)) (xs : List X) (i : ℕ) (d : X) → i < length xs → list_any p (f (get_or xs i d)) ≡ true → list_any p (flat_map f xs) ≡ true
-any-flat p f [] i d lt is = absurd (omega arith)
-any-flat p f (x ∷ xs) zero d lt is = list_any-append p (f x) (flat_map f xs) ∙ ap (λ b. b || list_any p (flat_map f xs)) is
-any-flat p f (x ∷ xs) (suc i) d lt is = list_any-append p (f x) (flat_map f xs) ∙ ap (λ b. list_any p (f x) || b) (any-flat p f xs i d (omega arith) is) ∙ or-true (list_any p (f x))
-
-pub covers : (qrels : List Topic) (runs : List Run) (book : Book) (r : ℕ) (d : Run) → IsBookOf qrels runs book → r < length runs → Covers (get_or runs r d) book
-covers qrels runs book r d is lt m there =
-    is.universe m
-    ∙ list_any-append (bytes_eq m) (listed (documents_on book.name qrels)) (flat_map (retrieved book.name) runs)
-    ∙ ap (λ b. list_any (bytes_eq m) (listed (documents_on book.name qrels)) || b) (any-flat (bytes_eq m) (retrieved book.name) runs r d lt there)
-    ∙ or-true (list_any (bytes_eq m) (listed (documents_on book.name qrels)))
+use Rattle.topics_pool.specs.Rows.{IsDeskOf, IsNoFault, run_names, first_repeated, is_repeated}
+use Rattle.topics_pool.specs.Made.{AreBooksOf, IsRankingOf, AreRankingsOf}
+use Rattle.topics_pool.proofs.Ranked.{zip-weaker}
 
 -- ---- names of which none is repeated differ
 none-passes : (p : ℕ → Bool) (a n k : ℕ) → find p (range_with_len a n) ≡ None → k < n → p (a + k) ≡ false
@@ -71,12 +54,6 @@ all-zipped R Q [] [] says h = All-nil Q
 all-zipped R Q [] (y ∷ ys) says h = absurd h
 all-zipped R Q (x ∷ xs) [] says h = absurd h
 all-zipped R Q (x ∷ xs) (y ∷ ys) says h = All-cons Q y ys (says x y h.0) (all-zipped R Q xs ys says h.1)
-
-zip-weaker : {A B : Type 0} (R S : A → B → Type 0) (xs : List A) (ys : List B) → ((x : A) (y : B) → R x y → S x y) → AllZip R xs ys → AllZip S xs ys
-zip-weaker R S [] [] says h = tt
-zip-weaker R S [] (y ∷ ys) says h = absurd h
-zip-weaker R S (x ∷ xs) [] says h = absurd h
-zip-weaker R S (x ∷ xs) (y ∷ ys) says h = (says x y h.0, zip-weaker R S xs ys says h.1)
 
 module _ (qrels : List Topic) (runs : List Run) (books : List Book) (names : List (List ℕ)) (rankings : List (List (List ℕ)))
     (are : AreBooksOf qrels runs books) (named : names ≡ run_names runs) (zipped : AllZip (AreRankingsOf books) runs rankings)

@@ -1,15 +1,14 @@
 -- What is found by name, and the first number that passes a test.
-use Rattle.std.proofs.Common.{◌≡◌, ℕ, zero, suc, ◌+◌, ◌<◌, Bool, true, false, cond, List, [], ◌∷◌, length, get_or, Some, None, refl, ap, sym, ◌∙◌, arith}
+use Rattle.std.proofs.Common.{◌≡◌, ℕ, zero, suc, ◌+◌, ◌<◌, Bool, true, false, List, [], ◌∷◌, length, get_or, Some, None, refl, ap, sym, ◌∙◌, arith}
 use Rattle.std.specs.Prelude.{find, option_map, slice_get, position, is_some, ℤ}
-use Rattle.std.specs.List.{list_any, range_with_len, position_from}
+use Rattle.std.specs.List.{list_any, range_with_len}
 use Rattle.std.specs.Str.{bytes_eq}
 use Rattle.std.proofs.lemmas.List.{get_or-map, length-map}
 use Rattle.std.proofs.lemmas.List.Quantifiers.{position-Some}
 use Rattle.std.proofs.lemmas.Map.Keys.{any_passes_from_place}
 use Rattle.std.proofs.lemmas.Option.{slice_get-get_or}
-use Rattle.desk_model.specs.Name.{is_same_name}
 use Rattle.qrels_reader.specs.Grouped.{Judged}
-use Rattle.qrels_reader.proofs.Seen.{laws, same, or-false}
+use Rattle.qrels_reader.proofs.Seen.{laws, or-false}
 use Rattle.qrels_reader.proofs.Places.{is_some-position}
 use Rattle.topics_pool.specs.Rows.{listed, grade_in, first_repeated, is_repeated}
 
@@ -69,38 +68,6 @@ find_none (d ∷ docs) name h =
 pub grade_none : (docs : List Judged) (name : List ℕ) → position (bytes_eq name) (listed docs) ≡ None → None ≡ grade_in docs name
 grade_none docs name is =
     sym (ap (option_map (λ (d : Judged). d.grade)) (find_none docs name (sym (is_some-position (bytes_eq name) (listed docs)) ∙ ap is_some is)))
-
--- ---- the number of a document
-pub record Numbered (docs : List (List ℕ)) (name : List ℕ) (n i : ℕ) : Type 0 where
-  pub place : ℕ
-  pub number : i ≡ n + place
-  pub within : place < length docs
-  pub is : get_or docs place [] ≡ name
-
-pub numbered : (docs : List (List ℕ)) (name : List ℕ) (n i : ℕ) → position_from (λ each. is_same_name each name) n docs ≡ Some i → Numbered docs name n i
-numbered [] name n i h = absurd (cc)
-numbered (d ∷ docs) name n i h = go (is_same_name d name) refl (numbered docs name (n + 1) i)
-  where
-    go : (b : Bool) → is_same_name d name ≡ b → (position_from (λ each. is_same_name each name) (n + 1) docs ≡ Some i → Numbered docs name (n + 1) i) → Numbered (d ∷ docs) name n i
-    go true e later =
-        let first : Some n ≡ Some i = sym (ap (λ b. cond b (Some n) (position_from (λ each. is_same_name each name) (n + 1) docs)) e) ∙ h in
-        let same_number : n ≡ i = cc in
-        record { place = 0; number = omega (arith, same_number); within = omega arith; is = same d name e }
-    go false e later =
-        let found : position_from (λ each. is_same_name each name) (n + 1) docs ≡ Some i = sym (ap (λ b. cond b (Some n) (position_from (λ each. is_same_name each name) (n + 1) docs)) e) ∙ h in
-        let rest = later found in
-        record { place = suc rest.place; number = omega (arith, rest.number); within = omega (arith, rest.within); is = rest.is }
-
-pub unnumbered : (docs : List (List ℕ)) (name : List ℕ) (n : ℕ) → position_from (λ each. is_same_name each name) n docs ≡ None → list_any (bytes_eq name) docs ≡ false
-unnumbered [] name n h = refl
-unnumbered (d ∷ docs) name n h = go (is_same_name d name) refl (unnumbered docs name (n + 1))
-  where
-    go : (b : Bool) → is_same_name d name ≡ b → (position_from (λ each. is_same_name each name) (n + 1) docs ≡ None → list_any (bytes_eq name) docs ≡ false) → list_any (bytes_eq name) (d ∷ docs) ≡ false
-    go true e later = let bad : Some n ≡ None = sym (ap (λ b. cond b (Some n) (position_from (λ each. is_same_name each name) (n + 1) docs)) e) ∙ h in absurd (cc)
-    go false e later =
-        let none : position_from (λ each. is_same_name each name) (n + 1) docs ≡ None = sym (ap (λ b. cond b (Some n) (position_from (λ each. is_same_name each name) (n + 1) docs)) e) ∙ h in
-        let here : bytes_eq name d ≡ false = laws.symm name d ∙ e in
-        rw here (later none)
 
 -- a name that stands at a place is among the names
 pub among-at : (names : List (List ℕ)) (i : ℕ) (name : List ℕ) → slice_get names i ≡ Some name → list_any (bytes_eq name) names ≡ true

@@ -1,6 +1,7 @@
 pub mod Sets
 pub mod Finding
 pub mod Sorting
+pub mod Placing
 pub mod Books
 pub mod Ranked
 pub mod Desks

@@ -53,7 +53,7 @@ pub unranked_in : (docs : List ℕ) (doc depth : ℕ) → rank docs doc ≡ None
 unranked_in docs doc depth h = unranked-from docs doc 1 depth h
 
 -- ---- counts
-range-more : (a n j : ℕ) → a + n ≡ j → range_with_len a (suc n) ≡ range_with_len a n ++ j ∷ []
+pub range-more : (a n j : ℕ) → a + n ≡ j → range_with_len a (suc n) ≡ range_with_len a n ++ j ∷ []
 range-more a zero j is = let start : a ≡ j = omega (arith, is) in ap (λ k. k ∷ []) start
 range-more a (suc n) j is = ap (λ ks. a ∷ ks) (range-more (a + 1) n j (omega (arith, is)))
 

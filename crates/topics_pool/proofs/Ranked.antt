@@ -7,7 +7,7 @@ use Rattle.std.specs.List.Sorted.{IsPermutation}
 use Rattle.std.specs.Str.{bytes_eq}
 use Rattle.std.proofs.lemmas.Bool.Decides.{nat_tests}
 use Rattle.std.proofs.lemmas.List.{take_more, length-map, get_or-set_other, get_or-set_same}
-use Rattle.std.proofs.lemmas.List.Sorted.{IsPermutation-map, list_any-IsPermutation, length_permutation}
+use Rattle.std.proofs.lemmas.List.Sorted.{IsPermutation-map, length_permutation}
 use Rattle.std.proofs.lemmas.Map.Keys.{IsDistinct-IsPermutation}
 use Rattle.desk_model.specs.Book.{Book}
 use Rattle.desk_model.specs.Ranking.{IsRanking}
@@ -15,17 +15,16 @@ use Rattle.qrels_reader.proofs.Seen.{laws}
 use Rattle.run_reader.specs.Run.{Run, Scored, rows_on_topic}
 use Rattle.run_reader.specs.declared.limits.TheConstants.{MOST_RANKS}
 use Rattle.trec_order.specs.Order.{IsTrecOrder}
-use Rattle.topics_pool.specs.Names.{AreAmong}
+use Rattle.std.proofs.lemmas.List.Elements.{All-weaker}
+use Rattle.topics_pool.specs.Names.{Gathers}
+use Rattle.topics_pool.proofs.Sets.{renamed}
 use Rattle.topics_pool.specs.Rows.{retrieved, doc_names}
-use Rattle.topics_pool.specs.Made.{IsRankingOf, AreRankingsOf, IsOneMore, HaveOneMore}
+use Rattle.topics_pool.specs.Made.{AreNumbersOf, IsRankingOf, AreRankingsOf, IsOneMore, HaveOneMore}
 use Rattle.desk_model.proofs.Nested.{zipped_at, length-zipped}
 
 -- the ranked names are the documents of the rows, in another order
 pub ranked_documents : (rows : List Scored) (names : List (List ℕ)) → IsTrecOrder rows names → IsPermutation (map (λ (row : Scored). row.document) rows) names
 ranked_documents rows names order = subst (IsPermutation (map (λ (row : Scored). row.document) rows)) (sym order.are_names) (IsPermutation-map (λ (row : Scored). row.document) rows order.ranked order.once)
-
-pub ranked_known : (run : Run) (book : Book) (names : List (List ℕ)) → AreAmong (retrieved book.name run) book.docs → IsTrecOrder (rows_on_topic run book.name) names → AreAmong names book.docs
-ranked_known run book names covers order m is = covers m (list_any-IsPermutation (bytes_eq m) (retrieved book.name run) names (ranked_documents (rows_on_topic run book.name) names order) ∙ is)
 
 -- numbers whose names differ differ
 distinct_numbers : (f : ℕ → List ℕ) (docs : List ℕ) → IsDistinct bytes_eq (map f docs) → IsDistinct nat_eq docs
@@ -60,6 +59,12 @@ is_ranking run book names docs order named within distinct few =
       within = within;
       short = omega (arith, long, rows, numbers, same, few);
     }
+
+pub zip-weaker : {A B : Type 0} (R S : A → B → Type 0) (xs : List A) (ys : List B) → ((x : A) (y : B) → R x y → S x y) → AllZip R xs ys → AllZip S xs ys
+zip-weaker R S [] [] says h = tt
+zip-weaker R S [] (y ∷ ys) says h = absurd h
+zip-weaker R S (x ∷ xs) [] says h = absurd h
+zip-weaker R S (x ∷ xs) (y ∷ ys) says h = (says x y h.0, zip-weaker R S xs ys says h.1)
 
 -- ---- steps of loops
 pub AllZip-end : {A B : Type 0} (R : A → B → Type 0) (xs : List A) (ys : List B) (x : A) (y : B) → AllZip R xs ys → R x y → AllZip R (xs ++ x ∷ []) (ys ++ y ∷ [])
@@ -109,9 +114,15 @@ zipped_from R [] (y ∷ ys) long h = absurd (omega arith)
 zipped_from R (x ∷ xs) [] long h = absurd (omega arith)
 zipped_from R (x ∷ xs) (y ∷ ys) long h = (h 0 x refl, zipped_from R xs ys (omega arith) (λ k z got. h (suc k) z got))
 
-pub topic_step : (runs : List Run) (books : List Book) (i : ℕ) (book : Book) (old new : List (List (List ℕ))) → AllZip (AreRankingsOf (take i books)) runs old → i < length books → book ≡ get_or books i book → length new ≡ length old →
-    HaveOneMore runs book old new → AllZip (AreRankingsOf (take (i + 1) books)) runs new
-topic_step runs books i book old new before within is long more =
-    zipped_from (AreRankingsOf (take (i + 1) books)) runs new (long ∙ length-zipped (AreRankingsOf (take i books)) runs old before) (λ k run got.
+pub topic_step : (runs : List Run) (books : List Book) (book : Book) (old new : List (List (List ℕ))) → AllZip (AreRankingsOf books) runs old → length new ≡ length old → HaveOneMore runs book old new → AllZip (AreRankingsOf (books ++ book ∷ [])) runs new
+topic_step runs books book old new before long more =
+    zipped_from (AreRankingsOf (books ++ book ∷ [])) runs new (long ∙ length-zipped (AreRankingsOf books) runs old before) (λ k run got.
     let one = more k run got in
-    zip_step (IsRankingOf run) books (get_or old k []) (get_or new k []) i book one.docs within is (zipped_at (AreRankingsOf (take i books)) runs old k run [] before got) one.ranking one.added)
+    subst (AllZip (IsRankingOf run) (books ++ book ∷ [])) (sym one.added) (AllZip-end (IsRankingOf run) books (get_or old k []) book one.docs (zipped_at (AreRankingsOf books) runs old k run [] before got) one.ranking))
+
+-- numbers stay those of the rows where more names are added
+pub still_numbers : (old more new : List (List ℕ)) (rows : List Scored) (numbers : List ℕ) → Gathers old more new → AreNumbersOf old rows numbers → AreNumbersOf new rows numbers
+still_numbers old more new rows numbers gathered are = record {
+  within = All-weaker (λ n. n < length old) (λ n. n < length new) (λ n lt. let longer = gathered.longer in omega (arith, lt, longer)) numbers are.within;
+  order = subst (IsTrecOrder rows) (sym (renamed old new numbers gathered.kept are.within)) are.order;
+}

@@ -7,7 +7,7 @@ use Rattle.std.specs.Str.{bytes_eq}
 use Rattle.std.specs.declared.cmp.Ordering.{Ordering}
 use Rattle.std.specs.declared.cmp.Ordering.TheVariants.{Less, Equal, Greater}
 use Rattle.std.proofs.lemmas.Cmp.{nat_list_cmp_total}
-use Rattle.std.proofs.lemmas.Map.Keys.{apart_from_distinct, sorted_from_all_adjacent, IsDistinct-from_apart, Less-from_sorted}
+use Rattle.std.proofs.lemmas.Map.Keys.{apart_from_distinct, sorted_from_all_adjacent}
 use Rattle.std.proofs.lemmas.Map.Text.{is_eq-slice_cmp}
 use Rattle.desk_model.specs.Name.{name_cmp, AreAscending}
 
@@ -23,8 +23,3 @@ smaller x y order apart = go (name_cmp x y) refl
 pub ascends : (names : List (List ℕ)) → IsDistinct bytes_eq names → IsSortedBy (λ x y. is_lt (name_cmp x y)) names → AreAscending names
 ascends names distinct up = sorted_from_all_adjacent nat_list_cmp_total names [] (λ k lt.
     smaller (get_or names k []) (get_or names (k + 1) []) (up k [] (omega arith) lt) (apart_from_distinct bytes_eq names k (k + 1) [] distinct (omega arith) lt))
-
--- names that ascend differ
-pub ascending_differ : (names : List (List ℕ)) → AreAscending names → IsDistinct bytes_eq names
-ascending_differ names up =
-    IsDistinct-from_apart bytes_eq names (λ i j d lt within. sym (is_eq-slice_cmp (get_or names i d) (get_or names j d)) ∙ ap is_eq (Less-from_sorted name_cmp names i j d up lt within))

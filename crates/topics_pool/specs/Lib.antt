@@ -1,4 +1,5 @@
 pub mod Names
 pub mod Rows
+pub mod Sorted
 pub mod Made
 pub mod Pool

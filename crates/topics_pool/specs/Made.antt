@@ -1,14 +1,14 @@
 -- The parts of a desk while it is made.
-use Rattle.std.specs.Prelude.{◌≡◌, ℕ, All, List, [], ◌∷◌, ◌++◌, length, slice_get, slice_index_or, Some}
+use Rattle.std.specs.Prelude.{◌≡◌, ◌<◌, ℕ, map, slice_index, All, List, [], ◌∷◌, ◌++◌, length, slice_get, slice_index_or, Some}
 use Rattle.std.specs.List.{AllZip}
 use Rattle.desk_model.specs.Book.{Book, IsBook}
 use Rattle.desk_model.specs.Name.{AreAscending}
 use Rattle.desk_model.specs.Ranking.{IsRanking}
 use Rattle.qrels_reader.specs.Grouped.{Topic, names_of}
-use Rattle.run_reader.specs.Run.{Run, rows_on_topic}
+use Rattle.run_reader.specs.Run.{Run, Scored, rows_on_topic}
 use Rattle.trec_order.specs.Order.{IsTrecOrder}
-use Rattle.topics_pool.specs.Names.{HaveSameNames, AreAmong}
-use Rattle.topics_pool.specs.Rows.{IsBookOf, doc_names, retrieved, topic_names}
+use Rattle.topics_pool.specs.Names.{HaveSameNames, numbered_names}
+use Rattle.topics_pool.specs.Rows.{IsBookOf, doc_names, topic_names}
 
 -- the topics of the qrels, ascending
 pub record AreBooksOf (qrels : List Topic) (runs : List Run) (books : List Book) : Type 0 where
@@ -18,9 +18,10 @@ pub record AreBooksOf (qrels : List Topic) (runs : List Run) (books : List Book)
   pub topics : HaveSameNames (topic_names books) (names_of qrels)
   pub count : length books ≡ length qrels
 
--- a topic's universe has the documents of a run
-abbrev pub Covers : Run → Book → Type 0
-Covers run book = AreAmong (retrieved book.name run) book.docs
+-- numbers of names that rank the documents of rows
+pub record AreNumbersOf (names : List (List ℕ)) (rows : List Scored) (numbers : List ℕ) : Type 0 where
+  pub within : All (λ n. n < length names) numbers
+  pub order : IsTrecOrder rows (numbered_names names numbers)
 
 -- document numbers that rank the documents of a run on a topic
 pub record IsRankingOf (run : Run) (book : Book) (docs : List ℕ) : Type 0 where
@@ -40,3 +41,9 @@ pub record IsOneMore (run : Run) (book : Book) (old new : List (List ℕ)) : Typ
 -- each run has one more ranking: that of a topic
 abbrev pub HaveOneMore : List Run → Book → List (List (List ℕ)) → List (List (List ℕ)) → Type 0
 HaveOneMore runs book old new = (r : ℕ) (run : Run) → slice_get runs r ≡ Some run → IsOneMore run book (slice_index_or old r []) (slice_index_or new r [])
+
+-- numbers that, where each has its place in the universe, rank the documents of a run on a topic
+pub record AreDocsOf (run : Run) (book : Book) (places numbers : List ℕ) : Type 0 where
+  pub known : All (λ n. n < length places) numbers
+  pub within : All (λ doc. doc < length book.docs) (map (slice_index places) numbers)
+  pub order : IsTrecOrder (rows_on_topic run book.name) (doc_names book (map (slice_index places) numbers))

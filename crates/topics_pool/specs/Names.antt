@@ -1,5 +1,5 @@
 -- Names, each once.
-use Rattle.std.specs.Prelude.{◌≡◌, ℕ, true, All, List, [], ◌∷◌, ◌++◌, if◌then◌else◌}
+use Rattle.std.specs.Prelude.{◌≡◌, ◌<◌, ◌≤◌, ◌+◌, ℕ, length, map, slice_index_or, true, All, List, [], ◌∷◌, ◌++◌, if◌then◌else◌}
 use Rattle.std.specs.List.{list_any, IsDistinct}
 use Rattle.std.specs.Str.{bytes_eq}
 use Rattle.desk_model.specs.Name.{is_name}
@@ -25,3 +25,15 @@ AreAmong names others = (name : List ℕ) → list_any (bytes_eq name) names ≡
 pub record AreNames (names : List (List ℕ)) : Type 0 where
   pub named : All (λ name. is_name name ≡ true) names
   pub distinct : IsDistinct bytes_eq names
+
+-- the names with these numbers
+abbrev pub numbered_names : List (List ℕ) → List ℕ → List (List ℕ)
+numbered_names names numbers = map (λ n. slice_index_or names n []) numbers
+
+-- names to which more are added, each where it is not there yet: those that were there keep their numbers
+pub record Gathers (old more new : List (List ℕ)) : Type 0 where
+  pub names : AreNames new
+  pub same : HaveSameNames new (old ++ more)
+  pub longer : length old ≤ length new
+  pub few : length new ≤ length old + length more
+  pub kept : (n : ℕ) → n < length old → slice_index_or new n [] ≡ slice_index_or old n []

@@ -1,6 +1,6 @@
 // The topics of a desk.
-ghost use Rattle.std.specs.Prelude.{◌≡◌, ◌≤◌, ◌<◌, true, All, Some, IfOk, length, map, position};
-ghost use Rattle.std.specs.List.{list_any};
+ghost use Rattle.std.specs.Prelude.{◌≡◌, ◌≤◌, ◌<◌, [], true, All, Some, IfOk, length, map, position};
+ghost use Rattle.std.specs.List.{AllZip, list_any};
 ghost use Rattle.std.specs.Str.{bytes_eq};
 ghost use Rattle.desk_model.specs.Name.{is_name};
 ghost use Rattle.desk_model.specs.Book.{IsBook};
@@ -8,12 +8,13 @@ ghost use Rattle.qrels_reader.specs.Grouped.{documents_at, names_of};
 ghost use Rattle.run_reader.specs.declared.limits.TheConstants.{MOST_RUN_ROWS};
 ghost use Rattle.topics_pool.specs.Names.{AreNames, AreAmong};
 ghost use Rattle.topics_pool.specs.Rows.{listed, grade_in, rows_of, topic_names, IsBookOf};
-ghost use Rattle.topics_pool.specs.Made.{AreBooksOf};
+ghost use Rattle.topics_pool.specs.Made.{AreBooksOf, AreRankingsOf, HaveOneMore};
 
-use crate::ascending::{ascending, named};
+use crate::ascending::{ascending, copied, named, places, sorted};
 use crate::fault::OutOfMemory;
-use crate::universe::{listed_names, universe};
-use desk_model::{Name, TopicBook};
+use crate::rankings::rank_topic;
+use crate::universe::{add_runs, listed_names};
+use desk_model::{Name, Ranking, TopicBook};
 use qrels_reader::{NameIndex, Qrels};
 use run_reader::RunRows;
 use std::alloc::{AllocError, Global};
@@ -46,27 +47,35 @@ fn listed_grades(
     Ok(grades)
 }
 
-// The topic of this name, which is topic `t` of the qrels.
+// The topic of this name, which is topic `t` of the qrels. Each run gets its ranking.
 fn topic_book(
     alloc: Global,
     qrels: &Qrels,
     t: usize,
     name: &[u8],
     runs: &[RunRows],
+    rankings: &mut [Vec<Ranking>],
 ) -> Result<TopicBook, OutOfMemory>
     requires place { position (bytes_eq name.now) (names_of qrels.now) ≡ Some t }
     requires named { is_name name.now ≡ true }
     requires rows { rows_of runs.now ≤ MOST_RUN_ROWS }
+    requires each { length rankings.old ≡ length runs.now }
     ensures name { IfOk result (λ book. book.name ≡ name.now) }
     ensures book { IfOk result (λ book. IsBook book) }
     ensures of_rows { IfOk result (IsBookOf qrels.now runs.now) }
+    ensures ranked { IfOk result (λ book. HaveOneMore runs.now book (map (λ each. each.items) rankings.old) (map (λ each. each.items) rankings.new)) }
 {
     // The number of rows is within its limit.
     let _ = qrels.rows();
-    let names = universe(listed_names(alloc, qrels, t)?, name, runs)?;
-    let docs = ascending(alloc, &names)?;
+    let mut universe = listed_names(alloc, qrels, t)?;
+    let numbers = add_runs(alloc, &mut universe, runs, name)?;
+    let pairs = sorted(alloc, &universe)?;
+    let docs = copied(alloc, &pairs)?;
     let grades = listed_grades(alloc, qrels, t, &docs)?;
-    Ok(TopicBook::new(named(alloc, name)?, docs, grades))
+    let book = TopicBook::new(named(alloc, name)?, docs, grades);
+    let places = places(alloc, &pairs)?;
+    rank_topic(alloc, runs, &book, &numbers, &places, rankings)?;
+    Ok(book)
 }
 
 fn qrels_topics(alloc: Global, qrels: &Qrels) -> Result<NameIndex<'_>, AllocError>
@@ -80,41 +89,47 @@ fn qrels_topics(alloc: Global, qrels: &Qrels) -> Result<NameIndex<'_>, AllocErro
     Ok(names)
 }
 
-// The topics with these names.
+// The topics with these names. Each run gets its ranking of each.
 fn books_of(
     alloc: Global,
     qrels: &Qrels,
     topics: &NameIndex<'_>,
     names: &[Name],
     runs: &[RunRows],
+    rankings: &mut [Vec<Ranking>],
 ) -> Result<Vec<TopicBook>, OutOfMemory>
     requires topics { topics.now ≡ names_of qrels.now }
     requires names { AreAmong names.now topics.now }
     requires rows { rows_of runs.now ≤ MOST_RUN_ROWS }
+    requires none { AllZip (AreRankingsOf []) runs.now (map (λ each. each.items) rankings.old) }
     ensures names { IfOk result (λ books. topic_names books.items ≡ names.now) }
     ensures books { IfOk result (λ books. All (λ book. IsBook book) books.items) }
     ensures of_rows { IfOk result (λ books. All (IsBookOf qrels.now runs.now) books.items) }
+    ensures rankings { IfOk result (λ books. AllZip (AreRankingsOf books.items) runs.now (map (λ each. each.items) rankings.new)) }
 {
     let mut books = Vec::with_capacity(alloc, names.len())?;
     for name in names {
         match topics.place(name.as_bytes()) {
-            Some(t) => books.push(topic_book(alloc, qrels, t, name.as_bytes(), runs)?)?,
+            Some(t) => books.push(topic_book(alloc, qrels, t, name.as_bytes(), runs, rankings)?)?,
             None => unreachable!(),
         }
     }
     Ok(books)
 }
 
-/// The topics of the qrels in ascending order of their names, each with its universe.
+/// The topics of the qrels in ascending order of their names, each with its universe. Each run gets its ranking of each.
 pub fn topic_books(
     alloc: Global,
     qrels: &Qrels,
     runs: &[RunRows],
+    rankings: &mut [Vec<Ranking>],
 ) -> Result<Vec<TopicBook>, OutOfMemory>
-    requires { rows_of runs.now ≤ MOST_RUN_ROWS }
-    ensures { IfOk result (λ books. AreBooksOf qrels.now runs.now books.items) }
+    requires rows { rows_of runs.now ≤ MOST_RUN_ROWS }
+    requires none { AllZip (AreRankingsOf []) runs.now (map (λ each. each.items) rankings.old) }
+    ensures books { IfOk result (λ books. AreBooksOf qrels.now runs.now books.items) }
+    ensures rankings { IfOk result (λ books. AllZip (AreRankingsOf books.items) runs.now (map (λ each. each.items) rankings.new)) }
 {
     let topics = qrels_topics(alloc, qrels)?;
     let names = ascending(alloc, &topics)?;
-    books_of(alloc, qrels, &topics, &names, runs)
+    books_of(alloc, qrels, &topics, &names, runs, rankings)
 }

@@ -6,7 +6,7 @@ ghost use Rattle.topics_pool.specs.Rows.{IsDeskOf, IsNoFault, IsFaultOf, rows_of
 use crate::book::topic_books;
 use crate::fault::{DeskFault, OutOfMemory};
 use crate::limits::MOST_CELLS;
-use crate::rankings::all_rankings;
+use crate::rankings::no_rankings;
 use crate::runs::{cell_count, names_of_runs, repeated_run};
 use desk_model::Desk;
 use qrels_reader::Qrels;
@@ -22,9 +22,9 @@ fn desk_of(alloc: Global, qrels: &Qrels, runs: &[RunRows]) -> Result<Desk, OutOf
     ensures { IfOk result (λ desk. IsDeskOf qrels.now runs.now desk) }
 {
     // There is a topic, and there are not too many.
-    let _ = qrels.topics();
-    let books = topic_books(alloc, qrels, runs)?;
-    let rankings = all_rankings(alloc, runs, &books)?;
+    let topics = qrels.topics();
+    let mut rankings = no_rankings(alloc, runs, topics)?;
+    let books = topic_books(alloc, qrels, runs, &mut rankings)?;
     Ok(Desk::new(books, names_of_runs(alloc, runs)?, rankings))
 }
 

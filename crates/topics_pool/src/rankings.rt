@@ -1,46 +1,21 @@
 // What each run ranks on each topic.
-ghost use Rattle.std.specs.Prelude.{◌≡◌, ◌<◌, ◌≤◌, [], ◌∷◌, ◌++◌, true, All, IfOk, OnOk, length, map, slice_index_or, slice_set};
-ghost use Rattle.std.specs.List.{AllZip, list_any};
-ghost use Rattle.std.specs.Str.{bytes_eq};
-ghost use Rattle.topics_pool.specs.Names.{AreAmong};
-ghost use Rattle.topics_pool.specs.Made.{Covers, IsRankingOf, AreRankingsOf, HaveOneMore};
+ghost use Rattle.std.specs.Prelude.{◌≡◌, ◌<◌, [], ◌∷◌, ◌++◌, All, IfOk, OnOk, length, map, slice_index, slice_index_or, slice_set};
+ghost use Rattle.std.specs.List.{AllZip};
+ghost use Rattle.topics_pool.specs.Made.{AreDocsOf, IsRankingOf, AreRankingsOf, HaveOneMore};
 
 use crate::fault::OutOfMemory;
 use desk_model::{Ranking, TopicBook};
-use qrels_reader::NameIndex;
 use run_reader::RunRows;
 use std::alloc::{AllocError, Global};
-use trec_order::{RankedNames, ranking};
 
-// The documents of a topic under their numbers.
-fn numbered_docs(alloc: Global, book: &TopicBook) -> Result<NameIndex<'_>, AllocError>
-    ensures documents { IfOk result (λ docs. docs ≡ book.now.docs) }
-    ensures few { IfOk result (λ docs. length docs ≤ 25000000) }
+// The places of numbers.
+fn placed(alloc: Global, numbers: &[usize], places: &[u32]) -> Result<Vec<u32>, AllocError>
+    requires { All (λ n. n < length places.now) numbers.now }
+    ensures { IfOk result (λ docs. docs.items ≡ map (slice_index places.now) numbers.now) }
 {
-    let mut docs = NameIndex::new(alloc);
-    for doc in 0..book.doc_count() {
-        docs.add(book.doc_name(doc))?;
-    }
-    Ok(docs)
-}
-
-// The numbers of documents in a universe that has them.
-fn numbers(
-    alloc: Global,
-    names: &RankedNames<'_>,
-    universe: &NameIndex<'_>,
-) -> Result<Vec<u32>, AllocError>
-    requires among { AreAmong names.now universe.now }
-    requires few { length universe.now ≤ 25000000 }
-    ensures names { IfOk result (λ docs. map (λ doc. slice_index_or universe.now doc []) docs.items ≡ names.now) }
-    ensures within { IfOk result (λ docs. All (λ doc. doc < length universe.now) docs.items) }
-{
-    let mut docs = Vec::with_capacity(alloc, names.len())?;
-    for i in 0..names.len() {
-        match universe.place(names.get(i)) {
-            Some(doc) => docs.push(doc as u32)?,
-            None => unreachable!(),
-        }
+    let mut docs = Vec::with_capacity(alloc, numbers.len())?;
+    for number in numbers {
+        docs.push(places[*number])?;
     }
     Ok(docs)
 }
@@ -49,17 +24,15 @@ fn topic_ranking(
     alloc: Global,
     run: &RunRows,
     book: &TopicBook,
-    universe: &NameIndex<'_>,
+    numbers: &[usize],
+    places: &[u32],
 ) -> Result<Ranking, OutOfMemory>
-    requires covers { Covers run.now book.now }
-    requires documents { universe.now ≡ book.now.docs }
-    requires few { length universe.now ≤ 25000000 }
+    requires { AreDocsOf run.now book.now places.now numbers.now }
     ensures { IfOk result (λ ranking. IsRankingOf run.now book.now ranking) }
 {
     // The documents of the rows differ, and there are not too many.
     let _ = run.rows_on(book.name());
-    let names = ranking(alloc, run, book.name())?;
-    let docs = numbers(alloc, &names, universe)?;
+    let docs = placed(alloc, numbers, places)?;
     Ok(Ranking::new(alloc, docs, book.doc_count())?)
 }
 
@@ -76,30 +49,28 @@ fn push_ranking(
     Ok(())
 }
 
-// One more ranking of each run: that of a topic.
-fn rank_topic(
+/// One more ranking of each run: that of a topic, by the numbers of its documents and their places in the universe.
+pub fn rank_topic(
     alloc: Global,
     runs: &[RunRows],
     book: &TopicBook,
+    numbers: &[Vec<usize>],
+    places: &[u32],
     rankings: &mut [Vec<Ranking>],
 ) -> Result<(), OutOfMemory>
-    requires covers { All (λ run. Covers run book.now) runs.now }
+    requires docs { AllZip (λ run each. AreDocsOf run book.now places.now each) runs.now (map (λ each. each.items) numbers.now) }
     requires each { length rankings.old ≡ length runs.now }
     ensures { OnOk result (HaveOneMore runs.now book.now (map (λ each. each.items) rankings.old) (map (λ each. each.items) rankings.new)) }
 {
-    let universe = numbered_docs(alloc, book)?;
     for r in 0..runs.len() {
-        push_ranking(
-            rankings,
-            r,
-            topic_ranking(alloc, &runs[r], book, &universe)?,
-        )?;
+        let ranking = topic_ranking(alloc, &runs[r], book, &numbers[r], places)?;
+        push_ranking(rankings, r, ranking)?;
     }
     Ok(())
 }
 
-// For each run no ranking yet, and room for one on each topic.
-fn no_rankings(
+/// For each run no ranking yet, and room for one on each topic.
+pub fn no_rankings(
     alloc: Global,
     runs: &[RunRows],
     topics: usize,
@@ -109,22 +80,6 @@ fn no_rankings(
     let mut rankings = Vec::with_capacity(alloc, runs.len())?;
     for _run in runs {
         rankings.push(Vec::with_capacity(alloc, topics)?)?;
-    }
-    Ok(rankings)
-}
-
-/// The rankings of each run, one for each topic.
-pub fn all_rankings(
-    alloc: Global,
-    runs: &[RunRows],
-    books: &[TopicBook],
-) -> Result<Vec<Vec<Ranking>>, OutOfMemory>
-    requires { All (λ run. All (Covers run) books.now) runs.now }
-    ensures { IfOk result (λ rankings. AllZip (AreRankingsOf books.now) runs.now (map (λ each. each.items) rankings.items)) }
-{
-    let mut rankings = no_rankings(alloc, runs, books.len())?;
-    for book in books {
-        rank_topic(alloc, runs, book, &mut rankings)?;
     }
     Ok(rankings)
 }

@@ -1,13 +1,17 @@
 // The documents of a topic.
 ghost use Rattle.std.specs.Prelude.{◌≡◌, ◌<◌, [], true, All, length, map, flat_map, OnOk, IfOk};
-ghost use Rattle.desk_model.specs.Name.{is_name};
-ghost use Rattle.qrels_reader.specs.Grouped.{documents_at, names_of};
-ghost use Rattle.topics_pool.specs.Names.{with_name, with_names, AreNames};
-ghost use Rattle.topics_pool.specs.Rows.{listed, retrieved, names_on};
+ghost use Rattle.std.specs.List.{AllZip};
+ghost use Rattle.qrels_reader.specs.Grouped.{documents_at};
+ghost use Rattle.run_reader.specs.Run.{rows_on_topic};
+ghost use Rattle.topics_pool.specs.Names.{with_names, AreNames, Gathers, numbered_names};
+ghost use Rattle.topics_pool.specs.Rows.{listed, retrieved};
+ghost use Rattle.topics_pool.specs.Made.{AreNumbersOf};
 
+use crate::fault::OutOfMemory;
 use qrels_reader::{NameIndex, Qrels};
-use run_reader::{RunRows, ScoredRows};
+use run_reader::RunRows;
 use std::alloc::{AllocError, Global};
+use trec_order::{RankedNames, ranking};
 
 /// The documents that the qrels list of topic `t`, in their order.
 pub fn listed_names(alloc: Global, qrels: &Qrels, t: usize) -> Result<NameIndex<'_>, AllocError>
@@ -22,41 +26,54 @@ pub fn listed_names(alloc: Global, qrels: &Qrels, t: usize) -> Result<NameIndex<
     Ok(names)
 }
 
-// Adds the documents of rows.
-fn add_rows<'n>(names: &mut NameIndex<'n>, rows: &'n ScoredRows) -> Result<(), AllocError>
-    ensures { OnOk result (names.new ≡ with_names names.old (map (λ row. row.document) rows.now)) }
+// Adds names where they are new, and gives the number of each.
+fn add_ranked<'n>(
+    alloc: Global,
+    names: &mut NameIndex<'n>,
+    ranked: &RankedNames<'n>,
+) -> Result<Vec<usize>, AllocError>
+    ensures names { OnOk result (names.new ≡ with_names names.old ranked.now) }
+    ensures within { IfOk result (λ numbers. All (λ n. n < length names.new) numbers.items) }
+    ensures numbers { IfOk result (λ numbers. numbered_names names.new numbers.items ≡ ranked.now) }
 {
-    for i in 0..rows.len() {
-        names.add(rows.document(i))?;
+    let mut numbers = Vec::with_capacity(alloc, ranked.len())?;
+    for i in 0..ranked.len() {
+        numbers.push(names.number(ranked.get(i))?)?;
     }
-    Ok(())
+    Ok(numbers)
 }
 
-// Adds the documents of a run's rows on a topic.
-fn add_run<'n>(names: &mut NameIndex<'n>, run: &'n RunRows, topic: &[u8]) -> Result<(), AllocError>
-    requires { AreNames names.old }
-    ensures documents { OnOk result (names.new ≡ with_names names.old (retrieved topic.now run.now)) }
-    ensures names { OnOk result (AreNames names.new) }
-{
-    match run.rows_on(topic) {
-        Some(rows) => add_rows(names, rows),
-        None => Ok(()),
-    }
-}
-
-/// The universe of a topic of which the qrels list some documents: these, and the documents of the runs' rows.
-pub fn universe<'n>(
-    listed_names: NameIndex<'n>,
+// Adds the documents of a run's rows on a topic, and gives their numbers, the best first.
+fn add_run<'n>(
+    alloc: Global,
+    names: &mut NameIndex<'n>,
+    run: &'n RunRows,
     topic: &[u8],
-    runs: &'n [RunRows],
-) -> Result<NameIndex<'n>, AllocError>
-    requires { AreNames listed_names }
-    ensures documents { IfOk result (λ names. names ≡ with_names listed_names.entry (flat_map (retrieved topic.now) runs.now)) }
-    ensures names { IfOk result (λ names. AreNames names) }
+) -> Result<Vec<usize>, OutOfMemory>
+    requires { AreNames names.old }
+    ensures names { OnOk result (Gathers names.old (retrieved topic.now run.now) names.new) }
+    ensures numbers { IfOk result (λ numbers. AreNumbersOf names.new (rows_on_topic run.now topic.now) numbers.items) }
 {
-    let mut names = listed_names;
+    // The documents of the rows are names.
+    let _ = run.rows_on(topic);
+    let ranked = ranking(alloc, run, topic)?;
+    Ok(add_ranked(alloc, names, &ranked)?)
+}
+
+/// Adds the documents of the runs' rows on a topic, and gives for each run the numbers of its documents, the best first.
+pub fn add_runs<'n>(
+    alloc: Global,
+    names: &mut NameIndex<'n>,
+    runs: &'n [RunRows],
+    topic: &[u8],
+) -> Result<Vec<Vec<usize>>, OutOfMemory>
+    requires { AreNames names.old }
+    ensures names { OnOk result (Gathers names.old (flat_map (retrieved topic.now) runs.now) names.new) }
+    ensures numbers { IfOk result (λ numbers. AllZip (λ run each. AreNumbersOf names.new (rows_on_topic run topic.now) each) runs.now (map (λ each. each.items) numbers.items)) }
+{
+    let mut numbers = Vec::with_capacity(alloc, runs.len())?;
     for run in runs {
-        add_run(&mut names, run, topic)?;
+        numbers.push(add_run(alloc, names, run, topic)?)?;
     }
-    Ok(names)
+    Ok(numbers)
 }

@@ -1,16 +1,14 @@
-use Rattle.std.proofs.Common.{rules}
-use Rattle.std.specs.Ordering.{is_lt}
-use Rattle.std.specs.Str.{bytes_eq}
-use Rattle.std.proofs.lemmas.Cmp.{nat_list_cmp_total}
-use Rattle.std.proofs.lemmas.List.Sorted.{ranks_by, answers_always}
-use Rattle.std.proofs.lemmas.Map.Keys.{IsDistinct-IsPermutation}
-use Rattle.desk_model.specs.Name.{name_cmp}
-use Rattle.qrels_reader.proofs.Seen.{laws}
-use Rattle.topics_pool.proofs.Sorting.{ascends}
+use Rattle.std.proofs.Common.{◌≡◌, true, sym, map, ap, ◌∙◌, subst}
+use Rattle.std.specs.Prelude.{All, IsPermutation}
+use Rattle.desk_model.specs.Name.{is_name, AreAscending}
+use Rattle.topics_pool.proofs.Placing.{name_of, sorted_are_named}
 use Rattle.topics_pool.proofs.ascending.ascending.Goals as goal
 
+pub copied-requires : goal.copied-requires
+copied-requires c = subst (All (λ pair. is_name pair.0.now ≡ true)) (sym c.deref.ensures.value) (sorted_are_named c.args.names.now c.in_ok-pairs.pairs.items c.in_ok-pairs.ensures c.requires)
+
 pub returns-clause-ascending : goal.returns-clause-ascending
-returns-clause-ascending c =
-    let moved = rw c.in_ok-sorted.ensures at c.sort_unstable_by.ensures.permutation in
-    ascends _ (IsDistinct-IsPermutation bytes_eq laws.symm c.args.names.now _ moved c.requires.distinct)
-    (c.sort_unstable_by.ensures.sorted (λ x y. is_lt (name_cmp x y)) (ranks_by nat_list_cmp_total (λ x. x)) (answers_always _ _ _ (λ f a r g called. search rules)))
+returns-clause-ascending c = subst AreAscending (sym (c.in_ok-copied.ensures ∙ ap (map name_of) c.deref.ensures.value)) c.in_ok-pairs.ensures.ascending
+
+pub returns-clause-moved : goal.returns-clause-moved
+returns-clause-moved c = subst (IsPermutation c.args.names.now) (sym (c.in_ok-copied.ensures ∙ ap (map name_of) c.deref.ensures.value)) c.in_ok-pairs.ensures.moved

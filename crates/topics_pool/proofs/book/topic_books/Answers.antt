@@ -9,7 +9,7 @@ pub books_of-requires-clause-names : goal.books_of-requires-clause-names
 books_of-requires-clause-names c m is =
     list_any-IsPermutation (bytes_eq m) c.in_ok-topics.topics c.in_ok-names.names.items c.in_ok-names.ensures.moved ∙ ap (list_any (bytes_eq m)) (sym c.deref.ensures.value) ∙ is
 
-pub returns : goal.returns
-returns c =
+pub returns-clause-books : goal.returns-clause-books
+returns-clause-books c =
     are_books c.args.qrels.now c.args.runs.now c.in_ok-topics.topics c.in_ok-names.names.items c.books_of.result c.in_ok-topics.ensures.topics c.in_ok-names.ensures.moved c.in_ok-names.ensures.ascending
     c.books_of.ensures.books c.books_of.ensures.of_rows (named_as c.books_of.result _ _ c.deref.ensures.value c.books_of.ensures.names)
