@@ -131,8 +131,9 @@ impl Rbp {
         ensures small { IsWeightSum result }
     {
         let lo = self.weights.at(x).low - self.weights.at(y).high;
+        let missing = if lo < 0 { lo } else { 0 };
         if x < y {
-            if lo < 0 { 0 } else { lo }
+            lo - missing
         } else if y < x {
             lo
         } else {
@@ -151,10 +152,11 @@ impl Rbp {
         ensures small { IsWeightSum result }
     {
         let hi = self.weights.at(x).high - self.weights.at(y).low;
+        let lowered = if hi < 0 { hi } else { 0 };
         if x < y {
             hi
         } else if y < x {
-            if hi < 0 { hi } else { 0 }
+            lowered
         } else {
             0
         }
