@@ -11,4 +11,6 @@ pub use ends::{Ends, EndsFault};
 pub use walk::extremes;
 
 #[cfg(test)]
+mod tail_tests;
+#[cfg(test)]
 mod tests;

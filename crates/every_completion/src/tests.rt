@@ -16,11 +16,11 @@ use std::process::Abort;
 use std::sync::ledger::{Blank, Ledger};
 use std::test::Fail;
 
-const R: Mark = Mark::Relevant;
+pub const R: Mark = Mark::Relevant;
 
-const O: Mark = Mark::Other;
+pub const O: Mark = Mark::Other;
 
-const U: Mark = Mark::Unjudged;
+pub const U: Mark = Mark::Unjudged;
 
 const S: u64 = 1_000_000_000_000_000_000;
 
@@ -28,7 +28,7 @@ const HALF: i128 = 500_000_000_000_000_000;
 
 const WHOLE: i128 = 1_000_000_000_000_000_000;
 
-const RANKINGS: [&[u32]; 8] = [
+pub const RANKINGS: [&[u32]; 8] = [
     &[],
     &[0],
     &[3, 1],
@@ -39,7 +39,7 @@ const RANKINGS: [&[u32]; 8] = [
     &[0, 2, 1, 3],
 ];
 
-const MARKS: [[Mark; 4]; 6] = [
+pub const MARKS: [[Mark; 4]; 6] = [
     [U, U, U, U],
     [R, U, O, U],
     [U, O, R, U],
@@ -64,7 +64,7 @@ fn is_ranking(docs: &[u32], universe: u32) -> bool
     }
 }
 
-fn ranking(rt: &impl Abort, alloc: Global, docs: &[u32], universe: u32) -> Result<Ranking, Fail>
+pub fn ranking(rt: &impl Abort, alloc: Global, docs: &[u32], universe: u32) -> Result<Ranking, Fail>
     ensures { IfOk result (λ ranking. IsRanking universe ranking) }
 {
     assert!(rt; docs.len() <= 10000);
@@ -160,7 +160,7 @@ fn other_measures_by_hand(rt: HostRuntime) -> Result<(), Fail> {
     Ok(())
 }
 
-fn cell_once<L: Ledger>(
+pub fn cell_once<L: Ledger>(
     measure: &AnyMeasure,
     first: &Ranking,
     second: &Ranking,

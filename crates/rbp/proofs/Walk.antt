@@ -1,5 +1,5 @@
 -- What one document of the walk takes from the sums that are left.
-use Rattle.std.proofs.Common.{◌≡◌, ◌≢◌, ℕ, zero, suc, ◌+◌, ◌-◌, ◌*◌, ◌^◌, ◌<◌, ◌≤◌, Bool, true, false, nat_eq, cond, List, [], ◌∷◌, map, length, Option, Some, None, ℤ, pos, neg_ℤ, ◌+ℤ◌, ◌-ℤ◌, ◌≤ℤ◌, arith, refl, ap, ◌∙◌, sym, subst, inl, inr}
+use Rattle.std.proofs.Common.{◌≡◌, ◌≢◌, ◌⊎◌, ℕ, zero, suc, ◌+◌, ◌-◌, ◌*◌, ◌^◌, ◌<◌, ◌≤◌, Bool, true, false, nat_eq, cond, List, [], ◌∷◌, map, length, Option, Some, None, ℤ, pos, neg_ℤ, ◌+ℤ◌, ◌-ℤ◌, ◌≤ℤ◌, arith, refl, ap, ◌∙◌, sym, subst, inl, inr}
 use Rattle.std.specs.Prelude.{if◌then◌else◌}
 use Rattle.std.specs.List.{AllByRecursion, range_with_len, position_from}
 use Rattle.std.proofs.lemmas.Int.{ints}
@@ -20,8 +20,10 @@ use Rattle.measure_laws.proofs.BiasedEnds.{Standing, stands, ahead, behind, leve
 use Rattle.measure_laws.proofs.Merge.{absent_below, further, within_after}
 use Rattle.measure_laws.proofs.Mirror.{neg_twice}
 use Rattle.measure_laws.proofs.Ranks.{rank_within}
-use Rattle.measure_laws.proofs.Weights.{low_weight-most, high_weight-most}
-use Rattle.rbp.specs.Walk.{share_of, is_in_least, is_in_most, sum_of, sum_left, IsLeft}
+use Rattle.measure_laws.proofs.BiasedSizes.{ShareSizes, share_sizes, weights_order, whole_between}
+use Rattle.measure_laws.proofs.BiasedTopic.{high_weights_most}
+use Rattle.measure_laws.proofs.RecallEnds.{every}
+use Rattle.rbp.specs.Walk.{share_of, is_in_least, is_in_most, sum_of, sum_left, IsPart, IsLeft}
 use Rattle.desk_model.specs.declared.placed.Placed.{Placed}
 use Rattle.desk_model.specs.declared.types.Mark.{Mark}
 use Rattle.measure_laws.specs.declared.pairs.Pair.{Pair}
@@ -59,51 +61,40 @@ turned_from : (f g : ℕ → ℤ) (s n : ℕ) → ((d : ℕ) → f d ≡ neg_ℤ
 turned_from f g s zero h = refl
 turned_from f g s (suc n) h = let rest = turned_from f g (s + 1) n h in let here = h s in omega (arith, ints, rest, here)
 
--- from -m to m
-abbrev pub IsSmall : ℕ → ℤ → Type 0
-IsSmall m z = (neg_ℤ (pos m) ≤ℤ z) × (z ≤ℤ pos m)
-
-small_from : (f : ℕ → ℤ) (s n : ℕ) → ((d : ℕ) → IsSmall (10 ^ 18) (f d)) → IsSmall (n * 10 ^ 18) (whole_sum (map f (range_with_len s n)))
-small_from f s zero h = (omega (arith, ints), omega (arith, ints))
-small_from f s (suc n) h =
-    let rest = small_from f (s + 1) n h in
-    let here = h s in
-    (omega (arith, ints, rest, here), omega (arith, ints, rest, here))
-
 -- ---- one share
--- a document that neither run has no share, and no share is more than a whole
-pub record IsShare (share : Option ℕ → Option ℕ → ℤ) : Type 0 where
+-- no document of neither run has a share, and a share is at most the weight of a rank
+pub record IsShare (top bottom : ℕ) (share : Option ℕ → Option ℕ → ℤ) : Type 0 where
   pub absent : share None None ≡ pos 0
-  pub small : (x y : Option ℕ) → IsSmall (10 ^ 18) (share x y)
+  pub least : (x y : Option ℕ) → IsWithin 10000 x → IsWithin 10000 y → neg_ℤ (pos (high_weight top bottom y)) ≤ℤ share x y
+  pub most : (x y : Option ℕ) → IsWithin 10000 x → IsWithin 10000 y → share x y ≤ℤ pos (high_weight top bottom x)
 
-abbrev ends : (lx hx ly hy : ℕ) → Bool → Bool → ℤ × ℤ
-ends lx hx ly hy b c = (if b then pos (lx - hy) else if c then pos lx -ℤ pos hy else pos 0, if b then pos hx -ℤ pos ly else if c then neg_ℤ (pos (ly - hx)) else pos 0)
+sizes : (top bottom : ℕ) (x y : Option ℕ) → top < bottom → IsWithin 10000 x → IsWithin 10000 y → ShareSizes top bottom x y (low_share top bottom x y) (high_share top bottom x y)
+sizes top bottom x y below wx wy = share_sizes top bottom 10000 10000 x y (omega arith) (omega arith) wx wy
 
-ends_small : (lx hx ly hy : ℕ) (b c : Bool) → lx ≤ 10 ^ 18 → hx ≤ 10 ^ 18 → ly ≤ 10 ^ 18 → hy ≤ 10 ^ 18 →
-    IsSmall (10 ^ 18) (ends lx hx ly hy b c).0 × IsSmall (10 ^ 18) (ends lx hx ly hy b c).1
-ends_small lx hx ly hy true c p q r s = ((omega (arith, ints), omega (arith, ints)), (omega (arith, ints), omega (arith, ints)))
-ends_small lx hx ly hy false true p q r s = ((omega (arith, ints), omega (arith, ints)), (omega (arith, ints), omega (arith, ints)))
-ends_small lx hx ly hy false false p q r s = ((omega (arith, ints), omega (arith, ints)), (omega (arith, ints), omega (arith, ints)))
+lower_least : (low high : ℕ) (z : ℤ) → low ≤ high → neg_ℤ (pos low) ≤ℤ z → neg_ℤ (pos high) ≤ℤ z
+lower_least low high z h k = omega (arith, ints)
 
-both_small : (top bottom : ℕ) (x y : Option ℕ) → top < bottom → IsSmall (10 ^ 18) (low_share top bottom x y) × IsSmall (10 ^ 18) (high_share top bottom x y)
-both_small top bottom x y below =
-    ends_small (low_weight top bottom x) (high_weight top bottom x) (low_weight top bottom y) (high_weight top bottom y) (comes_before x y) (comes_before y x)
-    (low_weight-most top bottom x (omega arith)) (high_weight-most top bottom x (omega arith) (omega arith)) (low_weight-most top bottom y (omega arith)) (high_weight-most top bottom y (omega arith) (omega arith))
+higher_most : (low high : ℕ) (z : ℤ) → low ≤ high → z ≤ℤ pos low → z ≤ℤ pos high
+higher_most low high z h k = omega (arith, ints)
 
-pub is_low : (top bottom : ℕ) → top < bottom → IsShare (low_share top bottom)
-is_low top bottom below = record { absent = refl; small = λ x y. (both_small top bottom x y below).0 }
+pub is_low : (top bottom : ℕ) → top < bottom → IsShare top bottom (low_share top bottom)
+is_low top bottom below = record {
+  absent = refl;
+  least = λ x y wx wy. (sizes top bottom x y below wx wy).low_least;
+  most = λ x y wx wy. higher_most (low_weight top bottom x) (high_weight top bottom x) (low_share top bottom x y) (weights_order top bottom x (omega arith)) (sizes top bottom x y below wx wy).low_most;
+}
 
-pub is_high : (top bottom : ℕ) → top < bottom → IsShare (high_share top bottom)
-is_high top bottom below = record { absent = refl; small = λ x y. (both_small top bottom x y below).1 }
+pub is_high : (top bottom : ℕ) → top < bottom → IsShare top bottom (high_share top bottom)
+is_high top bottom below = record {
+  absent = refl;
+  least = λ x y wx wy. lower_least (low_weight top bottom y) (high_weight top bottom y) (high_share top bottom x y) (weights_order top bottom y (omega arith)) (sizes top bottom x y below wx wy).high_least;
+  most = λ x y wx wy. (sizes top bottom x y below wx wy).high_most;
+}
 
 -- ---- what a document adds
-absent_adds : (share : Option ℕ → Option ℕ → ℤ) (b : Bool) → IsShare share → (if b then share None None else pos 0) ≡ pos 0
-absent_adds share true s = s.absent
+absent_adds : (share : Option ℕ → Option ℕ → ℤ) (b : Bool) → share None None ≡ pos 0 → (if b then share None None else pos 0) ≡ pos 0
+absent_adds share true s = s
 absent_adds share false s = refl
-
-adds_little : (b : Bool) (z : ℤ) → IsSmall (10 ^ 18) z → IsSmall (10 ^ 18) (if b then z else pos 0)
-adds_little true z h = h
-adds_little false z h = (omega (arith, ints), omega (arith, ints))
 
 abbrev adds : (Option ℕ → Option ℕ → ℤ) → (Option ℕ → Option ℕ → Bool) → List Mark → List Placed → List Placed → ℕ → ℤ
 adds share picked marks xs ys d = share_of share picked (mark_at marks d) (lookup xs d) (lookup ys d)
@@ -111,20 +102,36 @@ adds share picked marks xs ys d = share_of share picked (mark_at marks d) (looku
 same_ranks : (share : Option ℕ → Option ℕ → ℤ) (picked : Option ℕ → Option ℕ → Bool) (mark : Mark) (x y x' y' : Option ℕ) → x ≡ x' → y ≡ y' → share_of share picked mark x y ≡ share_of share picked mark x' y'
 same_ranks share picked mark x y x' y' e f = ap (λ o. share_of share picked mark o y) e ∙ ap (share_of share picked mark x') f
 
-left_small : (share : Option ℕ → Option ℕ → ℤ) (picked : Option ℕ → Option ℕ → Bool) (marks : List Mark) (xs ys : List Placed) → IsShare share → IsSmall (length marks * 10 ^ 18) (sum_left share picked marks xs ys)
-left_small share picked marks xs ys s =
-    small_from (adds share picked marks xs ys) 0 (length marks) (λ d. adds_little (picked_value (picked (lookup xs d) (lookup ys d)) (mark_at marks d)) (share (lookup xs d) (lookup ys d)) (s.small (lookup xs d) (lookup ys d)))
+-- ---- sizes of sums
+part_weight : (top bottom : ℕ) (x r : Option ℕ) → (x ≡ None) ⊎ (x ≡ r) → high_weight top bottom x ≤ high_weight top bottom r
+part_weight top bottom x r (inl e) = omega (arith, ap (high_weight top bottom) e)
+part_weight top bottom x r (inr e) = omega (arith, ap (high_weight top bottom) e)
 
-whole_small : (share : Option ℕ → Option ℕ → ℤ) (picked : Option ℕ → Option ℕ → Bool) (marks : List Mark) (a b : List ℕ) → IsShare share → IsSmall (length marks * 10 ^ 18) (sum_of share picked marks a b)
-whole_small share picked marks a b s =
-    small_from (λ d. share_of share picked (mark_at marks d) (rank a d) (rank b d)) 0 (length marks) (λ d. adds_little (picked_value (picked (rank a d) (rank b d)) (mark_at marks d)) (share (rank a d) (rank b d)) (s.small (rank a d) (rank b d)))
+part_between : (b : Bool) (z : ℤ) (x y m n : ℕ) → x ≤ m → y ≤ n → neg_ℤ (pos y) ≤ℤ z → z ≤ℤ pos x → (neg_ℤ (pos n) ≤ℤ (if b then z else pos 0)) × ((if b then z else pos 0) ≤ℤ pos m)
+part_between true z x y m n h k p q = (omega (arith, ints), omega (arith, ints))
+part_between false z x y m n h k p q = (omega (arith, ints), omega (arith, ints))
+
+-- a sum of shares is at most the weights of a whole ranking
+sum_small : (top bottom : ℕ) (share : Option ℕ → Option ℕ → ℤ) (picked : Option ℕ → Option ℕ → Bool) (marks : List Mark) (a b : List ℕ) (x y : ℕ → Option ℕ) → IsShare top bottom share → 0 < bottom → top ≤ bottom → IsRanking (length marks) a → IsRanking (length marks) b →
+    IsPart a x → IsPart b y → ((d : ℕ) → IsWithin 10000 (x d)) → ((d : ℕ) → IsWithin 10000 (y d)) →
+    (neg_ℤ (pos (10 ^ 18 + 10000)) ≤ℤ whole_sum (map (λ d. share_of share picked (mark_at marks d) (x d) (y d)) (range_with_len 0 (length marks)))) × (whole_sum (map (λ d. share_of share picked (mark_at marks d) (x d) (y d)) (range_with_len 0 (length marks))) ≤ℤ pos (10 ^ 18 + 10000))
+sum_small top bottom share picked marks a b x y s positive below ra rb px py wx wy =
+    let f = λ (d : ℕ). share_of share picked (mark_at marks d) (x d) (y d) in
+    let g = λ (d : ℕ). high_weight top bottom (rank a d) in
+    let h = λ (d : ℕ). high_weight top bottom (rank b d) in
+    let docs = range_with_len 0 (length marks) in
+    let between = whole_between f g h docs (every (λ d. (neg_ℤ (pos (h d)) ≤ℤ f d) × (f d ≤ℤ pos (g d))) (λ d.
+    part_between (picked_value (picked (x d) (y d)) (mark_at marks d)) (share (x d) (y d)) (high_weight top bottom (x d)) (high_weight top bottom (y d)) (g d) (h d) (part_weight top bottom (x d) (rank a d) (px d)) (part_weight top bottom (y d) (rank b d) (py d)) (s.least (x d) (y d) (wx d) (wy d)) (s.most (x d) (y d) (wx d) (wy d))) docs) in
+    let first = high_weights_most top bottom (length marks) a positive below ra in
+    let second = high_weights_most top bottom (length marks) b positive below rb in
+    (omega (arith, ints, between.0, second), omega (arith, ints, between.1, first))
 
 -- the sum so far, where what is left makes it whole
-pub so_far_small : (share : Option ℕ → Option ℕ → ℤ) (picked : Option ℕ → Option ℕ → Bool) (marks : List Mark) (a b : List ℕ) (xs ys : List Placed) (total : ℤ) → IsShare share → length marks ≤ 25000000 →
-    total +ℤ sum_left share picked marks xs ys ≡ sum_of share picked marks a b → IsSmall (10 ^ 26) total
-so_far_small share picked marks a b xs ys total s few e =
-    let left = left_small share picked marks xs ys s in
-    let whole = whole_small share picked marks a b s in
+pub so_far_small : (top bottom : ℕ) (share : Option ℕ → Option ℕ → ℤ) (picked : Option ℕ → Option ℕ → Bool) (marks : List Mark) (a b : List ℕ) (xs ys : List Placed) (total : ℤ) → IsShare top bottom share → 0 < bottom → top ≤ bottom → IsRanking (length marks) a → IsRanking (length marks) b →
+    IsLeft (length marks) a xs → IsLeft (length marks) b ys → total +ℤ sum_left share picked marks xs ys ≡ sum_of share picked marks a b → (neg_ℤ (pos (4 * 10 ^ 18)) ≤ℤ total) × (total ≤ℤ pos (4 * 10 ^ 18))
+so_far_small top bottom share picked marks a b xs ys total s positive below ra rb lx ly e =
+    let left = sum_small top bottom share picked marks a b (lookup xs) (lookup ys) s positive below ra rb lx.ranked ly.ranked lx.ranks ly.ranks in
+    let whole = sum_small top bottom share picked marks a b (rank a) (rank b) s positive below ra rb (λ d. inr refl) (λ d. inr refl) (λ d. rank_within a 10000 d ra.short) (λ d. rank_within b 10000 d rb.short) in
     (omega (arith, ints, left, whole, e), omega (arith, ints, left, whole, e))
 
 -- ---- the walk
@@ -136,9 +143,9 @@ all_left share picked marks a b xs ys hx hy =
     omega (arith, ints, same)
 
 -- at the end no document is left
-pub none_left : (share : Option ℕ → Option ℕ → ℤ) (picked : Option ℕ → Option ℕ → Bool) (marks : List Mark) (xs ys : List Placed) (total whole : ℤ) → IsShare share → (xs ≡ []) × (ys ≡ []) → total +ℤ sum_left share picked marks xs ys ≡ whole → total ≡ whole
-none_left share picked marks xs ys total whole s gone e =
-    let empty : sum_left share picked marks [] [] ≡ pos 0 = nothing_from (adds share picked marks [] []) 0 (length marks) (λ d. absent_adds share (picked_value (picked None None) (mark_at marks d)) s) in
+pub none_left : (top bottom : ℕ) (share : Option ℕ → Option ℕ → ℤ) (picked : Option ℕ → Option ℕ → Bool) (marks : List Mark) (xs ys : List Placed) (total whole : ℤ) → IsShare top bottom share → (xs ≡ []) × (ys ≡ []) → total +ℤ sum_left share picked marks xs ys ≡ whole → total ≡ whole
+none_left top bottom share picked marks xs ys total whole s gone e =
+    let empty : sum_left share picked marks [] [] ≡ pos 0 = nothing_from (adds share picked marks [] []) 0 (length marks) (λ d. absent_adds share (picked_value (picked None None) (mark_at marks d)) s.absent) in
     let left : sum_left share picked marks xs ys ≡ sum_left share picked marks [] [] = ap (λ (us : List Placed). sum_left share picked marks us ys) gone.0 ∙ ap (sum_left share picked marks []) gone.1 in
     omega (arith, ints, empty, left, e)
 
@@ -153,39 +160,43 @@ no_longer_there : (es : List Placed) (doc : ℕ) (r : Option ℕ) → Taken es d
 no_longer_there es doc r t = absent_below doc (after es doc) t.rest
 
 -- a document that is taken takes what it adds
-step : (share : Option ℕ → Option ℕ → ℤ) (picked : Option ℕ → Option ℕ → Bool) (marks : List Mark) (xs ys : List Placed) (p : Pair) → IsShare share → Stepped xs ys p → p.doc < length marks →
+step : (top bottom : ℕ) (share : Option ℕ → Option ℕ → ℤ) (picked : Option ℕ → Option ℕ → Bool) (marks : List Mark) (xs ys : List Placed) (p : Pair) → IsShare top bottom share → Stepped xs ys p → p.doc < length marks →
     sum_left share picked marks xs ys ≡ share_of share picked (mark_at marks p.doc) p.first p.second +ℤ sum_left share picked marks (after xs p.doc) (after ys p.doc)
-step share picked marks xs ys p s t within =
+step top bottom share picked marks xs ys p s t within =
     let xs' = after xs p.doc in
     let ys' = after ys p.doc in
     let mark = mark_at marks p.doc in
     let taken = apart_once (adds share picked marks xs ys) (adds share picked marks xs' ys') p.doc 0 (length marks) (omega arith) (omega arith)
     (λ d ne. same_ranks share picked (mark_at marks d) (lookup xs d) (lookup ys d) (lookup xs' d) (lookup ys' d) (others_stay xs p.doc p.first d t.first ne) (others_stay ys p.doc p.second d t.second ne))
-    (same_ranks share picked mark (lookup xs' p.doc) (lookup ys' p.doc) None None (no_longer_there xs p.doc p.first t.first) (no_longer_there ys p.doc p.second t.second) ∙ absent_adds share (picked_value (picked None None) mark) s) in
+    (same_ranks share picked mark (lookup xs' p.doc) (lookup ys' p.doc) None None (no_longer_there xs p.doc p.first t.first) (no_longer_there ys p.doc p.second t.second) ∙ absent_adds share (picked_value (picked None None) mark) s.absent) in
     let here : adds share picked marks xs ys p.doc ≡ share_of share picked mark p.first p.second = same_ranks share picked mark (lookup xs p.doc) (lookup ys p.doc) p.first p.second (sym t.first.here) (sym t.second.here) in
     taken ∙ ap (λ z. z +ℤ sum_left share picked marks xs' ys') here
 
-pub one_less : (share : Option ℕ → Option ℕ → ℤ) (picked : Option ℕ → Option ℕ → Bool) (marks : List Mark) (xs ys us vs : List Placed) (p : Pair) (mark : Mark) (total new whole : ℤ) → IsShare share → Stepped xs ys p → p.doc < length marks → us ≡ after xs p.doc → vs ≡ after ys p.doc →
+pub one_less : (top bottom : ℕ) (share : Option ℕ → Option ℕ → ℤ) (picked : Option ℕ → Option ℕ → Bool) (marks : List Mark) (xs ys us vs : List Placed) (p : Pair) (mark : Mark) (total new whole : ℤ) → IsShare top bottom share → Stepped xs ys p → p.doc < length marks → us ≡ after xs p.doc → vs ≡ after ys p.doc →
     mark ≡ mark_at marks p.doc → new ≡ total +ℤ share_of share picked mark p.first p.second → total +ℤ sum_left share picked marks xs ys ≡ whole → new +ℤ sum_left share picked marks us vs ≡ whole
-one_less share picked marks xs ys us vs p mark total new whole s t within eu ev em en e =
-    let taken = step share picked marks xs ys p s t within in
+one_less top bottom share picked marks xs ys us vs p mark total new whole s t within eu ev em en e =
+    let taken = step top bottom share picked marks xs ys p s t within in
     let left : sum_left share picked marks us vs ≡ sum_left share picked marks (after xs p.doc) (after ys p.doc) = ap (λ (zs : List Placed). sum_left share picked marks zs vs) eu ∙ ap (sum_left share picked marks (after xs p.doc)) ev in
     let here : share_of share picked mark p.first p.second ≡ share_of share picked (mark_at marks p.doc) p.first p.second = ap (λ m. share_of share picked m p.first p.second) em in
     omega (arith, ints, taken, left, here, en, e)
 
 -- ---- what is left of a run
-pub left_after : (n doc : ℕ) (r : Option ℕ) (es us : List Placed) → IsLeft n es → Taken es doc r → us ≡ after es doc → IsLeft n us
-left_after n doc r es us h t e = subst (IsLeft n) (sym e) (record {
+pub left_after : (n : ℕ) (docs : List ℕ) (doc : ℕ) (r : Option ℕ) (es us : List Placed) → IsLeft n docs es → Taken es doc r → us ≡ after es doc → IsLeft n docs us
+left_after n docs doc r es us h t e = subst (IsLeft n docs) (sym e) (record {
   ascending = t.ascending;
   within = within_after n doc es h.within;
+  ranked = λ d. elim (cases_lt doc d) [
+    | inl later ↦ subst (λ (o : Option ℕ). (o ≡ None) ⊎ (o ≡ rank docs d)) (sym (t.above d later)) (h.ranked d)
+    | inr before ↦ inl (absent_below d (after es doc) (further d doc (after es doc) (omega arith) t.rest))
+  ];
   ranks = λ d. elim (cases_lt doc d) [
     | inl later ↦ subst (IsWithin 10000) (sym (t.above d later)) (h.ranks d)
     | inr before ↦ subst (IsWithin 10000) (sym (absent_below d (after es doc) (further d doc (after es doc) (omega arith) t.rest))) tt
   ];
 })
 
-pub taken_within : (n doc : ℕ) (r : Option ℕ) (es : List Placed) → IsLeft n es → Taken es doc r → IsWithin 10000 r
-taken_within n doc r es h t = subst (IsWithin 10000) (sym t.here) (h.ranks doc)
+pub taken_within : (n : ℕ) (docs : List ℕ) (doc : ℕ) (r : Option ℕ) (es : List Placed) → IsLeft n docs es → Taken es doc r → IsWithin 10000 r
+taken_within n docs doc r es h t = subst (IsWithin 10000) (sym t.here) (h.ranks doc)
 
 -- a document that has a rank in a list is one of them
 in_universe : (n doc r : ℕ) (docs : List ℕ) (s : ℕ) → AllByRecursion (λ d. d < n) docs → position_from (λ each. nat_eq each doc) s docs ≡ Some r → doc < n
@@ -207,14 +218,18 @@ within_universe n (e ∷ es) h = (h e.doc e.rank (ap (λ b. if b then Some e.ran
     at d r q true t = subst (λ (m : ℕ). m < n) (nat_eq-true e.doc d t) (h e.doc e.rank (ap (λ b. if b then Some e.rank else lookup es e.doc) (itself e.doc)))
     at d r q false t = h d r (ap (λ b. if b then Some e.rank else lookup es d) t ∙ q)
 
-pub left_first : (n : ℕ) (docs : List ℕ) (es : List Placed) → IsRanking n docs → IsAscending es → ((d : ℕ) → lookup es d ≡ rank docs d) → IsLeft n es
+pub left_first : (n : ℕ) (docs : List ℕ) (es : List Placed) → IsRanking n docs → IsAscending es → ((d : ℕ) → lookup es d ≡ rank docs d) → IsLeft n docs es
 left_first n docs es r h k = record {
   ascending = h;
   within = within_universe n es (λ d p q. in_universe n d p docs 1 (recursion_from_All (λ d. d < n) docs r.within) (sym (k d) ∙ q));
+  ranked = λ d. inr (k d);
   ranks = λ d. subst (IsWithin 10000) (sym (k d)) (rank_within docs 10000 d r.short);
 }
 
 -- ---- the runs exchanged
+abbrev ends : (lx hx ly hy : ℕ) → Bool → Bool → ℤ × ℤ
+ends lx hx ly hy b c = (if b then pos (lx - hy) else if c then pos lx -ℤ pos hy else pos 0, if b then pos hx -ℤ pos ly else if c then neg_ℤ (pos (ly - hx)) else pos 0)
+
 turned_ends : (lx hx ly hy : ℕ) (b c v w : Bool) → v ≡ b → w ≡ c → (ends lx hx ly hy b c).0 ≡ neg_ℤ (ends ly hy lx hx c b).1 → (ends lx hx ly hy v w).0 ≡ neg_ℤ (ends ly hy lx hx w v).1
 turned_ends lx hx ly hy b c v w e f h = rw (e, f) h
 

@@ -1,21 +1,24 @@
 ghost use Rattle.std.specs.Prelude.{◌≡◌, ◌+◌, ◌-◌, ◌≤◌, ◌<◌, ◌^◌, ◌≤ℤ◌, ◌+ℤ◌, ◌-ℤ◌, pos, neg_ℤ, length, map, All, Some, IfOk};
 ghost use Rattle.desk_model.specs.Completion.{with_picked};
 ghost use Rattle.measure_laws.specs.Ranks.{IsWithin, comes_before};
+ghost use Rattle.measure_laws.specs.Pairs.{rank_of};
 ghost use Rattle.desk_model.specs.Score.{gained};
 ghost use Rattle.measure_laws.specs.Powers.{low_weight, high_weight, low_power, high_power};
 ghost use Rattle.measure_laws.specs.Shares.{low_share, high_share, biased_truth, share_sum};
 ghost use Rattle.fractions.specs.Ends.{IsShort};
-ghost use Rattle.rbp.specs.Persistence.{IsLoose};
+ghost use Rattle.rbp.specs.Persistence.{IsLoose, IsSmall, IsWeightSum};
 ghost use Rattle.rbp.specs.Walk.{share_of, is_in_least, is_in_most};
 ghost use Rattle.measure_core.specs.Laws.{AreMet, AreValues};
 ghost use Rattle.measure_core.specs.Made.{IsMadeFor};
 ghost use Rattle.desk_model.specs.MeasureText.{IsPersistence};
 ghost use Rattle.desk_model.specs.declared.types.MeasureName.TheVariants.{Biased as B};
 
+use crate::share::Share;
+use crate::weights::Weights;
 use desk_model::{Mark, MeasureName, Memory, Ranking};
 use fractions::{Powers, Span};
 use measure_core::{Cell, Measure, Steps};
-use measure_laws::{after, next_pair};
+use measure_laws::{after, next_ranks};
 use recip_rank::firsts::{is_true, rank_in};
 use std::alloc::Global;
 use std::marker::Model;
@@ -30,6 +33,7 @@ pub struct Rbp {
     top: u32,
     bottom: u32,
     powers: Powers,
+    weights: Weights,
 }
 
 impl Model for Rbp {
@@ -39,14 +43,14 @@ impl Model for Rbp {
 
     ghost view = { λ r. record { top = r.top; bottom = r.bottom } };
 
-    ghost invariant = { λ r. IsKept r.top r.bottom r.powers };
+    ghost invariant = { λ r. IsKept r.top r.bottom r.powers r.weights };
 }
 
 /// The sums of the shares of the documents that are relevant in the least case and in the most case.
 #[derive(Clone, Copy)]
 struct Shares {
-    least: Span,
-    most: Span,
+    least: Share,
+    most: Share,
 }
 
 /// Whether a rank comes before another, where an absent one comes last.
@@ -93,10 +97,12 @@ impl Rbp {
         ensures made { IfOk result (λ r. IsMadeFor (B top bottom) (⟦<Rbp as Measure>⟧.measured r) (⟦<Rbp as Measure>⟧.cell_of r) (⟦<Rbp as Measure>⟧.bounds_of r)) }
     {
         let powers = Powers::new(alloc, top, bottom, 10000)?;
+        let weights = Weights::new(alloc, top, bottom, &powers)?;
         Ok(Rbp {
             top,
             bottom,
             powers,
+            weights,
         })
     }
 
@@ -114,71 +120,83 @@ impl Rbp {
         }
     }
 
-    /// What a document with these two ranks adds to the difference.
-    fn share(&self, x: Option<u32>, y: Option<u32>) -> Span
-        requires first { IsWithin 10000 x }
-        requires second { IsWithin 10000 y }
-        ensures lo { result.lo ≡ low_share self.now.top self.now.bottom x y }
-        ensures hi { result.hi ≡ high_share self.now.top self.now.bottom x y }
-        ensures lo_least { neg_ℤ (pos (10 ^ 18)) ≤ℤ result.lo }
-        ensures lo_most { result.lo ≤ℤ pos (10 ^ 18) }
-        ensures hi_least { neg_ℤ (pos (10 ^ 18)) ≤ℤ result.hi }
-        ensures hi_most { result.hi ≤ℤ pos (10 ^ 18) }
+    /// The lower end of what a document with these two ranks adds to the difference.
+    #[inline]
+    fn lower_share(&self, x: u32, y: u32) -> i64
+        requires x { x < 32768 }
+        requires y { y < 32768 }
+        requires first { IsWithin 10000 (rank_of x) }
+        requires second { IsWithin 10000 (rank_of y) }
+        ensures value { result ≡ low_share self.now.top self.now.bottom (rank_of x) (rank_of y) }
+        ensures small { IsWeightSum result }
     {
-        let first = self.weight_at(x);
-        let second = self.weight_at(y);
-        let lo = first.lo - second.hi;
-        let hi = first.hi - second.lo;
-        if is_before(x, y) {
-            Span {
-                lo: if lo < 0 { 0 } else { lo },
-                hi,
-            }
-        } else if is_before(y, x) {
-            Span {
-                lo,
-                hi: if hi < 0 { hi } else { 0 },
-            }
+        let lo = self.weights.at(x).low - self.weights.at(y).high;
+        let missing = if lo < 0 { lo } else { 0 };
+        if x < y {
+            lo - missing
+        } else if y < x {
+            lo
         } else {
-            Span { lo: 0, hi: 0 }
+            0
+        }
+    }
+
+    /// Its upper end.
+    #[inline]
+    fn upper_share(&self, x: u32, y: u32) -> i64
+        requires x { x < 32768 }
+        requires y { y < 32768 }
+        requires first { IsWithin 10000 (rank_of x) }
+        requires second { IsWithin 10000 (rank_of y) }
+        ensures value { result ≡ high_share self.now.top self.now.bottom (rank_of x) (rank_of y) }
+        ensures small { IsWeightSum result }
+    {
+        let hi = self.weights.at(x).high - self.weights.at(y).low;
+        let lowered = if hi < 0 { hi } else { 0 };
+        if x < y {
+            hi
+        } else if y < x {
+            lowered
+        } else {
+            0
+        }
+    }
+
+    /// What a document with these two ranks adds to the difference.
+    #[inline]
+    fn share(&self, x: u32, y: u32) -> Share
+        requires x { x < 32768 }
+        requires y { y < 32768 }
+        requires first { IsWithin 10000 (rank_of x) }
+        requires second { IsWithin 10000 (rank_of y) }
+        ensures lo { result.lo ≡ low_share self.now.top self.now.bottom (rank_of x) (rank_of y) }
+        ensures hi { result.hi ≡ high_share self.now.top self.now.bottom (rank_of x) (rank_of y) }
+        ensures small { IsSmall result }
+    {
+        Share {
+            lo: self.lower_share(x, y),
+            hi: self.upper_share(x, y),
         }
     }
 
     /// The sums with one more document, by its two ranks and its mark.
     #[inline]
-    fn with_share(&self, sums: Shares, x: Option<u32>, y: Option<u32>, mark: Mark) -> Shares
-        requires first { IsWithin 10000 x }
-        requires second { IsWithin 10000 y }
-        requires least { IsLoose sums.least }
-        requires most { IsLoose sums.most }
-        ensures least_lo { result.least.lo ≡ sums.least.lo +ℤ share_of (low_share self.now.top self.now.bottom) is_in_least mark x y }
-        ensures least_hi { result.least.hi ≡ sums.least.hi +ℤ share_of (high_share self.now.top self.now.bottom) is_in_least mark x y }
-        ensures most_lo { result.most.lo ≡ sums.most.lo +ℤ share_of (low_share self.now.top self.now.bottom) is_in_most mark x y }
-        ensures most_hi { result.most.hi ≡ sums.most.hi +ℤ share_of (high_share self.now.top self.now.bottom) is_in_most mark x y }
+    fn with_share(&self, sums: Shares, x: u32, y: u32, mark: Mark) -> Shares
+        requires x { x < 32768 }
+        requires y { y < 32768 }
+        requires first { IsWithin 10000 (rank_of x) }
+        requires second { IsWithin 10000 (rank_of y) }
+        requires least { IsSmall sums.least }
+        requires most { IsSmall sums.most }
+        ensures least_lo { result.least.lo ≡ sums.least.lo +ℤ share_of (low_share self.now.top self.now.bottom) is_in_least mark (rank_of x) (rank_of y) }
+        ensures least_hi { result.least.hi ≡ sums.least.hi +ℤ share_of (high_share self.now.top self.now.bottom) is_in_least mark (rank_of x) (rank_of y) }
+        ensures most_lo { result.most.lo ≡ sums.most.lo +ℤ share_of (low_share self.now.top self.now.bottom) is_in_most mark (rank_of x) (rank_of y) }
+        ensures most_hi { result.most.hi ≡ sums.most.hi +ℤ share_of (high_share self.now.top self.now.bottom) is_in_most mark (rank_of x) (rank_of y) }
     {
-        match mark {
-            Mark::Other => sums,
-            Mark::Relevant => {
-                let share = self.share(x, y);
-                Shares {
-                    least: sums.least.add(share),
-                    most: sums.most.add(share),
-                }
-            }
-            Mark::Unjudged => {
-                let share = self.share(x, y);
-                if is_before(y, x) {
-                    Shares {
-                        least: sums.least.add(share),
-                        most: sums.most,
-                    }
-                } else {
-                    Shares {
-                        least: sums.least,
-                        most: sums.most.add(share),
-                    }
-                }
-            }
+        let share = self.share(x, y);
+        Shares {
+            least: sums.least.plus_if(is_true(y < x, mark), share),
+            most: sums.most.plus_if(is_true(x < y, mark), share),
         }
     }
 
@@ -190,21 +208,22 @@ impl Rbp {
         ensures least_hi { result.least.hi ≡ share_sum (high_share self.now.top self.now.bottom) marks.now a.now b.now }
         ensures most_lo { result.most.lo ≡ neg_ℤ (share_sum (high_share self.now.top self.now.bottom) marks.now b.now a.now) }
         ensures most_hi { result.most.hi ≡ neg_ℤ (share_sum (low_share self.now.top self.now.bottom) marks.now b.now a.now) }
-        ensures least_loose { IsLoose result.least }
-        ensures most_loose { IsLoose result.most }
+        ensures least_small { IsSmall result.least }
+        ensures most_small { IsSmall result.most }
     {
         // What is kept of the persistence bounds the sums.
         let _ = &self.top;
         let mut sums = Shares {
-            least: Span { lo: 0, hi: 0 },
-            most: Span { lo: 0, hi: 0 },
+            least: Share { lo: 0, hi: 0 },
+            most: Share { lo: 0, hi: 0 },
         };
         let mut first = a.by_doc();
         let mut second = b.by_doc();
-        while let Some(pair) = next_pair(first, second) {
-            first = after(first, pair.doc);
-            second = after(second, pair.doc);
-            sums = self.with_share(sums, pair.first, pair.second, marks[pair.doc as usize]);
+        while let Some(ranks) = next_ranks(first, second) {
+            first = after(first, ranks.doc);
+            second = after(second, ranks.doc);
+            let mark = marks[ranks.doc as usize];
+            sums = self.with_share(sums, ranks.first, ranks.second, mark);
         }
         sums
     }
@@ -230,8 +249,8 @@ impl Rbp {
 
     /// The ends of 10^18 times the least difference, by the shares of documents and how many ranks the
     /// second run has.
-    fn less_tail(&self, shares: Span, ranks: u32) -> Span
-        requires shares { IsLoose shares }
+    fn less_tail(&self, shares: Share, ranks: u32) -> Span
+        requires shares { IsSmall shares }
         requires ranks { ranks ≤ 10000 }
         ensures lo { result.lo ≡ shares.lo -ℤ pos (high_power self.now.top self.now.bottom ranks) }
         ensures hi { result.hi ≡ shares.hi -ℤ pos (low_power self.now.top self.now.bottom ranks - 1) }
@@ -240,8 +259,8 @@ impl Rbp {
         let most = self.tail_most(ranks);
         let least = self.tail_least(ranks);
         Span {
-            lo: shares.lo - most,
-            hi: shares.hi - least,
+            lo: i128::from(shares.lo) - most,
+            hi: i128::from(shares.hi) - least,
         }
     }
 

@@ -75,11 +75,7 @@ fn earlier_of(x: Option<u32>, y: Option<u32>) -> Option<u32>
 pub fn is_true(picked: bool, mark: Mark) -> bool
     ensures { result ≡ picked_value picked mark }
 {
-    match mark {
-        Mark::Unjudged => picked,
-        Mark::Relevant => true,
-        Mark::Other => false,
-    }
+    mark == Mark::Relevant || (picked && mark == Mark::Unjudged)
 }
 
 /// The rank of the first relevant document, where all the unjudged ones are relevant or none is.
