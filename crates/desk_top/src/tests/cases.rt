@@ -8,6 +8,7 @@ use std::sync::ledger::Blank;
 use std::test::Fail;
 
 /// A call and what must come of it.
+#[derive(Drop)]
 struct Case<'t> {
     files: &'t [(&'t str, &'t [u8])],
     words: &'t [&'t str],
