@@ -1,13 +1,10 @@
 //! Rank-biased precision against the plain sum of its definition, in every completion of small topics
 //! with some short tails.
-ghost use Rattle.std.specs.Prelude.{◌≤◌};
-ghost use Rattle.desk_model.specs.MeasureText.{IsPersistence};
-
 use crate::tests::{MARKS, O, R, RANKINGS, U, cell_once, ranking};
 use any_measure::AnyMeasure;
 use desk_model::{Mark, MeasureName};
 use fractions::Span;
-use measure_core::Cell;
+use measure_core::{Cell, Measure};
 use std::alloc::Global;
 use std::marker::Brand;
 use std::process::Abort;
@@ -62,11 +59,13 @@ fn has(set: u32, doc: u32) -> bool {
 
 /// Whether the relevant documents are those of a completion of the marks.
 fn completes(relevant: u32, marks: &[Mark]) -> bool {
-    for (doc, mark) in marks.iter().enumerate() {
-        let held = has(relevant, doc as u32);
+    let mut doc: u32 = 0;
+    for mark in marks {
+        let held = has(relevant, doc);
         if (*mark == R && !held) || (*mark == O && held) {
             return false;
         }
+        doc = doc.wrapping_add(1);
     }
     true
 }
@@ -144,7 +143,10 @@ fn compare(
             let within = holds(cell, persistence, relevant, runs);
             assert!(rt; within, "{relevant} of {runs:?} under {marks:?}: {cell:?}");
             let within = is_bounded(bounds, persistence, relevant, runs.0);
-            assert!(rt; within, "{relevant} of {runs:?} under {marks:?}: {bounds:?}");
+            assert!(rt;
+                within,
+                "{relevant} of {runs:?} under {marks:?}: {bounds:?}"
+            );
             completions = completions.wrapping_add(1);
         }
     }
@@ -181,7 +183,10 @@ fn biased_holds_every_completion_with_short_tails(rt: HostRuntime) -> Result<(),
 fn plain_sums_by_hand(rt: HostRuntime) {
     assert_eq!(rt; score(5, 0b0001, &[0, 1], &[]), 5_000_000);
     assert_eq!(rt; score(5, 0b0010, &[0, 1], &[true]), 3_750_000);
-    assert_eq!(rt; score(8, 0b0011, &[1, 0], &[false, true]), 3_600_000 + 1_024_000);
+    assert_eq!(rt;
+        score(8, 0b0011, &[1, 0], &[false, true]),
+        3_600_000 + 1_024_000
+    );
     assert_eq!(rt; difference(5_000_000, 6_000_000), -TENTH);
 }
 
