@@ -1,4 +1,4 @@
-ghost use Rattle.std.specs.Prelude.{◌≡◌, ◌↔◌, [], None, IfSome};
+ghost use Rattle.std.specs.Prelude.{◌≡◌, ◌↔◌, [], None, IfSome, if◌then◌else◌, nat_le};
 ghost use Rattle.desk_model.specs.Placed.{IsAscending};
 ghost use Rattle.measure_laws.specs.Pairs.{next_pair, after, Stepped};
 
@@ -65,4 +65,12 @@ pub fn after(list: &[Placed], doc: u32) -> &[Placed]
         [x, rest @ ..] if x.doc == doc => rest,
         _ => list,
     }
+}
+
+/// How many places a walk over two lists goes on from the first of two: none where its document comes
+/// later.
+pub fn passed(x: Placed, y: Placed) -> usize
+    ensures { result ≡ (if nat_le x.doc y.doc then 1 else 0) }
+{
+    usize::from(x.doc <= y.doc)
 }

@@ -17,6 +17,6 @@ pub record IsKept (top bottom : ℕ) (known : Known) : Type 0 where
   pub bottom_is : known.bottom ≡ bottom
   pub last_is : known.last ≡ 10000
 
--- from -10^26 to 10^26
+-- from -10^27 to 10^27
 abbrev pub IsLoose : Span → Type 0
-IsLoose s = ((neg_ℤ (pos (10 ^ 26)) ≤ℤ s.lo) × (s.lo ≤ℤ pos (10 ^ 26))) × ((neg_ℤ (pos (10 ^ 26)) ≤ℤ s.hi) × (s.hi ≤ℤ pos (10 ^ 26)))
+IsLoose s = ((neg_ℤ (pos (10 ^ 27)) ≤ℤ s.lo) × (s.lo ≤ℤ pos (10 ^ 27))) × ((neg_ℤ (pos (10 ^ 27)) ≤ℤ s.hi) × (s.hi ≤ℤ pos (10 ^ 27)))

@@ -1,21 +1,20 @@
-ghost use Rattle.std.specs.Prelude.{◌≡◌, ◌+◌, ◌-◌, ◌≤◌, ◌<◌, ◌^◌, ◌≤ℤ◌, ◌+ℤ◌, ◌-ℤ◌, pos, neg_ℤ, length, map, All, Some, IfOk};
-ghost use Rattle.desk_model.specs.Completion.{with_picked};
+ghost use Rattle.std.specs.Prelude.{◌≡◌, ◌+◌, ◌-◌, ◌≤◌, ◌<◌, ◌^◌, ◌≤ℤ◌, ◌+ℤ◌, ◌-ℤ◌, if◌then◌else◌, true, false, nat_eq, pos, neg_ℤ, length, All, Some, IfOk};
+ghost use Rattle.desk_model.specs.Completion.{picked_value};
 ghost use Rattle.measure_laws.specs.Ranks.{IsWithin, comes_before};
-ghost use Rattle.desk_model.specs.Score.{gained};
 ghost use Rattle.measure_laws.specs.Powers.{low_weight, high_weight, low_power, high_power};
 ghost use Rattle.measure_laws.specs.Shares.{low_share, high_share, biased_truth, share_sum};
 ghost use Rattle.fractions.specs.Ends.{IsShort};
 ghost use Rattle.rbp.specs.Persistence.{IsLoose};
-ghost use Rattle.rbp.specs.Walk.{share_of, is_in_least, is_in_most};
+ghost use Rattle.rbp.specs.Walk.{low_worth, high_worth, correction, correction_sum, is_in_least, is_in_most};
 ghost use Rattle.measure_core.specs.Laws.{AreMet, AreValues};
 ghost use Rattle.measure_core.specs.Made.{IsMadeFor};
 ghost use Rattle.desk_model.specs.MeasureText.{IsPersistence};
 ghost use Rattle.desk_model.specs.declared.types.MeasureName.TheVariants.{Biased as B};
 
-use desk_model::{Mark, MeasureName, Memory, Ranking};
+use desk_model::{Mark, MeasureName, Memory, Placed, Ranking};
 use fractions::{Powers, Span};
 use measure_core::{Cell, Measure, Steps};
-use measure_laws::{after, next_pair};
+use measure_laws::passed;
 use recip_rank::firsts::{is_true, rank_in};
 use std::alloc::Global;
 use std::marker::Model;
@@ -42,11 +41,64 @@ impl Model for Rbp {
     ghost invariant = { λ r. IsKept r.top r.bottom r.powers };
 }
 
+/// No weight.
+const NOTHING: Span = Span { lo: 0, hi: 0 };
+
+/// The sums of the weights of a run's relevant documents, and of its relevant and unjudged ones.
+#[derive(Clone, Copy)]
+struct Weights {
+    relevant: Span,
+    possible: Span,
+}
+
 /// The sums of the shares of the documents that are relevant in the least case and in the most case.
 #[derive(Clone, Copy)]
 struct Shares {
     least: Span,
     most: Span,
+}
+
+/// A span, or nothing where it does not count.
+fn span_if(counts: bool, span: Span) -> Span
+    ensures lo { result.lo ≡ (if counts then span.lo else pos 0) }
+    ensures hi { result.hi ≡ (if counts then span.hi else pos 0) }
+{
+    if counts { span } else { NOTHING }
+}
+
+/// A number, or 0 where it is raised or lowered to that.
+fn unless(zero: bool, number: i128) -> i128
+    ensures { result ≡ (if zero then pos 0 else number) }
+{
+    if zero { 0 } else { number }
+}
+
+/// By how much each end of a span is beyond that of another.
+fn beyond(span: Span, other: Span) -> Span
+    requires span { IsLoose span }
+    requires other { IsLoose other }
+    ensures lo { result.lo ≡ span.lo -ℤ other.lo }
+    ensures hi { result.hi ≡ span.hi -ℤ other.hi }
+    ensures short { IsShort result }
+{
+    Span {
+        lo: span.lo - other.lo,
+        hi: span.hi - other.hi,
+    }
+}
+
+/// The shares of the documents of two runs that have none in common, by their weights.
+fn alone(first: Span, second: Span) -> Span
+    requires first { IsLoose first }
+    requires second { IsLoose second }
+    ensures lo { result.lo ≡ first.lo -ℤ second.hi }
+    ensures hi { result.hi ≡ first.hi -ℤ second.lo }
+    ensures short { IsShort result }
+{
+    Span {
+        lo: first.lo - second.hi,
+        hi: first.hi - second.lo,
+    }
 }
 
 /// Whether a rank comes before another, where an absent one comes last.
@@ -114,76 +166,156 @@ impl Rbp {
         }
     }
 
-    /// What a document with these two ranks adds to the difference.
-    fn share(&self, x: Option<u32>, y: Option<u32>) -> Span
-        requires first { IsWithin 10000 x }
-        requires second { IsWithin 10000 y }
-        ensures lo { result.lo ≡ low_share self.now.top self.now.bottom x y }
-        ensures hi { result.hi ≡ high_share self.now.top self.now.bottom x y }
-        ensures lo_least { neg_ℤ (pos (10 ^ 18)) ≤ℤ result.lo }
-        ensures lo_most { result.lo ≤ℤ pos (10 ^ 18) }
-        ensures hi_least { neg_ℤ (pos (10 ^ 18)) ≤ℤ result.hi }
-        ensures hi_most { result.hi ≤ℤ pos (10 ^ 18) }
+    /// What a document of a run that the other lacks adds to the sums of weights.
+    #[inline]
+    fn with_weight(&self, sums: Weights, rank: u32, mark: Mark) -> Weights
+        requires rank { IsWithin 10000 (Some rank) }
+        requires relevant { IsLoose sums.relevant }
+        requires possible { IsLoose sums.possible }
+        ensures relevant_lo { result.relevant.lo ≡ sums.relevant.lo +ℤ (if picked_value false mark then pos (low_weight self.now.top self.now.bottom (Some rank)) else pos 0) }
+        ensures relevant_hi { result.relevant.hi ≡ sums.relevant.hi +ℤ (if picked_value false mark then pos (high_weight self.now.top self.now.bottom (Some rank)) else pos 0) }
+        ensures possible_lo { result.possible.lo ≡ sums.possible.lo +ℤ (if picked_value true mark then pos (low_weight self.now.top self.now.bottom (Some rank)) else pos 0) }
+        ensures possible_hi { result.possible.hi ≡ sums.possible.hi +ℤ (if picked_value true mark then pos (high_weight self.now.top self.now.bottom (Some rank)) else pos 0) }
     {
-        let first = self.weight_at(x);
-        let second = self.weight_at(y);
-        let lo = first.lo - second.hi;
-        let hi = first.hi - second.lo;
-        if is_before(x, y) {
-            Span {
-                lo: if lo < 0 { 0 } else { lo },
-                hi,
-            }
-        } else if is_before(y, x) {
-            Span {
-                lo,
-                hi: if hi < 0 { hi } else { 0 },
-            }
-        } else {
-            Span { lo: 0, hi: 0 }
+        let weight = self.weight_at(Some(rank));
+        Weights {
+            relevant: sums.relevant.add(span_if(mark == Mark::Relevant, weight)),
+            possible: sums.possible.add(span_if(mark != Mark::Other, weight)),
         }
     }
 
-    /// The sums with one more document, by its two ranks and its mark.
+    /// The sums of the weights of a run's documents.
+    fn weights(&self, marks: &[Mark], docs: &[u32]) -> Weights
+        requires known { All (λ doc. doc < length marks.now) docs.now }
+        requires few { length docs.now ≤ 10000 }
+        ensures relevant_lo { result.relevant.lo ≡ pos (low_worth self.now.top self.now.bottom false marks.now docs.now) }
+        ensures relevant_hi { result.relevant.hi ≡ pos (high_worth self.now.top self.now.bottom false marks.now docs.now) }
+        ensures possible_lo { result.possible.lo ≡ pos (low_worth self.now.top self.now.bottom true marks.now docs.now) }
+        ensures possible_hi { result.possible.hi ≡ pos (high_worth self.now.top self.now.bottom true marks.now docs.now) }
+        ensures relevant_loose { IsLoose result.relevant }
+        ensures possible_loose { IsLoose result.possible }
+    {
+        // What is kept of the persistence bounds the weights.
+        let _ = &self.top;
+        let mut sums = Weights {
+            relevant: NOTHING,
+            possible: NOTHING,
+        };
+        for (place, doc) in docs.iter().enumerate() {
+            sums = self.with_weight(sums, place as u32 + 1, marks[*doc as usize]);
+        }
+        sums
+    }
+
+    /// What a document with these two ranks adds to the difference.
     #[inline]
-    fn with_share(&self, sums: Shares, x: Option<u32>, y: Option<u32>, mark: Mark) -> Shares
-        requires first { IsWithin 10000 x }
-        requires second { IsWithin 10000 y }
+    fn share(&self, x: u32, y: u32) -> Span
+        requires first { IsWithin 10000 (Some x) }
+        requires second { IsWithin 10000 (Some y) }
+        ensures lo { result.lo ≡ low_share self.now.top self.now.bottom (Some x) (Some y) }
+        ensures hi { result.hi ≡ high_share self.now.top self.now.bottom (Some x) (Some y) }
+        ensures loose { IsLoose result }
+    {
+        // What is kept of the persistence orders the weights.
+        let _ = &self.top;
+        let Span { lo, hi } = alone(self.weight_at(Some(x)), self.weight_at(Some(y)));
+        Span {
+            lo: unless((x <= y) & (lo < 0), lo),
+            hi: unless((y <= x) & (hi > 0), hi),
+        }
+    }
+
+    /// What a document of both runs adds to the sums of shares beyond what it would add by each of its
+    /// ranks alone.
+    #[inline]
+    fn correction(&self, x: u32, y: u32, mark: Mark) -> Shares
+        requires first { IsWithin 10000 (Some x) }
+        requires second { IsWithin 10000 (Some y) }
+        ensures least_lo { result.least.lo ≡ correction (low_share self.now.top self.now.bottom) is_in_least mark (Some x) (Some y) }
+        ensures least_hi { result.least.hi ≡ correction (high_share self.now.top self.now.bottom) is_in_least mark (Some x) (Some y) }
+        ensures most_lo { result.most.lo ≡ correction (low_share self.now.top self.now.bottom) is_in_most mark (Some x) (Some y) }
+        ensures most_hi { result.most.hi ≡ correction (high_share self.now.top self.now.bottom) is_in_most mark (Some x) (Some y) }
+        ensures least_short { IsShort result.least }
+        ensures most_short { IsShort result.most }
+    {
+        let first = self.weight_at(Some(x));
+        let second = self.weight_at(Some(y));
+        let share = self.share(x, y);
+        match mark {
+            Mark::Other => Shares {
+                least: NOTHING,
+                most: NOTHING,
+            },
+            Mark::Relevant => {
+                let more = beyond(share, alone(first, second));
+                Shares {
+                    least: more,
+                    most: more,
+                }
+            }
+            Mark::Unjudged => Shares {
+                least: beyond(span_if(y < x, share), second.negate()),
+                most: beyond(span_if(x < y, share), first),
+            },
+        }
+    }
+
+    /// The sums of corrections with those of two places, where they are of one document.
+    #[inline]
+    fn with_places(&self, sums: Shares, x: Placed, y: Placed, mark: Mark) -> Shares
+        requires first { IsWithin 10000 (Some x.rank) }
+        requires second { IsWithin 10000 (Some y.rank) }
         requires least { IsLoose sums.least }
         requires most { IsLoose sums.most }
-        ensures least_lo { result.least.lo ≡ sums.least.lo +ℤ share_of (low_share self.now.top self.now.bottom) is_in_least mark x y }
-        ensures least_hi { result.least.hi ≡ sums.least.hi +ℤ share_of (high_share self.now.top self.now.bottom) is_in_least mark x y }
-        ensures most_lo { result.most.lo ≡ sums.most.lo +ℤ share_of (low_share self.now.top self.now.bottom) is_in_most mark x y }
-        ensures most_hi { result.most.hi ≡ sums.most.hi +ℤ share_of (high_share self.now.top self.now.bottom) is_in_most mark x y }
+        ensures least_lo { result.least.lo ≡ sums.least.lo +ℤ (if nat_eq x.doc y.doc then correction (low_share self.now.top self.now.bottom) is_in_least mark (Some x.rank) (Some y.rank) else pos 0) }
+        ensures least_hi { result.least.hi ≡ sums.least.hi +ℤ (if nat_eq x.doc y.doc then correction (high_share self.now.top self.now.bottom) is_in_least mark (Some x.rank) (Some y.rank) else pos 0) }
+        ensures most_lo { result.most.lo ≡ sums.most.lo +ℤ (if nat_eq x.doc y.doc then correction (low_share self.now.top self.now.bottom) is_in_most mark (Some x.rank) (Some y.rank) else pos 0) }
+        ensures most_hi { result.most.hi ≡ sums.most.hi +ℤ (if nat_eq x.doc y.doc then correction (high_share self.now.top self.now.bottom) is_in_most mark (Some x.rank) (Some y.rank) else pos 0) }
     {
-        match mark {
-            Mark::Other => sums,
-            Mark::Relevant => {
-                let share = self.share(x, y);
-                Shares {
-                    least: sums.least.add(share),
-                    most: sums.most.add(share),
-                }
+        if x.doc == y.doc {
+            let more = self.correction(x.rank, y.rank, mark);
+            Shares {
+                least: sums.least.add(more.least),
+                most: sums.most.add(more.most),
             }
-            Mark::Unjudged => {
-                let share = self.share(x, y);
-                if is_before(y, x) {
-                    Shares {
-                        least: sums.least.add(share),
-                        most: sums.most,
-                    }
-                } else {
-                    Shares {
-                        least: sums.least,
-                        most: sums.most.add(share),
-                    }
-                }
-            }
+        } else {
+            sums
         }
     }
 
-    /// The sums of shares, by one walk over the documents that either run ranks: no other document
-    /// has a share.
+    /// The sums of the corrections of the documents of both runs, by one walk over both in order of
+    /// the documents.
+    fn corrections(&self, a: &Ranking, b: &Ranking, marks: &[Mark]) -> Shares
+        requires { AreMet marks.now a.now b.now }
+        ensures least_lo { result.least.lo ≡ correction_sum (low_share self.now.top self.now.bottom) is_in_least marks.now a.now b.now }
+        ensures least_hi { result.least.hi ≡ correction_sum (high_share self.now.top self.now.bottom) is_in_least marks.now a.now b.now }
+        ensures most_lo { result.most.lo ≡ correction_sum (low_share self.now.top self.now.bottom) is_in_most marks.now a.now b.now }
+        ensures most_hi { result.most.hi ≡ correction_sum (high_share self.now.top self.now.bottom) is_in_most marks.now a.now b.now }
+        ensures least_loose { IsLoose result.least }
+        ensures most_loose { IsLoose result.most }
+    {
+        // What is kept of the persistence bounds the sums.
+        let _ = &self.top;
+        let first = a.by_doc();
+        let second = b.by_doc();
+        let mut sums = Shares {
+            least: NOTHING,
+            most: NOTHING,
+        };
+        let mut i = 0;
+        let mut j = 0;
+        while i < first.len() && j < second.len() {
+            let x = first[i];
+            let y = second[j];
+            sums = self.with_places(sums, x, y, marks[x.doc as usize]);
+            i += passed(x, y);
+            j += passed(y, x);
+        }
+        sums
+    }
+
+    /// The sums of shares: those of each run's documents as if the other lacked them, and the
+    /// corrections of the documents of both.
     fn shares(&self, a: &Ranking, b: &Ranking, marks: &[Mark]) -> Shares
         requires { AreMet marks.now a.now b.now }
         ensures least_lo { result.least.lo ≡ share_sum (low_share self.now.top self.now.bottom) marks.now a.now b.now }
@@ -195,20 +327,14 @@ impl Rbp {
     {
         // What is kept of the persistence bounds the sums.
         let _ = &self.top;
-        let mut sums = Shares {
-            least: Span { lo: 0, hi: 0 },
-            most: Span { lo: 0, hi: 0 },
-        };
-        let mut first = a.by_doc();
-        let mut second = b.by_doc();
-        while let Some(pair) = next_pair(first, second) {
-            first = after(first, pair.doc);
-            second = after(second, pair.doc);
-            sums = self.with_share(sums, pair.first, pair.second, marks[pair.doc as usize]);
+        let first = self.weights(marks, a.docs());
+        let second = self.weights(marks, b.docs());
+        let both = self.corrections(a, b, marks);
+        Shares {
+            least: alone(first.relevant, second.possible).add(both.least),
+            most: alone(first.possible, second.relevant).add(both.most),
         }
-        sums
     }
-
     /// 10^18 times what a tail after so many ranks adds at most.
     fn tail_most(&self, ranks: u32) -> i128
         requires { ranks ≤ 10000 }
@@ -243,23 +369,6 @@ impl Rbp {
             lo: shares.lo - most,
             hi: shares.hi - least,
         }
-    }
-
-    /// The weights of the true documents of one run, where the unjudged ones are picked or not.
-    fn weights(&self, pick: bool, marks: &[Mark], docs: &[u32]) -> Span
-        requires known { All (λ doc. doc < length marks.now) docs.now }
-        requires few { length docs.now ≤ 10000 }
-        ensures lo { result.lo ≡ pos (gained (λ rank. low_weight self.now.top self.now.bottom (Some rank)) 1 (map (with_picked marks.now (λ _. pick)) docs.now)) }
-        ensures hi { result.hi ≡ pos (gained (λ rank. high_weight self.now.top self.now.bottom (Some rank)) 1 (map (with_picked marks.now (λ _. pick)) docs.now)) }
-        ensures loose { IsLoose result }
-    {
-        let mut total = Span { lo: 0, hi: 0 };
-        for (place, doc) in docs.iter().enumerate() {
-            if is_true(pick, marks[*doc as usize]) {
-                total = total.add(self.weight_at(Some(place as u32 + 1)));
-            }
-        }
-        total
     }
 }
 
@@ -304,12 +413,10 @@ impl Measure for Rbp {
     }
 
     fn bounds(&self, a: &Ranking, marks: &[Mark]) -> Span {
-        let docs = a.docs();
-        let low = self.weights(false, marks, docs);
-        let high = self.weights(true, marks, docs);
-        let most = high.hi + self.tail_most(ranks_of(a));
+        let weights = self.weights(marks, a.docs());
+        let most = weights.possible.hi + self.tail_most(ranks_of(a));
         Span {
-            lo: low.lo,
+            lo: weights.relevant.lo,
             hi: if most < UNIT { most } else { UNIT },
         }
     }
