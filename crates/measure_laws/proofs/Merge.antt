@@ -91,22 +91,22 @@ both x y xs ys e h k = record {
   known = λ n a b. a.0;
 }
 
-pub lt_test : (m n : ℕ) → nat_lt m n ≡ true → m < n
+lt_test : (m n : ℕ) → nat_lt m n ≡ true → m < n
 lt_test m n h = grind (arith, nat_tests)
 
-pub ge_test : (m n : ℕ) → nat_lt m n ≡ false → n ≤ m
+ge_test : (m n : ℕ) → nat_lt m n ≡ false → n ≤ m
 ge_test m n h = grind (arith, nat_tests)
 
 even : (m n : ℕ) → m ≤ n → n ≤ m → m ≡ n
 even m n h k = omega arith
 
 -- the pair by the two tests
-abbrev pub chosen : Bool → Bool → Placed → Placed → Option Pair
+abbrev chosen : Bool → Bool → Placed → Placed → Option Pair
 chosen true c x y = Some (record { doc = x.doc; first = Some x.rank; second = None })
 chosen false true x y = Some (record { doc = y.doc; first = None; second = Some y.rank })
 chosen false false x y = Some (record { doc = x.doc; first = Some x.rank; second = Some y.rank })
 
-pub pair_chosen : (x y : Placed) (xs ys : List Placed) (b c : Bool) → nat_lt x.doc y.doc ≡ b → nat_lt y.doc x.doc ≡ c → next_pair (x ∷ xs) (y ∷ ys) ≡ chosen b c x y
+pair_chosen : (x y : Placed) (xs ys : List Placed) (b c : Bool) → nat_lt x.doc y.doc ≡ b → nat_lt y.doc x.doc ≡ c → next_pair (x ∷ xs) (y ∷ ys) ≡ chosen b c x y
 pair_chosen x y xs ys true c eb ec = rw eb refl
 pair_chosen x y xs ys false true eb ec = rw (eb, ec) refl
 pair_chosen x y xs ys false false eb ec = rw (eb, ec) refl

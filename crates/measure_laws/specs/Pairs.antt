@@ -4,7 +4,6 @@ use Rattle.std.specs.List.{AllByRecursion}
 use Rattle.desk_model.specs.Placed.{lookup, IsAscending}
 use Rattle.desk_model.specs.declared.placed.Placed.{Placed}
 use Rattle.measure_laws.specs.declared.pairs.Pair.{Pair}
-use Rattle.measure_laws.specs.declared.pairs.BothRanks.{BothRanks}
 
 -- the first document of two lists, with its rank in each
 abbrev pub next_pair : List Placed → List Placed → Option Pair
@@ -15,14 +14,6 @@ next_pair (x ∷ xs) (y ∷ ys) =
     if nat_lt x.doc y.doc then Some (record { doc = x.doc; first = Some x.rank; second = None })
     else if nat_lt y.doc x.doc then Some (record { doc = y.doc; first = None; second = Some y.rank })
     else Some (record { doc = x.doc; first = Some x.rank; second = Some y.rank })
-
--- the rank that a number stands for: from 16,384 on none
-abbrev pub rank_of : ℕ → Option ℕ
-rank_of rank = if nat_lt rank 16384 then Some rank else None
-
--- a document with the ranks that two numbers stand for
-abbrev pub pair_of : BothRanks → Pair
-pair_of ranks = record { doc = ranks.doc; first = rank_of ranks.first; second = rank_of ranks.second }
 
 -- a list without its first document, where that is this one
 abbrev pub after : List Placed → ℕ → List Placed

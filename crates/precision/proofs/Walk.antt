@@ -16,6 +16,7 @@ use Rattle.desk_model.specs.declared.placed.Placed.{Placed}
 use Rattle.desk_model.proofs.Counts.{one_if, count_by-agree, count_by-none, count_by-split, nat_eq-true, IsDistinct-take}
 use Rattle.desk_model.proofs.PrecisionEnds.{front_within}
 use Rattle.measure_laws.proofs.Merge.{absent_below, further}
+use Rattle.measure_laws.proofs.Places.{lt_test, even, neither, same_test, other_test, other_test_up, IsAscending-drop, at_place, stepped}
 use Rattle.measure_laws.proofs.Ranks.{sum_by-agree, sum_by-plus, one_counts}
 use Rattle.measure_laws.proofs.RecallEnds.{every, class_count}
 use Rattle.precision.specs.Own.{shared_count}
@@ -95,24 +96,6 @@ both_have truth k n x y xs ys same within later =
     omega (arith, whole, sum_by-plus here rest zs, one_counts (λ d. one_if (truth d && (nat_le x.rank k && nat_le y.rank k))) x.doc 0 n (omega arith) (omega arith))
 
 -- ---- one step
-lt_test : (m n : ℕ) → nat_le n m ≡ false → m < n
-lt_test m n h = grind (arith, nat_tests)
-
-even : (m n : ℕ) → nat_le m n ≡ true → nat_le n m ≡ true → m ≡ n
-even m n h k = grind (arith, nat_tests)
-
-neither : (m n : ℕ) → nat_le m n ≡ false → nat_le n m ≡ false → m < m
-neither m n h k = grind (arith, nat_tests)
-
-same_test : (m n : ℕ) → m ≡ n → nat_eq m n ≡ true
-same_test m n h = grind (arith, nat_tests)
-
-other_test : (m n : ℕ) → m < n → nat_eq m n ≡ false
-other_test m n h = grind (arith, nat_tests)
-
-other_test_up : (m n : ℕ) → n < m → nat_eq m n ≡ false
-other_test_up m n h = grind (arith, nat_tests)
-
 never : (t q : Bool) → one_if (t && (false && q)) ≡ 0
 never t q = never_first t q
 
@@ -137,20 +120,6 @@ heads_step truth k n x y xs ys within h g false true eb ec =
 heads_step truth k n x y xs ys within h g false false eb ec = absurd (omega (arith, neither x.doc y.doc eb ec))
 
 -- ---- the same by places
-IsAscending-drop : (i : ℕ) (es : List Placed) → IsAscending es → IsAscending (drop i es)
-IsAscending-drop zero es h = h
-IsAscending-drop (suc i) [] h = tt
-IsAscending-drop (suc i) (e ∷ es) h = IsAscending-drop i es h.1
-
-pub at_place : (P : Placed → Type 0) (i : ℕ) (es : List Placed) (d : Placed) → i < length es → AllByRecursion P es → P (slice_index_or es i d)
-at_place P i [] d h k = absurd (omega arith)
-at_place P zero (e ∷ es) d h k = k.0
-at_place P (suc i) (e ∷ es) d h k = at_place P i es d (omega arith) k.1
-
-stepped : (i : ℕ) (es : List Placed) (b : Bool) → (if b then drop (suc i) es else drop i es) ≡ drop (i + (if b then 1 else 0)) es
-stepped i es true = let next : suc i ≡ i + 1 = omega arith in ap (λ m. drop m es) next
-stepped i es false = let same : i ≡ i + 0 = omega arith in ap (λ m. drop m es) same
-
 pub left_step : (truth : ℕ → Bool) (k n i j p q : ℕ) (es fs : List Placed) (o : Placed) → i < length es → j < length fs → IsAscending es → IsAscending fs → AllByRecursion (λ (e : Placed). e.doc < n) es →
     p ≡ i + (if nat_le (slice_index_or es i o).doc (slice_index_or fs j o).doc then 1 else 0) → q ≡ j + (if nat_le (slice_index_or fs j o).doc (slice_index_or es i o).doc then 1 else 0) →
     left truth k n (drop i es) (drop j fs) ≡
@@ -172,19 +141,6 @@ left_step truth k n i j p q es fs o hi hj h g within ep eq =
     let to : left truth k n (if nat_le x.doc y.doc then xs else x ∷ xs) (if nat_le y.doc x.doc then ys else y ∷ ys) ≡ left truth k n (drop p es) (drop q fs) =
     ap (λ (zs : List Placed). left truth k n zs (if nat_le y.doc x.doc then ys else y ∷ ys)) first ∙ ap (λ (zs : List Placed). left truth k n (drop p es) zs) second in
     omega (arith, from, step, to)
-
--- the walk goes on
-pub goes_on : (m n : ℕ) → 1 ≤ one_if (nat_le m n) + one_if (nat_le n m)
-goes_on m n = at (nat_le m n) (nat_le n m) refl refl
-  where
-    at : (b c : Bool) → nat_le m n ≡ b → nat_le n m ≡ c → 1 ≤ one_if b + one_if c
-    at true c eb ec = omega arith
-    at false true eb ec = omega arith
-    at false false eb ec = absurd (omega (arith, neither m n eb ec))
-
-pub one_at_most : (b : Bool) → one_if b ≤ 1
-one_at_most true = omega arith
-one_at_most false = omega arith
 
 -- ---- where the walk begins
 regrouped : (t i j : Bool) → (t && (i && j)) ≡ ((t && j) && (i && true))
@@ -227,27 +183,6 @@ left_first_done truth k n i es fs h =
 
 pub left_second_done : (truth : ℕ → Bool) (k n j : ℕ) (es fs : List Placed) → length fs ≤ j → left truth k n es (drop j fs) ≡ 0
 left_second_done truth k n j es fs h = turned truth k n es (drop j fs) ∙ left_first_done truth k n j fs es h
-
--- ---- the documents of the lists
-ranked_step : (n d r s x : ℕ) (later : Option ℕ) → x < n → (later ≡ Some r → d < n) → (b : Bool) → nat_eq x d ≡ b → cond b (Some s) later ≡ Some r → d < n
-ranked_step n d r s x later h k true t f = subst (λ (z : ℕ). z < n) (nat_eq-true x d t) h
-ranked_step n d r s x later h k false t f = k f
-
-ranked_within : (n d r s : ℕ) (docs : List ℕ) → AllByRecursion (λ x. x < n) docs → position_from (λ each. nat_eq each d) s docs ≡ Some r → d < n
-ranked_within n d r s [] h e = absurd (cc)
-ranked_within n d r s (x ∷ xs) h e = ranked_step n d r s x (position_from (λ each. nat_eq each d) (s + 1) xs) h.0 (ranked_within n d r (s + 1) xs h.1) (nat_eq x d) refl e
-
-entries_within : (n : ℕ) (es : List Placed) → ((d r : ℕ) → lookup es d ≡ Some r → d < n) → AllByRecursion (λ (e : Placed). e.doc < n) es
-entries_within n [] h = tt
-entries_within n (e ∷ es) h =
-    (h e.doc e.rank (ap (λ (b : Bool). if b then Some e.rank else lookup es e.doc) (same_test e.doc e.doc refl)), entries_within n es (λ d r k. at d r k (nat_eq e.doc d) refl))
-  where
-    at : (d r : ℕ) → lookup es d ≡ Some r → (b : Bool) → nat_eq e.doc d ≡ b → d < n
-    at d r k true t = h d e.rank (ap (λ (b : Bool). if b then Some e.rank else lookup es d) t)
-    at d r k false t = h d r (ap (λ (b : Bool). if b then Some e.rank else lookup es d) t ∙ k)
-
-pub list_within : (n : ℕ) (a : List ℕ) (es : List Placed) → IsRanking n a → ((d : ℕ) → lookup es d ≡ rank a d) → AllByRecursion (λ (e : Placed). e.doc < n) es
-list_within n a es ra h = entries_within n es (λ d r k. ranked_within n d r 1 a (recursion_from_All (λ x. x < n) a ra.within) (sym (h d) ∙ k))
 
 pub shared_few : (taken : Bool) (k n : ℕ) (marks : List Mark) (a b : List ℕ) → IsRanking n a → shared_count taken marks (take k a) (take k b) ≤ 10000
 shared_few taken k n marks a b ra = omega (arith, count_by-le-length (λ d. with_picked marks (λ _. taken) d && is_in (take k b) d) (take k a), length-take k a, ra.short)

@@ -4,19 +4,13 @@ ghost use Rattle.precision.specs.Own.{shared_count};
 
 use crate::counts::Counts;
 use desk_model::{Mark, Placed, Ranking};
+use measure_laws::passed;
 
 /// Whether two places are of one document, at a rank of at most k in both.
 fn is_shared(k: u32, x: Placed, y: Placed) -> bool
     ensures { result ≡ (nat_eq x.doc y.doc && (nat_le x.rank k && nat_le y.rank k)) }
 {
     (x.doc == y.doc) & (x.rank <= k) & (y.rank <= k)
-}
-
-/// How many places the walk goes on from the first of two: none where its document comes later.
-fn passed(x: Placed, y: Placed) -> usize
-    ensures { result ≡ (if nat_le x.doc y.doc then 1 else 0) }
-{
-    usize::from(x.doc <= y.doc)
 }
 
 /// The counts of the documents that are among the first k of two rankings, by one walk over both in
