@@ -4,4 +4,4 @@
 pub mod laws;
 pub mod pairs;
 
-pub use pairs::{Pair, after, next_pair, passed};
+pub use pairs::passed;

@@ -1,5 +1,5 @@
 -- What a ranking's first k documents are without those that another's share with them.
-use Rattle.std.proofs.Common.{◌≡◌, ℕ, ◌+◌, ◌≤◌, Bool, true, false, not, ◌&&◌, List, take, length, arith, refl}
+use Rattle.std.proofs.Common.{◌≡◌, ℕ, ◌+◌, ◌≤◌, Bool, true, false, not, ◌&&◌, List, take, length, arith}
 use Rattle.desk_model.specs.Classes.{only_count, front_count}
 use Rattle.desk_model.specs.Completion.{picked_value, with_picked}
 use Rattle.desk_model.specs.Mark.{mark_at}

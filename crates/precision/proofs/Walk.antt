@@ -1,19 +1,16 @@
 -- The walk over two lists that ascend by document counts the documents that both have among their first k.
-use Rattle.std.proofs.Common.{◌≡◌, ℕ, zero, suc, ◌+◌, ◌<◌, ◌≤◌, Bool, true, false, cond, not, ◌&&◌, nat_eq, nat_le, nat_lt, List, [], ◌∷◌, take, drop, length, length-take, count_by, slice_index_or, Option, Some, None, arith, refl, ap, ◌∙◌, sym, subst}
+use Rattle.std.proofs.Common.{◌≡◌, ℕ, suc, ◌+◌, ◌<◌, ◌≤◌, Bool, true, false, ◌&&◌, nat_eq, nat_le, List, [], ◌∷◌, take, drop, length, length-take, count_by, slice_index_or, Some, None, arith, refl, ap, ◌∙◌, sym, subst}
 use Rattle.std.specs.Prelude.{if◌then◌else◌}
-use Rattle.std.specs.List.{AllByRecursion, position_from, sum_by, range_with_len}
+use Rattle.std.specs.List.{AllByRecursion, sum_by, range_with_len}
 use Rattle.std.proofs.Math.Seq.{drop-cons}
 use Rattle.std.proofs.lemmas.List.{drop_all}
-use Rattle.std.proofs.lemmas.List.Elements.{recursion_from_All}
 use Rattle.std.proofs.lemmas.List.Sums.{count_by-le-length}
-use Rattle.std.proofs.lemmas.Bool.Decides.{nat_tests}
-use Rattle.desk_model.specs.Classes.{only_count, front_count}
 use Rattle.desk_model.specs.Completion.{with_picked}
 use Rattle.desk_model.specs.Placed.{lookup, IsAscending}
 use Rattle.desk_model.specs.Ranking.{IsRanking, is_in, rank}
 use Rattle.desk_model.specs.declared.types.Mark.{Mark}
 use Rattle.desk_model.specs.declared.placed.Placed.{Placed}
-use Rattle.desk_model.proofs.Counts.{one_if, count_by-agree, count_by-none, count_by-split, nat_eq-true, IsDistinct-take}
+use Rattle.desk_model.proofs.Counts.{one_if, count_by-agree, count_by-none, nat_eq-true, IsDistinct-take}
 use Rattle.desk_model.proofs.PrecisionEnds.{front_within}
 use Rattle.measure_laws.proofs.Merge.{absent_below, further}
 use Rattle.measure_laws.proofs.Places.{lt_test, even, neither, same_test, other_test, other_test_up, IsAscending-drop, at_place, stepped}

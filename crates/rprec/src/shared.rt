@@ -1,8 +1,9 @@
-ghost use Rattle.std.specs.Prelude.{◌≡◌, ℕ, ◌+◌, ◌≤◌, length, false, nat_eq, nat_le, slice_index_or, if◌then◌else◌};
+ghost use Rattle.std.specs.Prelude.{◌≡◌, ℕ, ◌+◌, ◌≤◌, length, false, nat_eq, slice_index_or};
 ghost use Rattle.std.specs.List.{IsDistinct};
 ghost use Rattle.rprec.specs.Shared.{AreShared, entered};
 
 use desk_model::{Placed, Ranking};
+use measure_laws::passed;
 
 /// For each place of two runs, whether the other run has the document before: the second run at an
 /// earlier place than the first, the first run at no later place than the second.
@@ -66,11 +67,4 @@ impl Shared {
         }
         shared
     }
-}
-
-/// How many places the walk goes on from the first of two: none where its document comes later.
-fn passed(x: Placed, y: Placed) -> usize
-    ensures { result ≡ (if nat_le x.doc y.doc then 1 else 0) }
-{
-    usize::from(x.doc <= y.doc)
 }

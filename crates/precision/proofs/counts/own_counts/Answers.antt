@@ -1,4 +1,3 @@
-use Rattle.std.proofs.Common.{length}
 use Rattle.precision.proofs.Own.{AreFront, AreShared, shared_turned, fewer_relevant, fewer_unjudged, own_is}
 use Rattle.precision.proofs.counts.own_counts.Goals as goal
 

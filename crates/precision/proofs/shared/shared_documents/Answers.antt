@@ -1,8 +1,8 @@
-use Rattle.std.proofs.Common.{◌≡◌, ◌+◌, ◌<◌, ◌≤◌, ℕ, Bool, nat_le, nat_eq, ◌&&◌, true, false, drop, length, slice_index_or, arith, ap, ◌∙◌, sym}
+use Rattle.std.proofs.Common.{◌≡◌, ◌+◌, ◌<◌, ℕ, Bool, nat_le, nat_eq, ◌&&◌, true, false, drop, length, slice_index_or, arith, ap}
 use Rattle.desk_model.specs.Completion.{with_picked}
 use Rattle.desk_model.proofs.Counts.{one_if}
 use Rattle.measure_laws.proofs.Places.{list_within, at_place, goes_on, one_at_most}
-use Rattle.precision.proofs.Walk.{left, left_step, left_whole, left_first_done, left_second_done, shared_few}
+use Rattle.precision.proofs.Walk.{left_step, left_whole, left_first_done, left_second_done, shared_few}
 use Rattle.precision.proofs.shared.shared_documents.Goals as goal
 
 pub bounds-marks-x : goal.bounds-marks-x

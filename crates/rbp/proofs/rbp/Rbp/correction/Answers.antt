@@ -1,4 +1,4 @@
-use Rattle.std.proofs.Common.{◌≡◌, Some, None, pos, ◌+ℤ◌, arith}
+use Rattle.std.proofs.Common.{◌≡◌, Some, None, ◌+ℤ◌, arith}
 use Rattle.std.proofs.lemmas.Int.{ints}
 use Rattle.measure_laws.specs.Shares.{low_share, high_share}
 use Rattle.rbp.specs.Walk.{is_in_least, is_in_most}

@@ -1,4 +1,4 @@
-use Rattle.std.proofs.Common.{◌≡◌, ◌+◌, ◌<◌, nat_le, drop, length, slice_index_or, ℕ, ℤ, Option, Some, arith, ap}
+use Rattle.std.proofs.Common.{◌≡◌, ◌+◌, ◌<◌, nat_le, length, slice_index_or, ℕ, ℤ, Option, Some, arith, ap}
 use Rattle.desk_model.proofs.Counts.{one_if}
 use Rattle.measure_laws.specs.Ranks.{IsWithin}
 use Rattle.measure_laws.specs.Shares.{low_share, high_share}

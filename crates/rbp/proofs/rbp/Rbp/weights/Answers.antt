@@ -1,4 +1,4 @@
-use Rattle.std.proofs.Common.{◌<◌, ◌≤◌, ◌^◌, ℕ, true, false, Some, length, get_or, arith, refl, ap}
+use Rattle.std.proofs.Common.{◌<◌, ◌≤◌, ◌^◌, ℕ, true, false, Some, length, arith, refl, ap}
 use Rattle.desk_model.specs.Completion.{with_picked}
 use Rattle.measure_laws.specs.Powers.{low_weight, high_weight}
 use Rattle.measure_laws.proofs.Weights.{low_weight-most, high_weight-most}
