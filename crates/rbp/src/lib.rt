@@ -3,5 +3,7 @@
 #![tactic(auto)]
 
 pub mod rbp;
+mod share;
+mod weights;
 
 pub use rbp::Rbp;

@@ -1,73 +1,41 @@
-use Rattle.std.proofs.Common.{◌<◌, ◌≤◌, ◌^◌, ℕ, true, false, Some, length, arith, refl, ap}
+use Rattle.std.proofs.Common.{◌≡◌, ◌<◌, ℕ, true, false, Some, length, get_or, ◌+ℤ◌, arith, ap, ◌∙◌, sym, refl}
+use Rattle.std.proofs.lemmas.Int.{ints}
 use Rattle.desk_model.specs.Completion.{with_picked}
 use Rattle.measure_laws.specs.Powers.{low_weight, high_weight}
-use Rattle.measure_laws.proofs.Weights.{low_weight-most, high_weight-most}
-use Rattle.rbp.specs.Persistence.{Persistence}
-use Rattle.rbp.proofs.Sums.{worth_more, worth_loose}
+use Rattle.fractions.specs.declared.span.Span.{Span}
+use Rattle.rbp.proofs.Sums.{weight_taken, weight_left}
+use Rattle.rbp.proofs.rbp.Rbp.weights.Goals.{then-is_true, else-is_true}
 use Rattle.rbp.proofs.rbp.Rbp.weights.Goals as goal
-
-pub with_weight-sums-requires-clause-relevant : goal.with_weight-sums-requires-clause-relevant
-with_weight-sums-requires-clause-relevant c =
-    let r = c.args.self.now in
-    let l = c.loop-place in
-    let below : r.top < r.bottom = omega (arith, c.self.invariant.below, ap (λ (p : Persistence). p.top) c.self.view_is, ap (λ (p : Persistence). p.bottom) c.self.view_is) in
-    let low = λ (rank : ℕ). low_weight r.top r.bottom (Some rank) in
-    let high = λ (rank : ℕ). high_weight r.top r.bottom (Some rank) in
-    let low_small : (rank : ℕ) → low_weight r.top r.bottom (Some rank) ≤ 10 ^ 18 = λ rank. low_weight-most r.top r.bottom (Some rank) (omega arith) in
-    let high_small : (rank : ℕ) → high_weight r.top r.bottom (Some rank) ≤ 10 ^ 18 = λ rank. high_weight-most r.top r.bottom (Some rank) (omega arith) (omega arith) in
-    let truth = with_picked c.args.marks.now (λ _. false) in
-    (worth_loose low truth l.place c.args.docs.now _ low_small c.requires.few l.invariant.relevant_lo, worth_loose high truth l.place c.args.docs.now _ high_small c.requires.few l.invariant.relevant_hi)
-
-pub with_weight-sums-requires-clause-possible : goal.with_weight-sums-requires-clause-possible
-with_weight-sums-requires-clause-possible c =
-    let r = c.args.self.now in
-    let l = c.loop-place in
-    let below : r.top < r.bottom = omega (arith, c.self.invariant.below, ap (λ (p : Persistence). p.top) c.self.view_is, ap (λ (p : Persistence). p.bottom) c.self.view_is) in
-    let low = λ (rank : ℕ). low_weight r.top r.bottom (Some rank) in
-    let high = λ (rank : ℕ). high_weight r.top r.bottom (Some rank) in
-    let low_small : (rank : ℕ) → low_weight r.top r.bottom (Some rank) ≤ 10 ^ 18 = λ rank. low_weight-most r.top r.bottom (Some rank) (omega arith) in
-    let high_small : (rank : ℕ) → high_weight r.top r.bottom (Some rank) ≤ 10 ^ 18 = λ rank. high_weight-most r.top r.bottom (Some rank) (omega arith) (omega arith) in
-    let truth = with_picked c.args.marks.now (λ _. true) in
-    (worth_loose low truth l.place c.args.docs.now _ low_small c.requires.few l.invariant.possible_lo, worth_loose high truth l.place c.args.docs.now _ high_small c.requires.few l.invariant.possible_hi)
-
-pub returns-clause-relevant_loose : goal.returns-clause-relevant_loose
-returns-clause-relevant_loose c =
-    let r = c.args.self.now in
-    let l = c.loop-place in
-    let below : r.top < r.bottom = omega (arith, c.self.invariant.below, ap (λ (p : Persistence). p.top) c.self.view_is, ap (λ (p : Persistence). p.bottom) c.self.view_is) in
-    let low = λ (rank : ℕ). low_weight r.top r.bottom (Some rank) in
-    let high = λ (rank : ℕ). high_weight r.top r.bottom (Some rank) in
-    let low_small : (rank : ℕ) → low_weight r.top r.bottom (Some rank) ≤ 10 ^ 18 = λ rank. low_weight-most r.top r.bottom (Some rank) (omega arith) in
-    let high_small : (rank : ℕ) → high_weight r.top r.bottom (Some rank) ≤ 10 ^ 18 = λ rank. high_weight-most r.top r.bottom (Some rank) (omega arith) (omega arith) in
-    let truth = with_picked c.args.marks.now (λ _. false) in
-    (worth_loose low truth l.place c.args.docs.now _ low_small c.requires.few l.invariant.relevant_lo, worth_loose high truth l.place c.args.docs.now _ high_small c.requires.few l.invariant.relevant_hi)
-
-pub returns-clause-possible_loose : goal.returns-clause-possible_loose
-returns-clause-possible_loose c =
-    let r = c.args.self.now in
-    let l = c.loop-place in
-    let below : r.top < r.bottom = omega (arith, c.self.invariant.below, ap (λ (p : Persistence). p.top) c.self.view_is, ap (λ (p : Persistence). p.bottom) c.self.view_is) in
-    let low = λ (rank : ℕ). low_weight r.top r.bottom (Some rank) in
-    let high = λ (rank : ℕ). high_weight r.top r.bottom (Some rank) in
-    let low_small : (rank : ℕ) → low_weight r.top r.bottom (Some rank) ≤ 10 ^ 18 = λ rank. low_weight-most r.top r.bottom (Some rank) (omega arith) in
-    let high_small : (rank : ℕ) → high_weight r.top r.bottom (Some rank) ≤ 10 ^ 18 = λ rank. high_weight-most r.top r.bottom (Some rank) (omega arith) (omega arith) in
-    let truth = with_picked c.args.marks.now (λ _. true) in
-    (worth_loose low truth l.place c.args.docs.now _ low_small c.requires.few l.invariant.possible_lo, worth_loose high truth l.place c.args.docs.now _ high_small c.requires.few l.invariant.possible_hi)
 
 pub loop-place-preserved : goal.loop-place-preserved
 loop-place-preserved c =
     let r = c.args.self.now in
-    let l = c.loop-place in
     let low = λ (rank : ℕ). low_weight r.top r.bottom (Some rank) in
     let high = λ (rank : ℕ). high_weight r.top r.bottom (Some rank) in
-    let relevant = with_picked c.args.marks.now (λ _. false) in
-    let possible = with_picked c.args.marks.now (λ _. true) in
+    let truth = with_picked c.args.marks.now (λ _. c.args.pick) in
     let docs = c.args.docs.now in
-    let within : l.place < length docs = omega arith in
-    let more = c.with_weight-sums.ensures in
-    record {
-      relevant_lo = worth_more low relevant l.place _ docs _ _ within refl l.invariant.relevant_lo more.relevant_lo;
-      relevant_hi = worth_more high relevant l.place _ docs _ _ within refl l.invariant.relevant_hi more.relevant_hi;
-      possible_lo = worth_more low possible l.place _ docs _ _ within refl l.invariant.possible_lo more.possible_lo;
-      possible_hi = worth_more high possible l.place _ docs _ _ within refl l.invariant.possible_hi more.possible_hi;
-    }
+    let p = c.loop-place.place in
+    let d = get_or docs p 0 in
+    let within : p < length docs = omega arith in
+    elim c.if-is_true.branch [
+      | then-is_true w ↦
+          let taken : truth d ≡ true = sym c.is_true.ensures ∙ w.if-is_true.true in
+          let lo : c.if-is_true.total.lo ≡ c.loop-place.total.lo +ℤ w.weight_at.result.lo = ap (λ (s : Span). s.lo) w.total-is ∙ w.add-total.ensures.lo in
+          let hi : c.if-is_true.total.hi ≡ c.loop-place.total.hi +ℤ w.weight_at.result.hi = ap (λ (s : Span). s.hi) w.total-is ∙ w.add-total.ensures.hi in
+          record {
+            lo = weight_taken low truth p d docs c.loop-place.total.lo w.weight_at.result.lo c.if-is_true.total.lo within refl c.loop-place.invariant.lo w.weight_at.ensures.lo taken lo;
+            hi = weight_taken high truth p d docs c.loop-place.total.hi w.weight_at.result.hi c.if-is_true.total.hi within refl c.loop-place.invariant.hi w.weight_at.ensures.hi taken hi;
+            lo_most = omega (arith, ints, lo, w.weight_at.ensures.lo_small);
+            hi_most = omega (arith, ints, hi, w.weight_at.ensures.hi_small);
+          }
+      | else-is_true w ↦
+          let left : truth d ≡ false = sym c.is_true.ensures ∙ w.if-is_true.false in
+          let lo : c.if-is_true.total.lo ≡ c.loop-place.total.lo = ap (λ (s : Span). s.lo) w.total-is in
+          let hi : c.if-is_true.total.hi ≡ c.loop-place.total.hi = ap (λ (s : Span). s.hi) w.total-is in
+          record {
+            lo = weight_left low truth p d docs c.loop-place.total.lo c.if-is_true.total.lo within refl c.loop-place.invariant.lo left lo;
+            hi = weight_left high truth p d docs c.loop-place.total.hi c.if-is_true.total.hi within refl c.loop-place.invariant.hi left hi;
+            lo_most = omega (arith, ints, lo);
+            hi_most = omega (arith, ints, hi);
+          }
+    ]
