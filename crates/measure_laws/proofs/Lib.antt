@@ -3,7 +3,6 @@ pub mod Ranks
 pub mod Picks
 pub mod Mirror
 pub mod Merge
-pub mod NextRanks
 pub mod Places
 pub mod Weights
 pub mod RecallEnds

@@ -4,4 +4,4 @@
 pub mod laws;
 pub mod pairs;
 
-pub use pairs::{BothRanks, LATE, Pair, after, next_pair, next_ranks, passed};
+pub use pairs::passed;

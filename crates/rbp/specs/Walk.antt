@@ -1,14 +1,15 @@
 -- The walk over the documents of two runs, and what each of them adds to the sums of shares.
-use Rattle.std.specs.Prelude.{◌≡◌, ◌⊎◌, ℕ, ◌<◌, if◌then◌else◌, Bool, List, length, map, Option, None, ℤ, pos}
-use Rattle.std.specs.List.{AllByRecursion, range_with_len}
+use Rattle.std.specs.Prelude.{ℕ, if◌then◌else◌, Bool, List, length, map, Option, Some, None, ℤ, pos, ◌+ℤ◌, ◌-ℤ◌}
+use Rattle.std.specs.List.{range_with_len}
 use Rattle.desk_model.specs.Mark.{mark_at}
-use Rattle.desk_model.specs.Completion.{picked_value}
-use Rattle.desk_model.specs.Placed.{lookup, IsAscending}
+use Rattle.desk_model.specs.Completion.{picked_value, with_picked}
 use Rattle.desk_model.specs.Ranking.{rank}
+use Rattle.desk_model.specs.Score.{gained}
 use Rattle.desk_model.specs.Verdict.{whole_sum}
-use Rattle.desk_model.specs.declared.placed.Placed.{Placed}
 use Rattle.desk_model.specs.declared.types.Mark.{Mark}
-use Rattle.measure_laws.specs.Ranks.{comes_before, IsWithin}
+use Rattle.desk_model.specs.declared.types.Mark.TheVariants.{Unjudged, Relevant, Other}
+use Rattle.measure_laws.specs.Powers.{low_weight, high_weight}
+use Rattle.measure_laws.specs.Ranks.{comes_before}
 
 -- whether an unjudged document with these ranks is relevant in the least case, and in the most case
 abbrev pub is_in_least : Option ℕ → Option ℕ → Bool
@@ -25,17 +26,23 @@ share_of share picked mark x y = if picked_value (picked x y) mark then share x 
 abbrev pub sum_of : (Option ℕ → Option ℕ → ℤ) → (Option ℕ → Option ℕ → Bool) → List Mark → List ℕ → List ℕ → ℤ
 sum_of share picked marks a b = whole_sum (map (λ d. share_of share picked (mark_at marks d) (rank a d) (rank b d)) (range_with_len 0 (length marks)))
 
--- ranks of a ranking's documents, of which some may be left out
-abbrev pub IsPart : List ℕ → (ℕ → Option ℕ) → Type 0
-IsPart docs ranks = (d : ℕ) → (ranks d ≡ None) ⊎ (ranks d ≡ rank docs d)
+-- what a document adds beyond what it would add by each of its ranks alone
+abbrev pub correction : (Option ℕ → Option ℕ → ℤ) → (Option ℕ → Option ℕ → Bool) → Mark → Option ℕ → Option ℕ → ℤ
+correction share picked mark x y = share_of share picked mark x y -ℤ (share_of share picked mark x None +ℤ share_of share picked mark None y)
 
--- what they add by the ranks in two lists that are left
-abbrev pub sum_left : (Option ℕ → Option ℕ → ℤ) → (Option ℕ → Option ℕ → Bool) → List Mark → List Placed → List Placed → ℤ
-sum_left share picked marks xs ys = whole_sum (map (λ d. share_of share picked (mark_at marks d) (lookup xs d) (lookup ys d)) (range_with_len 0 (length marks)))
+-- what all documents of the universe add beyond that, by two rankings
+abbrev pub correction_sum : (Option ℕ → Option ℕ → ℤ) → (Option ℕ → Option ℕ → Bool) → List Mark → List ℕ → List ℕ → ℤ
+correction_sum share picked marks a b = whole_sum (map (λ d. correction share picked (mark_at marks d) (rank a d) (rank b d)) (range_with_len 0 (length marks)))
 
--- documents of a ranking over a universe with their ranks there, ascending by document
-pub record IsLeft (universe : ℕ) (docs : List ℕ) (es : List Placed) : Type 0 where
-  pub ascending : IsAscending es
-  pub within : AllByRecursion (λ (e : Placed). e.doc < universe) es
-  pub ranked : IsPart docs (lookup es)
-  pub ranks : (d : ℕ) → IsWithin 10000 (lookup es d)
+-- the lower weights of the true documents of a run, where the unjudged ones are picked or not, and the upper ones
+abbrev pub low_worth : ℕ → ℕ → Bool → List Mark → List ℕ → ℕ
+low_worth top bottom pick marks docs = gained (λ rank. low_weight top bottom (Some rank)) 1 (map (with_picked marks (λ _. pick)) docs)
+
+abbrev pub high_worth : ℕ → ℕ → Bool → List Mark → List ℕ → ℕ
+high_worth top bottom pick marks docs = gained (λ rank. high_weight top bottom (Some rank)) 1 (map (with_picked marks (λ _. pick)) docs)
+
+-- the number of a mark
+abbrev pub number_of : Mark → ℕ
+number_of Unjudged = 0
+number_of Relevant = 1
+number_of Other = 2

@@ -3,7 +3,5 @@
 #![tactic(auto)]
 
 pub mod rbp;
-mod share;
-mod weights;
 
 pub use rbp::Rbp;

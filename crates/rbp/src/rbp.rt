@@ -1,24 +1,19 @@
-ghost use Rattle.std.specs.Prelude.{◌≡◌, ◌+◌, ◌-◌, ◌≤◌, ◌<◌, ◌^◌, ◌≤ℤ◌, ◌+ℤ◌, ◌-ℤ◌, pos, neg_ℤ, length, map, All, Some, IfOk};
-ghost use Rattle.desk_model.specs.Completion.{with_picked};
+ghost use Rattle.std.specs.Prelude.{◌≡◌, ◌+◌, ◌-◌, ◌≤◌, ◌<◌, ◌^◌, ◌≤ℤ◌, ◌+ℤ◌, ◌-ℤ◌, if◌then◌else◌, true, false, nat_eq, nat_lt, ◌&&◌, pos, neg_ℤ, length, All, Some, IfOk};
 ghost use Rattle.measure_laws.specs.Ranks.{IsWithin, comes_before};
-ghost use Rattle.measure_laws.specs.Pairs.{rank_of};
-ghost use Rattle.desk_model.specs.Score.{gained};
 ghost use Rattle.measure_laws.specs.Powers.{low_weight, high_weight, low_power, high_power};
 ghost use Rattle.measure_laws.specs.Shares.{low_share, high_share, biased_truth, share_sum};
 ghost use Rattle.fractions.specs.Ends.{IsShort};
-ghost use Rattle.rbp.specs.Persistence.{IsLoose, IsSmall, IsWeightSum};
-ghost use Rattle.rbp.specs.Walk.{share_of, is_in_least, is_in_most};
+ghost use Rattle.rbp.specs.Persistence.{IsLoose};
+ghost use Rattle.rbp.specs.Walk.{number_of, low_worth, high_worth, correction, correction_sum, is_in_least, is_in_most};
 ghost use Rattle.measure_core.specs.Laws.{AreMet, AreValues};
 ghost use Rattle.measure_core.specs.Made.{IsMadeFor};
 ghost use Rattle.desk_model.specs.MeasureText.{IsPersistence};
 ghost use Rattle.desk_model.specs.declared.types.MeasureName.TheVariants.{Biased as B};
 
-use crate::share::Share;
-use crate::weights::Weights;
-use desk_model::{Mark, MeasureName, Memory, Ranking};
+use desk_model::{Mark, MeasureName, Memory, Placed, Ranking};
 use fractions::{Powers, Span};
 use measure_core::{Cell, Measure, Steps};
-use measure_laws::{after, next_ranks};
+use measure_laws::passed;
 use recip_rank::firsts::{is_true, rank_in};
 use std::alloc::Global;
 use std::marker::Model;
@@ -33,7 +28,6 @@ pub struct Rbp {
     top: u32,
     bottom: u32,
     powers: Powers,
-    weights: Weights,
 }
 
 impl Model for Rbp {
@@ -43,14 +37,107 @@ impl Model for Rbp {
 
     ghost view = { λ r. record { top = r.top; bottom = r.bottom } };
 
-    ghost invariant = { λ r. IsKept r.top r.bottom r.powers r.weights };
+    ghost invariant = { λ r. IsKept r.top r.bottom r.powers };
+}
+
+/// No weight.
+const NOTHING: Span = Span { lo: 0, hi: 0 };
+
+/// The sums of the weights of a run's relevant documents, and of its relevant and unjudged ones.
+#[derive(Clone, Copy)]
+struct Weights {
+    relevant: Span,
+    possible: Span,
 }
 
 /// The sums of the shares of the documents that are relevant in the least case and in the most case.
 #[derive(Clone, Copy)]
 struct Shares {
-    least: Share,
-    most: Share,
+    least: Span,
+    most: Span,
+}
+
+/// A span, or nothing where it does not count.
+fn span_if(counts: bool, span: Span) -> Span
+    ensures lo { result.lo ≡ (if counts then span.lo else pos 0) }
+    ensures hi { result.hi ≡ (if counts then span.hi else pos 0) }
+{
+    if counts { span } else { NOTHING }
+}
+
+/// A weight in parts of 10^18, rounded down and up.
+#[derive(Clone, Copy)]
+struct Parts {
+    low: u64,
+    high: u64,
+}
+
+/// The number of a mark.
+#[inline]
+fn number_of(mark: Mark) -> usize
+    ensures { result ≡ number_of mark }
+{
+    match mark {
+        Mark::Unjudged => 0,
+        Mark::Relevant => 1,
+        Mark::Other => 2,
+    }
+}
+
+/// Whether two places are of one document, and it may be relevant. Few are, so this is one comparison
+/// of numbers, and not a jump for each condition: a walk passes both places only where their document
+/// is the same.
+#[inline]
+fn is_corrected(x: Placed, y: Placed, mark: Mark) -> bool
+    ensures { result ≡ (nat_eq x.doc y.doc && nat_lt (number_of mark) 2) }
+{
+    number_of(mark) + 2 < 2 * (passed(x, y) + passed(y, x))
+}
+
+/// The span from one number to another.
+fn span(low: u64, high: u64) -> Span
+    ensures lo { result.lo ≡ pos low }
+    ensures hi { result.hi ≡ pos high }
+{
+    Span {
+        lo: i128::from(low),
+        hi: i128::from(high),
+    }
+}
+
+/// A number, or 0 where it is raised or lowered to that.
+fn unless(zero: bool, number: i128) -> i128
+    ensures { result ≡ (if zero then pos 0 else number) }
+{
+    if zero { 0 } else { number }
+}
+
+/// By how much each end of a span is beyond that of another.
+fn beyond(span: Span, other: Span) -> Span
+    requires span { IsLoose span }
+    requires other { IsLoose other }
+    ensures lo { result.lo ≡ span.lo -ℤ other.lo }
+    ensures hi { result.hi ≡ span.hi -ℤ other.hi }
+    ensures short { IsShort result }
+{
+    Span {
+        lo: span.lo - other.lo,
+        hi: span.hi - other.hi,
+    }
+}
+
+/// The shares of the documents of two runs that have none in common, by their weights.
+fn alone(first: Span, second: Span) -> Span
+    requires first { IsLoose first }
+    requires second { IsLoose second }
+    ensures lo { result.lo ≡ first.lo -ℤ second.hi }
+    ensures hi { result.hi ≡ first.hi -ℤ second.lo }
+    ensures short { IsShort result }
+{
+    Span {
+        lo: first.lo - second.hi,
+        hi: first.hi - second.lo,
+    }
 }
 
 /// Whether a rank comes before another, where an absent one comes last.
@@ -97,12 +184,10 @@ impl Rbp {
         ensures made { IfOk result (λ r. IsMadeFor (B top bottom) (⟦<Rbp as Measure>⟧.measured r) (⟦<Rbp as Measure>⟧.cell_of r) (⟦<Rbp as Measure>⟧.bounds_of r)) }
     {
         let powers = Powers::new(alloc, top, bottom, 10000)?;
-        let weights = Weights::new(alloc, top, bottom, &powers)?;
         Ok(Rbp {
             top,
             bottom,
             powers,
-            weights,
         })
     }
 
@@ -120,114 +205,176 @@ impl Rbp {
         }
     }
 
-    /// The lower end of what a document with these two ranks adds to the difference.
+    /// The weight of a rank as two numbers of parts of 10^18.
     #[inline]
-    fn lower_share(&self, x: u32, y: u32) -> i64
-        requires x { x < 32768 }
-        requires y { y < 32768 }
-        requires first { IsWithin 10000 (rank_of x) }
-        requires second { IsWithin 10000 (rank_of y) }
-        ensures value { result ≡ low_share self.now.top self.now.bottom (rank_of x) (rank_of y) }
-        ensures small { IsWeightSum result }
+    fn parts_at(&self, rank: u32) -> Parts
+        requires { IsWithin 10000 (Some rank) }
+        ensures low { result.low ≡ low_weight self.now.top self.now.bottom (Some rank) }
+        ensures high { result.high ≡ high_weight self.now.top self.now.bottom (Some rank) }
     {
-        let lo = self.weights.at(x).low - self.weights.at(y).high;
-        let missing = if lo < 0 { lo } else { 0 };
-        if x < y {
-            lo - missing
-        } else if y < x {
-            lo
-        } else {
-            0
+        let weight = self.weight_at(Some(rank));
+        Parts {
+            low: weight.lo as u64,
+            high: weight.hi as u64,
         }
     }
 
-    /// Its upper end.
-    #[inline]
-    fn upper_share(&self, x: u32, y: u32) -> i64
-        requires x { x < 32768 }
-        requires y { y < 32768 }
-        requires first { IsWithin 10000 (rank_of x) }
-        requires second { IsWithin 10000 (rank_of y) }
-        ensures value { result ≡ high_share self.now.top self.now.bottom (rank_of x) (rank_of y) }
-        ensures small { IsWeightSum result }
+    /// The sums of the weights of a run's documents.
+    fn weights(&self, marks: &[Mark], docs: &[u32]) -> Weights
+        requires known { All (λ doc. doc < length marks.now) docs.now }
+        requires few { length docs.now ≤ 10000 }
+        ensures relevant_lo { result.relevant.lo ≡ pos (low_worth self.now.top self.now.bottom false marks.now docs.now) }
+        ensures relevant_hi { result.relevant.hi ≡ pos (high_worth self.now.top self.now.bottom false marks.now docs.now) }
+        ensures possible_lo { result.possible.lo ≡ pos (low_worth self.now.top self.now.bottom true marks.now docs.now) }
+        ensures possible_hi { result.possible.hi ≡ pos (high_worth self.now.top self.now.bottom true marks.now docs.now) }
+        ensures relevant_loose { IsLoose result.relevant }
+        ensures possible_loose { IsLoose result.possible }
     {
-        let hi = self.weights.at(x).high - self.weights.at(y).low;
-        let lowered = if hi < 0 { hi } else { 0 };
-        if x < y {
-            hi
-        } else if y < x {
-            lowered
-        } else {
-            0
+        // What is kept of the persistence bounds the weights.
+        let _ = &self.top;
+        // A sum for each mark: no jump depends on the marks, which no processor foresees.
+        let mut low = [0u64; 3];
+        let mut high = [0u64; 3];
+        for (place, doc) in docs.iter().enumerate() {
+            let parts = self.parts_at(place as u32 + 1);
+            let number = number_of(marks[*doc as usize]);
+            low[number] += parts.low;
+            high[number] += parts.high;
+        }
+        Weights {
+            relevant: span(low[1], high[1]),
+            possible: span(low[0] + low[1], high[0] + high[1]),
         }
     }
 
     /// What a document with these two ranks adds to the difference.
     #[inline]
-    fn share(&self, x: u32, y: u32) -> Share
-        requires x { x < 32768 }
-        requires y { y < 32768 }
-        requires first { IsWithin 10000 (rank_of x) }
-        requires second { IsWithin 10000 (rank_of y) }
-        ensures lo { result.lo ≡ low_share self.now.top self.now.bottom (rank_of x) (rank_of y) }
-        ensures hi { result.hi ≡ high_share self.now.top self.now.bottom (rank_of x) (rank_of y) }
-        ensures small { IsSmall result }
+    fn share(&self, x: u32, y: u32) -> Span
+        requires first { IsWithin 10000 (Some x) }
+        requires second { IsWithin 10000 (Some y) }
+        ensures lo { result.lo ≡ low_share self.now.top self.now.bottom (Some x) (Some y) }
+        ensures hi { result.hi ≡ high_share self.now.top self.now.bottom (Some x) (Some y) }
+        ensures loose { IsLoose result }
     {
-        Share {
-            lo: self.lower_share(x, y),
-            hi: self.upper_share(x, y),
+        // What is kept of the persistence orders the weights.
+        let _ = &self.top;
+        let Span { lo, hi } = alone(self.weight_at(Some(x)), self.weight_at(Some(y)));
+        Span {
+            lo: unless((x <= y) & (lo < 0), lo),
+            hi: unless((y <= x) & (hi > 0), hi),
         }
     }
 
-    /// The sums with one more document, by its two ranks and its mark.
+    /// What a document of both runs adds to the sums of shares beyond what it would add by each of its
+    /// ranks alone.
     #[inline]
-    fn with_share(&self, sums: Shares, x: u32, y: u32, mark: Mark) -> Shares
-        requires x { x < 32768 }
-        requires y { y < 32768 }
-        requires first { IsWithin 10000 (rank_of x) }
-        requires second { IsWithin 10000 (rank_of y) }
-        requires least { IsSmall sums.least }
-        requires most { IsSmall sums.most }
-        ensures least_lo { result.least.lo ≡ sums.least.lo +ℤ share_of (low_share self.now.top self.now.bottom) is_in_least mark (rank_of x) (rank_of y) }
-        ensures least_hi { result.least.hi ≡ sums.least.hi +ℤ share_of (high_share self.now.top self.now.bottom) is_in_least mark (rank_of x) (rank_of y) }
-        ensures most_lo { result.most.lo ≡ sums.most.lo +ℤ share_of (low_share self.now.top self.now.bottom) is_in_most mark (rank_of x) (rank_of y) }
-        ensures most_hi { result.most.hi ≡ sums.most.hi +ℤ share_of (high_share self.now.top self.now.bottom) is_in_most mark (rank_of x) (rank_of y) }
+    fn correction(&self, x: u32, y: u32, mark: Mark) -> Shares
+        requires first { IsWithin 10000 (Some x) }
+        requires second { IsWithin 10000 (Some y) }
+        ensures least_lo { result.least.lo ≡ correction (low_share self.now.top self.now.bottom) is_in_least mark (Some x) (Some y) }
+        ensures least_hi { result.least.hi ≡ correction (high_share self.now.top self.now.bottom) is_in_least mark (Some x) (Some y) }
+        ensures most_lo { result.most.lo ≡ correction (low_share self.now.top self.now.bottom) is_in_most mark (Some x) (Some y) }
+        ensures most_hi { result.most.hi ≡ correction (high_share self.now.top self.now.bottom) is_in_most mark (Some x) (Some y) }
+        ensures least_short { IsShort result.least }
+        ensures most_short { IsShort result.most }
     {
+        let first = self.weight_at(Some(x));
+        let second = self.weight_at(Some(y));
         let share = self.share(x, y);
-        Shares {
-            least: sums.least.plus_if(is_true(y < x, mark), share),
-            most: sums.most.plus_if(is_true(x < y, mark), share),
+        match mark {
+            Mark::Other => Shares {
+                least: NOTHING,
+                most: NOTHING,
+            },
+            Mark::Relevant => {
+                let more = beyond(share, alone(first, second));
+                Shares {
+                    least: more,
+                    most: more,
+                }
+            }
+            Mark::Unjudged => Shares {
+                least: beyond(span_if(y < x, share), second.negate()),
+                most: beyond(span_if(x < y, share), first),
+            },
         }
     }
 
-    /// The sums of shares, by one walk over the documents that either run ranks: no other document
-    /// has a share.
+    /// The sums of corrections with those of two places, where they are of one document.
+    #[inline]
+    fn with_places(&self, sums: Shares, x: Placed, y: Placed, mark: Mark) -> Shares
+        requires first { IsWithin 10000 (Some x.rank) }
+        requires second { IsWithin 10000 (Some y.rank) }
+        requires least { IsLoose sums.least }
+        requires most { IsLoose sums.most }
+        ensures least_lo { result.least.lo ≡ sums.least.lo +ℤ (if nat_eq x.doc y.doc then correction (low_share self.now.top self.now.bottom) is_in_least mark (Some x.rank) (Some y.rank) else pos 0) }
+        ensures least_hi { result.least.hi ≡ sums.least.hi +ℤ (if nat_eq x.doc y.doc then correction (high_share self.now.top self.now.bottom) is_in_least mark (Some x.rank) (Some y.rank) else pos 0) }
+        ensures most_lo { result.most.lo ≡ sums.most.lo +ℤ (if nat_eq x.doc y.doc then correction (low_share self.now.top self.now.bottom) is_in_most mark (Some x.rank) (Some y.rank) else pos 0) }
+        ensures most_hi { result.most.hi ≡ sums.most.hi +ℤ (if nat_eq x.doc y.doc then correction (high_share self.now.top self.now.bottom) is_in_most mark (Some x.rank) (Some y.rank) else pos 0) }
+    {
+        if is_corrected(x, y, mark) {
+            let more = self.correction(x.rank, y.rank, mark);
+            Shares {
+                least: sums.least.add(more.least),
+                most: sums.most.add(more.most),
+            }
+        } else {
+            sums
+        }
+    }
+
+    /// The sums of the corrections of the documents of both runs, by one walk over both in order of
+    /// the documents.
+    fn corrections(&self, a: &Ranking, b: &Ranking, marks: &[Mark]) -> Shares
+        requires { AreMet marks.now a.now b.now }
+        ensures least_lo { result.least.lo ≡ correction_sum (low_share self.now.top self.now.bottom) is_in_least marks.now a.now b.now }
+        ensures least_hi { result.least.hi ≡ correction_sum (high_share self.now.top self.now.bottom) is_in_least marks.now a.now b.now }
+        ensures most_lo { result.most.lo ≡ correction_sum (low_share self.now.top self.now.bottom) is_in_most marks.now a.now b.now }
+        ensures most_hi { result.most.hi ≡ correction_sum (high_share self.now.top self.now.bottom) is_in_most marks.now a.now b.now }
+        ensures least_loose { IsLoose result.least }
+        ensures most_loose { IsLoose result.most }
+    {
+        // What is kept of the persistence bounds the sums.
+        let _ = &self.top;
+        let first = a.by_doc();
+        let second = b.by_doc();
+        let mut sums = Shares {
+            least: NOTHING,
+            most: NOTHING,
+        };
+        let mut i = 0;
+        let mut j = 0;
+        while i < first.len() && j < second.len() {
+            let x = first[i];
+            let y = second[j];
+            sums = self.with_places(sums, x, y, marks[x.doc as usize]);
+            i += passed(x, y);
+            j += passed(y, x);
+        }
+        sums
+    }
+
+    /// The sums of shares: those of each run's documents as if the other lacked them, and the
+    /// corrections of the documents of both.
     fn shares(&self, a: &Ranking, b: &Ranking, marks: &[Mark]) -> Shares
         requires { AreMet marks.now a.now b.now }
         ensures least_lo { result.least.lo ≡ share_sum (low_share self.now.top self.now.bottom) marks.now a.now b.now }
         ensures least_hi { result.least.hi ≡ share_sum (high_share self.now.top self.now.bottom) marks.now a.now b.now }
         ensures most_lo { result.most.lo ≡ neg_ℤ (share_sum (high_share self.now.top self.now.bottom) marks.now b.now a.now) }
         ensures most_hi { result.most.hi ≡ neg_ℤ (share_sum (low_share self.now.top self.now.bottom) marks.now b.now a.now) }
-        ensures least_small { IsSmall result.least }
-        ensures most_small { IsSmall result.most }
+        ensures least_loose { IsLoose result.least }
+        ensures most_loose { IsLoose result.most }
     {
         // What is kept of the persistence bounds the sums.
         let _ = &self.top;
-        let mut sums = Shares {
-            least: Share { lo: 0, hi: 0 },
-            most: Share { lo: 0, hi: 0 },
-        };
-        let mut first = a.by_doc();
-        let mut second = b.by_doc();
-        while let Some(ranks) = next_ranks(first, second) {
-            first = after(first, ranks.doc);
-            second = after(second, ranks.doc);
-            let mark = marks[ranks.doc as usize];
-            sums = self.with_share(sums, ranks.first, ranks.second, mark);
+        let first = self.weights(marks, a.docs());
+        let second = self.weights(marks, b.docs());
+        let both = self.corrections(a, b, marks);
+        Shares {
+            least: alone(first.relevant, second.possible).add(both.least),
+            most: alone(first.possible, second.relevant).add(both.most),
         }
-        sums
     }
-
     /// 10^18 times what a tail after so many ranks adds at most.
     fn tail_most(&self, ranks: u32) -> i128
         requires { ranks ≤ 10000 }
@@ -249,8 +396,8 @@ impl Rbp {
 
     /// The ends of 10^18 times the least difference, by the shares of documents and how many ranks the
     /// second run has.
-    fn less_tail(&self, shares: Share, ranks: u32) -> Span
-        requires shares { IsSmall shares }
+    fn less_tail(&self, shares: Span, ranks: u32) -> Span
+        requires shares { IsLoose shares }
         requires ranks { ranks ≤ 10000 }
         ensures lo { result.lo ≡ shares.lo -ℤ pos (high_power self.now.top self.now.bottom ranks) }
         ensures hi { result.hi ≡ shares.hi -ℤ pos (low_power self.now.top self.now.bottom ranks - 1) }
@@ -259,26 +406,9 @@ impl Rbp {
         let most = self.tail_most(ranks);
         let least = self.tail_least(ranks);
         Span {
-            lo: i128::from(shares.lo) - most,
-            hi: i128::from(shares.hi) - least,
+            lo: shares.lo - most,
+            hi: shares.hi - least,
         }
-    }
-
-    /// The weights of the true documents of one run, where the unjudged ones are picked or not.
-    fn weights(&self, pick: bool, marks: &[Mark], docs: &[u32]) -> Span
-        requires known { All (λ doc. doc < length marks.now) docs.now }
-        requires few { length docs.now ≤ 10000 }
-        ensures lo { result.lo ≡ pos (gained (λ rank. low_weight self.now.top self.now.bottom (Some rank)) 1 (map (with_picked marks.now (λ _. pick)) docs.now)) }
-        ensures hi { result.hi ≡ pos (gained (λ rank. high_weight self.now.top self.now.bottom (Some rank)) 1 (map (with_picked marks.now (λ _. pick)) docs.now)) }
-        ensures loose { IsLoose result }
-    {
-        let mut total = Span { lo: 0, hi: 0 };
-        for (place, doc) in docs.iter().enumerate() {
-            if is_true(pick, marks[*doc as usize]) {
-                total = total.add(self.weight_at(Some(place as u32 + 1)));
-            }
-        }
-        total
     }
 }
 
@@ -323,12 +453,10 @@ impl Measure for Rbp {
     }
 
     fn bounds(&self, a: &Ranking, marks: &[Mark]) -> Span {
-        let docs = a.docs();
-        let low = self.weights(false, marks, docs);
-        let high = self.weights(true, marks, docs);
-        let most = high.hi + self.tail_most(ranks_of(a));
+        let weights = self.weights(marks, a.docs());
+        let most = weights.possible.hi + self.tail_most(ranks_of(a));
         Span {
-            lo: low.lo,
+            lo: weights.relevant.lo,
             hi: if most < UNIT { most } else { UNIT },
         }
     }

@@ -1,41 +1,107 @@
-use Rattle.std.proofs.Common.{◌≡◌, ◌<◌, ℕ, true, false, Some, length, get_or, ◌+ℤ◌, arith, ap, ◌∙◌, sym, refl}
+use Rattle.std.proofs.Common.{◌+◌, ◌*◌, ◌^◌, ◌<◌, ◌≤◌, ℕ, Some, true, nat_eq, take, slice_index_or, pos, ◌∙◌, arith, refl, ap}
 use Rattle.std.proofs.lemmas.Int.{ints}
+use Rattle.std.proofs.lemmas.List.{length-take, length-set}
 use Rattle.desk_model.specs.Completion.{with_picked}
+use Rattle.desk_model.specs.Mark.{mark_at}
 use Rattle.measure_laws.specs.Powers.{low_weight, high_weight}
-use Rattle.fractions.specs.declared.span.Span.{Span}
-use Rattle.rbp.proofs.Sums.{weight_taken, weight_left}
-use Rattle.rbp.proofs.rbp.Rbp.weights.Goals.{then-is_true, else-is_true}
+use Rattle.measure_laws.proofs.Weights.{low_weight-most, high_weight-most}
+use Rattle.rbp.specs.Persistence.{Persistence}
+use Rattle.rbp.specs.Walk.{number_of}
+use Rattle.rbp.proofs.Sums.{entered, relevant_sum, possible_sum, number_small, low_sum_small, high_sum_small}
 use Rattle.rbp.proofs.rbp.Rbp.weights.Goals as goal
+
+pub overflow_add-low : goal.overflow_add-low
+overflow_add-low c =
+    let r = c.args.self.now in
+    let l = c.loop-place in
+    let below : r.top < r.bottom = omega (arith, c.self.invariant.below, ap (λ (p : Persistence). p.top) c.self.view_is, ap (λ (p : Persistence). p.bottom) c.self.view_is) in
+    let marks = c.args.marks.now in
+    let k = c.number_of-number.result in
+    let number : k < 3 = omega (arith, c.number_of-number.ensures, number_small (mark_at marks (slice_index_or c.args.docs.now l.place 0))) in
+    let sum : slice_index_or l.low k 0 ≤ 2 * 10 ^ 18 = omega (arith, l.invariant.low k number, low_sum_small r.top r.bottom (λ doc. nat_eq (number_of (mark_at marks doc)) k) (take l.place c.args.docs.now) below) in
+    let more : c.parts_at-parts.result.low ≤ 10 ^ 18 = omega (arith, c.parts_at-parts.ensures.low, low_weight-most r.top r.bottom (Some (l.place + 1)) (omega arith)) in
+    omega (arith, sum, more)
+
+pub overflow_add-low-2 : goal.overflow_add-low-2
+overflow_add-low-2 c =
+    let r = c.args.self.now in
+    let l = c.loop-place in
+    let below : r.top < r.bottom = omega (arith, c.self.invariant.below, ap (λ (p : Persistence). p.top) c.self.view_is, ap (λ (p : Persistence). p.bottom) c.self.view_is) in
+    let sum : slice_index_or l.low 0 0 + slice_index_or l.low 1 0 ≤ 2 * 10 ^ 18 =
+    omega (arith, possible_sum (λ rank. low_weight r.top r.bottom (Some rank)) c.args.marks.now c.args.docs.now l.place _ _ c.loop-place-test.false (l.invariant.low 0 (omega arith)) (l.invariant.low 1 (omega arith)), low_sum_small r.top r.bottom (with_picked c.args.marks.now (λ _. true)) c.args.docs.now below) in
+    omega (arith, sum)
+
+pub overflow_add-high : goal.overflow_add-high
+overflow_add-high c =
+    let r = c.args.self.now in
+    let l = c.loop-place in
+    let below : r.top < r.bottom = omega (arith, c.self.invariant.below, ap (λ (p : Persistence). p.top) c.self.view_is, ap (λ (p : Persistence). p.bottom) c.self.view_is) in
+    let marks = c.args.marks.now in
+    let k = c.number_of-number.result in
+    let number : k < 3 = omega (arith, c.number_of-number.ensures, number_small (mark_at marks (slice_index_or c.args.docs.now l.place 0))) in
+    let sum : slice_index_or l.high k 0 ≤ 2 * 10 ^ 18 = omega (arith, l.invariant.high k number, high_sum_small r.top r.bottom (λ doc. nat_eq (number_of (mark_at marks doc)) k) (take l.place c.args.docs.now) below (omega (arith, length-take l.place c.args.docs.now, c.requires.few))) in
+    let more : c.parts_at-parts.result.high ≤ 10 ^ 18 = omega (arith, c.parts_at-parts.ensures.high, high_weight-most r.top r.bottom (Some (l.place + 1)) (omega arith) (omega arith)) in
+    omega (arith, sum, more)
+
+pub overflow_add-high-2 : goal.overflow_add-high-2
+overflow_add-high-2 c =
+    let r = c.args.self.now in
+    let l = c.loop-place in
+    let below : r.top < r.bottom = omega (arith, c.self.invariant.below, ap (λ (p : Persistence). p.top) c.self.view_is, ap (λ (p : Persistence). p.bottom) c.self.view_is) in
+    let sum : slice_index_or l.high 0 0 + slice_index_or l.high 1 0 ≤ 2 * 10 ^ 18 =
+    omega (arith, possible_sum (λ rank. high_weight r.top r.bottom (Some rank)) c.args.marks.now c.args.docs.now l.place _ _ c.loop-place-test.false (l.invariant.high 0 (omega arith)) (l.invariant.high 1 (omega arith)), high_sum_small r.top r.bottom (with_picked c.args.marks.now (λ _. true)) c.args.docs.now below c.requires.few) in
+    omega (arith, sum)
 
 pub loop-place-preserved : goal.loop-place-preserved
 loop-place-preserved c =
     let r = c.args.self.now in
+    let l = c.loop-place in
+    let marks = c.args.marks.now in
+    let docs = c.args.docs.now in
+    let m = c.number_of-number.result in
+    let number : m < 3 = omega (arith, c.number_of-number.ensures, number_small (mark_at marks (slice_index_or docs l.place 0))) in
     let low = λ (rank : ℕ). low_weight r.top r.bottom (Some rank) in
     let high = λ (rank : ℕ). high_weight r.top r.bottom (Some rank) in
-    let truth = with_picked c.args.marks.now (λ _. c.args.pick) in
-    let docs = c.args.docs.now in
-    let p = c.loop-place.place in
-    let d = get_or docs p 0 in
-    let within : p < length docs = omega arith in
-    elim c.if-is_true.branch [
-      | then-is_true w ↦
-          let taken : truth d ≡ true = sym c.is_true.ensures ∙ w.if-is_true.true in
-          let lo : c.if-is_true.total.lo ≡ c.loop-place.total.lo +ℤ w.weight_at.result.lo = ap (λ (s : Span). s.lo) w.total-is ∙ w.add-total.ensures.lo in
-          let hi : c.if-is_true.total.hi ≡ c.loop-place.total.hi +ℤ w.weight_at.result.hi = ap (λ (s : Span). s.hi) w.total-is ∙ w.add-total.ensures.hi in
-          record {
-            lo = weight_taken low truth p d docs c.loop-place.total.lo w.weight_at.result.lo c.if-is_true.total.lo within refl c.loop-place.invariant.lo w.weight_at.ensures.lo taken lo;
-            hi = weight_taken high truth p d docs c.loop-place.total.hi w.weight_at.result.hi c.if-is_true.total.hi within refl c.loop-place.invariant.hi w.weight_at.ensures.hi taken hi;
-            lo_most = omega (arith, ints, lo, w.weight_at.ensures.lo_small);
-            hi_most = omega (arith, ints, hi, w.weight_at.ensures.hi_small);
-          }
-      | else-is_true w ↦
-          let left : truth d ≡ false = sym c.is_true.ensures ∙ w.if-is_true.false in
-          let lo : c.if-is_true.total.lo ≡ c.loop-place.total.lo = ap (λ (s : Span). s.lo) w.total-is in
-          let hi : c.if-is_true.total.hi ≡ c.loop-place.total.hi = ap (λ (s : Span). s.hi) w.total-is in
-          record {
-            lo = weight_left low truth p d docs c.loop-place.total.lo c.if-is_true.total.lo within refl c.loop-place.invariant.lo left lo;
-            hi = weight_left high truth p d docs c.loop-place.total.hi c.if-is_true.total.hi within refl c.loop-place.invariant.hi left hi;
-            lo_most = omega (arith, ints, lo);
-            hi_most = omega (arith, ints, hi);
-          }
-    ]
+    record {
+      low_long = omega (arith, length-set l.low m (slice_index_or l.low m 0 + c.parts_at-parts.result.low));
+      high_long = omega (arith, length-set l.high m (slice_index_or l.high m 0 + c.parts_at-parts.result.high));
+      low = λ k h. rw c.parts_at-parts.ensures.low (entered low (λ doc. number_of (mark_at marks doc)) l.place _ m k docs l.low c.loop-place-test.true refl c.number_of-number.ensures (omega (arith, number, l.invariant.low_long)) (l.invariant.low k h));
+      high = λ k h. rw c.parts_at-parts.ensures.high (entered high (λ doc. number_of (mark_at marks doc)) l.place _ m k docs l.high c.loop-place-test.true refl c.number_of-number.ensures (omega (arith, number, l.invariant.high_long)) (l.invariant.high k h));
+    }
+
+pub returns-clause-relevant_lo : goal.returns-clause-relevant_lo
+returns-clause-relevant_lo c =
+    let r = c.args.self.now in
+    let l = c.loop-place in
+    c.span.ensures.lo ∙ ap pos (relevant_sum (λ rank. low_weight r.top r.bottom (Some rank)) c.args.marks.now c.args.docs.now l.place _ c.loop-place-test.false (l.invariant.low 1 (omega arith)))
+
+pub returns-clause-possible_lo : goal.returns-clause-possible_lo
+returns-clause-possible_lo c =
+    let r = c.args.self.now in
+    let l = c.loop-place in
+    c.span-2.ensures.lo ∙ ap pos (possible_sum (λ rank. low_weight r.top r.bottom (Some rank)) c.args.marks.now c.args.docs.now l.place _ _ c.loop-place-test.false (l.invariant.low 0 (omega arith)) (l.invariant.low 1 (omega arith)))
+
+pub returns-clause-relevant_hi : goal.returns-clause-relevant_hi
+returns-clause-relevant_hi c =
+    let r = c.args.self.now in
+    let l = c.loop-place in
+    c.span.ensures.hi ∙ ap pos (relevant_sum (λ rank. high_weight r.top r.bottom (Some rank)) c.args.marks.now c.args.docs.now l.place _ c.loop-place-test.false (l.invariant.high 1 (omega arith)))
+
+pub returns-clause-possible_hi : goal.returns-clause-possible_hi
+returns-clause-possible_hi c =
+    let r = c.args.self.now in
+    let l = c.loop-place in
+    c.span-2.ensures.hi ∙ ap pos (possible_sum (λ rank. high_weight r.top r.bottom (Some rank)) c.args.marks.now c.args.docs.now l.place _ _ c.loop-place-test.false (l.invariant.high 0 (omega arith)) (l.invariant.high 1 (omega arith)))
+
+pub returns-clause-possible_loose : goal.returns-clause-possible_loose
+returns-clause-possible_loose c =
+    let r = c.args.self.now in
+    let l = c.loop-place in
+    let below : r.top < r.bottom = omega (arith, c.self.invariant.below, ap (λ (p : Persistence). p.top) c.self.view_is, ap (λ (p : Persistence). p.bottom) c.self.view_is) in
+    let low : slice_index_or l.low 0 0 + slice_index_or l.low 1 0 ≤ 2 * 10 ^ 18 =
+    omega (arith, possible_sum (λ rank. low_weight r.top r.bottom (Some rank)) c.args.marks.now c.args.docs.now l.place _ _ c.loop-place-test.false (l.invariant.low 0 (omega arith)) (l.invariant.low 1 (omega arith)), low_sum_small r.top r.bottom (with_picked c.args.marks.now (λ _. true)) c.args.docs.now below) in
+    let high : slice_index_or l.high 0 0 + slice_index_or l.high 1 0 ≤ 2 * 10 ^ 18 =
+    omega (arith, possible_sum (λ rank. high_weight r.top r.bottom (Some rank)) c.args.marks.now c.args.docs.now l.place _ _ c.loop-place-test.false (l.invariant.high 0 (omega arith)) (l.invariant.high 1 (omega arith)), high_sum_small r.top r.bottom (with_picked c.args.marks.now (λ _. true)) c.args.docs.now below c.requires.few) in (
+      (omega (arith, ints, c.span-2.ensures.lo), omega (arith, ints, c.span-2.ensures.lo, low)),
+      (omega (arith, ints, c.span-2.ensures.hi), omega (arith, ints, c.span-2.ensures.hi, high)),
+    )
