@@ -1,10 +1,11 @@
 //! The desk over the real files and streams.
 #![tactic(auto)]
 
-ghost use Rattle.std.specs.Prelude.{◌≡◌, ◌<◌};
+ghost use Rattle.std.specs.Prelude.{◌≡◌, ◌<◌, ◌≤◌};
+ghost use Rattle.desk_top.specs.Told.{Writes, status_line};
 
 use any_measure::Common;
-use desk_outside::{HostShelf, HostSink, HostSource};
+use desk_outside::{HostShelf, HostSink, HostSource, Sink};
 use desk_top::{run_desk, tell_memory, tell_outside};
 use measure_core::Steps;
 use std::env;
@@ -26,6 +27,7 @@ fn run<L: Ledger>(rt: &HostRuntime, words: &[String], blank: Blank) -> u8
     requires name { blank.name ≡ L.name }
     requires parts { blank.parts ≡ L.parts }
     requires some { 0 < blank.parts }
+    ensures known { result ≤ 4 }
 {
     let mut files = HostShelf::new(rt);
     let mut input = HostSource::new(rt.reader());
@@ -56,11 +58,25 @@ fn words(rt: &HostRuntime) -> Result<Vec<String>, NoWords> {
     }
 }
 
-fn status(rt: &HostRuntime) -> u8 {
+// Ends a call for which there are no words: the line of its status, and that.
+fn end_without_words<K: Sink>(err: &mut K, fault: NoWords) -> u8
+    ensures outside { fault ≡ NoWords.Outside → result ≡ 3 }
+    ensures memory { fault ≡ NoWords.Memory → result ≡ 4 }
+    ensures known { result ≤ 4 }
+    ensures line { Writes (K.received err.old) (K.received err.new) (K.faults err.old) (K.faults err.new) (status_line result) }
+{
+    match fault {
+        NoWords::Outside => tell_outside(err),
+        NoWords::Memory => tell_memory(err),
+    }
+}
+
+fn status(rt: &HostRuntime) -> u8
+    ensures known { result ≤ 4 }
+{
     match words(rt) {
         Ok(words) => run::<Brand>(rt, &words, Blank::new(1)),
-        Err(NoWords::Outside) => tell_outside(&mut HostSink::new(rt.stderr())),
-        Err(NoWords::Memory) => tell_memory(&mut HostSink::new(rt.stderr())),
+        Err(fault) => end_without_words(&mut HostSink::new(rt.stderr()), fault),
     }
 }
 
