@@ -25,7 +25,6 @@ use Rattle.precision.specs.declared.counts.Counts.{Counts}
 use Rattle.rprec.specs.declared.fronts.Fronts.{Fronts}
 use Rattle.rprec.specs.declared.greedy.Candidate.{Candidate}
 use Rattle.rprec.specs.Greedy.{AreFronts, AreTopic, AreFew, AreGains, beats, exchanged}
-use Rattle.rprec.proofs.Steps.{own_few, fronts_exchanged}
 
 -- ---- the true documents of a class: those judged relevant, and those picked
 one_if_picked : (b : Bool) (m : Mark) (e : Bool) → one_if (picked_value b m && e) ≡ one_if (picked_value false m && e) + one_if ((is_unjudged m && e) && b)
@@ -122,8 +121,10 @@ gains_are marks a b r chosen f all c ra rb h topic er small ec e1 e2 =
     let wx = front_within r n a ra in
     let wy = front_within r n b rb in
     let chosen_is : r - judged_count marks ≡ chosen = omega (arith, er, topic.relevant) in
-    let size_first : size_of n (open_in marks first) ≡ f.first.unjudged = open_size marks a b r f.first.relevant f.first.unjudged ra h.first.least h.first.most in
-    let size_second : size_of n (open_in marks second) ≡ f.second.unjudged = open_size marks b a r f.second.relevant f.second.unjudged rb h.second.least h.second.most in
+    let own = only_count false marks (take r a) (take r b) in
+    let other = only_count false marks (take r b) (take r a) in
+    let size_first : size_of n (open_in marks first) ≡ f.first.unjudged = open_size marks a b r own f.first.unjudged ra refl (omega (arith, h.first)) in
+    let size_second : size_of n (open_in marks second) ≡ f.second.unjudged = open_size marks b a r other f.second.unjudged rb refl (omega (arith, h.second)) in
     let open_all : size_of n (open_in marks (λ _. true)) ≡ size_of n (open_in marks first) + size_of n (open_in marks second) + size_of n (open_in marks both) =
     count_by-agree _ _ zs (every _ (λ d. and_true (is_unjudged (mark_at marks d))) zs) ∙ count_three (λ d. is_unjudged (mark_at marks d)) r a b zs in
     let picked_first : count_by (λ d. open_in marks first d && greedy_pick marks a b r d) zs ≡ min (r - judged_count marks - size_of n (open_in marks second) - size_of n (open_in marks both)) (size_of n (open_in marks first)) =
@@ -131,11 +132,11 @@ gains_are marks a b r chosen f all c ra rb h topic er small ec e1 e2 =
     ∙ count-is_among_first (r - judged_count marks - size_of n (open_in marks second) - size_of n (open_in marks both)) (open_in marks first) n in
     let picked_second : count_by (λ d. open_in marks second d && greedy_pick marks a b r d) zs ≡ min (r - judged_count marks) (size_of n (open_in marks second)) =
     greedy_second marks a b r zs ∙ count-is_among_first (r - judged_count marks) (open_in marks second) n in
-    let first_is : count_by (λ d. best d && not (is_in (take r b) d)) (take r a) ≡ c.first =
-    omega (arith, sym (class_count best n (take r a) (take r b) dx wx), count_picked marks (greedy_pick marks a b r) first zs, class_count base n (take r a) (take r b) dx wx, h.first.least, picked_first, chosen_is, size_first, size_second, open_all, topic.unjudged, small, e1) in
-    let second_is : count_by (λ d. best d && not (is_in (take r a) d)) (take r b) ≡ c.second =
-    omega (arith, sym (class_count best n (take r b) (take r a) dy wy), count_picked marks (greedy_pick marks a b r) second zs, class_count base n (take r b) (take r a) dy wy, h.second.least, picked_second, chosen_is, size_second, e2) in
-    let here : true_among best r a + c.second ≡ true_among best r b + c.first = omega (arith, difference_outside best (take r a) (take r b) dx dy, first_is, second_is) in
+    let first_is : count_by (λ d. best d && not (is_in (take r b) d)) (take r a) ≡ own + (chosen - (all.unjudged - f.first.unjudged)) =
+    omega (arith, sym (class_count best n (take r a) (take r b) dx wx), count_picked marks (greedy_pick marks a b r) first zs, class_count base n (take r a) (take r b) dx wx, picked_first, chosen_is, size_first, size_second, open_all, topic.unjudged, small) in
+    let second_is : count_by (λ d. best d && not (is_in (take r a) d)) (take r b) ≡ other + min chosen f.second.unjudged =
+    omega (arith, sym (class_count best n (take r b) (take r a) dy wy), count_picked marks (greedy_pick marks a b r) second zs, class_count base n (take r b) (take r a) dy wy, picked_second, chosen_is, size_second) in
+    let here : true_among best r a + c.second ≡ true_among best r b + c.first = omega (arith, difference_outside best (take r a) (take r b) dx dy, first_is, second_is, h.relevant, e1, e2) in
     record { same = subst (λ (s : ℕ). true_among (greedy_truth marks a b s) s a + c.second ≡ true_among (greedy_truth marks a b s) s b + c.first) (sym ec) here }
 
 -- ---- one candidate against another
@@ -157,7 +158,7 @@ pub among_few : (truth : ℕ → Bool) (r : ℕ) (a : List ℕ) → true_among t
 among_few truth r a = omega (arith, count_by-le-length truth (take r a), length-take {A = ℕ} r a)
 
 -- the test of four scores with two denominators, in gains
-test_step : (m n x y r s first second first' second' : ℕ) → 0 < r → 0 < s → m + second ≡ n + first → x + second' ≡ y + first' →
+pub test_step : (m n x y r s first second first' second' : ℕ) → 0 < r → 0 < s → m + second ≡ n + first → x + second' ≡ y + first' →
     nat_lt ((m * r) * (s * s) + (y * s) * (r * r)) ((x * s) * (r * r) + (n * r) * (s * s)) ≡ nat_lt (first * s + second' * r) (first' * r + second * s)
 test_step m n x y r s first second first' second' pr ps e f =
     let left : (m * r) * (s * s) + (y * s) * (r * r) ≡ (m * s + y * r) * (r * s) = omega arith in
@@ -197,15 +198,15 @@ own_both marks a b r f all ra rb h topic =
     omega (
       arith,
       topic.unjudged,
-      open_size marks a b r f.first.relevant f.first.unjudged ra h.first.least h.first.most,
-      open_size marks b a r f.second.relevant f.second.unjudged rb h.second.least h.second.most,
+      open_size marks a b r (only_count false marks (take r a) (take r b)) f.first.unjudged ra refl (omega (arith, h.first)),
+      open_size marks b a r (only_count false marks (take r b) (take r a)) f.second.unjudged rb refl (omega (arith, h.second)),
       class_sizes marks a b r,
     )
 
 pub fronts_small : (marks : List Mark) (a b : List ℕ) (r : ℕ) (f : Fronts) → IsRanking (length marks) a → IsRanking (length marks) b → AreFronts marks (take r a) (take r b) f →
     (f.first.relevant + f.first.unjudged ≤ 10000) × (f.second.relevant + f.second.unjudged ≤ 10000)
 fronts_small marks a b r f ra rb h =
-    (omega (arith, own_few marks (take r a) (take r b) f h, length-take {A = ℕ} r a, ra.short), omega (arith, own_few marks (take r b) (take r a) (exchanged f) (fronts_exchanged marks (take r a) (take r b) f h), length-take {A = ℕ} r b, rb.short))
+    (omega (arith, h.first_few, length-take {A = ℕ} r a, ra.short), omega (arith, h.second_few, length-take {A = ℕ} r b, rb.short))
 
 -- all unjudged documents
 pub all_open : (marks : List Mark) → true_count (with_picked marks (λ _. true)) (length marks) ≡ judged_count marks + size_of (length marks) (open_in marks (λ _. true))

@@ -4,3 +4,4 @@ pub mod Ends
 pub mod Walks
 pub mod Tails
 pub mod Flags
+pub mod Blocks

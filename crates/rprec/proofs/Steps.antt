@@ -2,8 +2,8 @@
 use Rattle.std.proofs.Common.{◌≡◌, ℕ, ◌+◌, ◌<◌, ◌≤◌, Bool, true, false, not, ◌&&◌, nat_eq, List, [], ◌∷◌, ◌++◌, length, take, get_or, count_by, arith, refl, ap, ◌∙◌, sym}
 use Rattle.std.specs.List.{IsDistinct}
 use Rattle.std.proofs.lemmas.Grind.{common_steps}
-use Rattle.std.proofs.lemmas.List.{take_more}
-use Rattle.std.proofs.lemmas.List.Sums.{sum_by_push, count_by-le-length}
+use Rattle.std.proofs.lemmas.List.{take_more, length-append}
+use Rattle.std.proofs.lemmas.List.Sums.{sum_by_push}
 use Rattle.desk_model.specs.Mark.{mark_at}
 use Rattle.desk_model.specs.Classes.{only_count}
 use Rattle.desk_model.specs.Completion.{picked_value, with_picked}
@@ -15,7 +15,7 @@ use Rattle.desk_model.proofs.PrecisionEnds.{difference_outside}
 use Rattle.measure_laws.proofs.RecallEnds.{every}
 use Rattle.precision.specs.declared.counts.Counts.{Counts}
 use Rattle.rprec.specs.declared.fronts.Fronts.{Fronts}
-use Rattle.rprec.specs.Greedy.{AreBefore, AreFronts, counts_if, exchanged, one_of}
+use Rattle.rprec.specs.Greedy.{AreBefore, AreFronts, exchanged, number_if, one_of}
 
 -- ---- lists
 whole : (xs : List ℕ) (i : ℕ) → length xs ≤ i → take i xs ≡ xs
@@ -59,71 +59,79 @@ fewer_relevant marks xs ys = count_by-weaker _ _ xs (every _ (λ d. weaker_value
     weaker_value Other e h = absurd (cc)
 
 pub fronts_exchanged : (marks : List Mark) (xs ys : List ℕ) (f : Fronts) → AreFronts marks xs ys f → AreFronts marks ys xs (exchanged f)
-fronts_exchanged marks xs ys f h = record { first = h.second; second = h.first }
+fronts_exchanged marks xs ys f h = record { relevant = sym h.relevant; first = h.second; second = h.first; first_few = h.second_few; second_few = h.first_few }
+
+longer_by : (xs longer : List ℕ) (x : ℕ) → longer ≡ xs ++ x ∷ [] → length longer ≡ length xs + 1
+longer_by xs longer x e = ap length e ∙ length-append xs (x ∷ [])
+
+-- the marks of a document that is counted as relevant, and as relevant or unjudged
+one_each : (m : Mark) (one : Counts) → one.relevant ≡ one_of false m → one.relevant + one.unjudged ≡ one_of true m → (one_if (picked_value false m) ≡ one.relevant) × ((one_if (picked_value true m) ≡ one.relevant + one.unjudged) × (one.relevant + one.unjudged ≤ 1))
+one_each Relevant one e f = (sym e, (sym f, omega (arith, f)))
+one_each Unjudged one e f = (sym e, (sym f, omega (arith, f)))
+one_each Other one e f = (sym e, (sym f, omega (arith, f)))
 
 -- a document that the other list has not
-pub fronts_alone : (marks : List Mark) (xs longer ys : List ℕ) (x : ℕ) (f g : Fronts) → longer ≡ xs ++ x ∷ [] → is_in ys x ≡ false → IsDistinct nat_eq xs → IsDistinct nat_eq longer → IsDistinct nat_eq ys → AreFronts marks xs ys f →
-    g.first.relevant ≡ f.first.relevant + one_of false (mark_at marks x) → g.first.relevant + g.first.unjudged ≡ f.first.relevant + f.first.unjudged + one_of true (mark_at marks x) → g.second.relevant ≡ f.second.relevant → g.second.unjudged ≡ f.second.unjudged → AreFronts marks longer ys g
-fronts_alone marks xs longer ys x f g e v dx dl dy h er eu es et = record {
-  first = record {
-    least = omega (arith, er, h.first.least, own_next false marks xs longer ys x false e v, with_true (picked_value false (mark_at marks x)));
-    most = omega (arith, eu, h.first.most, own_next true marks xs longer ys x false e v, with_true (picked_value true (mark_at marks x)));
-  };
-  second = record {
-    least = omega (arith, es, h.second.least, other_next false marks xs longer ys x false e v dx dl dy, with_true (picked_value false (mark_at marks x)));
-    most = omega (arith, es, et, h.second.most, other_next true marks xs longer ys x false e v dx dl dy, with_true (picked_value true (mark_at marks x)));
-  };
-}
+pub fronts_alone : (marks : List Mark) (xs longer ys : List ℕ) (x : ℕ) (f g : Fronts) (one : Counts) → longer ≡ xs ++ x ∷ [] → is_in ys x ≡ false → IsDistinct nat_eq xs → IsDistinct nat_eq longer → IsDistinct nat_eq ys → AreFronts marks xs ys f →
+    one.relevant ≡ one_of false (mark_at marks x) → one.relevant + one.unjudged ≡ one_of true (mark_at marks x) →
+    g.first.relevant ≡ f.first.relevant + one.relevant → g.first.unjudged ≡ f.first.unjudged + one.unjudged → g.second.relevant ≡ f.second.relevant → g.second.unjudged ≡ f.second.unjudged → AreFronts marks longer ys g
+fronts_alone marks xs longer ys x f g one e v dx dl dy h er eu ea eb same same_open =
+    let each = one_each (mark_at marks x) one er eu in
+    let own = own_next false marks xs longer ys x false e v in
+    let either = own_next true marks xs longer ys x false e v in
+    let other = other_next false marks xs longer ys x false e v dx dl dy in
+    let other_either = other_next true marks xs longer ys x false e v dx dl dy in
+    let low = with_true (picked_value false (mark_at marks x)) in
+    let high = with_true (picked_value true (mark_at marks x)) in
+    record {
+      relevant = omega (arith, h.relevant, ea, same, own, other, low, each.0);
+      first = omega (arith, h.first, eb, own, either, low, high, each.0, each.1.0);
+      second = omega (arith, h.second, same_open, other, other_either, low, high);
+      first_few = omega (arith, h.first_few, ea, eb, longer_by xs longer x e, each.1.1);
+      second_few = omega (arith, h.second_few, same, same_open);
+    }
 
 -- a document that it has
-pub fronts_shared : (marks : List Mark) (xs longer ys : List ℕ) (x : ℕ) (f g : Fronts) → longer ≡ xs ++ x ∷ [] → is_in ys x ≡ true → IsDistinct nat_eq xs → IsDistinct nat_eq longer → IsDistinct nat_eq ys → AreFronts marks xs ys f →
-    g.second.relevant + one_of false (mark_at marks x) ≡ f.second.relevant → g.second.relevant + g.second.unjudged + one_of true (mark_at marks x) ≡ f.second.relevant + f.second.unjudged → g.first.relevant ≡ f.first.relevant → g.first.unjudged ≡ f.first.unjudged → AreFronts marks longer ys g
-fronts_shared marks xs longer ys x f g e v dx dl dy h er eu es et = record {
-  first = record {
-    least = omega (arith, es, h.first.least, own_next false marks xs longer ys x true e v, with_false (picked_value false (mark_at marks x)));
-    most = omega (arith, es, et, h.first.most, own_next true marks xs longer ys x true e v, with_false (picked_value true (mark_at marks x)));
-  };
-  second = record {
-    least = omega (arith, er, h.second.least, other_next false marks xs longer ys x true e v dx dl dy, with_false (picked_value false (mark_at marks x)));
-    most = omega (arith, eu, h.second.most, other_next true marks xs longer ys x true e v dx dl dy, with_false (picked_value true (mark_at marks x)));
-  };
-}
+pub fronts_shared : (marks : List Mark) (xs longer ys : List ℕ) (x : ℕ) (f g : Fronts) (one : Counts) → longer ≡ xs ++ x ∷ [] → is_in ys x ≡ true → IsDistinct nat_eq xs → IsDistinct nat_eq longer → IsDistinct nat_eq ys → AreFronts marks xs ys f →
+    one.relevant ≡ one_of false (mark_at marks x) → one.relevant + one.unjudged ≡ one_of true (mark_at marks x) →
+    g.first.relevant ≡ f.first.relevant + one.relevant → g.first.unjudged ≡ f.first.unjudged → g.second.relevant ≡ f.second.relevant → g.second.unjudged + one.unjudged ≡ f.second.unjudged → AreFronts marks longer ys g
+fronts_shared marks xs longer ys x f g one e v dx dl dy h er eu ea eb ec ed =
+    let each = one_each (mark_at marks x) one er eu in
+    let own = own_next false marks xs longer ys x true e v in
+    let either = own_next true marks xs longer ys x true e v in
+    let other = other_next false marks xs longer ys x true e v dx dl dy in
+    let other_either = other_next true marks xs longer ys x true e v dx dl dy in
+    let low = with_false (picked_value false (mark_at marks x)) in
+    let high = with_false (picked_value true (mark_at marks x)) in
+    record {
+      relevant = omega (arith, h.relevant, ea, ec, own, other, low, each.0);
+      first = omega (arith, h.first, eb, own, either, low, high);
+      second = omega (arith, h.second, ed, other, other_either, low, high, each.0, each.1.0);
+      first_few = omega (arith, h.first_few, ea, eb, longer_by xs longer x e, each.1.1);
+      second_few = omega (arith, h.second_few, ec, ed);
+    }
 
--- where it has, there is such a one to take away
-pub some_relevant : (marks : List Mark) (xs longer ys : List ℕ) (x : ℕ) (f : Fronts) → longer ≡ xs ++ x ∷ [] → is_in ys x ≡ true → IsDistinct nat_eq xs → IsDistinct nat_eq longer → IsDistinct nat_eq ys → AreFronts marks xs ys f →
-    one_of false (mark_at marks x) ≤ f.second.relevant
-some_relevant marks xs longer ys x f e v dx dl dy h = omega (arith, h.second.least, other_next false marks xs longer ys x true e v dx dl dy, with_false (picked_value false (mark_at marks x)))
-
-pub some_unjudged : (marks : List Mark) (xs longer ys : List ℕ) (x : ℕ) (f : Fronts) → longer ≡ xs ++ x ∷ [] → is_in ys x ≡ true → IsDistinct nat_eq xs → IsDistinct nat_eq longer → IsDistinct nat_eq ys → AreFronts marks xs ys f →
-    one_of true (mark_at marks x) ≤ one_of false (mark_at marks x) + f.second.unjudged
-some_unjudged marks xs longer ys x f e v dx dl dy h =
-    omega (arith, h.second.least, h.second.most, fewer_relevant marks ys longer, other_next false marks xs longer ys x true e v dx dl dy, with_false (picked_value false (mark_at marks x)), other_next true marks xs longer ys x true e v dx dl dy, with_false (picked_value true (mark_at marks x)))
-
--- a list holds few
-pub own_few : (marks : List Mark) (xs ys : List ℕ) (f : Fronts) → AreFronts marks xs ys f → f.first.relevant + f.first.unjudged ≤ length xs
-own_few marks xs ys f h = omega (arith, h.first.most, count_by-le-length (λ d. with_picked marks (λ _. true) d && not (is_in ys d)) xs)
+-- where it has, there is such an unjudged one to take away
+pub some_unjudged : (marks : List Mark) (xs longer ys : List ℕ) (x : ℕ) (f : Fronts) (one : Counts) → longer ≡ xs ++ x ∷ [] → is_in ys x ≡ true → IsDistinct nat_eq xs → IsDistinct nat_eq longer → IsDistinct nat_eq ys → AreFronts marks xs ys f →
+    one.relevant ≡ one_of false (mark_at marks x) → one.relevant + one.unjudged ≡ one_of true (mark_at marks x) → one.unjudged ≤ f.second.unjudged
+some_unjudged marks xs longer ys x f one e v dx dl dy h er eu =
+    let each = one_each (mark_at marks x) one er eu in
+    omega (arith, h.second, fewer_relevant marks ys longer, other_next false marks xs longer ys x true e v dx dl dy, with_false (picked_value false (mark_at marks x)), other_next true marks xs longer ys x true e v dx dl dy, with_false (picked_value true (mark_at marks x)), each.0, each.1.0)
 
 -- ---- the next document of a list
 -- what is taken away is there
 pub gone_there : (marks : List Mark) (docs ys : List ℕ) (place : ℕ) (b : Bool) (f : Fronts) (one : Counts) → IsDistinct nat_eq docs → place < length docs → AreBefore marks docs ys place b f →
-    one.relevant ≡ one_of false (mark_at marks (get_or docs place 0)) → one.relevant + one.unjudged ≡ one_of true (mark_at marks (get_or docs place 0)) → ((counts_if b one).relevant ≤ f.second.relevant) × ((counts_if b one).unjudged ≤ f.second.unjudged)
-gone_there marks docs ys place false f one distinct lt h er eu = (omega arith, omega arith)
+    one.relevant ≡ one_of false (mark_at marks (get_or docs place 0)) → one.relevant + one.unjudged ≡ one_of true (mark_at marks (get_or docs place 0)) → number_if b one.unjudged ≤ f.second.unjudged
+gone_there marks docs ys place false f one distinct lt h er eu = omega arith
 gone_there marks docs ys place true f one distinct lt h er eu =
-    let x = get_or docs place 0 in
-    let longer = take_more docs place 0 lt in
-    let xs = IsDistinct-take place docs distinct in
-    let ls = IsDistinct-take (place + 1) docs distinct in
-    let relevant = some_relevant marks (take place docs) (take (place + 1) docs) ys x f longer (h.next lt) xs ls h.distinct h.counts in
-    let either = some_unjudged marks (take place docs) (take (place + 1) docs) ys x f longer (h.next lt) xs ls h.distinct h.counts in
-    (omega (arith, relevant, er), omega (arith, either, er, eu))
+    some_unjudged marks (take place docs) (take (place + 1) docs) ys (get_or docs place 0) f one (take_more docs place 0 lt) (h.next lt) (IsDistinct-take place docs distinct) (IsDistinct-take (place + 1) docs distinct) h.distinct h.counts er eu
 
 pub next_counted : (marks : List Mark) (docs ys : List ℕ) (place : ℕ) (b : Bool) (f g : Fronts) (one : Counts) → IsDistinct nat_eq docs → place < length docs → AreBefore marks docs ys place b f →
     one.relevant ≡ one_of false (mark_at marks (get_or docs place 0)) → one.relevant + one.unjudged ≡ one_of true (mark_at marks (get_or docs place 0)) →
-    g.first.relevant ≡ f.first.relevant + (counts_if (not b) one).relevant → g.first.unjudged ≡ f.first.unjudged + (counts_if (not b) one).unjudged →
-    g.second.relevant + (counts_if b one).relevant ≡ f.second.relevant → g.second.unjudged + (counts_if b one).unjudged ≡ f.second.unjudged → AreFronts marks (take (place + 1) docs) ys g
+    g.first.relevant ≡ f.first.relevant + one.relevant → g.first.unjudged ≡ f.first.unjudged + number_if (not b) one.unjudged →
+    g.second.relevant ≡ f.second.relevant → g.second.unjudged + number_if b one.unjudged ≡ f.second.unjudged → AreFronts marks (take (place + 1) docs) ys g
 next_counted marks docs ys place true f g one distinct lt h er eu ea eb ec ed =
-    fronts_shared marks (take place docs) (take (place + 1) docs) ys (get_or docs place 0) f g (take_more docs place 0 lt) (h.next lt) (IsDistinct-take place docs distinct) (IsDistinct-take (place + 1) docs distinct) h.distinct h.counts
-    (omega (arith, ec, er)) (omega (arith, ec, ed, er, eu)) (omega (arith, ea)) (omega (arith, eb))
+    fronts_shared marks (take place docs) (take (place + 1) docs) ys (get_or docs place 0) f g one (take_more docs place 0 lt) (h.next lt) (IsDistinct-take place docs distinct) (IsDistinct-take (place + 1) docs distinct) h.distinct h.counts er eu
+    ea (omega (arith, eb)) ec ed
 next_counted marks docs ys place false f g one distinct lt h er eu ea eb ec ed =
-    fronts_alone marks (take place docs) (take (place + 1) docs) ys (get_or docs place 0) f g (take_more docs place 0 lt) (h.next lt) (IsDistinct-take place docs distinct) (IsDistinct-take (place + 1) docs distinct) h.distinct h.counts
-    (omega (arith, ea, er)) (omega (arith, ea, eb, er, eu)) (omega (arith, ec)) (omega (arith, ed))
+    fronts_alone marks (take place docs) (take (place + 1) docs) ys (get_or docs place 0) f g one (take_more docs place 0 lt) (h.next lt) (IsDistinct-take place docs distinct) (IsDistinct-take (place + 1) docs distinct) h.distinct h.counts er eu
+    ea eb ec (omega (arith, ed))

@@ -1,5 +1,5 @@
 -- Where the fronts stay as they are, three numbers of relevant documents hold the least difference.
-use Rattle.std.proofs.Common.{◌≡◌, ℕ, zero, suc, ◌+◌, ◌-◌, ◌*◌, ◌<◌, ◌≤◌, min, max, Bool, true, false, nat_lt, List, [], ◌∷◌, ◌++◌, length, take, arith, refl, ap, ◌∙◌, sym, subst, inl, inr}
+use Rattle.std.proofs.Common.{◌≡◌, ℕ, zero, suc, ◌+◌, ◌-◌, ◌*◌, ◌<◌, ◌≤◌, min, max, Bool, true, false, not, ◌&&◌, ◌||◌, ◌⊎◌, nat_lt, List, [], ◌∷◌, ◌++◌, length, take, arith, refl, ap, ◌∙◌, sym, subst, inl, inr}
 use Rattle.std.specs.Prelude.{if◌then◌else◌}
 use Rattle.std.specs.List.{AllByRecursion, range_with_len}
 use Rattle.std.proofs.lemmas.Bool.{cases_lt}
@@ -10,14 +10,14 @@ use Rattle.desk_model.specs.declared.types.Mark.{Mark}
 use Rattle.measure_laws.specs.Differences.{ArePositive, Scores, is_smaller, first_least}
 use Rattle.measure_laws.specs.RprecCase.{greedy_scores, rprec_count}
 use Rattle.measure_laws.specs.Classes.{judged_count}
-use Rattle.measure_laws.proofs.Picks.{NoGreater, NoGreater-trans, NoGreater-refl, first_least-all}
+use Rattle.measure_laws.proofs.Picks.{NoGreater, NoGreater-trans, NoGreater-refl, first_least-all, first_least-least}
 use Rattle.measure_laws.proofs.RprecEnds.{greedy_positive}
 use Rattle.precision.specs.declared.counts.Counts.{Counts}
 use Rattle.rprec.specs.declared.fronts.Fronts.{Fronts}
 use Rattle.rprec.specs.declared.greedy.Candidate.{Candidate}
 use Rattle.rprec.specs.Greedy.{AreFronts, AreTopic, AreGains, IsLeast, beats, better_of, candidate, best_beyond}
+use Rattle.rprec.specs.Search.{IsBestOf, precedes}
 use Rattle.rprec.proofs.Choices.{same_test, scaled_test, smaller_is, first_least-append, range_push, gains_are, own_both}
-use Rattle.rprec.proofs.Steps.{own_few}
 
 -- ---- tests
 less_of : (m n : ℕ) → nat_lt m n ≡ true → m < n
@@ -29,13 +29,13 @@ more_of m n h = grind (arith, nat_tests)
 no_less : (m n : ℕ) → n ≤ m → nat_lt m n ≡ false
 no_less m n h = grind (arith, nat_tests)
 
-smaller_no_greater : (s t : Scores) → is_smaller s t ≡ true → NoGreater s t
+pub smaller_no_greater : (s t : Scores) → is_smaller s t ≡ true → NoGreater s t
 smaller_no_greater s t e = let less = less_of _ _ e in omega (arith, less)
 
-not_smaller : (s t : Scores) → is_smaller t s ≡ false → NoGreater s t
+pub not_smaller : (s t : Scores) → is_smaller t s ≡ false → NoGreater s t
 not_smaller s t e = let more = more_of _ _ e in omega (arith, more)
 
-no_smaller : (s t : Scores) → NoGreater s t → is_smaller t s ≡ false
+pub no_smaller : (s t : Scores) → NoGreater s t → is_smaller t s ≡ false
 no_smaller s t h = no_less _ _ (omega (arith, h))
 
 -- ---- ranges
@@ -132,13 +132,6 @@ best_over marks a b j tried n falls c best h k e f =
       last = subst (λ (x : ℕ). NoGreater (greedy_scores marks a b best.count) (greedy_scores marks a b x)) (omega arith) (not_smaller (greedy_scores marks a b best.count) (greedy_scores marks a b (j + tried + n)) et);
     }
 
--- the next number beside the best so far
-pub best_next : (marks : List Mark) (a b : List ℕ) (j tried : ℕ) (c best : Candidate) → IsBest marks a b j tried best → AreGains marks a b c → c.count ≡ j + tried + 1 → IsBest marks a b j (tried + 1) (better_of c best)
-best_next marks a b j tried c best h k e =
-    let scores = greedy_scores marks a b in
-    best_over marks a b j tried 1 (is_smaller (scores (j + tried + 1)) (scores (j + tried + 0))) c best h k e (λ m n lt le.
-    ap (λ (x : ℕ). is_smaller (scores (j + tried + x)) (scores (j + tried + m))) (omega arith) ∙ ap (λ (x : ℕ). is_smaller (scores (j + tried + 1)) (scores (j + tried + x))) (omega arith))
-
 -- it is one of the numbers so far
 pub best_within : (marks : List Mark) (a b : List ℕ) (j tried : ℕ) (count : ℕ) → count ≡ first_least (greedy_scores marks a b) j (range_with_len (j + 1) tried) → (j ≤ count) × (count ≤ j + tried)
 best_within marks a b j tried count e =
@@ -233,7 +226,7 @@ pub settled : (marks : List Mark) (a b : List ℕ) (all : Counts) (f : Fronts) (
 settled marks a b all f start longest ra rb topic ha hb positive e h = record {
   fronts = λ c lo hi. same_fronts marks a b f (all.relevant + start) (all.relevant + c) longest ha hb (omega arith) (λ l. omega arith) h;
   positive = λ l. omega arith;
-  short = λ l. omega (arith, own_few marks (take (all.relevant + start) a) (take (all.relevant + start) b) f h, length-take {A = ℕ} (all.relevant + start) a);
+  short = λ l. omega (arith, h.first_few, length-take {A = ℕ} (all.relevant + start) a);
   within = own_both marks a b (all.relevant + start) f all ra rb h topic;
 }
 
@@ -291,3 +284,130 @@ beyond_is_least marks a b all f start best after ra rb topic small h k e =
     let chosen : (best_beyond f all start best).count ≡ rprec_count marks a b =
     found.0 ∙ ap (λ (j : ℕ). first_least (greedy_scores marks a b) j (range_with_len (j + 1) all.unjudged)) topic.relevant ∙ ap (λ (u : ℕ). first_least (greedy_scores marks a b) (judged_count marks) (range_with_len (judged_count marks + 1) u)) topic.unjudged in
     subst (IsLeast marks a b) (sym e) (record { gains = found.1; chosen = chosen; low = omega (arith, topic.relevant, within.0); high = omega (arith, topic.relevant, topic.unjudged, within.1) })
+
+-- ---- the best of the choices at later numbers
+pub at_range : (P : ℕ → Type 0) (start n d : ℕ) → AllByRecursion P (range_with_len start n) → start ≤ d → d < start + n → P d
+at_range P start zero d h lo hi = absurd (omega arith)
+at_range P start (suc n) d h lo hi = elim (cases_lt start d) [
+  | inl less ↦ at_range P (start + 1) n d h.1 (omega arith) (omega arith)
+  | inr more ↦ let same : start ≡ d = omega arith in subst P same h.0
+]
+
+-- the best so far is no greater than each number tried
+best_no_greater : (marks : List Mark) (a b : List ℕ) (j tried : ℕ) (best : Candidate) → IsBest marks a b j tried best → (d : ℕ) → j ≤ d → d ≤ j + tried → NoGreater (greedy_scores marks a b best.count) (greedy_scores marks a b d)
+best_no_greater marks a b j tried best h d lo hi =
+    let scores = greedy_scores marks a b in
+    let all = first_least-least scores (greedy_positive marks a b) j (range_with_len (j + 1) tried) in
+    subst (λ (x : ℕ). NoGreater (scores x) (scores d)) (sym h.count) (elim (cases_lt j d) [
+      | inl less ↦ at_range (λ c. NoGreater (scores (first_least scores j (range_with_len (j + 1) tried))) (scores c)) (j + 1) tried d all.1 (omega arith) (omega arith)
+      | inr more ↦ let same : j ≡ d = omega arith in subst (λ (x : ℕ). NoGreater (scores (first_least scores j (range_with_len (j + 1) tried))) (scores x)) same all.0
+    ])
+
+-- what it says that a candidate does not precede another
+no_beats : (c best : Candidate) → precedes c best ≡ false → beats c best ≡ false
+no_beats c best e = by_test (beats c best) refl e
+  where
+    by_test : (b : Bool) → beats c best ≡ b → (b || (not (beats best c) && nat_lt c.count best.count)) ≡ false → beats c best ≡ false
+    by_test false eb h = eb
+    by_test true eb h = absurd (cc)
+
+beaten : (c best : Candidate) → precedes c best ≡ false → c.count < best.count → beats best c ≡ true
+beaten c best e lt = by_test (beats c best) (beats best c) (nat_lt c.count best.count) refl (fewer lt) e
+  where
+    fewer : c.count < best.count → nat_lt c.count best.count ≡ true
+    fewer h = grind (arith, nat_tests)
+
+    by_test : (b d v : Bool) → beats best c ≡ d → v ≡ true → (b || (not d && v)) ≡ false → beats best c ≡ true
+    by_test b true v ed ev h = ed
+    by_test true false v ed ev h = absurd (cc)
+    by_test false false true ed ev h = absurd (cc)
+    by_test false false false ed ev h = absurd (cc)
+
+-- some choices at the numbers after those tried
+pub record AreNext (marks : List Mark) (a b : List ℕ) (j tried n : ℕ) (choices : ℕ → Candidate) : Type 0 where
+  pub gains : (place : ℕ) → place < n → AreGains marks a b (choices place)
+  pub count : (place : ℕ) → place < n → (choices place).count ≡ j + tried + 1 + place
+
+-- the best of an earlier best and of some next choices
+pub best_found : (marks : List Mark) (a b : List ℕ) (j tried n : ℕ) (choices : ℕ → Candidate) (old best : Candidate) → IsBest marks a b j tried old → AreNext marks a b j tried n choices → IsBestOf choices 0 n old best → IsBest marks a b j (tried + n) best
+best_found marks a b j tried n choices old best h next found = by_case found.choice.one
+  where
+    scores : ℕ → Scores
+    scores = greedy_scores marks a b
+
+    gains : (best ≡ old) ⊎ ((place : ℕ) × ((0 ≤ place) × ((place < n) × (best ≡ choices place)))) → AreGains marks a b best
+    gains (inl e) = subst (AreGains marks a b) (sym e) h.gains
+    gains (inr e) = subst (AreGains marks a b) (sym e.1.1.1) (next.gains e.0 e.1.1.0)
+
+    -- no later number is smaller
+    later : (d : ℕ) → j + tried < d → d ≤ j + tried + n → is_smaller (scores d) (scores best.count) ≡ false
+    later d lo hi =
+        let place = d - (j + tried + 1) in
+        let count : (choices place).count ≡ d = omega (arith, next.count place (omega arith)) in
+        ap (λ (x : ℕ). is_smaller (scores x) (scores best.count)) (sym count) ∙ smaller_is marks a b (choices place) best (next.gains place (omega arith)) (gains found.choice.one) ∙ no_beats (choices place) best (found.none place (omega arith) (omega arith))
+
+    last : NoGreater (scores best.count) (scores (j + (tried + n)))
+    last = elim (cases_lt 0 n) [
+      | inl some ↦ not_smaller (scores best.count) (scores (j + (tried + n))) (later (j + (tried + n)) (omega arith) (omega arith))
+      | inr none ↦ none_tried found.choice.one (omega arith)
+    ]
+      where
+        none_tried : (best ≡ old) ⊎ ((place : ℕ) × ((0 ≤ place) × ((place < n) × (best ≡ choices place)))) → n ≡ 0 → NoGreater (scores best.count) (scores (j + (tried + n)))
+        none_tried (inl e) z = subst (λ (x : ℕ). NoGreater (scores best.count) (scores x)) (omega (arith, z)) (subst (λ (c : Candidate). NoGreater (scores c.count) (scores (j + tried))) (sym e) h.last)
+        none_tried (inr e) z = absurd (omega (arith, e.1.1.0, z))
+
+    -- it is smaller than each number before it, where it is one of the choices
+    before : (place d : ℕ) → place < n → best ≡ choices place → j ≤ d → d < best.count → is_smaller (scores best.count) (scores d) ≡ true
+    before place d lt e lo hi = elim (cases_lt (j + tried) d) [
+      | inl more ↦
+          let p = d - (j + tried + 1) in
+          let count : best.count ≡ j + tried + 1 + place = ap (λ (c : Candidate). c.count) e ∙ next.count place lt in
+          let there : (choices p).count ≡ d = omega (arith, next.count p (omega (arith, count, hi))) in
+          ap (λ (x : ℕ). is_smaller (scores best.count) (scores x)) (sym there) ∙ smaller_is marks a b best (choices p) (gains found.choice.one) (next.gains p (omega (arith, count, hi)))
+          ∙ beaten (choices p) best (found.none p (omega arith) (omega (arith, count, hi))) (omega (arith, there, hi))
+      | inr less ↦ against_old (omega (arith, less)) (is_smaller (scores best.count) (scores d)) refl
+    ]
+      where
+        old_within : old.count ≤ j + tried
+        old_within = let w = best_within marks a b j tried old.count h.count in w.1
+
+        against : is_smaller (scores best.count) (scores old.count) ≡ true
+        against =
+            let count : best.count ≡ j + tried + 1 + place = ap (λ (c : Candidate). c.count) e ∙ next.count place lt in
+            smaller_is marks a b best old (gains found.choice.one) h.gains ∙ beaten old best found.choice.not_before (omega (arith, count, old_within))
+
+        against_old : d ≤ j + tried → (v : Bool) → is_smaller (scores best.count) (scores d) ≡ v → is_smaller (scores best.count) (scores d) ≡ true
+        against_old within true ev = ev
+        against_old within false ev =
+            let back : NoGreater (scores d) (scores best.count) = not_smaller (scores d) (scores best.count) ev in
+            let still : NoGreater (scores old.count) (scores best.count) = NoGreater-trans (scores old.count) (scores d) (scores best.count) (greedy_positive marks a b d) (best_no_greater marks a b j tried old h d lo within) back in
+            let none : is_smaller (scores best.count) (scores old.count) ≡ false = no_smaller (scores old.count) (scores best.count) still in
+            absurd (let h' : true ≡ false = sym against ∙ none in cc)
+
+    -- the rest of the numbers after a part of them
+    whole : (m k best_before : ℕ) → first_least scores j (range_with_len (j + 1) m) ≡ best_before → first_least scores j (range_with_len (j + 1) (m + k)) ≡ first_least scores best_before (range_with_len (j + 1 + m) k)
+    whole m k best_before e = ap (first_least scores j) (range_append (j + 1) m k) ∙ first_least-append scores j (range_with_len (j + 1) m) (range_with_len (j + 1 + m) k) ∙ ap (λ (x : ℕ). first_least scores x (range_with_len (j + 1 + m) k)) e
+
+    old_count : best ≡ old → best.count ≡ first_least scores j (range_with_len (j + 1) (tried + n))
+    old_count e =
+        let same : best.count ≡ first_least scores j (range_with_len (j + 1) tried) = ap (λ (c : Candidate). c.count) e ∙ h.count in
+        sym (whole tried n best.count (sym same) ∙ none_better scores best.count (j + 1 + tried) n (λ d lo hi. later d (omega (arith, lo)) (omega (arith, hi))))
+
+    new_count : (place : ℕ) → place < n → best ≡ choices place → best.count ≡ first_least scores j (range_with_len (j + 1) (tried + n))
+    new_count place lt e =
+        let count : best.count ≡ j + tried + 1 + place = ap (λ (c : Candidate). c.count) e ∙ next.count place lt in
+        let m = tried + place in
+        let first = first_least scores j (range_with_len (j + 1) m) in
+        let smaller : is_smaller (scores best.count) (scores first) ≡ true =
+        first_least-all (λ d. is_smaller (scores best.count) (scores d) ≡ true) scores j (range_with_len (j + 1) m) (before place j lt e (omega arith) (omega (arith, count))) (range_all _ (j + 1) m (λ d lo hi. before place d lt e (omega (arith, lo)) (omega (arith, count, hi)))) in
+        let here : j + 1 + m ≡ best.count = omega (arith, count) in
+        let step : first_least scores first (range_with_len (j + 1 + m) (suc (n - (place + 1)))) ≡ best.count =
+        ap (λ (x : ℕ). first_least scores first (range_with_len x (suc (n - (place + 1))))) here
+        ∙ ap (λ (v : Bool). first_least scores (if v then best.count else first) (range_with_len (best.count + 1) (n - (place + 1)))) smaller
+        ∙ none_better scores best.count (best.count + 1) (n - (place + 1)) (λ d lo hi. later d (omega (arith, lo, count)) (omega (arith, hi, count))) in
+        let parts : m + suc (n - (place + 1)) ≡ tried + n = omega (arith, lt) in
+        sym (ap (λ (x : ℕ). first_least scores j (range_with_len (j + 1) x)) (sym parts) ∙ whole m (suc (n - (place + 1))) first refl ∙ step)
+
+    by_case : (best ≡ old) ⊎ ((place : ℕ) × ((0 ≤ place) × ((place < n) × (best ≡ choices place)))) → IsBest marks a b j (tried + n) best
+    by_case (inl e) = record { gains = gains found.choice.one; count = old_count e; last = last }
+    by_case (inr e) = record { gains = gains found.choice.one; count = new_count e.0 e.1.1.0 e.1.1.1; last = last }

@@ -9,7 +9,6 @@ use Rattle.desk_model.specs.declared.types.Mark.{Mark}
 use Rattle.measure_laws.specs.Classes.{open_in, size_of, judged_count}
 use Rattle.measure_laws.specs.RprecCase.{greedy_truth, rprec_count}
 use Rattle.precision.specs.declared.counts.Counts.{Counts}
-use Rattle.recall.specs.LeastCase.{AreCountsOf}
 use Rattle.rprec.specs.declared.fronts.Fronts.{Fronts}
 use Rattle.rprec.specs.declared.greedy.Candidate.{Candidate}
 
@@ -17,14 +16,17 @@ use Rattle.rprec.specs.declared.greedy.Candidate.{Candidate}
 abbrev pub one_of : Bool → Mark → ℕ
 one_of taken mark = if picked_value taken mark then 1 else 0
 
--- the counts of the documents that each of two lists alone has
+-- the counts of two lists: of the relevant documents of each, or of each but for as many that both have, and of the unjudged ones that each alone has
 pub record AreFronts (marks : List Mark) (xs ys : List ℕ) (fronts : Fronts) : Type 0 where
-  pub first : AreCountsOf (only_count false marks xs ys) (only_count true marks xs ys) fronts.first
-  pub second : AreCountsOf (only_count false marks ys xs) (only_count true marks ys xs) fronts.second
+  pub relevant : fronts.first.relevant + only_count false marks ys xs ≡ fronts.second.relevant + only_count false marks xs ys
+  pub first : fronts.first.unjudged + only_count false marks xs ys ≡ only_count true marks xs ys
+  pub second : fronts.second.unjudged + only_count false marks ys xs ≡ only_count true marks ys xs
+  pub first_few : fronts.first.relevant + fronts.first.unjudged ≤ length xs
+  pub second_few : fronts.second.relevant + fronts.second.unjudged ≤ length ys
 
--- some counts, or none
-abbrev pub counts_if : Bool → Counts → Counts
-counts_if taken counts = if taken then counts else record { relevant = 0; unjudged = 0 }
+-- a number, or none
+abbrev pub number_if : Bool → ℕ → ℕ
+number_if taken number = if taken then number else 0
 
 -- the counts of two lists that are to be told of the next document of a third, whose first ones the first list is, and whether the second list has it
 pub record AreBefore (marks : List Mark) (docs ys : List ℕ) (place : ℕ) (is_shared : Bool) (fronts : Fronts) : Type 0 where

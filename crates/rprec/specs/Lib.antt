@@ -2,3 +2,4 @@ pub mod Shared
 pub mod Greedy
 pub mod Picks
 pub mod Laws
+pub mod Search

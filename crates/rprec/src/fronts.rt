@@ -1,13 +1,14 @@
 ghost use Rattle.std.specs.Prelude.{◌≡◌, ℕ, ◌+◌, ◌≤◌, ◌<◌, List, length, take, true, false};
 ghost use Rattle.desk_model.specs.Ranking.{IsRanking};
-ghost use Rattle.rprec.specs.Greedy.{AreFronts, AreBefore, counts_if, exchanged, one_of};
+ghost use Rattle.rprec.specs.Greedy.{AreFronts, AreBefore, exchanged, number_if, one_of};
 ghost use Rattle.rprec.specs.Shared.{AreShared};
 
 use crate::shared::Shared;
 use desk_model::Mark;
 use precision::counts::Counts;
 
-/// The counts of the documents that each of two runs alone has among its first ones.
+/// The counts of two runs' first documents: of all relevant ones of each, and of the unjudged ones
+/// that it alone has there.
 #[derive(Clone, Copy, PartialEq, Eq, Debug)]
 pub struct Fronts {
     pub first: Counts,
@@ -37,11 +38,11 @@ fn counts_of(mark: Mark) -> Counts
     }
 }
 
-/// These counts, or none.
-fn counts_if(taken: bool, counts: Counts) -> Counts
-    ensures { result ≡ counts_if taken counts }
+/// This number, or none.
+fn number_if(taken: bool, number: u32) -> u32
+    ensures { result ≡ number_if taken number }
 {
-    if taken { counts } else { Counts::NONE }
+    if taken { number } else { 0 }
 }
 
 /// With the next document of one list, where it is known whether another list has it. Whether it has
@@ -55,16 +56,14 @@ fn with_next(fronts: Fronts, docs: &[u32], place: u32, is_shared: bool, marks: &
         return fronts;
     }
     let one = counts_of(marks[docs[place as usize] as usize]);
-    let own = counts_if(!is_shared, one);
-    let gone = counts_if(is_shared, one);
     Fronts {
         first: Counts {
-            relevant: fronts.first.relevant + own.relevant,
-            unjudged: fronts.first.unjudged + own.unjudged,
+            relevant: fronts.first.relevant + one.relevant,
+            unjudged: fronts.first.unjudged + number_if(!is_shared, one.unjudged),
         },
         second: Counts {
-            relevant: fronts.second.relevant - gone.relevant,
-            unjudged: fronts.second.unjudged - gone.unjudged,
+            relevant: fronts.second.relevant,
+            unjudged: fronts.second.unjudged - number_if(is_shared, one.unjudged),
         },
     }
 }

@@ -2,9 +2,12 @@
 //! R, where R is the number of relevant documents of the topic.
 #![tactic(auto)]
 
+pub mod depths;
+pub mod extremes;
 pub mod fronts;
 pub mod greedy;
 pub mod rprec;
+pub mod search;
 pub mod shared;
 pub mod values;
 

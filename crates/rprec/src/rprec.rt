@@ -8,7 +8,8 @@ ghost use Rattle.measure_core.specs.Numbers.{exact_least, exact_cell};
 ghost use Rattle.rprec.specs.Greedy.{AreTopic, IsLeast, IsSmall};
 ghost use Rattle.rprec.specs.Shared.{AreShared};
 
-use crate::greedy::{Candidate, find_extremes};
+use crate::extremes::find_extremes;
+use crate::greedy::Candidate;
 use crate::shared::Shared;
 use crate::values::{values, wanted_for};
 use desk_model::{Mark, MeasureName, Memory, Ranking};

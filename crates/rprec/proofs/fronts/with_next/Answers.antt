@@ -1,5 +1,4 @@
-use Rattle.std.proofs.Common.{◌+◌, ◌<◌, ℕ, List, length, arith, ap, sym, subst}
-use Rattle.precision.specs.declared.counts.Counts.{Counts}
+use Rattle.std.proofs.Common.{◌<◌, ℕ, List, length, refl, arith, sym, subst}
 use Rattle.rprec.specs.Greedy.{AreFronts}
 use Rattle.rprec.proofs.Steps.{past, gone_there, next_counted}
 use Rattle.rprec.proofs.fronts.with_next.Goals as goal
@@ -11,23 +10,13 @@ returns-then-place-docs c =
 pub overflow_sub-result : goal.overflow_sub-result
 overflow_sub-result c =
     let one = c.counts_of-one in
-    let there = gone_there c.args.marks.now c.args.docs.now c.requires.fronts.0 c.args.place c.args.is_shared c.args.fronts one.result c.requires.docs.distinct (omega (arith, c.if-place-docs.false)) c.requires.fronts.1 one.ensures.relevant one.ensures.either in
-    omega (arith, there, ap (λ (x : Counts). x.relevant) c.counts_if-gone.ensures)
-
-pub overflow_sub-result-2 : goal.overflow_sub-result-2
-overflow_sub-result-2 c =
-    let one = c.counts_of-one in
-    let there = gone_there c.args.marks.now c.args.docs.now c.requires.fronts.0 c.args.place c.args.is_shared c.args.fronts one.result c.requires.docs.distinct (omega (arith, c.if-place-docs.false)) c.requires.fronts.1 one.ensures.relevant one.ensures.either in
-    omega (arith, there, ap (λ (x : Counts). x.unjudged) c.counts_if-gone.ensures)
+    omega (arith, gone_there c.args.marks.now c.args.docs.now c.requires.fronts.0 c.args.place c.args.is_shared c.args.fronts one.result c.requires.docs.distinct (omega (arith, c.if-place-docs.false)) c.requires.fronts.1 one.ensures.relevant one.ensures.either, c.number_if-2.ensures)
 
 pub returns : goal.returns
 returns c =
     let one = c.counts_of-one in
     let lt : c.args.place < length c.args.docs.now = omega (arith, c.if-place-docs.false) in
-    let own = c.counts_if-own in
-    let gone = c.counts_if-gone in
     λ ys h.
     let there = gone_there c.args.marks.now c.args.docs.now ys c.args.place c.args.is_shared c.args.fronts one.result c.requires.docs.distinct lt h one.ensures.relevant one.ensures.either in
     next_counted c.args.marks.now c.args.docs.now ys c.args.place c.args.is_shared c.args.fronts _ one.result c.requires.docs.distinct lt h one.ensures.relevant one.ensures.either
-    (ap (λ (x : Counts). c.args.fronts.first.relevant + x.relevant) own.ensures) (ap (λ (x : Counts). c.args.fronts.first.unjudged + x.unjudged) own.ensures)
-    (omega (arith, there, ap (λ (x : Counts). x.relevant) gone.ensures)) (omega (arith, there, ap (λ (x : Counts). x.unjudged) gone.ensures))
+    refl (omega (arith, c.number_if.ensures)) refl (omega (arith, there, c.number_if-2.ensures))

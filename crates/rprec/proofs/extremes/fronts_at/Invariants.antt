@@ -1,6 +1,6 @@
 use Rattle.std.proofs.Common.{take}
 use Rattle.rprec.specs.Greedy.{AreFronts}
-use Rattle.rprec.proofs.greedy.fronts_at.Given as goal
+use Rattle.rprec.proofs.extremes.fronts_at.Given as goal
 
 abbrev pub invariant-loop-place : goal.invariant-loop-place
 invariant-loop-place l = AreFronts l.marks (take l.place l.a) (take l.place l.b) l.fronts

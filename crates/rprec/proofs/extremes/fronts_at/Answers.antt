@@ -1,6 +1,6 @@
 use Rattle.std.proofs.Common.{arith}
 use Rattle.rprec.proofs.Tails.{same_fronts}
-use Rattle.rprec.proofs.greedy.fronts_at.Goals as goal
+use Rattle.rprec.proofs.extremes.fronts_at.Goals as goal
 
 pub returns : goal.returns
 returns c =

@@ -1,0 +1,57 @@
+-- The search for the best of many greedy choices.
+use Rattle.std.specs.Prelude.{◌≡◌, ℕ, ◌+◌, ◌<◌, ◌≤◌, ◌&&◌, ◌||◌, ◌⊎◌, Bool, false, not, nat_lt, if◌then◌else◌, slice_index_or}
+use Rattle.precision.specs.declared.counts.Counts.{Counts}
+use Rattle.rprec.specs.declared.depths.Column.{Column}
+use Rattle.rprec.specs.declared.fronts.Fronts.{Fronts}
+use Rattle.rprec.specs.declared.greedy.Candidate.{Candidate}
+use Rattle.rprec.specs.declared.search.Choices.{Choices}
+use Rattle.rprec.specs.Greedy.{AreFew, beats, candidate}
+
+-- the counts at a place of a column, and of two columns
+abbrev pub counts_at : Column → ℕ → Counts
+counts_at column place = record { relevant = slice_index_or column.relevant place 0; unjudged = slice_index_or column.unjudged place 0 }
+
+abbrev pub fronts_at : Column → Column → ℕ → Fronts
+fronts_at first second place = record { first = counts_at first place; second = counts_at second place }
+
+-- the greedy choice at a place of two columns, where so many unjudged documents are chosen at the first place
+abbrev pub choice : Column → Column → Counts → ℕ → ℕ → Candidate
+choice first second all chosen place = candidate (fronts_at first second place) all (chosen + place)
+
+-- whether a candidate has a smaller difference than another, or the same with fewer relevant documents
+abbrev pub precedes : Candidate → Candidate → Bool
+precedes c best = beats c best || (not (beats best c) && nat_lt c.count best.count)
+
+-- the one of two candidates that precedes, and else the second
+abbrev pub preferred : Candidate → Candidate → Candidate
+preferred c best = if precedes c best then c else best
+
+-- a candidate of no more documents than a run has
+pub record IsNear (c : Candidate) : Type 0 where
+  pub few : c.count ≤ 10000
+  pub first_few : c.first ≤ 10000
+  pub second_few : c.second ≤ 10000
+
+-- so many choices that the topic has
+pub record AreChoices (first second : Column) (all : Counts) (chosen count : ℕ) : Type 0 where
+  pub few : count ≤ 1024
+  pub counts : (place : ℕ) → place < count → AreFew (fronts_at first second place) all
+  pub within : chosen + count ≤ all.unjudged + 1
+  pub near : all.relevant + chosen + count ≤ 10001
+
+-- those of two borrowed columns
+abbrev pub are_choices : Choices → Type 0
+are_choices c = AreChoices c.first.now c.second.now c.all c.chosen c.count
+
+abbrev pub choice_of : Choices → ℕ → Candidate
+choice_of c = choice c.first.now c.second.now c.all c.chosen
+
+-- an earlier candidate, or one of the choices from one place up to another, which the earlier does not precede
+pub record IsChoiceOf (choices : ℕ → Candidate) (start end : ℕ) (earlier best : Candidate) : Type 0 where
+  pub one : (best ≡ earlier) ⊎ ((place : ℕ) × ((start ≤ place) × ((place < end) × (best ≡ choices place))))
+  pub not_before : precedes earlier best ≡ false
+
+-- and no other one precedes it
+pub record IsBestOf (choices : ℕ → Candidate) (start end : ℕ) (earlier best : Candidate) : Type 0 where
+  pub choice : IsChoiceOf choices start end earlier best
+  pub none : (place : ℕ) → start ≤ place → place < end → precedes (choices place) best ≡ false

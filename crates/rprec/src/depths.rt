@@ -1,0 +1,103 @@
+ghost use Rattle.std.specs.Prelude.{◌≡◌, ◌≢◌, ℕ, ◌+◌, ◌<◌, ◌≤◌, length, take};
+ghost use Rattle.desk_model.specs.Ranking.{IsRanking};
+ghost use Rattle.rprec.specs.Greedy.{AreFronts};
+ghost use Rattle.rprec.specs.Search.{counts_at, fronts_at};
+ghost use Rattle.rprec.specs.Shared.{AreShared};
+
+use crate::fronts::{Fronts, deepened};
+use crate::shared::Shared;
+use desk_model::Mark;
+use precision::counts::Counts;
+
+/// How many depths are looked at in one go.
+pub const STRETCH: u32 = 1024;
+
+/// The counts of one of two runs at consecutive depths.
+#[derive(Drop)]
+pub struct Column {
+    pub relevant: [u32; 1024],
+    pub unjudged: [u32; 1024],
+}
+
+/// The counts of two runs at consecutive depths, those of the first depth at place 0.
+#[derive(Drop)]
+pub struct Depths {
+    pub first: Column,
+    pub second: Column,
+}
+
+impl Column {
+    fn new() -> Column {
+        Column {
+            relevant: [0; 1024],
+            unjudged: [0; 1024],
+        }
+    }
+
+    /// The counts at a place.
+    pub fn at(&self, place: u32) -> Counts
+        requires { place < 1024 }
+        ensures { result ≡ counts_at self.now place }
+    {
+        Counts {
+            relevant: self.relevant[place as usize],
+            unjudged: self.unjudged[place as usize],
+        }
+    }
+
+    fn put(&mut self, place: u32, counts: Counts)
+        requires { place < 1024 }
+        ensures here { counts_at self.new place ≡ counts }
+        ensures others { (other : ℕ) → other ≢ place → counts_at self.new other ≡ counts_at self.old other }
+    {
+        self.relevant[place as usize] = counts.relevant;
+        self.unjudged[place as usize] = counts.unjudged;
+    }
+}
+
+impl Depths {
+    /// Depths without counts so far.
+    pub fn new() -> Depths {
+        Depths {
+            first: Column::new(),
+            second: Column::new(),
+        }
+    }
+
+    fn put(&mut self, place: u32, fronts: Fronts)
+        requires { place < 1024 }
+        ensures here { fronts_at self.new.first self.new.second place ≡ fronts }
+        ensures others { (other : ℕ) → other ≢ place → fronts_at self.new.first self.new.second other ≡ fronts_at self.old.first self.old.second other }
+    {
+        self.first.put(place, fronts.first);
+        self.second.put(place, fronts.second);
+    }
+
+    /// Enters the counts at so many depths beyond one, and gives the last of them.
+    pub fn enter(
+        &mut self,
+        fronts: Fronts,
+        depth: u32,
+        count: u32,
+        a: &[u32],
+        b: &[u32],
+        shared: &Shared,
+        marks: &[Mark],
+    ) -> Fronts
+        requires fronts { AreFronts marks.now (take depth a.now) (take depth b.now) fronts }
+        requires a { IsRanking (length marks.now) a.now }
+        requires b { IsRanking (length marks.now) b.now }
+        requires shared { AreShared a.now b.now shared.now.first shared.now.second }
+        requires few { count ≤ 1024 }
+        requires depth { depth + count ≤ 10000 }
+        ensures each { (place : ℕ) → place < count → AreFronts marks.now (take (depth + place + 1) a.now) (take (depth + place + 1) b.now) (fronts_at self.new.first self.new.second place) }
+        ensures last { AreFronts marks.now (take (depth + count) a.now) (take (depth + count) b.now) result }
+    {
+        let mut fronts = fronts;
+        for place in 0..count {
+            fronts = deepened(fronts, a, b, shared, depth + place, marks);
+            self.put(place, fronts);
+        }
+        fronts
+    }
+}

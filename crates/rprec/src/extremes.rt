@@ -1,0 +1,135 @@
+ghost use Rattle.std.specs.Prelude.{◌≡◌, ◌+◌, ◌≤◌, length, take};
+ghost use Rattle.desk_model.specs.Ranking.{IsRanking};
+ghost use Rattle.rprec.specs.Greedy.{AreFronts, AreFew, AreTopic, IsLeast, IsSmall, candidate, exchanged};
+ghost use Rattle.rprec.specs.Search.{AreChoices, IsBestOf, IsNear, choice};
+ghost use Rattle.rprec.specs.Shared.{AreShared};
+
+use crate::depths::{Depths, STRETCH};
+use crate::fronts::{Fronts, deepened};
+use crate::greedy::{Candidate, best_beyond, greedy_choice};
+use crate::search::Choices;
+use crate::shared::Shared;
+use desk_model::Mark;
+use precision::counts::Counts;
+
+/// The least candidate of two runs, and that of the runs exchanged, whose difference is the greatest
+/// one negated.
+#[derive(Clone, Copy, PartialEq, Eq, Debug)]
+pub struct Extremes {
+    pub least: Candidate,
+    pub most: Candidate,
+}
+
+/// How many documents the longer of two runs has, and at least 1.
+fn longest(a: &[u32], b: &[u32]) -> u32
+    requires first { length a.now ≤ 10000 }
+    requires second { length b.now ≤ 10000 }
+    ensures first { length a.now ≤ result }
+    ensures second { length b.now ≤ result }
+    ensures positive { 1 ≤ result }
+    ensures few { result ≤ 10000 }
+{
+    a.len().max(b.len()).max(1) as u32
+}
+
+/// The counts at the number of documents judged relevant.
+fn fronts_at(depth: u32, a: &[u32], b: &[u32], shared: &Shared, marks: &[Mark]) -> Fronts
+    requires a { IsRanking (length marks.now) a.now }
+    requires b { IsRanking (length marks.now) b.now }
+    requires shared { AreShared a.now b.now shared.now.first shared.now.second }
+    ensures { AreFronts marks.now (take depth a.now) (take depth b.now) result }
+{
+    let mut fronts = Fronts {
+        first: Counts::NONE,
+        second: Counts::NONE,
+    };
+    for place in 0..depth.min(longest(a, b)) {
+        fronts = deepened(fronts, a, b, shared, place, marks);
+    }
+    fronts
+}
+
+/// The greedy choices of two runs, and of the runs exchanged.
+fn greedy_choices(fronts: Fronts, chosen: u32, all: Counts) -> Extremes
+    requires few { AreFew fronts all }
+    requires chosen { chosen ≤ all.unjudged }
+    ensures least { result.least ≡ candidate fronts all chosen }
+    ensures most { result.most ≡ candidate (exchanged fronts) all chosen }
+    ensures least_small { IsSmall result.least }
+    ensures most_small { IsSmall result.most }
+{
+    Extremes {
+        least: greedy_choice(fronts, chosen, all),
+        most: greedy_choice(fronts.exchanged(), chosen, all),
+    }
+}
+
+/// The best of the greedy choices at some depths and of earlier candidates, for two runs and for the
+/// runs exchanged.
+fn best_extremes(
+    depths: &Depths,
+    count: u32,
+    chosen: u32,
+    all: Counts,
+    earlier: Extremes,
+) -> Extremes
+    requires least { AreChoices depths.now.first depths.now.second all chosen count }
+    requires most { AreChoices depths.now.second depths.now.first all chosen count }
+    requires earlier_least { IsNear earlier.least }
+    requires earlier_most { IsNear earlier.most }
+    ensures least { IsBestOf (choice depths.now.first depths.now.second all chosen) 0 count earlier.least result.least }
+    ensures most { IsBestOf (choice depths.now.second depths.now.first all chosen) 0 count earlier.most result.most }
+    ensures least_near { IsNear result.least }
+    ensures most_near { IsNear result.most }
+{
+    let least = Choices {
+        first: &depths.first,
+        second: &depths.second,
+        count,
+        chosen,
+        all,
+    };
+    let most = Choices {
+        first: &depths.second,
+        second: &depths.first,
+        count,
+        chosen,
+        all,
+    };
+    Extremes {
+        least: least.best(earlier.least),
+        most: most.best(earlier.most),
+    }
+}
+
+/// The smallest number of relevant documents with the least difference, and what that gives, for two
+/// runs and for the runs exchanged. No number of relevant documents is left out.
+pub fn find_extremes(a: &[u32], b: &[u32], shared: &Shared, all: Counts, marks: &[Mark]) -> Extremes
+    requires a { IsRanking (length marks.now) a.now }
+    requires b { IsRanking (length marks.now) b.now }
+    requires shared { AreShared a.now b.now shared.now.first shared.now.second }
+    requires topic { AreTopic marks.now all }
+    requires few { all.relevant + all.unjudged ≤ 25000000 }
+    ensures least { IsLeast marks.now a.now b.now result.least }
+    ensures most { IsLeast marks.now b.now a.now result.most }
+    ensures least_small { IsSmall result.least }
+    ensures most_small { IsSmall result.most }
+    ensures low { all.relevant ≤ result.least.count }
+{
+    let mut fronts = fronts_at(all.relevant, a, b, shared, marks);
+    let mut best = greedy_choices(fronts, 0, all);
+    let steps = longest(a, b).saturating_sub(all.relevant);
+    let steps = steps.min(all.unjudged);
+    let mut depths = Depths::new();
+    let mut chosen = 0;
+    while chosen < steps {
+        let count = (steps - chosen).min(STRETCH);
+        fronts = depths.enter(fronts, all.relevant + chosen, count, a, b, shared, marks);
+        best = best_extremes(&depths, count, chosen + 1, all, best);
+        chosen += count;
+    }
+    Extremes {
+        least: best_beyond(fronts, steps, all, best.least),
+        most: best_beyond(fronts.exchanged(), steps, all, best.most),
+    }
+}
