@@ -14,10 +14,11 @@ use Rattle.measure_laws.proofs.Merge.{absent_below, further, taken_head, taken_n
 use Rattle.precision.proofs.Fronts.{is_by, rank_by}
 use Rattle.desk_model.specs.declared.types.Mark.{Mark}
 use Rattle.desk_model.proofs.Counts.{IsDistinct-take}
+use Rattle.precision.specs.declared.counts.Counts.{Counts}
 use Rattle.rprec.specs.declared.fronts.Fronts.{Fronts}
-use Rattle.rprec.specs.Greedy.{AreFronts, AreBefore, exchanged}
+use Rattle.rprec.specs.Greedy.{AreFronts, AreNext, exchanged, number_if}
 use Rattle.rprec.specs.Shared.{AreFlags, entered, flagged}
-use Rattle.rprec.proofs.Steps.{fronts_exchanged}
+use Rattle.rprec.proofs.Steps.{fronts_exchanged, after_next, number_either, AreBefore}
 
 -- ---- ranks and places
 -- from a rank on: where a document is found
@@ -345,3 +346,29 @@ next_second marks xs ys place flags f g h w distinct e = record {
   next = λ lt. sym (w.each place lt);
   distinct = IsDistinct-take (place + 1) xs distinct;
 }
+
+-- the counts with the next documents of both lists, of which some unjudged ones are now in both
+pub record AreDeeper (marks : List Mark) (a b : List ℕ) (place gone : ℕ) (before : Fronts) (one two : Counts) : Type 0 where
+  pub after : Fronts
+  pub counts : AreFronts marks (take (place + 1) a) (take (place + 1) b) after
+  pub first : after.first.relevant ≡ before.first.relevant + one.relevant
+  pub second : after.second.relevant ≡ before.second.relevant + two.relevant
+  pub first_open : after.first.unjudged + gone ≡ before.first.unjudged + one.unjudged
+  pub second_open : after.second.unjudged + gone ≡ before.second.unjudged + two.unjudged
+
+pub deeper : (marks : List Mark) (a b : List ℕ) (place : ℕ) (in_second in_first : List Bool) (f : Fronts) (one two : Counts) → IsDistinct nat_eq a → IsDistinct nat_eq b → AreFronts marks (take place a) (take place b) f →
+    AreFlags a b (λ p. p) in_second → AreFlags b a (λ p. p + 1) in_first → AreNext marks a place one → AreNext marks b place two →
+    AreDeeper marks a b place (number_if (get_or in_second place false) one.unjudged + number_if (get_or in_first place false) two.unjudged) f one two
+deeper marks a b place in_second in_first f one two da db h flags other_flags next other_next =
+    let v = get_or in_second place false in
+    let w = get_or in_first place false in
+    let m = after_next marks a (take place b) place v f one da (next_first marks a b place in_second f h flags db) next in
+    let n = after_next marks b (take (place + 1) a) place w (exchanged m.after) two db (next_second marks a b place in_first m.after (exchanged m.after) m.counts other_flags da refl) other_next in
+    record {
+      after = exchanged n.after;
+      counts = fronts_exchanged marks (take (place + 1) b) (take (place + 1) a) n.after n.counts;
+      first = n.other ∙ m.relevant;
+      second = n.relevant ∙ ap (λ (k : ℕ). k + two.relevant) m.other;
+      first_open = omega (arith, n.gone, m.unjudged, number_either v one.unjudged);
+      second_open = omega (arith, n.unjudged, m.gone, number_either w two.unjudged);
+    }

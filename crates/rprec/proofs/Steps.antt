@@ -1,6 +1,7 @@
 -- What one more document changes in the counts of two lists.
-use Rattle.std.proofs.Common.{◌≡◌, ℕ, ◌+◌, ◌<◌, ◌≤◌, Bool, true, false, not, ◌&&◌, nat_eq, List, [], ◌∷◌, ◌++◌, length, take, get_or, count_by, arith, refl, ap, ◌∙◌, sym}
+use Rattle.std.proofs.Common.{◌≡◌, ℕ, ◌+◌, ◌<◌, ◌≤◌, Bool, true, false, not, ◌&&◌, nat_eq, List, [], ◌∷◌, ◌++◌, length, take, get_or, count_by, ◌-◌, arith, refl, ap, ◌∙◌, sym, subst, inl, inr}
 use Rattle.std.specs.List.{IsDistinct}
+use Rattle.std.proofs.lemmas.Bool.{cases_lt}
 use Rattle.std.proofs.lemmas.Grind.{common_steps}
 use Rattle.std.proofs.lemmas.List.{take_more, length-append}
 use Rattle.std.proofs.lemmas.List.Sums.{sum_by_push}
@@ -15,7 +16,7 @@ use Rattle.desk_model.proofs.PrecisionEnds.{difference_outside}
 use Rattle.measure_laws.proofs.RecallEnds.{every}
 use Rattle.precision.specs.declared.counts.Counts.{Counts}
 use Rattle.rprec.specs.declared.fronts.Fronts.{Fronts}
-use Rattle.rprec.specs.Greedy.{AreBefore, AreFronts, exchanged, number_if, one_of}
+use Rattle.rprec.specs.Greedy.{AreFronts, AreNext, exchanged, number_if, one_of}
 
 -- ---- lists
 whole : (xs : List ℕ) (i : ℕ) → length xs ≤ i → take i xs ≡ xs
@@ -118,20 +119,84 @@ some_unjudged marks xs longer ys x f one e v dx dl dy h er eu =
     omega (arith, h.second, fewer_relevant marks ys longer, other_next false marks xs longer ys x true e v dx dl dy, with_false (picked_value false (mark_at marks x)), other_next true marks xs longer ys x true e v dx dl dy, with_false (picked_value true (mark_at marks x)), each.0, each.1.0)
 
 -- ---- the next document of a list
--- what is taken away is there
-pub gone_there : (marks : List Mark) (docs ys : List ℕ) (place : ℕ) (b : Bool) (f : Fronts) (one : Counts) → IsDistinct nat_eq docs → place < length docs → AreBefore marks docs ys place b f →
-    one.relevant ≡ one_of false (mark_at marks (get_or docs place 0)) → one.relevant + one.unjudged ≡ one_of true (mark_at marks (get_or docs place 0)) → number_if b one.unjudged ≤ f.second.unjudged
-gone_there marks docs ys place false f one distinct lt h er eu = omega arith
-gone_there marks docs ys place true f one distinct lt h er eu =
-    some_unjudged marks (take place docs) (take (place + 1) docs) ys (get_or docs place 0) f one (take_more docs place 0 lt) (h.next lt) (IsDistinct-take place docs distinct) (IsDistinct-take (place + 1) docs distinct) h.distinct h.counts er eu
+-- the counts of two lists that are to be told of the next document of a third, whose first ones the first list is, and whether the second list has it
+pub record AreBefore (marks : List Mark) (docs ys : List ℕ) (place : ℕ) (is_shared : Bool) (fronts : Fronts) : Type 0 where
+  pub counts : AreFronts marks (take place docs) ys fronts
+  pub next : place < length docs → is_in ys (get_or docs place 0) ≡ is_shared
+  pub distinct : IsDistinct nat_eq ys
 
-pub next_counted : (marks : List Mark) (docs ys : List ℕ) (place : ℕ) (b : Bool) (f g : Fronts) (one : Counts) → IsDistinct nat_eq docs → place < length docs → AreBefore marks docs ys place b f →
-    one.relevant ≡ one_of false (mark_at marks (get_or docs place 0)) → one.relevant + one.unjudged ≡ one_of true (mark_at marks (get_or docs place 0)) →
-    g.first.relevant ≡ f.first.relevant + one.relevant → g.first.unjudged ≡ f.first.unjudged + number_if (not b) one.unjudged →
-    g.second.relevant ≡ f.second.relevant → g.second.unjudged + number_if b one.unjudged ≡ f.second.unjudged → AreFronts marks (take (place + 1) docs) ys g
-next_counted marks docs ys place true f g one distinct lt h er eu ea eb ec ed =
-    fronts_shared marks (take place docs) (take (place + 1) docs) ys (get_or docs place 0) f g one (take_more docs place 0 lt) (h.next lt) (IsDistinct-take place docs distinct) (IsDistinct-take (place + 1) docs distinct) h.distinct h.counts er eu
-    ea (omega (arith, eb)) ec ed
-next_counted marks docs ys place false f g one distinct lt h er eu ea eb ec ed =
-    fronts_alone marks (take place docs) (take (place + 1) docs) ys (get_or docs place 0) f g one (take_more docs place 0 lt) (h.next lt) (IsDistinct-take place docs distinct) (IsDistinct-take (place + 1) docs distinct) h.distinct h.counts er eu
-    ea eb ec (omega (arith, ed))
+-- the counts with that document
+pub record AreAfter (marks : List Mark) (docs ys : List ℕ) (place : ℕ) (is_shared : Bool) (before : Fronts) (one : Counts) : Type 0 where
+  pub after : Fronts
+  pub counts : AreFronts marks (take (place + 1) docs) ys after
+  pub relevant : after.first.relevant ≡ before.first.relevant + one.relevant
+  pub unjudged : after.first.unjudged ≡ before.first.unjudged + number_if (not is_shared) one.unjudged
+  pub other : after.second.relevant ≡ before.second.relevant
+  pub gone : after.second.unjudged + number_if is_shared one.unjudged ≡ before.second.unjudged
+
+-- with some unjudged documents more of the first, and fewer of the second
+abbrev with_one : Fronts → Counts → ℕ → ℕ → Fronts
+with_one f one own gone = record { first = record { relevant = f.first.relevant + one.relevant; unjudged = f.first.unjudged + own }; second = record { relevant = f.second.relevant; unjudged = f.second.unjudged - gone } }
+
+after_here : (marks : List Mark) (docs ys : List ℕ) (place : ℕ) (b : Bool) (f : Fronts) (one : Counts) → IsDistinct nat_eq docs → place < length docs → AreBefore marks docs ys place b f →
+    one.relevant ≡ one_of false (mark_at marks (get_or docs place 0)) → one.relevant + one.unjudged ≡ one_of true (mark_at marks (get_or docs place 0)) → AreAfter marks docs ys place b f one
+after_here marks docs ys place true f one distinct lt h er eu =
+    let x = get_or docs place 0 in
+    let longer = take_more docs place 0 lt in
+    let xs = IsDistinct-take place docs distinct in
+    let ls = IsDistinct-take (place + 1) docs distinct in
+    let there = some_unjudged marks (take place docs) (take (place + 1) docs) ys x f one longer (h.next lt) xs ls h.distinct h.counts er eu in
+    let left : f.second.unjudged - one.unjudged + one.unjudged ≡ f.second.unjudged = omega (arith, there) in
+    record {
+      after = with_one f one 0 one.unjudged;
+      counts = fronts_shared marks (take place docs) (take (place + 1) docs) ys x f (with_one f one 0 one.unjudged) one longer (h.next lt) xs ls h.distinct h.counts er eu refl (omega arith) refl left;
+      relevant = refl;
+      unjudged = refl;
+      other = refl;
+      gone = left;
+    }
+after_here marks docs ys place false f one distinct lt h er eu = record {
+  after = with_one f one one.unjudged 0;
+  counts =
+      fronts_alone marks (take place docs) (take (place + 1) docs) ys (get_or docs place 0) f (with_one f one one.unjudged 0) one (take_more docs place 0 lt) (h.next lt) (IsDistinct-take place docs distinct) (IsDistinct-take (place + 1) docs distinct) h.distinct h.counts er eu
+      refl refl refl (omega arith);
+  relevant = refl;
+  unjudged = refl;
+  other = refl;
+  gone = omega arith;
+}
+
+number_none : (b : Bool) (n : ℕ) → n ≡ 0 → number_if b n ≡ 0
+number_none true n e = e
+number_none false n e = refl
+
+after_past : (marks : List Mark) (docs ys : List ℕ) (place : ℕ) (b : Bool) (f : Fronts) (one : Counts) → length docs ≤ place → AreBefore marks docs ys place b f → one.relevant ≡ 0 → one.unjudged ≡ 0 → AreAfter marks docs ys place b f one
+after_past marks docs ys place b f one le h er eu = record {
+  after = f;
+  counts = subst (λ (xs : List ℕ). AreFronts marks xs ys f) (sym (past place docs le)) h.counts;
+  relevant = omega (arith, er);
+  unjudged = omega (arith, number_none (not b) one.unjudged eu);
+  other = refl;
+  gone = omega (arith, number_none b one.unjudged eu);
+}
+
+pub after_next : (marks : List Mark) (docs ys : List ℕ) (place : ℕ) (b : Bool) (f : Fronts) (one : Counts) → IsDistinct nat_eq docs → AreBefore marks docs ys place b f → AreNext marks docs place one → AreAfter marks docs ys place b f one
+after_next marks docs ys place b f one distinct h next = elim (cases_lt place (length docs)) [
+  | inl lt ↦ let here = next.here lt in after_here marks docs ys place b f one distinct lt h here.least here.most
+  | inr le ↦ let none = next.past le in after_past marks docs ys place b f one le h none.least (omega (arith, none.least, none.most))
+]
+
+-- either the one number or the other
+pub number_either : (b : Bool) (n : ℕ) → number_if (not b) n + number_if b n ≡ n
+number_either true n = omega arith
+number_either false n = omega arith
+
+-- counts with the same fields
+pub same_counts : (marks : List Mark) (xs ys : List ℕ) (f g : Fronts) → g.first.relevant ≡ f.first.relevant → g.first.unjudged ≡ f.first.unjudged → g.second.relevant ≡ f.second.relevant → g.second.unjudged ≡ f.second.unjudged → AreFronts marks xs ys f → AreFronts marks xs ys g
+same_counts marks xs ys f g ea eb ec ed h = record {
+  relevant = omega (arith, ea, ec, h.relevant);
+  first = omega (arith, eb, h.first);
+  second = omega (arith, ed, h.second);
+  first_few = omega (arith, ea, eb, h.first_few);
+  second_few = omega (arith, ec, ed, h.second_few);
+}

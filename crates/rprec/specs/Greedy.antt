@@ -1,14 +1,14 @@
 -- The greedy choices of R-precision in counts of documents.
-use Rattle.std.specs.Prelude.{◌≡◌, ℕ, ◌+◌, ◌-◌, ◌*◌, ◌<◌, ◌≤◌, min, max, nat_eq, nat_lt, Bool, true, false, if◌then◌else◌, List, length, take, slice_index}
-use Rattle.std.specs.List.{IsDistinct}
+use Rattle.std.specs.Prelude.{◌≡◌, ℕ, ◌+◌, ◌-◌, ◌*◌, ◌<◌, ◌≤◌, min, max, nat_lt, Bool, true, false, if◌then◌else◌, List, length, slice_index}
+use Rattle.desk_model.specs.Mark.{mark_at}
 use Rattle.desk_model.specs.Classes.{only_count}
 use Rattle.desk_model.specs.Completion.{picked_value}
-use Rattle.desk_model.specs.Ranking.{is_in}
 use Rattle.desk_model.specs.Score.{true_among}
 use Rattle.desk_model.specs.declared.types.Mark.{Mark}
 use Rattle.measure_laws.specs.Classes.{open_in, size_of, judged_count}
 use Rattle.measure_laws.specs.RprecCase.{greedy_truth, rprec_count}
 use Rattle.precision.specs.declared.counts.Counts.{Counts}
+use Rattle.recall.specs.LeastCase.{AreCountsOf}
 use Rattle.rprec.specs.declared.fronts.Fronts.{Fronts}
 use Rattle.rprec.specs.declared.greedy.Candidate.{Candidate}
 
@@ -28,11 +28,10 @@ pub record AreFronts (marks : List Mark) (xs ys : List ℕ) (fronts : Fronts) : 
 abbrev pub number_if : Bool → ℕ → ℕ
 number_if taken number = if taken then number else 0
 
--- the counts of two lists that are to be told of the next document of a third, whose first ones the first list is, and whether the second list has it
-pub record AreBefore (marks : List Mark) (docs ys : List ℕ) (place : ℕ) (is_shared : Bool) (fronts : Fronts) : Type 0 where
-  pub counts : AreFronts marks (take place docs) ys fronts
-  pub next : place < length docs → is_in ys (slice_index docs place) ≡ is_shared
-  pub distinct : IsDistinct nat_eq ys
+-- the counts of the document at a place of a list, and none where the list ends before it
+pub record AreNext (marks : List Mark) (docs : List ℕ) (place : ℕ) (counts : Counts) : Type 0 where
+  pub here : place < length docs → AreCountsOf (one_of false (mark_at marks (slice_index docs place))) (one_of true (mark_at marks (slice_index docs place))) counts
+  pub past : length docs ≤ place → AreCountsOf 0 0 counts
 
 -- the counts of the lists exchanged
 abbrev pub exchanged : Fronts → Fronts

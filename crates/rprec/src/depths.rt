@@ -10,13 +10,13 @@ use desk_model::Mark;
 use precision::counts::Counts;
 
 /// How many depths are looked at in one go.
-pub const STRETCH: u32 = 1024;
+pub const STRETCH: u32 = 256;
 
 /// The counts of one of two runs at consecutive depths.
 #[derive(Drop)]
 pub struct Column {
-    pub relevant: [u32; 1024],
-    pub unjudged: [u32; 1024],
+    pub relevant: [u32; 256],
+    pub unjudged: [u32; 256],
 }
 
 /// The counts of two runs at consecutive depths, those of the first depth at place 0.
@@ -29,14 +29,14 @@ pub struct Depths {
 impl Column {
     fn new() -> Column {
         Column {
-            relevant: [0; 1024],
-            unjudged: [0; 1024],
+            relevant: [0; 256],
+            unjudged: [0; 256],
         }
     }
 
     /// The counts at a place.
     pub fn at(&self, place: u32) -> Counts
-        requires { place < 1024 }
+        requires { place < 256 }
         ensures { result ≡ counts_at self.now place }
     {
         Counts {
@@ -46,7 +46,7 @@ impl Column {
     }
 
     fn put(&mut self, place: u32, counts: Counts)
-        requires { place < 1024 }
+        requires { place < 256 }
         ensures here { counts_at self.new place ≡ counts }
         ensures others { (other : ℕ) → other ≢ place → counts_at self.new other ≡ counts_at self.old other }
     {
@@ -65,7 +65,7 @@ impl Depths {
     }
 
     fn put(&mut self, place: u32, fronts: Fronts)
-        requires { place < 1024 }
+        requires { place < 256 }
         ensures here { fronts_at self.new.first self.new.second place ≡ fronts }
         ensures others { (other : ℕ) → other ≢ place → fronts_at self.new.first self.new.second other ≡ fronts_at self.old.first self.old.second other }
     {
@@ -88,7 +88,7 @@ impl Depths {
         requires a { IsRanking (length marks.now) a.now }
         requires b { IsRanking (length marks.now) b.now }
         requires shared { AreShared a.now b.now shared.now.first shared.now.second }
-        requires few { count ≤ 1024 }
+        requires few { count ≤ 256 }
         requires depth { depth + count ≤ 10000 }
         ensures each { (place : ℕ) → place < count → AreFronts marks.now (take (depth + place + 1) a.now) (take (depth + place + 1) b.now) (fronts_at self.new.first self.new.second place) }
         ensures last { AreFronts marks.now (take (depth + count) a.now) (take (depth + count) b.now) result }

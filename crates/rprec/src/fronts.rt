@@ -1,6 +1,6 @@
-ghost use Rattle.std.specs.Prelude.{◌≡◌, ℕ, ◌+◌, ◌≤◌, ◌<◌, List, length, take, true, false};
+ghost use Rattle.std.specs.Prelude.{◌≡◌, ◌+◌, ◌<◌, length, take, true, false};
 ghost use Rattle.desk_model.specs.Ranking.{IsRanking};
-ghost use Rattle.rprec.specs.Greedy.{AreFronts, AreBefore, exchanged, number_if, one_of};
+ghost use Rattle.rprec.specs.Greedy.{AreFronts, AreNext, exchanged, number_if, one_of};
 ghost use Rattle.rprec.specs.Shared.{AreShared};
 
 use crate::shared::Shared;
@@ -45,30 +45,19 @@ fn number_if(taken: bool, number: u32) -> u32
     if taken { number } else { 0 }
 }
 
-/// With the next document of one list, where it is known whether another list has it. Whether it has
-/// decides no jump here, as no processor could foresee it.
-fn with_next(fronts: Fronts, docs: &[u32], place: u32, is_shared: bool, marks: &[Mark]) -> Fronts
-    requires docs { IsRanking (length marks.now) docs.now }
-    requires fronts { (ys : List ℕ) × AreBefore marks.now docs.now ys place is_shared fronts }
-    ensures { (ys : List ℕ) → AreBefore marks.now docs.now ys place is_shared fronts → AreFronts marks.now (take (place + 1) docs.now) ys result }
+/// The counts of the next document of a ranking, if there is one.
+fn next_counts(docs: &[u32], place: u32, marks: &[Mark]) -> Counts
+    requires { IsRanking (length marks.now) docs.now }
+    ensures { AreNext marks.now docs.now place result }
 {
-    if place as usize >= docs.len() {
-        return fronts;
-    }
-    let one = counts_of(marks[docs[place as usize] as usize]);
-    Fronts {
-        first: Counts {
-            relevant: fronts.first.relevant + one.relevant,
-            unjudged: fronts.first.unjudged + number_if(!is_shared, one.unjudged),
-        },
-        second: Counts {
-            relevant: fronts.second.relevant,
-            unjudged: fronts.second.unjudged - number_if(is_shared, one.unjudged),
-        },
+    match docs.get(place as usize) {
+        Some(doc) => counts_of(marks[*doc as usize]),
+        None => Counts::NONE,
     }
 }
 
-/// The counts of one more document of each run.
+/// The counts of one more document of each run. Whether the other run has it before decides no jump
+/// here, as no processor could foresee it.
 pub fn deepened(
     fronts: Fronts,
     a: &[u32],
@@ -85,6 +74,18 @@ pub fn deepened(
     ensures { AreFronts marks.now (take (depth + 1) a.now) (take (depth + 1) b.now) result }
 {
     let place = depth as usize;
-    let one = with_next(fronts, a, depth, shared.first[place], marks);
-    with_next(one.exchanged(), b, depth, shared.second[place], marks).exchanged()
+    let one = next_counts(a, depth, marks);
+    let two = next_counts(b, depth, marks);
+    let both = number_if(shared.first[place], one.unjudged)
+        + number_if(shared.second[place], two.unjudged);
+    Fronts {
+        first: Counts {
+            relevant: fronts.first.relevant + one.relevant,
+            unjudged: fronts.first.unjudged + one.unjudged - both,
+        },
+        second: Counts {
+            relevant: fronts.second.relevant + two.relevant,
+            unjudged: fronts.second.unjudged + two.unjudged - both,
+        },
+    }
 }

@@ -19,7 +19,7 @@ loop-start-preserved c =
     let after : preferred (choices last) best ≡ c.preferred-best.result = ap (λ (x : Candidate). preferred x best) (sym c.at.ensures.value) ∙ sym c.preferred-best.ensures.value in
     record {
       choice = subst (λ (x : Candidate). IsChoiceOf choices 0 count c.args.earlier x) after
-      (choice_join choices 0 count 0 count c.args.earlier best (preferred (choices last) best) (omega arith) (omega arith) c.loop-start.invariant.choice (choice_one choices 0 count last best (omega arith) (omega (arith, c.min-end.ensures, c.loop-start-test.true))));
+          (choice_join choices 0 count 0 count c.args.earlier best (preferred (choices last) best) (omega arith) (omega arith) c.loop-start.invariant.choice (choice_one choices 0 count last best (omega arith) (omega (arith, c.min-end.ensures, c.loop-start-test.true))));
       near = c.preferred-best.ensures.near;
     }
 
