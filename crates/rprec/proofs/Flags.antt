@@ -6,7 +6,7 @@ use Rattle.std.proofs.Math.Seq.{drop-cons}
 use Rattle.std.proofs.lemmas.Bool.Decides.{nat_tests}
 use Rattle.std.proofs.lemmas.List.{get_or-set_same, get_or-set_other, length-set}
 use Rattle.desk_model.specs.Placed.{lookup, IsAscending}
-use Rattle.desk_model.specs.Ranking.{is_in, rank}
+use Rattle.desk_model.specs.Ranking.{IsRanking, is_in, rank}
 use Rattle.desk_model.specs.declared.placed.Placed.{Placed}
 use Rattle.measure_laws.specs.Pairs.{after, Taken}
 use Rattle.measure_laws.specs.Ranks.{IsWithin}
@@ -16,9 +16,9 @@ use Rattle.desk_model.specs.declared.types.Mark.{Mark}
 use Rattle.desk_model.proofs.Counts.{IsDistinct-take}
 use Rattle.precision.specs.declared.counts.Counts.{Counts}
 use Rattle.rprec.specs.declared.fronts.Fronts.{Fronts}
-use Rattle.rprec.specs.Greedy.{AreFronts, AreNext, exchanged, number_if}
-use Rattle.rprec.specs.Shared.{AreFlags, entered, flagged}
-use Rattle.rprec.proofs.Steps.{fronts_exchanged, after_next, number_either, AreBefore}
+use Rattle.rprec.specs.Greedy.{AreBefore, AreFronts, AreNext, exchanged, number_if}
+use Rattle.rprec.specs.Shared.{AreFlags, AreShared, entered, flagged}
+use Rattle.rprec.proofs.Steps.{fronts_exchanged, after_next, number_either}
 
 -- ---- ranks and places
 -- from a rank on: where a document is found
@@ -335,19 +335,8 @@ pub rank_second : (xs ys : List ℕ) (es fs : List Placed) (j : ℕ) (d : Placed
 rank_second xs ys es fs j d f s h w short =
     head_rank ys (get_or fs j d) (drop (j + 1) fs) (subst IsAscending (opened fs j d h) w.second_ascends) (subst (AreRanksOf ys) (opened fs j d h) w.second_ranks) short
 
--- ---- what the flags say of the next documents
-pub next_first : (marks : List Mark) (xs ys : List ℕ) (place : ℕ) (flags : List Bool) (f : Fronts) → AreFronts marks (take place xs) (take place ys) f → AreFlags xs ys (λ p. p) flags → IsDistinct nat_eq ys → AreBefore marks xs (take place ys) place (get_or flags place false) f
-next_first marks xs ys place flags f h w distinct = record { counts = h; next = λ lt. sym (w.each place lt); distinct = IsDistinct-take place ys distinct }
-
-pub next_second : (marks : List Mark) (xs ys : List ℕ) (place : ℕ) (flags : List Bool) (f g : Fronts) → AreFronts marks (take (place + 1) xs) (take place ys) f → AreFlags ys xs (λ p. p + 1) flags → IsDistinct nat_eq xs → g ≡ exchanged f →
-    AreBefore marks ys (take (place + 1) xs) place (get_or flags place false) g
-next_second marks xs ys place flags f g h w distinct e = record {
-  counts = subst (AreFronts marks (take place ys) (take (place + 1) xs)) (sym e) (fronts_exchanged marks (take (place + 1) xs) (take place ys) f h);
-  next = λ lt. sym (w.each place lt);
-  distinct = IsDistinct-take (place + 1) xs distinct;
-}
-
--- the counts with the next documents of both lists, of which some unjudged ones are now in both
+-- ---- the next documents of both lists
+-- the counts with them, of which some unjudged ones are now in both
 pub record AreDeeper (marks : List Mark) (a b : List ℕ) (place gone : ℕ) (before : Fronts) (one two : Counts) : Type 0 where
   pub after : Fronts
   pub counts : AreFronts marks (take (place + 1) a) (take (place + 1) b) after
@@ -356,14 +345,11 @@ pub record AreDeeper (marks : List Mark) (a b : List ℕ) (place gone : ℕ) (be
   pub first_open : after.first.unjudged + gone ≡ before.first.unjudged + one.unjudged
   pub second_open : after.second.unjudged + gone ≡ before.second.unjudged + two.unjudged
 
-pub deeper : (marks : List Mark) (a b : List ℕ) (place : ℕ) (in_second in_first : List Bool) (f : Fronts) (one two : Counts) → IsDistinct nat_eq a → IsDistinct nat_eq b → AreFronts marks (take place a) (take place b) f →
-    AreFlags a b (λ p. p) in_second → AreFlags b a (λ p. p + 1) in_first → AreNext marks a place one → AreNext marks b place two →
-    AreDeeper marks a b place (number_if (get_or in_second place false) one.unjudged + number_if (get_or in_first place false) two.unjudged) f one two
-deeper marks a b place in_second in_first f one two da db h flags other_flags next other_next =
-    let v = get_or in_second place false in
-    let w = get_or in_first place false in
-    let m = after_next marks a (take place b) place v f one da (next_first marks a b place in_second f h flags db) next in
-    let n = after_next marks b (take (place + 1) a) place w (exchanged m.after) two db (next_second marks a b place in_first m.after (exchanged m.after) m.counts other_flags da refl) other_next in
+pub deeper : (marks : List Mark) (a b : List ℕ) (place : ℕ) (f : Fronts) (one two : Counts) (v w : Bool) → AreBefore marks a b place f one two v w → AreDeeper marks a b place (number_if v one.unjudged + number_if w two.unjudged) f one two
+deeper marks a b place f one two v w h =
+    let m = after_next marks a (take place b) place v f one h.first_distinct (record { counts = h.counts; next = h.first_shared; distinct = IsDistinct-take place b h.second_distinct }) h.first in
+    let turned = fronts_exchanged marks (take (place + 1) a) (take place b) m.after m.counts in
+    let n = after_next marks b (take (place + 1) a) place w (exchanged m.after) two h.second_distinct (record { counts = turned; next = h.second_shared; distinct = IsDistinct-take (place + 1) a h.first_distinct }) h.second in
     record {
       after = exchanged n.after;
       counts = fronts_exchanged marks (take (place + 1) b) (take (place + 1) a) n.after n.counts;
@@ -372,3 +358,17 @@ deeper marks a b place in_second in_first f one two da db h flags other_flags ne
       first_open = omega (arith, n.gone, m.unjudged, number_either v one.unjudged);
       second_open = omega (arith, n.unjudged, m.gone, number_either w two.unjudged);
     }
+
+-- what the flags say of them
+pub flagged_before : (marks : List Mark) (a b : List ℕ) (place : ℕ) (f : Fronts) (one two : Counts) (in_second in_first : List Bool) → IsRanking (length marks) a → IsRanking (length marks) b → AreShared a b in_second in_first → place < 10000 →
+    AreFronts marks (take place a) (take place b) f → AreNext marks a place one → AreNext marks b place two → AreBefore marks a b place f one two (get_or in_second place false) (get_or in_first place false)
+flagged_before marks a b place f one two in_second in_first ra rb flags lt h x y = record {
+  short = lt;
+  first_distinct = ra.distinct;
+  second_distinct = rb.distinct;
+  counts = h;
+  first = x;
+  second = y;
+  first_shared = λ k. sym (flags.first.each place k);
+  second_shared = λ k. sym (flags.second.each place k);
+}

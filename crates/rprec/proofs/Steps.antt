@@ -120,7 +120,7 @@ some_unjudged marks xs longer ys x f one e v dx dl dy h er eu =
 
 -- ---- the next document of a list
 -- the counts of two lists that are to be told of the next document of a third, whose first ones the first list is, and whether the second list has it
-pub record AreBefore (marks : List Mark) (docs ys : List ℕ) (place : ℕ) (is_shared : Bool) (fronts : Fronts) : Type 0 where
+pub record IsTold (marks : List Mark) (docs ys : List ℕ) (place : ℕ) (is_shared : Bool) (fronts : Fronts) : Type 0 where
   pub counts : AreFronts marks (take place docs) ys fronts
   pub next : place < length docs → is_in ys (get_or docs place 0) ≡ is_shared
   pub distinct : IsDistinct nat_eq ys
@@ -138,7 +138,7 @@ pub record AreAfter (marks : List Mark) (docs ys : List ℕ) (place : ℕ) (is_s
 abbrev with_one : Fronts → Counts → ℕ → ℕ → Fronts
 with_one f one own gone = record { first = record { relevant = f.first.relevant + one.relevant; unjudged = f.first.unjudged + own }; second = record { relevant = f.second.relevant; unjudged = f.second.unjudged - gone } }
 
-after_here : (marks : List Mark) (docs ys : List ℕ) (place : ℕ) (b : Bool) (f : Fronts) (one : Counts) → IsDistinct nat_eq docs → place < length docs → AreBefore marks docs ys place b f →
+after_here : (marks : List Mark) (docs ys : List ℕ) (place : ℕ) (b : Bool) (f : Fronts) (one : Counts) → IsDistinct nat_eq docs → place < length docs → IsTold marks docs ys place b f →
     one.relevant ≡ one_of false (mark_at marks (get_or docs place 0)) → one.relevant + one.unjudged ≡ one_of true (mark_at marks (get_or docs place 0)) → AreAfter marks docs ys place b f one
 after_here marks docs ys place true f one distinct lt h er eu =
     let x = get_or docs place 0 in
@@ -170,7 +170,7 @@ number_none : (b : Bool) (n : ℕ) → n ≡ 0 → number_if b n ≡ 0
 number_none true n e = e
 number_none false n e = refl
 
-after_past : (marks : List Mark) (docs ys : List ℕ) (place : ℕ) (b : Bool) (f : Fronts) (one : Counts) → length docs ≤ place → AreBefore marks docs ys place b f → one.relevant ≡ 0 → one.unjudged ≡ 0 → AreAfter marks docs ys place b f one
+after_past : (marks : List Mark) (docs ys : List ℕ) (place : ℕ) (b : Bool) (f : Fronts) (one : Counts) → length docs ≤ place → IsTold marks docs ys place b f → one.relevant ≡ 0 → one.unjudged ≡ 0 → AreAfter marks docs ys place b f one
 after_past marks docs ys place b f one le h er eu = record {
   after = f;
   counts = subst (λ (xs : List ℕ). AreFronts marks xs ys f) (sym (past place docs le)) h.counts;
@@ -180,7 +180,7 @@ after_past marks docs ys place b f one le h er eu = record {
   gone = omega (arith, number_none b one.unjudged eu);
 }
 
-pub after_next : (marks : List Mark) (docs ys : List ℕ) (place : ℕ) (b : Bool) (f : Fronts) (one : Counts) → IsDistinct nat_eq docs → AreBefore marks docs ys place b f → AreNext marks docs place one → AreAfter marks docs ys place b f one
+pub after_next : (marks : List Mark) (docs ys : List ℕ) (place : ℕ) (b : Bool) (f : Fronts) (one : Counts) → IsDistinct nat_eq docs → IsTold marks docs ys place b f → AreNext marks docs place one → AreAfter marks docs ys place b f one
 after_next marks docs ys place b f one distinct h next = elim (cases_lt place (length docs)) [
   | inl lt ↦ let here = next.here lt in after_here marks docs ys place b f one distinct lt h here.least here.most
   | inr le ↦ let none = next.past le in after_past marks docs ys place b f one le h none.least (omega (arith, none.least, none.most))

@@ -1,8 +1,10 @@
 -- The greedy choices of R-precision in counts of documents.
-use Rattle.std.specs.Prelude.{◌≡◌, ℕ, ◌+◌, ◌-◌, ◌*◌, ◌<◌, ◌≤◌, min, max, nat_lt, Bool, true, false, if◌then◌else◌, List, length, slice_index}
+use Rattle.std.specs.Prelude.{nat_eq, take, ◌≡◌, ℕ, ◌+◌, ◌-◌, ◌*◌, ◌<◌, ◌≤◌, min, max, nat_lt, Bool, true, false, if◌then◌else◌, List, length, slice_index}
+use Rattle.std.specs.List.{IsDistinct}
 use Rattle.desk_model.specs.Mark.{mark_at}
 use Rattle.desk_model.specs.Classes.{only_count}
 use Rattle.desk_model.specs.Completion.{picked_value}
+use Rattle.desk_model.specs.Ranking.{is_in}
 use Rattle.desk_model.specs.Score.{true_among}
 use Rattle.desk_model.specs.declared.types.Mark.{Mark}
 use Rattle.measure_laws.specs.Classes.{open_in, size_of, judged_count}
@@ -32,6 +34,17 @@ number_if taken number = if taken then number else 0
 pub record AreNext (marks : List Mark) (docs : List ℕ) (place : ℕ) (counts : Counts) : Type 0 where
   pub here : place < length docs → AreCountsOf (one_of false (mark_at marks (slice_index docs place))) (one_of true (mark_at marks (slice_index docs place))) counts
   pub past : length docs ≤ place → AreCountsOf 0 0 counts
+
+-- the counts of two lists up to a place, those of the documents there, and whether the other list has these before: the second at an earlier place, the first at no later one
+pub record AreBefore (marks : List Mark) (xs ys : List ℕ) (place : ℕ) (fronts : Fronts) (one two : Counts) (in_second in_first : Bool) : Type 0 where
+  pub short : place < 10000
+  pub first_distinct : IsDistinct nat_eq xs
+  pub second_distinct : IsDistinct nat_eq ys
+  pub counts : AreFronts marks (take place xs) (take place ys) fronts
+  pub first : AreNext marks xs place one
+  pub second : AreNext marks ys place two
+  pub first_shared : place < length xs → is_in (take place ys) (slice_index xs place) ≡ in_second
+  pub second_shared : place < length ys → is_in (take (place + 1) xs) (slice_index ys place) ≡ in_first
 
 -- the counts of the lists exchanged
 abbrev pub exchanged : Fronts → Fronts

@@ -34,7 +34,7 @@ pub record IsNear (c : Candidate) : Type 0 where
 
 -- so many choices that the topic has
 pub record AreChoices (first second : Column) (all : Counts) (chosen count : ℕ) : Type 0 where
-  pub few : count ≤ 256
+  pub few : count ≤ 1024
   pub counts : (place : ℕ) → place < count → AreFew (fronts_at first second place) all
   pub within : chosen + count ≤ all.unjudged + 1
   pub near : all.relevant + chosen + count ≤ 10001

@@ -1,22 +1,22 @@
 ghost use Rattle.std.specs.Prelude.{◌≡◌, ◌≢◌, ℕ, ◌+◌, ◌<◌, ◌≤◌, length, take};
 ghost use Rattle.desk_model.specs.Ranking.{IsRanking};
 ghost use Rattle.rprec.specs.Greedy.{AreFronts};
-ghost use Rattle.rprec.specs.Search.{counts_at, fronts_at};
+ghost use Rattle.rprec.specs.Search.{counts_at as counts_of, fronts_at};
 ghost use Rattle.rprec.specs.Shared.{AreShared};
 
-use crate::fronts::{Fronts, deepened};
+use crate::fronts::{Fronts, counts_at, deepened, next_counts};
 use crate::shared::Shared;
 use desk_model::Mark;
 use precision::counts::Counts;
 
 /// How many depths are looked at in one go.
-pub const STRETCH: u32 = 256;
+pub const STRETCH: u32 = 1024;
 
 /// The counts of one of two runs at consecutive depths.
 #[derive(Drop)]
 pub struct Column {
-    pub relevant: [u32; 256],
-    pub unjudged: [u32; 256],
+    pub relevant: [u32; 1024],
+    pub unjudged: [u32; 1024],
 }
 
 /// The counts of two runs at consecutive depths, those of the first depth at place 0.
@@ -29,15 +29,15 @@ pub struct Depths {
 impl Column {
     fn new() -> Column {
         Column {
-            relevant: [0; 256],
-            unjudged: [0; 256],
+            relevant: [0; 1024],
+            unjudged: [0; 1024],
         }
     }
 
     /// The counts at a place.
     pub fn at(&self, place: u32) -> Counts
-        requires { place < 256 }
-        ensures { result ≡ counts_at self.now place }
+        requires { place < 1024 }
+        ensures { result ≡ counts_of self.now place }
     {
         Counts {
             relevant: self.relevant[place as usize],
@@ -46,9 +46,9 @@ impl Column {
     }
 
     fn put(&mut self, place: u32, counts: Counts)
-        requires { place < 256 }
-        ensures here { counts_at self.new place ≡ counts }
-        ensures others { (other : ℕ) → other ≢ place → counts_at self.new other ≡ counts_at self.old other }
+        requires { place < 1024 }
+        ensures here { counts_of self.new place ≡ counts }
+        ensures others { (other : ℕ) → other ≢ place → counts_of self.new other ≡ counts_of self.old other }
     {
         self.relevant[place as usize] = counts.relevant;
         self.unjudged[place as usize] = counts.unjudged;
@@ -65,12 +65,80 @@ impl Depths {
     }
 
     fn put(&mut self, place: u32, fronts: Fronts)
-        requires { place < 256 }
+        requires { place < 1024 }
         ensures here { fronts_at self.new.first self.new.second place ≡ fronts }
         ensures others { (other : ℕ) → other ≢ place → fronts_at self.new.first self.new.second other ≡ fronts_at self.old.first self.old.second other }
     {
         self.first.put(place, fronts.first);
         self.second.put(place, fronts.second);
+    }
+
+    /// Enters the counts at so many depths beyond one, where both runs are as long.
+    fn enter_inside(
+        &mut self,
+        fronts: Fronts,
+        depth: u32,
+        count: u32,
+        a: &[u32],
+        b: &[u32],
+        shared: &Shared,
+        marks: &[Mark],
+    ) -> Fronts
+        requires fronts { AreFronts marks.now (take depth a.now) (take depth b.now) fronts }
+        requires a { IsRanking (length marks.now) a.now }
+        requires b { IsRanking (length marks.now) b.now }
+        requires shared { AreShared a.now b.now shared.now.first shared.now.second }
+        requires few { count ≤ 1024 }
+        requires depth { depth + count ≤ 10000 }
+        requires first { depth + count ≤ length a.now }
+        requires second { depth + count ≤ length b.now }
+        ensures each { (place : ℕ) → place < count → AreFronts marks.now (take (depth + place + 1) a.now) (take (depth + place + 1) b.now) (fronts_at self.new.first self.new.second place) }
+        ensures last { AreFronts marks.now (take (depth + count) a.now) (take (depth + count) b.now) result }
+    {
+        let mut fronts = fronts;
+        for place in 0..count {
+            let next = depth + place;
+            let in_second = shared.first[next as usize];
+            let in_first = shared.second[next as usize];
+            let one = counts_at(a, next, marks);
+            let two = counts_at(b, next, marks);
+            fronts = deepened(fronts, one, two, in_second, in_first);
+            self.put(place, fronts);
+        }
+        fronts
+    }
+
+    /// Enters the counts at so many depths beyond one, where a run may end before.
+    fn enter_beyond(
+        &mut self,
+        fronts: Fronts,
+        depth: u32,
+        count: u32,
+        a: &[u32],
+        b: &[u32],
+        shared: &Shared,
+        marks: &[Mark],
+    ) -> Fronts
+        requires fronts { AreFronts marks.now (take depth a.now) (take depth b.now) fronts }
+        requires a { IsRanking (length marks.now) a.now }
+        requires b { IsRanking (length marks.now) b.now }
+        requires shared { AreShared a.now b.now shared.now.first shared.now.second }
+        requires few { count ≤ 1024 }
+        requires depth { depth + count ≤ 10000 }
+        ensures each { (place : ℕ) → place < count → AreFronts marks.now (take (depth + place + 1) a.now) (take (depth + place + 1) b.now) (fronts_at self.new.first self.new.second place) }
+        ensures last { AreFronts marks.now (take (depth + count) a.now) (take (depth + count) b.now) result }
+    {
+        let mut fronts = fronts;
+        for place in 0..count {
+            let next = depth + place;
+            let in_second = shared.first[next as usize];
+            let in_first = shared.second[next as usize];
+            let one = next_counts(a, next, marks);
+            let two = next_counts(b, next, marks);
+            fronts = deepened(fronts, one, two, in_second, in_first);
+            self.put(place, fronts);
+        }
+        fronts
     }
 
     /// Enters the counts at so many depths beyond one, and gives the last of them.
@@ -88,16 +156,16 @@ impl Depths {
         requires a { IsRanking (length marks.now) a.now }
         requires b { IsRanking (length marks.now) b.now }
         requires shared { AreShared a.now b.now shared.now.first shared.now.second }
-        requires few { count ≤ 256 }
+        requires few { count ≤ 1024 }
         requires depth { depth + count ≤ 10000 }
         ensures each { (place : ℕ) → place < count → AreFronts marks.now (take (depth + place + 1) a.now) (take (depth + place + 1) b.now) (fronts_at self.new.first self.new.second place) }
         ensures last { AreFronts marks.now (take (depth + count) a.now) (take (depth + count) b.now) result }
     {
-        let mut fronts = fronts;
-        for place in 0..count {
-            fronts = deepened(fronts, a, b, shared, depth + place, marks);
-            self.put(place, fronts);
+        let end = (depth + count) as usize;
+        if end <= a.len() && end <= b.len() {
+            self.enter_inside(fronts, depth, count, a, b, shared, marks)
+        } else {
+            self.enter_beyond(fronts, depth, count, a, b, shared, marks)
         }
-        fronts
     }
 }

@@ -5,7 +5,7 @@ ghost use Rattle.rprec.specs.Search.{AreChoices, IsBestOf, IsNear, choice};
 ghost use Rattle.rprec.specs.Shared.{AreShared};
 
 use crate::depths::{Depths, STRETCH};
-use crate::fronts::{Fronts, deepened};
+use crate::fronts::{Fronts, deepened, next_counts};
 use crate::greedy::{Candidate, best_beyond, greedy_choice};
 use crate::search::Choices;
 use crate::shared::Shared;
@@ -44,7 +44,11 @@ fn fronts_at(depth: u32, a: &[u32], b: &[u32], shared: &Shared, marks: &[Mark]) 
         second: Counts::NONE,
     };
     for place in 0..depth.min(longest(a, b)) {
-        fronts = deepened(fronts, a, b, shared, place, marks);
+        let in_second = shared.first[place as usize];
+        let in_first = shared.second[place as usize];
+        let one = next_counts(a, place, marks);
+        let two = next_counts(b, place, marks);
+        fronts = deepened(fronts, one, two, in_second, in_first);
     }
     fronts
 }

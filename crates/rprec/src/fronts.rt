@@ -1,9 +1,8 @@
-ghost use Rattle.std.specs.Prelude.{◌≡◌, ◌+◌, ◌<◌, length, take, true, false};
+ghost use Rattle.std.specs.Prelude.{◌≡◌, ℕ, ◌+◌, ◌<◌, List, length, take, true, false};
 ghost use Rattle.desk_model.specs.Ranking.{IsRanking};
-ghost use Rattle.rprec.specs.Greedy.{AreFronts, AreNext, exchanged, number_if, one_of};
-ghost use Rattle.rprec.specs.Shared.{AreShared};
+ghost use Rattle.desk_model.specs.declared.types.Mark.{Mark as M};
+ghost use Rattle.rprec.specs.Greedy.{AreBefore, AreFronts, AreNext, exchanged, number_if, one_of};
 
-use crate::shared::Shared;
 use desk_model::Mark;
 use precision::counts::Counts;
 
@@ -45,39 +44,34 @@ fn number_if(taken: bool, number: u32) -> u32
     if taken { number } else { 0 }
 }
 
-/// The counts of the next document of a ranking, if there is one.
-fn next_counts(docs: &[u32], place: u32, marks: &[Mark]) -> Counts
+/// The counts of the document at a place of a ranking.
+pub fn counts_at(docs: &[u32], place: u32, marks: &[Mark]) -> Counts
+    requires docs { IsRanking (length marks.now) docs.now }
+    requires place { place < length docs.now }
+    ensures { AreNext marks.now docs.now place result }
+{
+    counts_of(marks[docs[place as usize] as usize])
+}
+
+/// The counts of the document at a place of a ranking, if there is one.
+pub fn next_counts(docs: &[u32], place: u32, marks: &[Mark]) -> Counts
     requires { IsRanking (length marks.now) docs.now }
     ensures { AreNext marks.now docs.now place result }
 {
-    match docs.get(place as usize) {
-        Some(doc) => counts_of(marks[*doc as usize]),
-        None => Counts::NONE,
+    if (place as usize) < docs.len() {
+        counts_at(docs, place, marks)
+    } else {
+        Counts::NONE
     }
 }
 
-/// The counts of one more document of each run. Whether the other run has it before decides no jump
-/// here, as no processor could foresee it.
-pub fn deepened(
-    fronts: Fronts,
-    a: &[u32],
-    b: &[u32],
-    shared: &Shared,
-    depth: u32,
-    marks: &[Mark],
-) -> Fronts
-    requires fronts { AreFronts marks.now (take depth a.now) (take depth b.now) fronts }
-    requires a { IsRanking (length marks.now) a.now }
-    requires b { IsRanking (length marks.now) b.now }
-    requires shared { AreShared a.now b.now shared.now.first shared.now.second }
-    requires depth { depth < 10000 }
-    ensures { AreFronts marks.now (take (depth + 1) a.now) (take (depth + 1) b.now) result }
+/// The counts with those of the next document of each run, where it is known whether the other run
+/// has it before. Whether it has decides no jump here, as no processor could foresee it.
+pub fn deepened(fronts: Fronts, one: Counts, two: Counts, in_second: bool, in_first: bool) -> Fronts
+    requires { (marks : List M) × (a : List ℕ) × (b : List ℕ) × (place : ℕ) × AreBefore marks a b place fronts one two in_second in_first }
+    ensures { (marks : List M) (a b : List ℕ) (place : ℕ) → AreBefore marks a b place fronts one two in_second in_first → AreFronts marks (take (place + 1) a) (take (place + 1) b) result }
 {
-    let place = depth as usize;
-    let one = next_counts(a, depth, marks);
-    let two = next_counts(b, depth, marks);
-    let both = number_if(shared.first[place], one.unjudged)
-        + number_if(shared.second[place], two.unjudged);
+    let both = number_if(in_second, one.unjudged) + number_if(in_first, two.unjudged);
     Fronts {
         first: Counts {
             relevant: fronts.first.relevant + one.relevant,

@@ -38,7 +38,7 @@ loop-chosen-init c =
 
 -- the choices at some depths, and that they are those at the next numbers
 few_choices : (marks : List Mark) (a b : List ℕ) (j chosen count steps : ℕ) (all : Counts) (first second : Column) → IsRanking (length marks) a → IsRanking (length marks) b → AreTopic marks all → all.relevant + all.unjudged ≤ 25000000 → j ≡ all.relevant →
-    count ≤ 256 → chosen + count ≤ all.unjudged → j + chosen + count ≤ 10000 →
+    count ≤ 1024 → chosen + count ≤ all.unjudged → j + chosen + count ≤ 10000 →
     ((place : ℕ) → place < count → AreFronts marks (take (j + chosen + place + 1) a) (take (j + chosen + place + 1) b) (fronts_at first second place)) → AreChoices first second all (chosen + 1) count
 few_choices marks a b j chosen count steps all first second ra rb topic few ej short within near each = record {
   few = short;

@@ -1,7 +1,7 @@
 use Rattle.std.proofs.Common.{ℕ, ◌+◌, ◌<◌, take}
 use Rattle.rprec.specs.Greedy.{AreFronts}
 use Rattle.rprec.specs.Search.{fronts_at}
-use Rattle.rprec.proofs.depths.Depths.enter.Given as goal
+use Rattle.rprec.proofs.depths.Depths.enter_inside.Given as goal
 
 abbrev pub invariant-loop-place : goal.invariant-loop-place
 invariant-loop-place l = record {
