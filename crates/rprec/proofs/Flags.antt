@@ -18,6 +18,7 @@ use Rattle.precision.specs.declared.counts.Counts.{Counts}
 use Rattle.rprec.specs.declared.fronts.Fronts.{Fronts}
 use Rattle.rprec.specs.Greedy.{AreBefore, AreFronts, AreNext, exchanged, number_if}
 use Rattle.rprec.specs.Shared.{AreFlags, AreShared, entered, flagged}
+use Rattle.rprec.specs.Walk.{AreRanksOf, AreWalked, IsWalk, both}
 use Rattle.rprec.proofs.Steps.{fronts_exchanged, after_next, number_either}
 
 -- ---- ranks and places
@@ -76,20 +77,6 @@ all_down zero place = refl
 all_down (suc n) zero = refl
 all_down (suc n) (suc place) = all_down n place
 
--- each document that a list still has has its rank there
-unfoldable pub AreRanksOf : List ℕ → List Placed → Type 0
-AreRanksOf xs es = (doc r : ℕ) → lookup es doc ≡ Some r → rank xs doc ≡ Some r
-
-abbrev pub both : Option ℕ → Option ℕ → Bool
-both (Some x) (Some y) = true
-both (Some x) None = false
-both None y = false
-
--- the flags so far: those of the documents that are left in both lists are still down
-pub record AreWalked (xs ys : List ℕ) (depth : ℕ → ℕ) (es fs : List Placed) (flags : List Bool) : Type 0 where
-  pub long : length xs ≤ length flags
-  pub each : (place : ℕ) → place < length xs → get_or flags place false ≡ (is_in (take (depth place) ys) (get_or xs place 0) && not (both (lookup es (get_or xs place 0)) (lookup fs (get_or xs place 0))))
-
 after_same : (es : List Placed) (doc : ℕ) (r : Option ℕ) → Taken es doc r → lookup (after es doc) doc ≡ None
 after_same es doc r h = absent_below doc (after es doc) h.rest
 
@@ -105,18 +92,18 @@ after_other es doc d r h ne = elim (split_less d doc ne) [
   | inr more ↦ h.above d more
 ]
 
-pub ranks_after : (xs : List ℕ) (es : List Placed) (doc : ℕ) (r : Option ℕ) → Taken es doc r → AreRanksOf xs es → AreRanksOf xs (after es doc)
+pub ranks_after : (part : ℕ → Bool) (xs : List ℕ) (es : List Placed) (doc : ℕ) (r : Option ℕ) → Taken es doc r → AreRanksOf part xs es → AreRanksOf part xs (after es doc)
 unfolding AreRanksOf
-ranks_after xs es doc r h f d s e = elim (split d doc) [
+ranks_after part xs es doc r h f d s e = elim (split d doc) [
   | inl same ↦ let none : lookup (after es doc) d ≡ None = ap (lookup (after es doc)) same ∙ after_same es doc r h in absurd (cc)
   | inr other ↦ f d s (sym (after_other es doc d r h other) ∙ e)
 ]
 
 -- the ranks of the next document
-pub rank_within : (xs : List ℕ) (es : List Placed) (doc : ℕ) (r : Option ℕ) → Taken es doc r → AreRanksOf xs es → length xs ≤ 10000 → IsWithin 10000 r
+pub rank_within : (part : ℕ → Bool) (xs : List ℕ) (es : List Placed) (doc : ℕ) (r : Option ℕ) → Taken es doc r → AreRanksOf part xs es → length xs ≤ 10000 → IsWithin 10000 r
 unfolding AreRanksOf
-rank_within xs es doc None h f short = tt
-rank_within xs es doc (Some r) h f short = let here = rank_place xs doc r (f doc r (sym h.here)) in (here.0, omega (arith, here.1.0))
+rank_within part xs es doc None h f short = tt
+rank_within part xs es doc (Some r) h f short = let here = rank_place xs doc r (f doc r (sym h.here)).0 in (here.0, omega (arith, here.1.0))
 
 flag_kept : (depth : ℕ → ℕ) (x y : Option ℕ) (flags : List Bool) (place : ℕ) → ((r : ℕ) → x ≡ Some r → place ≢ r - 1) → get_or (raised depth x y flags) place false ≡ get_or flags place false
 flag_kept depth None y flags place f = refl
@@ -135,18 +122,19 @@ and_true : (b : Bool) → (b && true) ≡ b
 and_true true = refl
 and_true false = refl
 
-flag_here : (ys : List ℕ) (depth : ℕ → ℕ) (doc place : ℕ) (x y : Option ℕ) (flags : List Bool) → place < length flags → ((r : ℕ) → x ≡ Some r → r ≡ place + 1) → ((r : ℕ) → y ≡ Some r → rank ys doc ≡ Some r) →
-    get_or flags place false ≡ (is_in (take (depth place) ys) doc && not (both x y)) → get_or (raised depth x y flags) place false ≡ (is_in (take (depth place) ys) doc && true)
-flag_here ys depth doc place None y flags lt fx fy e = e
-flag_here ys depth doc place (Some x) None flags lt fx fy e = e
-flag_here ys depth doc place (Some x) (Some y) flags lt fx fy e =
+flag_here : (ys : List ℕ) (depth : ℕ → ℕ) (doc place : ℕ) (x y : Option ℕ) (v : Bool) (flags : List Bool) → place < length flags → ((r : ℕ) → x ≡ Some r → r ≡ place + 1) → ((r : ℕ) → y ≡ Some r → rank ys doc ≡ Some r) → ((r s : ℕ) → x ≡ Some r → y ≡ Some s → v ≡ false) →
+    get_or flags place false ≡ ((is_in (take (depth place) ys) doc && not v) && not (both x y)) → get_or (raised depth x y flags) place false ≡ ((is_in (take (depth place) ys) doc && not v) && true)
+flag_here ys depth doc place None y v flags lt fx fy free e = e
+flag_here ys depth doc place (Some x) None v flags lt fx fy free e = e
+flag_here ys depth doc place (Some x) (Some y) v flags lt fx fy free e =
     let here : x - 1 ≡ place = omega (arith, fx x refl) in
-    let by : is_in (take (depth place) ys) doc ≡ nat_le y (depth (x - 1)) = rank_by (depth place) doc ys ∙ ap (is_by (depth place)) (fy y refl) ∙ ap (λ (k : ℕ). nat_le y (depth k)) (sym here) in
+    let test = is_in (take (depth place) ys) doc in
+    let by : (test && not v) ≡ nat_le y (depth (x - 1)) = ap (λ u. test && not u) (free x y refl refl) ∙ and_true test ∙ rank_by (depth place) doc ys ∙ ap (is_by (depth place)) (fy y refl) ∙ ap (λ (k : ℕ). nat_le y (depth k)) (sym here) in
     at (nat_le y (depth (x - 1))) by here
   where
-    at : (b : Bool) → is_in (take (depth place) ys) doc ≡ b → x - 1 ≡ place → get_or (if b then set flags (x - 1) true else flags) place false ≡ (is_in (take (depth place) ys) doc && true)
+    at : (b : Bool) → (is_in (take (depth place) ys) doc && not v) ≡ b → x - 1 ≡ place → get_or (if b then set flags (x - 1) true else flags) place false ≡ ((is_in (take (depth place) ys) doc && not v) && true)
     at true eb here = ap (λ (k : ℕ). get_or (set flags k true) place false) here ∙ get_or-set_same flags place true false lt ∙ sym (ap (λ b. b && true) eb)
-    at false eb here = e ∙ and_false (is_in (take (depth place) ys) doc) ∙ sym (ap (λ b. b && true) eb)
+    at false eb here = e ∙ and_false (is_in (take (depth place) ys) doc && not v) ∙ sym (ap (λ b. b && true) eb)
 
 raised_length : (depth : ℕ → ℕ) (x y : Option ℕ) (flags : List Bool) → length (raised depth x y flags) ≡ length flags
 raised_length depth None y flags = refl
@@ -158,89 +146,82 @@ raised_length depth (Some x) (Some y) flags = at (nat_le y (depth (x - 1)))
     at false = refl
 
 -- one document more
-pub walked_more : (xs ys : List ℕ) (depth : ℕ → ℕ) (es fs : List Placed) (flags : List Bool) (doc : ℕ) (x y : Option ℕ) → IsDistinct nat_eq xs → Taken es doc x → Taken fs doc y → AreRanksOf xs es → AreRanksOf ys fs →
-    AreWalked xs ys depth es fs flags → AreWalked xs ys depth (after es doc) (after fs doc) (raised depth x y flags)
+pub walked_more : (part elsewhere : ℕ → Bool) (xs ys : List ℕ) (depth : ℕ → ℕ) (es fs : List Placed) (flags : List Bool) (doc : ℕ) (x y : Option ℕ) → IsDistinct nat_eq xs → Taken es doc x → Taken fs doc y → AreRanksOf part xs es → AreRanksOf part ys fs → ((r s : ℕ) → x ≡ Some r → y ≡ Some s → elsewhere doc ≡ false) →
+    AreWalked elsewhere xs ys depth es fs flags → AreWalked elsewhere xs ys depth (after es doc) (after fs doc) (raised depth x y flags)
 unfolding AreRanksOf
-walked_more xs ys depth es fs flags doc x y distinct hx hy rx ry w = record { long = omega (arith, raised_length depth x y flags, w.long); each = more }
+walked_more part elsewhere xs ys depth es fs flags doc x y distinct hx hy rx ry free w = record { long = omega (arith, raised_length depth x y flags, w.long); each = more }
   where
-    kept : (place : ℕ) → place < length xs → get_or xs place 0 ≢ doc → get_or (raised depth x y flags) place false ≡ (is_in (take (depth place) ys) (get_or xs place 0) && not (both (lookup (after es doc) (get_or xs place 0)) (lookup (after fs doc) (get_or xs place 0))))
+    kept : (place : ℕ) → place < length xs → get_or xs place 0 ≢ doc → get_or (raised depth x y flags) place false ≡ ((is_in (take (depth place) ys) (get_or xs place 0) && not (elsewhere (get_or xs place 0))) && not (both (lookup (after es doc) (get_or xs place 0)) (lookup (after fs doc) (get_or xs place 0))))
     kept place lt ne =
         let d = get_or xs place 0 in
-        let test = is_in (take (depth place) ys) d in
-        let apart : (r : ℕ) → x ≡ Some r → place ≢ r - 1 = λ r e same. ne (ap (λ (k : ℕ). get_or xs k 0) same ∙ (rank_place xs doc r (rx doc r (sym hx.here ∙ e))).1.1) in
+        let test = is_in (take (depth place) ys) d && not (elsewhere d) in
+        let apart : (r : ℕ) → x ≡ Some r → place ≢ r - 1 = λ r e same. ne (ap (λ (k : ℕ). get_or xs k 0) same ∙ (rank_place xs doc r (rx doc r (sym hx.here ∙ e)).0).1.1) in
         flag_kept depth x y flags place apart ∙ w.each place lt ∙ ap (λ o. test && not (both o (lookup fs d))) (sym (after_other es doc d x hx ne)) ∙ ap (λ o. test && not (both (lookup (after es doc) d) o)) (sym (after_other fs doc d y hy ne))
 
-    here : (place : ℕ) → place < length xs → get_or xs place 0 ≡ doc → get_or (raised depth x y flags) place false ≡ (is_in (take (depth place) ys) (get_or xs place 0) && not (both (lookup (after es doc) (get_or xs place 0)) (lookup (after fs doc) (get_or xs place 0))))
+    here : (place : ℕ) → place < length xs → get_or xs place 0 ≡ doc → get_or (raised depth x y flags) place false ≡ ((is_in (take (depth place) ys) (get_or xs place 0) && not (elsewhere (get_or xs place 0))) && not (both (lookup (after es doc) (get_or xs place 0)) (lookup (after fs doc) (get_or xs place 0))))
     here place lt same =
         let d = get_or xs place 0 in
-        let test = is_in (take (depth place) ys) d in
+        let test = is_in (take (depth place) ys) d && not (elsewhere d) in
         let first : lookup es d ≡ x = ap (lookup es) same ∙ sym hx.here in
         let second : lookup fs d ≡ y = ap (lookup fs) same ∙ sym hy.here in
         let before : get_or flags place false ≡ (test && not (both x y)) = w.each place lt ∙ ap (λ o. test && not (both o (lookup fs d))) first ∙ ap (λ o. test && not (both x o)) second in
         let place_of : (r : ℕ) → x ≡ Some r → r ≡ place + 1 = λ r e.
-        let one : rank xs d ≡ Some r = rx d r (first ∙ e) in
+        let one : rank xs d ≡ Some r = (rx d r (first ∙ e)).0 in
         let two : rank xs d ≡ Some (place + 1) = rank_at xs place distinct lt in cc in
-        flag_here ys depth d place x y flags (omega (arith, w.long)) place_of (λ r e. ry d r (second ∙ e)) before
+        flag_here ys depth d place x y (elsewhere d) flags (omega (arith, w.long)) place_of (λ r e. (ry d r (second ∙ e)).0) (λ r s ex ey. ap elsewhere same ∙ free r s ex ey) before
         ∙ sym (ap (λ o. test && not (both o (lookup (after fs doc) d))) (ap (lookup (after es doc)) same ∙ after_same es doc x hx))
 
-    more : (place : ℕ) → place < length xs → get_or (raised depth x y flags) place false ≡ (is_in (take (depth place) ys) (get_or xs place 0) && not (both (lookup (after es doc) (get_or xs place 0)) (lookup (after fs doc) (get_or xs place 0))))
+    more : (place : ℕ) → place < length xs → get_or (raised depth x y flags) place false ≡ ((is_in (take (depth place) ys) (get_or xs place 0) && not (elsewhere (get_or xs place 0))) && not (both (lookup (after es doc) (get_or xs place 0)) (lookup (after fs doc) (get_or xs place 0))))
     more place lt = elim (split (get_or xs place 0) doc) [ inl same ↦ here place lt same | inr other ↦ kept place lt other ]
 
 -- before the first document
-pub walked_start : (xs ys : List ℕ) (depth : ℕ → ℕ) (es fs : List Placed) (flags : List Bool) → IsDistinct nat_eq xs → length xs ≤ length flags → ((doc : ℕ) → lookup es doc ≡ rank xs doc) → ((doc : ℕ) → lookup fs doc ≡ rank ys doc) →
-    ((place : ℕ) → get_or flags place false ≡ false) → AreWalked xs ys depth es fs flags
-walked_start xs ys depth es fs flags distinct long ex ey down = record {
+pub walked_start : (elsewhere : ℕ → Bool) (xs ys : List ℕ) (depth : ℕ → ℕ) (es fs : List Placed) (flags : List Bool) → IsDistinct nat_eq xs → length xs ≤ length flags →
+    ((doc r s : ℕ) → rank xs doc ≡ Some r → rank ys doc ≡ Some s → (elsewhere doc ≡ true) ⊎ (both (lookup es doc) (lookup fs doc) ≡ true)) → ((place : ℕ) → get_or flags place false ≡ false) → AreWalked elsewhere xs ys depth es fs flags
+walked_start elsewhere xs ys depth es fs flags distinct long left down = record {
   long = long;
+  each = λ place lt. let d = get_or xs place 0 in down place ∙ sym (none (depth place) d (place + 1) (rank_at xs place distinct lt) (rank ys d) refl);
+}
+  where
+    none_left : (k d : ℕ) → (elsewhere d ≡ true) ⊎ (both (lookup es d) (lookup fs d) ≡ true) → ((is_in (take k ys) d && not (elsewhere d)) && not (both (lookup es d) (lookup fs d))) ≡ false
+    none_left k d (inl e) = ap (λ v. (is_in (take k ys) d && not v) && not (both (lookup es d) (lookup fs d))) e ∙ ap (λ v. v && not (both (lookup es d) (lookup fs d))) (and_false (is_in (take k ys) d))
+    none_left k d (inr e) = ap (λ v. (is_in (take k ys) d && not (elsewhere d)) && not v) e ∙ and_false (is_in (take k ys) d && not (elsewhere d))
+
+    none : (k d r : ℕ) → rank xs d ≡ Some r → (o : Option ℕ) → rank ys d ≡ o → ((is_in (take k ys) d && not (elsewhere d)) && not (both (lookup es d) (lookup fs d))) ≡ false
+    none k d r er None e = ap (λ v. (v && not (elsewhere d)) && not (both (lookup es d) (lookup fs d))) (rank_by k d ys ∙ ap (is_by k) e)
+    none k d r er (Some s) e = none_left k d (left d r s er e)
+
+-- after the last one of either list, and elsewhere
+pub walked_end : (elsewhere : ℕ → Bool) (xs ys : List ℕ) (depth : ℕ → ℕ) (es fs : List Placed) (flags : List Bool) → ((doc : ℕ) → both (lookup es doc) (lookup fs doc) ≡ false) → ((doc : ℕ) → elsewhere doc ≡ false) → AreWalked elsewhere xs ys depth es fs flags → AreFlags xs ys depth flags
+walked_end elsewhere xs ys depth es fs flags none other w = record {
   each = λ place lt.
       let d = get_or xs place 0 in
       let test = is_in (take (depth place) ys) d in
-      let first : lookup es d ≡ Some (place + 1) = ex d ∙ rank_at xs place distinct lt in
-      down place ∙ sym (ap (λ o. test && not (both o (lookup fs d))) first ∙ ap (λ o. test && not (both (Some (place + 1)) o)) (ey d) ∙ none (depth place) d place (rank ys d) (rank_by (depth place) d ys));
+      w.each place lt ∙ ap (λ b. (test && not (elsewhere d)) && not b) (none d) ∙ and_true (test && not (elsewhere d)) ∙ ap (λ b. test && not b) (other d) ∙ and_true test;
 }
-  where
-    none : (k d place : ℕ) (o : Option ℕ) → is_in (take k ys) d ≡ is_by k o → (is_in (take k ys) d && not (both (Some (place + 1)) o)) ≡ false
-    none k d place None e = ap (λ b. b && true) e
-    none k d place (Some r) e = and_false (is_in (take k ys) d)
 
-pub ranks_start : (xs : List ℕ) (es : List Placed) → ((doc : ℕ) → lookup es doc ≡ rank xs doc) → AreRanksOf xs es
+both_none : (o : Option ℕ) → both o None ≡ false
+both_none None = refl
+both_none (Some x) = refl
+
+pub none_left : (es fs : List Placed) → (es ≡ []) ⊎ (fs ≡ []) → (d : ℕ) → both (lookup es d) (lookup fs d) ≡ false
+none_left es fs (inl h) d = ap (λ (gs : List Placed). both (lookup gs d) (lookup fs d)) h
+none_left es fs (inr h) d = ap (λ (gs : List Placed). both (lookup es d) (lookup gs d)) h ∙ both_none (lookup es d)
+
+walk_by : (part elsewhere : ℕ → Bool) (xs ys : List ℕ) (es fs : List Placed) (f s : List Bool) (doc : ℕ) (x y : Option ℕ) → IsDistinct nat_eq xs → IsDistinct nat_eq ys → Taken es doc x → Taken fs doc y → IsWalk part elsewhere xs ys es fs f s →
+    IsWalk part elsewhere xs ys (after es doc) (after fs doc) (raised (λ place. place) x y f) (raised (λ place. place + 1) y x s)
 unfolding AreRanksOf
-ranks_start xs es f doc r e = sym (f doc) ∙ e
-
--- after the last one of either list
-pub walked_end : (xs ys : List ℕ) (depth : ℕ → ℕ) (es fs : List Placed) (flags : List Bool) → (es ≡ []) ⊎ (fs ≡ []) → AreWalked xs ys depth es fs flags → AreFlags xs ys depth flags
-walked_end xs ys depth es fs flags e w = record {
-  each = λ place lt.
-      let d = get_or xs place 0 in
-      let test = is_in (take (depth place) ys) d in
-      w.each place lt ∙ ap (λ b. test && not b) (none d e) ∙ and_true test;
-}
-  where
-    both_none : (o : Option ℕ) → both o None ≡ false
-    both_none None = refl
-    both_none (Some x) = refl
-
-    none : (d : ℕ) → (es ≡ []) ⊎ (fs ≡ []) → both (lookup es d) (lookup fs d) ≡ false
-    none d (inl h) = ap (λ (gs : List Placed). both (lookup gs d) (lookup fs d)) h
-    none d (inr h) = ap (λ (gs : List Placed). both (lookup es d) (lookup gs d)) h ∙ both_none (lookup es d)
-
--- ---- the walk over both lists
-pub record IsWalk (xs ys : List ℕ) (es fs : List Placed) (in_second in_first : List Bool) : Type 0 where
-  pub first_ascends : IsAscending es
-  pub second_ascends : IsAscending fs
-  pub first_ranks : AreRanksOf xs es
-  pub second_ranks : AreRanksOf ys fs
-  pub first : AreWalked xs ys (λ place. place) es fs in_second
-  pub second : AreWalked ys xs (λ place. place + 1) fs es in_first
-
-walk_by : (xs ys : List ℕ) (es fs : List Placed) (f s : List Bool) (doc : ℕ) (x y : Option ℕ) → IsDistinct nat_eq xs → IsDistinct nat_eq ys → Taken es doc x → Taken fs doc y → IsWalk xs ys es fs f s →
-    IsWalk xs ys (after es doc) (after fs doc) (raised (λ place. place) x y f) (raised (λ place. place + 1) y x s)
-walk_by xs ys es fs f s doc x y dx dy hx hy w = record {
+walk_by part elsewhere xs ys es fs f s doc x y dx dy hx hy w = record {
+  first_short = w.first_short;
+  second_short = w.second_short;
+  first_distinct = w.first_distinct;
+  second_distinct = w.second_distinct;
   first_ascends = hx.ascending;
   second_ascends = hy.ascending;
-  first_ranks = ranks_after xs es doc x hx w.first_ranks;
-  second_ranks = ranks_after ys fs doc y hy w.second_ranks;
-  first = walked_more xs ys (λ place. place) es fs f doc x y dx hx hy w.first_ranks w.second_ranks w.first;
-  second = walked_more ys xs (λ place. place + 1) fs es s doc y x dy hy hx w.second_ranks w.first_ranks w.second;
+  first_ranks = ranks_after part xs es doc x hx w.first_ranks;
+  second_ranks = ranks_after part ys fs doc y hy w.second_ranks;
+  first = walked_more part elsewhere xs ys (λ place. place) es fs f doc x y dx hx hy w.first_ranks w.second_ranks (λ r t ex ey. w.apart doc (w.first_ranks doc r (sym hx.here ∙ ex)).1) w.first;
+  second = walked_more part elsewhere ys xs (λ place. place + 1) fs es s doc y x dy hy hx w.second_ranks w.first_ranks (λ r t ey ex. w.apart doc (w.second_ranks doc r (sym hy.here ∙ ey)).1) w.second;
+  apart = w.apart;
 }
 
 after_head : (x : Placed) (es : List Placed) → after (x ∷ es) x.doc ≡ es
@@ -274,38 +255,38 @@ tests m n h = (grind (arith, nat_tests), (grind (arith, nat_tests), (grind (arit
 same_tests : (m n : ℕ) → m ≡ n → (nat_le m n ≡ true) × ((nat_le n m ≡ true) × ((nat_eq m n ≡ true) × (nat_eq n m ≡ true)))
 same_tests m n h = (grind (arith, nat_tests), (grind (arith, nat_tests), (grind (arith, nat_tests), grind (arith, nat_tests))))
 
-abbrev After : List ℕ → List ℕ → Placed → Placed → List Placed → List Placed → List Bool → List Bool → Type 0
-After xs ys x y es fs f s = IsWalk xs ys (left x y es) (left y x fs) (entered (λ place. place) x y f) (entered (λ place. place + 1) y x s)
+abbrev After : (ℕ → Bool) → (ℕ → Bool) → List ℕ → List ℕ → Placed → Placed → List Placed → List Placed → List Bool → List Bool → Type 0
+After part elsewhere xs ys x y es fs f s = IsWalk part elsewhere xs ys (left x y es) (left y x fs) (entered (λ place. place) x y f) (entered (λ place. place + 1) y x s)
 
-same_walk : (xs ys : List ℕ) (es es' fs fs' : List Placed) (f f' s s' : List Bool) → es ≡ es' → fs ≡ fs' → f ≡ f' → s ≡ s' → IsWalk xs ys es fs f s → IsWalk xs ys es' fs' f' s'
-same_walk xs ys es es' fs fs' f f' s s' e g h k w =
-    subst (λ (x : List Placed). IsWalk xs ys x fs' f' s') e (subst (λ (x : List Placed). IsWalk xs ys es x f' s') g (subst (λ (x : List Bool). IsWalk xs ys es fs x s') h (subst (λ (x : List Bool). IsWalk xs ys es fs f x) k w)))
+same_walk : (part elsewhere : ℕ → Bool) (xs ys : List ℕ) (es es' fs fs' : List Placed) (f f' s s' : List Bool) → es ≡ es' → fs ≡ fs' → f ≡ f' → s ≡ s' → IsWalk part elsewhere xs ys es fs f s → IsWalk part elsewhere xs ys es' fs' f' s'
+same_walk part elsewhere xs ys es es' fs fs' f f' s s' e g h k w =
+    subst (λ (x : List Placed). IsWalk part elsewhere xs ys x fs' f' s') e (subst (λ (x : List Placed). IsWalk part elsewhere xs ys es x f' s') g (subst (λ (x : List Bool). IsWalk part elsewhere xs ys es fs x s') h (subst (λ (x : List Bool). IsWalk part elsewhere xs ys es fs f x) k w)))
 
 -- one step of it
-pub walk_next : (xs ys : List ℕ) (x y : Placed) (es fs : List Placed) (f s : List Bool) → IsDistinct nat_eq xs → IsDistinct nat_eq ys → IsWalk xs ys (x ∷ es) (y ∷ fs) f s → After xs ys x y es fs f s
-walk_next xs ys x y es fs f s dx dy w = elim (split x.doc y.doc) [
+pub walk_next : (part elsewhere : ℕ → Bool) (xs ys : List ℕ) (x y : Placed) (es fs : List Placed) (f s : List Bool) → IsDistinct nat_eq xs → IsDistinct nat_eq ys → IsWalk part elsewhere xs ys (x ∷ es) (y ∷ fs) f s → After part elsewhere xs ys x y es fs f s
+walk_next part elsewhere xs ys x y es fs f s dx dy w = elim (split x.doc y.doc) [
   | inl same ↦
       let t = same_tests x.doc y.doc same in
       let second : Taken (y ∷ fs) x.doc (Some y.rank) = subst (λ (d : ℕ). Taken (y ∷ fs) d (Some y.rank)) (sym same) (taken_head y fs w.second_ascends) in
-      let here = walk_by xs ys (x ∷ es) (y ∷ fs) f s x.doc (Some x.rank) (Some y.rank) dx dy (taken_head x es w.first_ascends) second w in
+      let here = walk_by part elsewhere xs ys (x ∷ es) (y ∷ fs) f s x.doc (Some x.rank) (Some y.rank) dx dy (taken_head x es w.first_ascends) second w in
       let gone : after (y ∷ fs) x.doc ≡ fs = ap (after (y ∷ fs)) same ∙ after_head y fs in
-      same_walk xs ys _ (left x y es) _ (left y x fs) _ (entered (λ place. place) x y f) _ (entered (λ place. place + 1) y x s) (after_head x es ∙ sym (left_by true x y es t.0)) (gone ∙ sym (left_by true y x fs t.1.0)) (sym (entered_by true (λ place. place) x y f t.1.1.0)) (sym (entered_by true (λ place. place + 1) y x s t.1.1.1)) here
+      same_walk part elsewhere xs ys _ (left x y es) _ (left y x fs) _ (entered (λ place. place) x y f) _ (entered (λ place. place + 1) y x s) (after_head x es ∙ sym (left_by true x y es t.0)) (gone ∙ sym (left_by true y x fs t.1.0)) (sym (entered_by true (λ place. place) x y f t.1.1.0)) (sym (entered_by true (λ place. place + 1) y x s t.1.1.1)) here
   | inr other ↦ apart (split_less x.doc y.doc other)
 ]
   where
-    apart : (x.doc < y.doc) ⊎ (y.doc < x.doc) → After xs ys x y es fs f s
+    apart : (x.doc < y.doc) ⊎ (y.doc < x.doc) → After part elsewhere xs ys x y es fs f s
     apart (inl less) =
         let t = tests x.doc y.doc less in
-        let here = walk_by xs ys (x ∷ es) (y ∷ fs) f s x.doc (Some x.rank) None dx dy (taken_head x es w.first_ascends) (taken_none (y ∷ fs) x.doc (all_later x.doc y fs less w.second_ascends) w.second_ascends) w in
-        same_walk xs ys _ (left x y es) _ (left y x fs) _ (entered (λ place. place) x y f) _ (entered (λ place. place + 1) y x s) (after_head x es ∙ sym (left_by true x y es t.0)) (after_none x.doc y fs less ∙ sym (left_by false y x fs t.1.0)) (sym (entered_by false (λ place. place) x y f t.1.1.0)) (sym (entered_by false (λ place. place + 1) y x s t.1.1.1)) here
+        let here = walk_by part elsewhere xs ys (x ∷ es) (y ∷ fs) f s x.doc (Some x.rank) None dx dy (taken_head x es w.first_ascends) (taken_none (y ∷ fs) x.doc (all_later x.doc y fs less w.second_ascends) w.second_ascends) w in
+        same_walk part elsewhere xs ys _ (left x y es) _ (left y x fs) _ (entered (λ place. place) x y f) _ (entered (λ place. place + 1) y x s) (after_head x es ∙ sym (left_by true x y es t.0)) (after_none x.doc y fs less ∙ sym (left_by false y x fs t.1.0)) (sym (entered_by false (λ place. place) x y f t.1.1.0)) (sym (entered_by false (λ place. place + 1) y x s t.1.1.1)) here
     apart (inr more) =
         let t = tests y.doc x.doc more in
-        let here = walk_by xs ys (x ∷ es) (y ∷ fs) f s y.doc None (Some y.rank) dx dy (taken_none (x ∷ es) y.doc (all_later y.doc x es more w.first_ascends) w.first_ascends) (taken_head y fs w.second_ascends) w in
-        same_walk xs ys _ (left x y es) _ (left y x fs) _ (entered (λ place. place) x y f) _ (entered (λ place. place + 1) y x s) (after_none y.doc x es more ∙ sym (left_by false x y es t.1.0)) (after_head y fs ∙ sym (left_by true y x fs t.0)) (sym (entered_by false (λ place. place) x y f t.1.1.1)) (sym (entered_by false (λ place. place + 1) y x s t.1.1.0)) here
+        let here = walk_by part elsewhere xs ys (x ∷ es) (y ∷ fs) f s y.doc None (Some y.rank) dx dy (taken_none (x ∷ es) y.doc (all_later y.doc x es more w.first_ascends) w.first_ascends) (taken_head y fs w.second_ascends) w in
+        same_walk part elsewhere xs ys _ (left x y es) _ (left y x fs) _ (entered (λ place. place) x y f) _ (entered (λ place. place + 1) y x s) (after_none y.doc x es more ∙ sym (left_by false x y es t.1.0)) (after_head y fs ∙ sym (left_by true y x fs t.0)) (sym (entered_by false (λ place. place) x y f t.1.1.1)) (sym (entered_by false (λ place. place + 1) y x s t.1.1.0)) here
 
 -- the ranks of its first places
-pub head_rank : (xs : List ℕ) (x : Placed) (es : List Placed) → IsAscending (x ∷ es) → AreRanksOf xs (x ∷ es) → length xs ≤ 10000 → (1 ≤ x.rank) × (x.rank ≤ 10000)
-head_rank xs x es h f short = rank_within xs (x ∷ es) x.doc (Some x.rank) (taken_head x es h) f short
+pub head_rank : (part : ℕ → Bool) (xs : List ℕ) (x : Placed) (es : List Placed) → IsAscending (x ∷ es) → AreRanksOf part xs (x ∷ es) → length xs ≤ 10000 → (1 ≤ x.rank) × (x.rank ≤ 10000)
+head_rank part xs x es h f short = rank_within part xs (x ∷ es) x.doc (Some x.rank) (taken_head x es h) f short
 
 opened : (es : List Placed) (i : ℕ) (d : Placed) → i < length es → drop i es ≡ get_or es i d ∷ drop (i + 1) es
 opened es i d h = let next : suc i ≡ i + 1 = omega arith in drop-cons es i d h ∙ ap (λ (k : ℕ). get_or es i d ∷ drop k es) next
@@ -318,22 +299,22 @@ left_drop es i p d y h e = at (nat_le (get_or es i d).doc y.doc) e
     at false h' = let here : i + p ≡ i = omega (arith, h') in ap (λ (k : ℕ). drop k es) here ∙ opened es i d h
 
 -- one step of the places
-pub walk_step : (xs ys : List ℕ) (es fs : List Placed) (i j p q : ℕ) (d : Placed) (f s : List Bool) → IsDistinct nat_eq xs → IsDistinct nat_eq ys → i < length es → j < length fs →
-    p ≡ (if nat_le (get_or es i d).doc (get_or fs j d).doc then 1 else 0) → q ≡ (if nat_le (get_or fs j d).doc (get_or es i d).doc then 1 else 0) → IsWalk xs ys (drop i es) (drop j fs) f s →
-    IsWalk xs ys (drop (i + p) es) (drop (j + q) fs) (entered (λ place. place) (get_or es i d) (get_or fs j d) f) (entered (λ place. place + 1) (get_or fs j d) (get_or es i d) s)
-walk_step xs ys es fs i j p q d f s dx dy hi hj ep eq w =
+pub walk_step : (part elsewhere : ℕ → Bool) (xs ys : List ℕ) (es fs : List Placed) (i j p q : ℕ) (d : Placed) (f s : List Bool) → IsDistinct nat_eq xs → IsDistinct nat_eq ys → i < length es → j < length fs →
+    p ≡ (if nat_le (get_or es i d).doc (get_or fs j d).doc then 1 else 0) → q ≡ (if nat_le (get_or fs j d).doc (get_or es i d).doc then 1 else 0) → IsWalk part elsewhere xs ys (drop i es) (drop j fs) f s →
+    IsWalk part elsewhere xs ys (drop (i + p) es) (drop (j + q) fs) (entered (λ place. place) (get_or es i d) (get_or fs j d) f) (entered (λ place. place + 1) (get_or fs j d) (get_or es i d) s)
+walk_step part elsewhere xs ys es fs i j p q d f s dx dy hi hj ep eq w =
     let x = get_or es i d in
     let y = get_or fs j d in
-    let here = same_walk xs ys (drop i es) (x ∷ drop (i + 1) es) (drop j fs) (y ∷ drop (j + 1) fs) f f s s (opened es i d hi) (opened fs j d hj) refl refl w in
-    same_walk xs ys _ (drop (i + p) es) _ (drop (j + q) fs) _ (entered (λ place. place) x y f) _ (entered (λ place. place + 1) y x s) (sym (left_drop es i p d y hi ep)) (sym (left_drop fs j q d x hj eq)) refl refl (walk_next xs ys x y (drop (i + 1) es) (drop (j + 1) fs) f s dx dy here)
+    let here = same_walk part elsewhere xs ys (drop i es) (x ∷ drop (i + 1) es) (drop j fs) (y ∷ drop (j + 1) fs) f f s s (opened es i d hi) (opened fs j d hj) refl refl w in
+    same_walk part elsewhere xs ys _ (drop (i + p) es) _ (drop (j + q) fs) _ (entered (λ place. place) x y f) _ (entered (λ place. place + 1) y x s) (sym (left_drop es i p d y hi ep)) (sym (left_drop fs j q d x hj eq)) refl refl (walk_next part elsewhere xs ys x y (drop (i + 1) es) (drop (j + 1) fs) f s dx dy here)
 
-pub rank_first : (xs ys : List ℕ) (es fs : List Placed) (i : ℕ) (d : Placed) (f s : List Bool) → i < length es → IsWalk xs ys (drop i es) fs f s → length xs ≤ 10000 → (1 ≤ (get_or es i d).rank) × ((get_or es i d).rank ≤ 10000)
-rank_first xs ys es fs i d f s h w short =
-    head_rank xs (get_or es i d) (drop (i + 1) es) (subst IsAscending (opened es i d h) w.first_ascends) (subst (AreRanksOf xs) (opened es i d h) w.first_ranks) short
+pub rank_first : (part elsewhere : ℕ → Bool) (xs ys : List ℕ) (es fs : List Placed) (i : ℕ) (d : Placed) (f s : List Bool) → i < length es → IsWalk part elsewhere xs ys (drop i es) fs f s → length xs ≤ 10000 → (1 ≤ (get_or es i d).rank) × ((get_or es i d).rank ≤ 10000)
+rank_first part elsewhere xs ys es fs i d f s h w short =
+    head_rank part xs (get_or es i d) (drop (i + 1) es) (subst IsAscending (opened es i d h) w.first_ascends) (subst (AreRanksOf part xs) (opened es i d h) w.first_ranks) short
 
-pub rank_second : (xs ys : List ℕ) (es fs : List Placed) (j : ℕ) (d : Placed) (f s : List Bool) → j < length fs → IsWalk xs ys es (drop j fs) f s → length ys ≤ 10000 → (1 ≤ (get_or fs j d).rank) × ((get_or fs j d).rank ≤ 10000)
-rank_second xs ys es fs j d f s h w short =
-    head_rank ys (get_or fs j d) (drop (j + 1) fs) (subst IsAscending (opened fs j d h) w.second_ascends) (subst (AreRanksOf ys) (opened fs j d h) w.second_ranks) short
+pub rank_second : (part elsewhere : ℕ → Bool) (xs ys : List ℕ) (es fs : List Placed) (j : ℕ) (d : Placed) (f s : List Bool) → j < length fs → IsWalk part elsewhere xs ys es (drop j fs) f s → length ys ≤ 10000 → (1 ≤ (get_or fs j d).rank) × ((get_or fs j d).rank ≤ 10000)
+rank_second part elsewhere xs ys es fs j d f s h w short =
+    head_rank part ys (get_or fs j d) (drop (j + 1) fs) (subst IsAscending (opened fs j d h) w.second_ascends) (subst (AreRanksOf part ys) (opened fs j d h) w.second_ranks) short
 
 -- ---- the next documents of both lists
 -- the counts with them, of which some unjudged ones are now in both

@@ -5,3 +5,4 @@ pub mod Walks
 pub mod Tails
 pub mod Flags
 pub mod Blocks
+pub mod Strands

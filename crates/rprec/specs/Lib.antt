@@ -3,3 +3,4 @@ pub mod Greedy
 pub mod Picks
 pub mod Laws
 pub mod Search
+pub mod Walk

@@ -1,13 +1,15 @@
 use Rattle.std.proofs.Common.{◌+◌, ◌-◌, ◌≤◌, drop, length}
-use Rattle.rprec.proofs.Flags.{IsWalk}
+use Rattle.rprec.proofs.Strands.{AreStrands, is_below, is_above}
 use Rattle.rprec.proofs.shared.Shared.between.Given as goal
 
 abbrev pub invariant-loop-i : goal.invariant-loop-i
 invariant-loop-i l = record {
-  first_within : l.i ≤ length l.first;
-  second_within : l.j ≤ length l.second;
-  walk : IsWalk l.a l.b (drop l.i l.first) (drop l.j l.second) l.shared.first l.shared.second;
+  low_within : l.i ≤ length l.low;
+  other_low_within : l.j ≤ length l.other_low;
+  high_within : l.k ≤ length l.high;
+  other_high_within : l.l ≤ length l.other_high;
+  strands : AreStrands (is_below l.middle) (is_above l.middle) l.a l.b (drop l.i l.low) (drop l.j l.other_low) (drop l.k l.high) (drop l.l l.other_high) l.shared.first l.shared.second;
 }
 
 abbrev pub decreases-loop-i : goal.decreases-loop-i
-decreases-loop-i l = (length l.first - l.i) + (length l.second - l.j)
+decreases-loop-i l = (length l.low - l.i) + (length l.other_low - l.j)
