@@ -60,6 +60,9 @@ completion_of_one_topic = (completion_with_d3_true, tt)
 pub completion_of_no_topic : IsCompletion one_topic [] → ⊥
 completion_of_no_topic h = h
 
+pub two_completions_of_one_topic : IsCompletion one_topic (without_tails d3_true ∷ without_tails d3_false ∷ []) → ⊥
+two_completions_of_one_topic h = h.1
+
 -- ---- fractions
 pub over_nothing : over 3 0 ≡ parts 0 1
 over_nothing = refl
@@ -162,6 +165,10 @@ a_is_always_above_b = record { in_every = above }
 
 pub b_is_not_always_above_a : IsAlwaysAbove (Precision 2) one_topic 1 0 → ⊥
 b_is_not_always_above_a h = let e = h.in_every (without_tails d3_true ∷ []) completion_of_one_topic in absurd (omega arith)
+
+-- no run is above itself
+pub a_is_not_always_above_itself : IsAlwaysAbove (Recall 1) one_topic 0 0 → ⊥
+a_is_not_always_above_itself h = let e = h.in_every (without_tails d3_true ∷ []) completion_of_one_topic in absurd (omega arith)
 
 -- where no document is relevant both means are 0
 pub nothing_relevant_is_always_equal : AreAlwaysEqual (Precision 2) (topics_under two_runs ((Other ∷ Other ∷ Other ∷ []) ∷ [])) 0 1

@@ -101,6 +101,9 @@ topic_of_two_runs = refl
 pub number_of_topics : length (topics_under two_topics (marks_401 ∷ (Relevant ∷ []) ∷ [])) ≡ 2
 number_of_topics = refl
 
+pub topics_without_marks : topics_under two_runs [] ≡ []
+topics_without_marks = refl
+
 pub marks_of_another_number_of_topics : AreMarksOf two_runs [] → ⊥
 marks_of_another_number_of_topics h = h
 

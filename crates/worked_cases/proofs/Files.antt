@@ -2,6 +2,8 @@
 use Rattle.std.proofs.Common.{◌≡◌, ◌^◌, List, [], ◌∷◌, ◌++◌, replicate, refl, Some, None, pos, negsuc}
 use Rattle.std.specs.Prelude.{codes, Ok, Err}
 use Rattle.decimal_score.specs.Reading.{score_of, zeros_of}
+use Rattle.qrels_reader.specs.Reading.{read_line}
+use Rattle.qrels_reader.specs.Rows.{Row, read_row}
 use Rattle.qrels_reader.specs.Grouped.{Topic, qrels_of}
 use Rattle.qrels_reader.specs.declared.fault.LineFault.TheVariants.{BadByte, BadFieldCount, NameTooLong, BadGrade, BadScore, RepeatedDocument}
 use Rattle.qrels_reader.specs.declared.fault.FileFault.TheVariants.{Line, NoTopics, NoTag}
@@ -48,6 +50,29 @@ bad_byte_goes_first = refl
 
 pub document_of_256_bytes : qrels_of (codes "401 0 " ++ replicate 256 100 ++ codes " x") ≡ Err (Line 1 NameTooLong)
 document_of_256_bytes = refl
+
+-- ---- single lines after the rows before them
+abbrev d1_judged : Row
+d1_judged = record { topic = codes "401"; document = codes "d1"; grade = pos 1 }
+
+pub row_of_a_line : read_row [] (codes "401 0 d1 1") ≡ Ok (Some d1_judged)
+row_of_a_line = refl
+
+pub row_of_a_line_after_itself : read_row (d1_judged ∷ []) (codes "401 0 d1 1") ≡ Err RepeatedDocument
+row_of_a_line_after_itself = refl
+
+pub row_of_an_empty_line : read_row [] [] ≡ Err BadFieldCount
+row_of_an_empty_line = refl
+
+-- a blank line is passed over before its fields are counted, and a fault has the number of its line
+pub blank_line_read : read_line read_row 7 [] [] ≡ Ok None
+blank_line_read = refl
+
+pub line_read : read_line read_row 7 [] (codes "401 0 d1 1") ≡ Ok (Some d1_judged)
+line_read = refl
+
+pub faulty_line_read : read_line read_row 7 (d1_judged ∷ []) (codes "401 0 d1 0") ≡ Err (Line 7 RepeatedDocument)
+faulty_line_read = refl
 
 -- ---- runs, beside judgements on topic 401 alone
 abbrev judged_401 : List Topic

@@ -3,6 +3,7 @@ pub mod Desks
 pub mod Completions
 pub mod Scores
 pub mod Extremes
+pub mod Differences
 pub mod LeastCases
 pub mod Shares
 pub mod Lines

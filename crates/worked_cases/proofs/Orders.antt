@@ -163,6 +163,13 @@ desk_of_the_rows = record {
     ranked (suc (suc r)) zero run topic e f = absurd (cc)
     ranked r (suc t) run topic e f = absurd (cc)
 
+pub desk_of_no_rows : IsDeskOf [] [] (record { topics = []; runs = []; rankings = [] })
+desk_of_no_rows = record { topics = λ name. refl; books = All-from_recursion (IsBookOf [] []) [] tt; run_names = refl; rankings = λ r t run topic e f. absurd (cc) }
+
+-- the runs in another order are another desk
+pub desk_of_the_runs_exchanged : IsDeskOf qrels (second_run ∷ first_run ∷ []) desk → ⊥
+desk_of_the_runs_exchanged h = different (codes "one") (codes "two") refl refl (ap (λ names. slice_index_or names 0 []) h.run_names)
+
 -- ---- rows that make no desk
 pub different_run_names : first_repeated (codes "one" ∷ codes "two" ∷ []) ≡ None
 different_run_names = refl

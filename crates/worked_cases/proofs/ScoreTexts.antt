@@ -2,7 +2,7 @@
 use Rattle.std.proofs.Common.{◌≡◌, ℕ, ◌*◌, ◌^◌, true, false, List, [], refl, pos, negsuc, neg_ℤ, arith, inl, inr, lit<, lit≤}
 use Rattle.std.proofs.lemmas.Int.{ints}
 use Rattle.std.specs.Prelude.{codes, ◌<ℤ◌, Ok, Err}
-use Rattle.decimal_score.specs.Text.{Parts}
+use Rattle.decimal_score.specs.Text.{IsScoreText, Parts}
 use Rattle.decimal_score.specs.Value.{StandsFor, scaled, ReadsAs}
 use Rattle.decimal_score.specs.Reading.{score_of}
 use Rattle.decimal_score.specs.declared.score.ScoreFault.TheVariants.{BadScore, ScoreTooLong, ScoreExponent}
@@ -11,6 +11,41 @@ use Rattle.decimal_score.proofs.Answer.{reads_as-score_of}
 -- the parts of a text with no sign and no exponent
 abbrev plain_parts : List ℕ → List ℕ → Parts
 plain_parts whole fraction = record { is_negative = false; whole = whole; fraction = fraction; exponent = pos 0 }
+
+-- ---- digits on one side of the point are enough
+pub point_before_the_digits : IsScoreText (codes ".5")
+point_before_the_digits = (
+  plain_parts [] (codes "5"),
+  record {
+    sign = [];
+    mantissa = codes ".5";
+    power = [];
+    joined = refl;
+    is_sign = inl refl;
+    is_mantissa = inl refl;
+    is_exponent = inr (refl, refl);
+    whole_digits = tt;
+    fraction_digits = (lit< tt, tt);
+    some_digit = lit< tt;
+  },
+)
+
+pub point_after_the_digits : IsScoreText (codes "+5.")
+point_after_the_digits = (
+  plain_parts (codes "5") [],
+  record {
+    sign = codes "+";
+    mantissa = codes "5.";
+    power = [];
+    joined = refl;
+    is_sign = inr refl;
+    is_mantissa = inl refl;
+    is_exponent = inr (refl, refl);
+    whole_digits = (lit< tt, tt);
+    fraction_digits = tt;
+    some_digit = lit< tt;
+  },
+)
 
 -- ---- 1.0, 1.00, 1 and 10e-1 are 1 * 10^0
 pub one : StandsFor (codes "1") false 1 (pos 0)

@@ -6,14 +6,20 @@ use Rattle.desk_model.specs.declared.types.MeasureName.TheVariants.{Precision, R
 use Rattle.std.specs.Fmt.{digits}
 use Rattle.desk_model.specs.Completion.{Completion}
 use Rattle.desk_model.specs.Fraction.{mean, IsAtMost, IsAtLeast}
-use Rattle.desk_model.specs.Order.{IsCompletion, run_mean}
+use Rattle.desk_model.specs.Desk.{topics_under}
+use Rattle.desk_model.specs.Order.{Topic, IsCompletion, run_mean}
+use Rattle.desk_model.specs.declared.types.Mark.{Mark}
+use Rattle.desk_model.specs.declared.types.Mark.TheVariants.{Relevant}
+use Rattle.fractions.specs.declared.span.Span.{Span}
+use Rattle.measure_laws.specs.Powers.{low_power, high_power}
+use Rattle.measure_core.specs.declared.cell.Cell.{Cell}
 use Rattle.measure_laws.specs.Measures.{IsExactMeasure}
-use Rattle.measure_core.specs.Made.{HasEnds, width_of}
-use Rattle.pair_table.specs.Sums.{run_numbers, span_sum, turned}
+use Rattle.measure_core.specs.Made.{HasEnds, HasBounds, width_of}
+use Rattle.pair_table.specs.Sums.{run_numbers, pair_sums, run_sums, span_sum, turned}
 use Rattle.pair_table.specs.Numbers.{AreNumbersIn}
 use Rattle.pair_table.specs.Orders.{IsNearZero, total_width}
 use Rattle.table_claims.specs.Claims.{HoldsByNames, IsPairLine, IsRunLine, SaysExactly, EnclosesDifference, IsTrueLine}
-use Rattle.worked_cases.specs.Example.{two_runs, one_topic, marks_401, a, b, sums, ends}
+use Rattle.worked_cases.specs.Example.{two_runs, two_topics, one_topic, marks_401, a, b, sums, ends}
 use Rattle.worked_cases.proofs.Names.{different}
 use Rattle.worked_cases.proofs.Completions.{precision_of_two, a_is_always_above_b, b_is_not_always_above_a, example_is_not_always_equal}
 use Rattle.worked_cases.proofs.Extremes.{extremes_of_the_example, bounds_of_a, bounds_of_b}
@@ -45,6 +51,41 @@ bounds_of_one_topic = refl
 pub bounds_of_no_topic : span_sum [] ≡ record { lo = pos 0; hi = pos 0 }
 bounds_of_no_topic = refl
 
+-- ---- sums over topics of what a measure answers: here least from 1 to 2 and most from 3 to 4, and bounds from 5 to 6, on every topic
+abbrev same_cell : List Mark → List ℕ → List ℕ → Cell
+same_cell marks x y = record { least = record { lo = pos 1; hi = pos 2 }; most = record { lo = pos 3; hi = pos 4 } }
+
+abbrev same_bounds : List Mark → List ℕ → Span
+same_bounds marks x = record { lo = pos 5; hi = pos 6 }
+
+abbrev both_topics : List Topic
+both_topics = topics_under two_topics (marks_401 ∷ (Relevant ∷ []) ∷ [])
+
+pub pair_over_one_topic : pair_sums same_cell one_topic 0 1 ≡ sums (pos 1) (pos 2) (pos 3) (pos 4)
+unfolding pair_sums
+pair_over_one_topic = refl
+
+pub pair_over_two_topics : pair_sums same_cell both_topics 0 1 ≡ sums (pos 2) (pos 4) (pos 6) (pos 8)
+unfolding pair_sums
+pair_over_two_topics = refl
+
+pub pair_over_no_topic : pair_sums same_cell [] 0 1 ≡ sums (pos 0) (pos 0) (pos 0) (pos 0)
+unfolding pair_sums
+pair_over_no_topic = refl
+
+pub run_over_one_topic : run_sums same_bounds one_topic 0 ≡ record { lo = pos 5; hi = pos 6 }
+unfolding run_sums
+run_over_one_topic = refl
+
+-- the topic that run A lacks counts
+pub run_over_a_topic_that_it_lacks : run_sums same_bounds both_topics 0 ≡ record { lo = pos 10; hi = pos 12 }
+unfolding run_sums
+run_over_a_topic_that_it_lacks = refl
+
+pub run_over_no_topic : run_sums same_bounds [] 0 ≡ record { lo = pos 0; hi = pos 0 }
+unfolding run_sums
+run_over_no_topic = refl
+
 -- ---- the ends of a name
 pub exact_measures : IsExactMeasure (Recall 5) × IsExactMeasure Reciprocal
 exact_measures = (tt, tt)
@@ -54,6 +95,18 @@ rank_biased_precision_is_not_exact h = h
 
 pub ends_of_the_example : HasEnds (Precision 2) marks_401 a b (ends (pos 1) (pos 1) (pos 1) (pos 1))
 ends_of_the_example = extremes_of_the_example
+
+pub bounds_of_the_example : HasBounds (Precision 2) marks_401 a (record { lo = pos 1; hi = pos 2 })
+bounds_of_the_example = bounds_of_a
+
+-- under rank-biased precision the sums of shares: two empty rankings are all tail
+pub ends_of_empty_rankings_by_name : HasEnds (Biased 5 10) [] [] [] (ends (neg_ℤ (pos 1000000000000000000)) (neg_ℤ (pos 999999999999999999)) (pos 999999999999999999) (pos 1000000000000000000))
+unfolding low_power high_power
+ends_of_empty_rankings_by_name = refl
+
+pub bounds_of_one_document_by_name : HasBounds (Biased 5 10) (Relevant ∷ []) (0 ∷ []) (record { lo = pos 500000000000000000; hi = pos 1000000000000000000 })
+unfolding low_power high_power
+bounds_of_one_document_by_name = refl
 
 -- ---- the table of the example under P_2: bounds 1 to 2 and 0 to 1, and the pair's four sums 1
 pub numbers_of_the_example : AreNumbersIn (Precision 2) two_runs (marks_401 ∷ [])

@@ -90,6 +90,19 @@ pub one_command_of_mixed_words : IsCommandOf (codes "table" ∷ codes "a" ∷ co
 one_command_of_mixed_words = says_to (codes "table") mixed None (Table job)
     (refl, ((2, lit< tt, refl), ((1, lit< tt, refl), refl, (refl, ((0, lit< tt, refl), refl, tt))))) mixed_parts_say_the_job
 
+pub one_command_of_words_in_order : IsCommandOf (codes "table" ∷ codes "--qrels" ∷ codes "q" ∷ codes "--measure" ∷ codes "P_5" ∷ codes "--level" ∷ codes "2" ∷ codes "a" ∷ codes "b" ∷ []) (Table job)
+one_command_of_words_in_order = says_to (codes "table") in_order None (Table job)
+    ((0, lit< tt, refl), refl, ((1, lit< tt, refl), refl, ((2, lit< tt, refl), refl, (refl, (refl, tt))))) parts_in_order_say_the_job
+
+-- one seed
+pub demo_of_a_seed : IsCommandOf (codes "demo" ∷ codes "7" ∷ []) (Demo 7)
+unfolding digits
+demo_of_a_seed = says_to (codes "demo") (alone (codes "7") ∷ []) None (Demo 7) (refl, tt) (refl, refl, lit< tt)
+
+-- two are none
+pub demo_of_two_seeds : SaysCommand (codes "demo") (alone (codes "7") ∷ alone (codes "8") ∷ []) None (Demo 7) → ⊥
+demo_of_two_seeds h = let e = h.1 in absurd (cc)
+
 pub no_command_of_no_words : IsCommandOf [] (Demo 1) → ⊥
 no_command_of_no_words h = h
 
