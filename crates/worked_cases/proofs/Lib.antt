@@ -1,0 +1,15 @@
+pub mod Names
+pub mod Desks
+pub mod Completions
+pub mod Scores
+pub mod Extremes
+pub mod Differences
+pub mod LeastCases
+pub mod Shares
+pub mod Lines
+pub mod ScoreTexts
+pub mod Files
+pub mod Orders
+pub mod Words
+pub mod Printing
+pub mod Tables

@@ -1,0 +1,133 @@
+-- Command lines, and what objects of the outside tell.
+use Rattle.std.proofs.Common.{◌≡◌, ◌-◌, ◌^◌, List, [], ◌∷◌, refl, Some, None, arith, lit<, lit≤, inl, inr}
+use Rattle.std.specs.Prelude.{codes}
+use Rattle.std.specs.Fmt.{digits}
+use Rattle.desk_model.specs.declared.types.MeasureName.TheVariants.{Precision}
+use Rattle.desk_words.specs.declared.command.Job.{Job}
+use Rattle.desk_words.specs.declared.command.Command.TheVariants.{Table, Demo}
+use Rattle.desk_words.specs.Words.{IsCommandOf, IsLevelOf, run_of}
+use Rattle.desk_words.specs.Parts.{Part, spaced, joined, alone, line_of, values_of, words_alone}
+use Rattle.desk_words.specs.Laws.{SaysCommand}
+use Rattle.desk_words.proofs.Saying.{says_to}
+use Rattle.desk_outside.specs.Outside.{Rose, Lacks, Opens}
+
+-- ---- RUN words
+pub path_alone : run_of (codes "runs/a") ≡ Some (record { name = None; path = codes "runs/a" })
+path_alone = refl
+
+-- cut at the first `=`
+pub name_and_path : run_of (codes "a=b=c") ≡ Some (record { name = Some (codes "a"); path = codes "b=c" })
+name_and_path = refl
+
+pub name_without_a_path : run_of (codes "a=") ≡ None
+name_without_a_path = refl
+
+pub path_without_a_name : run_of (codes "=b") ≡ None
+path_without_a_name = refl
+
+pub empty_word : run_of [] ≡ None
+empty_word = refl
+
+-- ---- levels: 1 where none is given
+pub no_level : IsLevelOf [] 1
+no_level = inl (refl, refl)
+
+pub level_two : IsLevelOf (codes "2" ∷ []) 2
+unfolding digits
+level_two = inr (refl, lit≤ tt, lit≤ tt)
+
+pub level_zero : IsLevelOf (codes "0" ∷ []) 0 → ⊥
+level_zero h = elim h [ inl x ↦ let e = x.0 in absurd (cc) | inr x ↦ let e = x.1 in absurd (omega arith) ]
+
+-- ---- `table a --level=2 --measure P_5 b --qrels q` and `table --qrels q --measure P_5 --level 2 a b`
+abbrev job : Job
+job = record { qrels = codes "q"; measure = Precision 5; level = 2; runs = record { name = None; path = codes "a" } ∷ record { name = None; path = codes "b" } ∷ [] }
+
+abbrev mixed : List Part
+mixed = alone (codes "a") ∷ joined (codes "level") (codes "2") ∷ spaced (codes "measure") (codes "P_5") ∷ alone (codes "b") ∷ spaced (codes "qrels") (codes "q") ∷ []
+
+abbrev in_order : List Part
+in_order = spaced (codes "qrels") (codes "q") ∷ spaced (codes "measure") (codes "P_5") ∷ spaced (codes "level") (codes "2") ∷ alone (codes "a") ∷ alone (codes "b") ∷ []
+
+pub words_of_mixed_parts : line_of mixed ≡ codes "a" ∷ codes "--level=2" ∷ codes "--measure" ∷ codes "P_5" ∷ codes "b" ∷ codes "--qrels" ∷ codes "q" ∷ []
+words_of_mixed_parts = refl
+
+pub words_of_parts_in_order : line_of in_order ≡ codes "--qrels" ∷ codes "q" ∷ codes "--measure" ∷ codes "P_5" ∷ codes "--level" ∷ codes "2" ∷ codes "a" ∷ codes "b" ∷ []
+words_of_parts_in_order = refl
+
+pub values_of_the_level : values_of (codes "level") mixed ≡ codes "2" ∷ []
+values_of_the_level = refl
+
+pub words_of_runs : words_alone mixed ≡ codes "a" ∷ codes "b" ∷ []
+words_of_runs = refl
+
+pub mixed_parts_say_the_job : SaysCommand (codes "table") mixed None (Table job)
+unfolding digits
+mixed_parts_say_the_job = (
+  refl,
+  record {
+    qrels = (refl, lit< tt);
+    measure = (codes "P_5", refl, (lit≤ tt, lit≤ tt), refl);
+    level = inr (refl, lit≤ tt, lit≤ tt);
+    runs = record { each = refl; enough = lit≤ tt; few = lit≤ tt };
+  },
+)
+
+pub parts_in_order_say_the_job : SaysCommand (codes "table") in_order None (Table job)
+unfolding digits
+parts_in_order_say_the_job = (
+  refl,
+  record {
+    qrels = (refl, lit< tt);
+    measure = (codes "P_5", refl, (lit≤ tt, lit≤ tt), refl);
+    level = inr (refl, lit≤ tt, lit≤ tt);
+    runs = record { each = refl; enough = lit≤ tt; few = lit≤ tt };
+  },
+)
+
+-- so they are one command
+pub one_command_of_mixed_words : IsCommandOf (codes "table" ∷ codes "a" ∷ codes "--level=2" ∷ codes "--measure" ∷ codes "P_5" ∷ codes "b" ∷ codes "--qrels" ∷ codes "q" ∷ []) (Table job)
+one_command_of_mixed_words = says_to (codes "table") mixed None (Table job)
+    (refl, ((2, lit< tt, refl), ((1, lit< tt, refl), refl, (refl, ((0, lit< tt, refl), refl, tt))))) mixed_parts_say_the_job
+
+pub one_command_of_words_in_order : IsCommandOf (codes "table" ∷ codes "--qrels" ∷ codes "q" ∷ codes "--measure" ∷ codes "P_5" ∷ codes "--level" ∷ codes "2" ∷ codes "a" ∷ codes "b" ∷ []) (Table job)
+one_command_of_words_in_order = says_to (codes "table") in_order None (Table job)
+    ((0, lit< tt, refl), refl, ((1, lit< tt, refl), refl, ((2, lit< tt, refl), refl, (refl, (refl, tt))))) parts_in_order_say_the_job
+
+-- one seed
+pub demo_of_a_seed : IsCommandOf (codes "demo" ∷ codes "7" ∷ []) (Demo 7)
+unfolding digits
+demo_of_a_seed = says_to (codes "demo") (alone (codes "7") ∷ []) None (Demo 7) (refl, tt) (refl, refl, lit< tt)
+
+-- two are none
+pub demo_of_two_seeds : SaysCommand (codes "demo") (alone (codes "7") ∷ alone (codes "8") ∷ []) None (Demo 7) → ⊥
+demo_of_two_seeds h = let e = h.1 in absurd (cc)
+
+pub no_command_of_no_words : IsCommandOf [] (Demo 1) → ⊥
+no_command_of_no_words h = h
+
+-- ---- counts of faults and shelves
+pub count_that_rose : Rose 4 5
+count_that_rose = omega arith
+
+pub count_that_stands : Rose 4 4 → ⊥
+count_that_stands h = absurd (omega arith)
+
+-- at its last value the count cannot rise, and counts as risen
+pub count_at_its_last_value : Rose (2 ^ 64 - 1) (2 ^ 64 - 1)
+count_at_its_last_value = omega arith
+
+pub shelf_that_lacks_a_name : Lacks (Some (λ name. None)) (codes "q")
+shelf_that_lacks_a_name = refl
+
+pub shelf_that_tells_nothing_lacks_nothing : Lacks None (codes "q") → ⊥
+shelf_that_tells_nothing_lacks_nothing h = h
+
+pub shelf_that_holds_the_name : Lacks (Some (λ name. Some (codes "x"))) (codes "q") → ⊥
+shelf_that_holds_the_name h = absurd (cc)
+
+pub whole_content_of_an_open_file : Opens (Some (λ name. Some (codes "x"))) (codes "q") (Some (codes "x"))
+whole_content_of_an_open_file = refl
+
+pub no_open_file_of_a_name_not_held : Opens (Some (λ name. None)) (codes "q") (Some (codes "x")) → ⊥
+no_open_file_of_a_name_not_held h = absurd (cc)
