@@ -116,6 +116,12 @@ fn the_host_reads_what_it_wrote(rt: HostRuntime) -> Result<(), Fail> {
     fs::remove_file(&rt, path.as_path())?;
     let missing = shelf.open(text);
     let folder = read_to_end(&mut HostSource::new(fs::open(&rt, "/")?), &mut bytes)?;
+    let opened = shelf.open("/");
+    let unread = if opened.is_ok() {
+        shelf.read(&mut room)
+    } else {
+        Ok(0)
+    };
 
     assert_eq!(rt;
         folder,
@@ -125,5 +131,6 @@ fn the_host_reads_what_it_wrote(rt: HostRuntime) -> Result<(), Fail> {
     assert_eq!(rt; (written, before, count), (Ok(()), None, Ok(10)));
     assert_eq!(rt; (bytes.as_slice(), &room[..10]), (TEXT, TEXT));
     assert_eq!(rt; (unwritable, missing), (Err(Failed), Err(Failed)));
+    assert_eq!(rt; unread, Err(Failed), "nor on the shelf");
     Ok(())
 }
