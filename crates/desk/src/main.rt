@@ -1,8 +1,11 @@
 //! The desk over the real files and streams.
 #![tactic(auto)]
 
-ghost use Rattle.std.specs.Prelude.{◌≡◌, ◌<◌, ◌≤◌};
+ghost use Rattle.std.specs.Prelude.{◌≡◌, ◌⊎◌, ◌<◌, ◌≤◌, map, string_bytes, Err, IfOk};
+ghost use Rattle.std.specs.Process.{exit_status};
+ghost use Rattle.desk_words.specs.declared.command.Job.{Job as J};
 ghost use Rattle.desk_top.specs.Told.{Writes, status_line};
+ghost use Rattle.desk_top.specs.Top.{IsTableJob};
 
 use any_measure::Common;
 use desk_outside::{HostShelf, HostSink, HostSource, Sink};
@@ -28,6 +31,8 @@ fn run<L: Ledger>(rt: &HostRuntime, words: &[String], blank: Blank) -> u8
     requires parts { blank.parts ≡ L.parts }
     requires some { 0 < blank.parts }
     ensures known { result ≤ 4 }
+    ensures usage { result ≡ 2 → (job : J) → IsTableJob (map string_bytes words.now) job → ⊥ }
+    ensures no_job { ((job : J) → IsTableJob (map string_bytes words.now) job → ⊥) → (result ≡ 2) ⊎ (result ≡ 4) }
 {
     let mut files = HostShelf::new(rt);
     let mut input = HostSource::new(rt.reader());
@@ -71,15 +76,23 @@ fn end_without_words<K: Sink>(err: &mut K, fault: NoWords) -> u8
     }
 }
 
-fn status(rt: &HostRuntime) -> u8
+// Runs the command of the words, if there are any, and answers its status.
+fn status(rt: &HostRuntime, words: Result<Vec<String>, NoWords>) -> u8
     ensures known { result ≤ 4 }
+    ensures outside { words ≡ Err NoWords.Outside → result ≡ 3 }
+    ensures memory { words ≡ Err NoWords.Memory → result ≡ 4 }
+    ensures usage { IfOk words (λ words. result ≡ 2 → (job : J) → IsTableJob (map string_bytes words.items) job → ⊥) }
+    ensures no_job { IfOk words (λ words. ((job : J) → IsTableJob (map string_bytes words.items) job → ⊥) → (result ≡ 2) ⊎ (result ≡ 4)) }
 {
-    match words(rt) {
+    match words {
         Ok(words) => run::<Brand>(rt, &words, Blank::new(1)),
         Err(fault) => end_without_words(&mut HostSink::new(rt.stderr()), fault),
     }
 }
 
-fn main(rt: HostRuntime) -> ExitCode {
-    ExitCode::from(status(&rt))
+fn main(rt: HostRuntime) -> ExitCode
+    ensures { exit_status result ≤ 4 }
+{
+    let words = words(&rt);
+    ExitCode::from(status(&rt, words))
 }

@@ -10,6 +10,7 @@ mod table;
 mod tell;
 mod top;
 
+pub use limits::limits_in_numbers;
 pub use stop::{Refusal, Stop};
 pub use tell::{tell_memory, tell_outside};
 pub use top::run_desk;
