@@ -90,9 +90,14 @@ fn status(rt: &HostRuntime, words: Result<Vec<String>, NoWords>) -> u8
     }
 }
 
-fn main(rt: HostRuntime) -> ExitCode
+// Runs the command of the words that the system gives.
+fn answer(rt: &HostRuntime) -> ExitCode
     ensures { exit_status result ≤ 4 }
 {
-    let words = words(&rt);
-    ExitCode::from(status(&rt, words))
+    let words = words(rt);
+    ExitCode::from(status(rt, words))
+}
+
+fn main(rt: HostRuntime) -> ExitCode {
+    answer(&rt)
 }
