@@ -74,7 +74,6 @@ impl Depths {
     }
 
     /// Enters the counts at so many depths beyond one, where both runs are as long.
-    #[inline(never)]
     fn enter_inside(
         &mut self,
         fronts: Fronts,

@@ -86,7 +86,6 @@ impl Shared {
 
     /// That of two runs, by two walks over the documents of both, since each step of one waits for
     /// the step before it: one over the documents below a middle one, and one over the others.
-    #[inline(never)]
     pub fn between(a: &Ranking, b: &Ranking) -> Shared
         requires first { length a.now ≤ 10000 }
         requires second { length b.now ≤ 10000 }
