@@ -186,13 +186,6 @@ after_next marks docs ys place b f one distinct h next = elim (cases_lt place (l
   | inr le ↦ let none = next.past le in after_past marks docs ys place b f one le h none.least (omega (arith, none.least, none.most))
 ]
 
--- it is one document at most
-pub next_few : (marks : List Mark) (docs : List ℕ) (place : ℕ) (one : Counts) → AreNext marks docs place one → one.unjudged ≤ 1
-next_few marks docs place one next = elim (cases_lt place (length docs)) [
-  | inl lt ↦ let here = next.here lt in omega (arith, (one_each (mark_at marks (get_or docs place 0)) one here.least here.most).1.1)
-  | inr le ↦ let none = next.past le in omega (arith, none.least, none.most)
-]
-
 -- either the one number or the other
 pub number_either : (b : Bool) (n : ℕ) → number_if (not b) n + number_if b n ≡ n
 number_either true n = omega arith

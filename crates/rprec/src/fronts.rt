@@ -1,4 +1,4 @@
-ghost use Rattle.std.specs.Prelude.{◌≡◌, ℕ, ◌+◌, ◌<◌, ◌≤◌, List, length, take, true, false};
+ghost use Rattle.std.specs.Prelude.{◌≡◌, ℕ, ◌+◌, ◌<◌, List, length, take, true, false};
 ghost use Rattle.desk_model.specs.Ranking.{IsRanking};
 ghost use Rattle.desk_model.specs.declared.types.Mark.{Mark as M};
 ghost use Rattle.rprec.specs.Greedy.{AreBefore, AreFronts, AreNext, exchanged, number_if, one_of};
@@ -37,12 +37,11 @@ fn counts_of(mark: Mark) -> Counts
     }
 }
 
-/// This number, which is 0 or 1, or 0.
+/// This number, or none.
 fn number_if(taken: bool, number: u32) -> u32
-    requires { number ≤ 1 }
     ensures { result ≡ number_if taken number }
 {
-    number & u32::from(taken)
+    if taken { number } else { 0 }
 }
 
 /// The counts of the document at a place of a ranking.

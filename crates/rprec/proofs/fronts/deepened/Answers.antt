@@ -1,13 +1,7 @@
 use Rattle.std.proofs.Common.{arith}
-use Rattle.rprec.proofs.Steps.{same_counts, next_few}
+use Rattle.rprec.proofs.Steps.{same_counts}
 use Rattle.rprec.proofs.Flags.{deeper}
 use Rattle.rprec.proofs.fronts.deepened.Goals as goal
-
-pub number_if-requires : goal.number_if-requires
-number_if-requires c = let h = c.requires.4 in next_few c.requires.0 c.requires.1 c.requires.3 c.args.one h.first
-
-pub number_if-requires-2 : goal.number_if-requires-2
-number_if-requires-2 c = let h = c.requires.4 in next_few c.requires.0 c.requires.2 c.requires.3 c.args.two h.second
 
 pub overflow_sub-result : goal.overflow_sub-result
 overflow_sub-result c =
