@@ -84,16 +84,20 @@ impl Shared {
         }
     }
 
-    /// That of two runs, by two walks over the documents of both, since each step of one waits for
-    /// the step before it: one over the documents below a middle one, and one over the others.
-    pub fn between(a: &Ranking, b: &Ranking) -> Shared
+    /// With all documents of two runs, by two walks over the documents of both, since each step of one
+    /// waits for the step before it: one over the documents below a middle one, and one over the others.
+    #[inline(never)]
+    fn walk_both(&mut self, a: &Ranking, b: &Ranking)
         requires first { length a.now ≤ 10000 }
         requires second { length b.now ≤ 10000 }
         requires first_distinct { IsDistinct nat_eq a.now }
         requires second_distinct { IsDistinct nat_eq b.now }
-        ensures { AreShared a.now b.now result.first result.second }
+        requires first_long { length a.now ≤ length self.now.first }
+        requires second_long { length b.now ≤ length self.now.second }
+        requires first_none { (place : ℕ) → slice_index_or self.now.first place false ≡ false }
+        requires second_none { (place : ℕ) → slice_index_or self.now.second place false ≡ false }
+        ensures { AreShared a.now b.now self.new.first self.new.second }
     {
-        let mut shared = Shared::none();
         let middle = middle_document(a.by_doc());
         let (low, high) = cut(a.by_doc(), middle);
         let (other_low, other_high) = cut(b.by_doc(), middle);
@@ -104,17 +108,29 @@ impl Shared {
         while i < low.len() && j < other_low.len() && k < high.len() && l < other_high.len() {
             let x = low[i];
             let y = other_low[j];
-            shared.enter(x, y);
+            self.enter(x, y);
             i += passed(x, y);
             j += passed(y, x);
             let x = high[k];
             let y = other_high[l];
-            shared.enter(x, y);
+            self.enter(x, y);
             k += passed(x, y);
             l += passed(y, x);
         }
-        shared.walk(low, other_low, i, j);
-        shared.walk(high, other_high, k, l);
+        self.walk(low, other_low, i, j);
+        self.walk(high, other_high, k, l);
+    }
+
+    /// That of two runs.
+    pub fn between(a: &Ranking, b: &Ranking) -> Shared
+        requires first { length a.now ≤ 10000 }
+        requires second { length b.now ≤ 10000 }
+        requires first_distinct { IsDistinct nat_eq a.now }
+        requires second_distinct { IsDistinct nat_eq b.now }
+        ensures { AreShared a.now b.now result.first result.second }
+    {
+        let mut shared = Shared::none();
+        shared.walk_both(a, b);
         shared
     }
 }
