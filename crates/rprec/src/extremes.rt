@@ -1,11 +1,11 @@
-ghost use Rattle.std.specs.Prelude.{◌≡◌, ◌+◌, ◌≤◌, length, take};
+ghost use Rattle.std.specs.Prelude.{◌≡◌, ◌+◌, ◌<◌, ◌≤◌, length, take};
 ghost use Rattle.desk_model.specs.Ranking.{IsRanking};
 ghost use Rattle.rprec.specs.Greedy.{AreFronts, AreFew, AreTopic, IsLeast, IsSmall, candidate, exchanged};
 ghost use Rattle.rprec.specs.Search.{AreChoices, IsBestOf, IsNear, choice};
 ghost use Rattle.rprec.specs.Shared.{AreShared};
 
 use crate::depths::{Depths, STRETCH};
-use crate::fronts::{Fronts, deepened, next_counts};
+use crate::fronts::Fronts;
 use crate::greedy::{Candidate, best_beyond, greedy_choice};
 use crate::search::Choices;
 use crate::shared::Shared;
@@ -32,8 +32,33 @@ fn longest(a: &[u32], b: &[u32]) -> u32
     a.len().max(b.len()).max(1) as u32
 }
 
+/// How many depths beyond one to look at next, of so many: none that only one run has, where both have
+/// some.
+fn stretch(depth: u32, left: u32, a: &[u32], b: &[u32]) -> u32
+    requires first { length a.now ≤ 10000 }
+    requires second { length b.now ≤ 10000 }
+    ensures few { result ≤ 1024 }
+    ensures within { result ≤ left }
+    ensures some { 0 < left → 0 < result }
+{
+    let both = a.len().min(b.len()) as u32;
+    let most = left.min(STRETCH);
+    if depth < both {
+        most.min(both - depth)
+    } else {
+        most
+    }
+}
+
 /// The counts at the number of documents judged relevant.
-fn fronts_at(depth: u32, a: &[u32], b: &[u32], shared: &Shared, marks: &[Mark]) -> Fronts
+fn fronts_at(
+    depths: &mut Depths,
+    depth: u32,
+    a: &[u32],
+    b: &[u32],
+    shared: &Shared,
+    marks: &[Mark],
+) -> Fronts
     requires a { IsRanking (length marks.now) a.now }
     requires b { IsRanking (length marks.now) b.now }
     requires shared { AreShared a.now b.now shared.now.first shared.now.second }
@@ -43,12 +68,12 @@ fn fronts_at(depth: u32, a: &[u32], b: &[u32], shared: &Shared, marks: &[Mark]) 
         first: Counts::NONE,
         second: Counts::NONE,
     };
-    for place in 0..depth.min(longest(a, b)) {
-        let in_second = shared.first[place as usize];
-        let in_first = shared.second[place as usize];
-        let one = next_counts(a, place, marks);
-        let two = next_counts(b, place, marks);
-        fronts = deepened(fronts, one, two, in_second, in_first);
+    let end = depth.min(longest(a, b));
+    let mut place = 0;
+    while place < end {
+        let count = stretch(place, end - place, a, b);
+        fronts = depths.enter(fronts, place, count, a, b, shared, marks);
+        place += count;
     }
     fronts
 }
@@ -120,14 +145,14 @@ pub fn find_extremes(a: &[u32], b: &[u32], shared: &Shared, all: Counts, marks: 
     ensures most_small { IsSmall result.most }
     ensures low { all.relevant ≤ result.least.count }
 {
-    let mut fronts = fronts_at(all.relevant, a, b, shared, marks);
+    let mut depths = Depths::new();
+    let mut fronts = fronts_at(&mut depths, all.relevant, a, b, shared, marks);
     let mut best = greedy_choices(fronts, 0, all);
     let steps = longest(a, b).saturating_sub(all.relevant);
     let steps = steps.min(all.unjudged);
-    let mut depths = Depths::new();
     let mut chosen = 0;
     while chosen < steps {
-        let count = (steps - chosen).min(STRETCH);
+        let count = stretch(all.relevant + chosen, steps - chosen, a, b);
         fronts = depths.enter(fronts, all.relevant + chosen, count, a, b, shared, marks);
         best = best_extremes(&depths, count, chosen + 1, all, best);
         chosen += count;

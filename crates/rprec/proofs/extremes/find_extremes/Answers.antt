@@ -66,14 +66,14 @@ small_of c near = record { few = omega (arith, near.few); first_few = near.first
 
 pub best_extremes-best-requires-clause-least : goal.best_extremes-best-requires-clause-least
 best_extremes-best-requires-clause-least c =
-    few_choices c.args.marks.now c.args.a.now c.args.b.now c.args.all.relevant c.loop-chosen.chosen c.min-count.result c.min-steps.result c.args.all c.enter-fronts.new.self.first c.enter-fronts.new.self.second c.requires.a c.requires.b c.requires.topic c.requires.few refl
-    (omega (arith, c.min-count.ensures)) (omega (arith, c.min-count.ensures, c.min-steps.ensures)) (omega (arith, c.min-count.ensures, c.min-steps.ensures, c.saturating_sub-steps.ensures, c.longest.ensures.few)) c.enter-fronts.ensures.each
+    few_choices c.args.marks.now c.args.a.now c.args.b.now c.args.all.relevant c.loop-chosen.chosen c.stretch-count.result c.min-steps.result c.args.all c.enter-fronts.new.self.first c.enter-fronts.new.self.second c.requires.a c.requires.b c.requires.topic c.requires.few refl
+    (omega (arith, c.stretch-count.ensures)) (omega (arith, c.stretch-count.ensures, c.min-steps.ensures)) (omega (arith, c.stretch-count.ensures, c.min-steps.ensures, c.saturating_sub-steps.ensures, c.longest.ensures.few)) c.enter-fronts.ensures.each
 
 pub best_extremes-best-requires-clause-most : goal.best_extremes-best-requires-clause-most
 best_extremes-best-requires-clause-most c =
-    few_choices c.args.marks.now c.args.b.now c.args.a.now c.args.all.relevant c.loop-chosen.chosen c.min-count.result c.min-steps.result c.args.all c.enter-fronts.new.self.second c.enter-fronts.new.self.first c.requires.b c.requires.a c.requires.topic c.requires.few refl
-    (omega (arith, c.min-count.ensures)) (omega (arith, c.min-count.ensures, c.min-steps.ensures)) (omega (arith, c.min-count.ensures, c.min-steps.ensures, c.saturating_sub-steps.ensures, c.longest.ensures.few))
-    (turned c.args.marks.now c.args.a.now c.args.b.now c.args.all.relevant c.loop-chosen.chosen c.min-count.result c.enter-fronts.new.self.first c.enter-fronts.new.self.second c.enter-fronts.ensures.each)
+    few_choices c.args.marks.now c.args.b.now c.args.a.now c.args.all.relevant c.loop-chosen.chosen c.stretch-count.result c.min-steps.result c.args.all c.enter-fronts.new.self.second c.enter-fronts.new.self.first c.requires.b c.requires.a c.requires.topic c.requires.few refl
+    (omega (arith, c.stretch-count.ensures)) (omega (arith, c.stretch-count.ensures, c.min-steps.ensures)) (omega (arith, c.stretch-count.ensures, c.min-steps.ensures, c.saturating_sub-steps.ensures, c.longest.ensures.few))
+    (turned c.args.marks.now c.args.a.now c.args.b.now c.args.all.relevant c.loop-chosen.chosen c.stretch-count.result c.enter-fronts.new.self.first c.enter-fronts.new.self.second c.enter-fronts.ensures.each)
 
 pub best_extremes-best-requires-clause-earlier_least : goal.best_extremes-best-requires-clause-earlier_least
 best_extremes-best-requires-clause-earlier_least c =
@@ -95,16 +95,16 @@ loop-chosen-preserved c =
     let all = c.args.all in
     let j = all.relevant in
     let tried = c.loop-chosen.chosen in
-    let count = c.min-count.result in
+    let count = c.stretch-count.result in
     let first = c.enter-fronts.new.self.first in
     let second = c.enter-fronts.new.self.second in
     let each = c.enter-fronts.ensures.each in
     let old = c.loop-chosen.invariant in
     let found = c.best_extremes-best in
-    let within : tried + count ≤ all.unjudged = omega (arith, c.min-count.ensures, c.min-steps.ensures) in
+    let within : tried + count ≤ all.unjudged = omega (arith, c.stretch-count.ensures, c.min-steps.ensures) in
     record {
       fronts = subst (λ (r : ℕ). AreFronts marks (take r a) (take r b) c.enter-fronts.result) (omega arith) c.enter-fronts.ensures.last;
-      tried = omega (arith, c.min-count.ensures, old.tried);
+      tried = omega (arith, c.stretch-count.ensures, old.tried);
       least = best_found marks a b j tried count (choice first second all (tried + 1)) c.loop-chosen.best.least found.result.least old.least (next_choices marks a b j tried count all first second c.requires.a c.requires.b c.requires.topic refl within each) found.ensures.least;
       most = best_found marks b a j tried count (choice second first all (tried + 1)) c.loop-chosen.best.most found.result.most old.most (next_choices marks b a j tried count all second first c.requires.b c.requires.a c.requires.topic refl within (turned marks a b j tried count first second each)) found.ensures.most;
       least_small = small_of found.result.least found.ensures.least_near;

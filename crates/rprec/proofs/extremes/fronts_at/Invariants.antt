@@ -1,6 +1,12 @@
-use Rattle.std.proofs.Common.{take}
+use Rattle.std.proofs.Common.{◌-◌, ◌≤◌, take}
 use Rattle.rprec.specs.Greedy.{AreFronts}
 use Rattle.rprec.proofs.extremes.fronts_at.Given as goal
 
 abbrev pub invariant-loop-place : goal.invariant-loop-place
-invariant-loop-place l = AreFronts l.marks (take l.place l.a) (take l.place l.b) l.fronts
+invariant-loop-place l = record {
+  within : l.place ≤ l.end;
+  fronts : AreFronts l.marks (take l.place l.a) (take l.place l.b) l.fronts;
+}
+
+abbrev pub decreases-loop-place : goal.decreases-loop-place
+decreases-loop-place l = l.end - l.place
