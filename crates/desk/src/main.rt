@@ -90,14 +90,14 @@ fn status(rt: &HostRuntime, words: Result<Vec<String>, NoWords>) -> u8
     }
 }
 
-// Runs the command of the words that the system gives.
-fn answer(rt: &HostRuntime) -> ExitCode
-    ensures { exit_status result ≤ 4 }
+// The exit code of a status.
+fn exit_code(status: u8) -> ExitCode
+    ensures { exit_status result ≡ status }
 {
-    let words = words(rt);
-    ExitCode::from(status(rt, words))
+    ExitCode::from(status)
 }
 
 fn main(rt: HostRuntime) -> ExitCode {
-    answer(&rt)
+    let words = words(&rt);
+    exit_code(status(&rt, words))
 }
