@@ -18,7 +18,7 @@ use Rattle.rprec.specs.declared.greedy.Candidate.{Candidate}
 abbrev pub one_of : Bool → Mark → ℕ
 one_of taken mark = if picked_value taken mark then 1 else 0
 
--- the counts of two lists: of the relevant documents of each, or of each but for as many that both have, and of the unjudged ones that each alone has
+-- the counts of two lists: of relevant documents, as far apart as those that each alone has, and of the unjudged ones that each alone has
 pub record AreFronts (marks : List Mark) (xs ys : List ℕ) (fronts : Fronts) : Type 0 where
   pub relevant : fronts.first.relevant + only_count false marks ys xs ≡ fronts.second.relevant + only_count false marks xs ys
   pub first : fronts.first.unjudged + only_count false marks xs ys ≡ only_count true marks xs ys
@@ -55,7 +55,7 @@ pub record AreTopic (marks : List Mark) (all : Counts) : Type 0 where
   pub relevant : all.relevant ≡ judged_count marks
   pub unjudged : all.unjudged ≡ size_of (length marks) (open_in marks (λ _. true))
 
--- the first run's own relevant documents and the second's, less those in both, where a number of relevant documents is chosen greedily
+-- as many relevant documents apart as the two runs are, where a number of relevant documents is chosen greedily
 pub record AreGains (marks : List Mark) (a b : List ℕ) (c : Candidate) : Type 0 where
   pub same : true_among (greedy_truth marks a b c.count) c.count a + c.second ≡ true_among (greedy_truth marks a b c.count) c.count b + c.first
 

@@ -9,7 +9,7 @@ use crate::shared::Shared;
 use desk_model::Mark;
 use precision::counts::Counts;
 
-/// How many depths are looked at in one go.
+/// How many depths are looked at in one go: the length of a column.
 pub const STRETCH: u32 = 1024;
 
 /// The counts of one of two runs at consecutive depths.

@@ -5,7 +5,7 @@ use crate::fronts::Fronts;
 use precision::counts::Counts;
 
 /// A number of relevant documents, and how many of them each run has among as many first documents,
-/// less those that both have there, where the difference is the least.
+/// where the difference is the least. Documents that both have there may be left out of both counts.
 #[derive(Clone, Copy, PartialEq, Eq, Debug)]
 pub struct Candidate {
     pub count: u32,
