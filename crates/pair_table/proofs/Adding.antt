@@ -1,11 +1,19 @@
 -- Sums over topics that grow topic by topic.
-use Rattle.std.proofs.Common.{◌≡◌, ℕ, ◌+◌, ◌*◌, ◌^◌, ◌≤◌, List, [], ◌∷◌, ◌++◌, take, map, length, Some, ℤ, pos, neg_ℤ, ◌+ℤ◌, ◌≤ℤ◌, refl, ap, sym, ◌∙◌, subst, arith}
-use Rattle.std.specs.Prelude.{slice_get}
+use Rattle.std.proofs.Common.{◌≡◌, ℕ, ◌+◌, ◌≤◌, List, [], ◌∷◌, ◌++◌, take, map, length, Some, ℤ, pos, ◌+ℤ◌, refl, ap, sym, ◌∙◌, subst, arith}
+use Rattle.std.specs.List.{AllByRecursion}
+use Rattle.std.specs.Option.{option_map}
+use Rattle.std.specs.Prelude.{slice_get, All}
 use Rattle.std.proofs.lemmas.Int.{ints}
 use Rattle.std.proofs.lemmas.List.{map-append, take_all}
+use Rattle.std.proofs.lemmas.List.Elements.{recursion_from_All}
+use Rattle.std.proofs.lemmas.Option.{slice_get-map, slice_get_within}
 use Rattle.desk_model.proofs.Nested.{take-there}
+use Rattle.desk_model.proofs.PairPlace.{there}
 use Rattle.desk_model.specs.Extremes.{Ends}
+use Rattle.desk_model.specs.Order.{Topic}
+use Rattle.desk_model.specs.Pairs.{pairs_of}
 use Rattle.desk_model.specs.Verdict.{whole_sum, totals_of}
+use Rattle.desk_model.specs.declared.types.Mark.{Mark}
 use Rattle.desk_model.specs.declared.types.Totals.{Totals}
 use Rattle.measure_laws.specs.Shares.{IsModest}
 use Rattle.fractions.specs.Ends.{IsNear, IsShort}
@@ -14,11 +22,9 @@ use Rattle.fractions.proofs.Spans.{span_same}
 use Rattle.measure_core.specs.Laws.{SpanIsModest, CellIsModest}
 use Rattle.measure_core.specs.Made.{ends_of}
 use Rattle.measure_core.specs.declared.cell.Cell.{Cell}
-use Rattle.pair_table.specs.Sums.{span_sum}
-
--- within n times 2*10^18 of 0
-abbrev pub IsWithin : ℕ → ℤ → Type 0
-IsWithin n z = (neg_ℤ (pos (n * (2 * 10 ^ 18))) ≤ℤ z) × (z ≤ℤ pos (n * (2 * 10 ^ 18)))
+use Rattle.pair_table.specs.Kept.{AreNear, AreSumsTo, AreWithin, IsWithin}
+use Rattle.pair_table.specs.Sums.{added, cell_ends, pair_sums, run_numbers, span_sum}
+use Rattle.pair_table.proofs.DeskTopics.{length-mapped}
 
 within_step : (n : ℕ) (z w : ℤ) → IsWithin n z → IsModest w → IsWithin (n + 1) (z +ℤ w)
 within_step n z w h k = omega (arith, ints)
@@ -55,39 +61,60 @@ sum_whole : {X : Type 0} (f : X → ℤ) (xs : List X) (t : ℕ) (z : ℤ) → l
 sum_whole {X = X} f xs t z end h = h.summed ∙ ap (λ (ys : List X). whole_sum (map f ys)) (take_all t xs end)
 
 -- ---- the four sums of two runs
-pub record AreSumsTo (ends : List Ends) (t : ℕ) (least most : Span) : Type 0 where
-  pub least_lo : IsSumTo (λ (e : Ends). e.least_lo) ends t least.lo
-  pub least_hi : IsSumTo (λ (e : Ends). e.least_hi) ends t least.hi
-  pub most_lo : IsSumTo (λ (e : Ends). e.most_lo) ends t most.lo
-  pub most_hi : IsSumTo (λ (e : Ends). e.most_hi) ends t most.hi
-
-pub no_sums : (ends : List Ends) → AreSumsTo ends 0 (record { lo = pos 0; hi = pos 0 }) (record { lo = pos 0; hi = pos 0 })
-no_sums ends = record { least_lo = no_sum _ ends; least_hi = no_sum _ ends; most_lo = no_sum _ ends; most_hi = no_sum _ ends }
-
-pub sums_more : (ends : List Ends) (t : ℕ) (cell : Cell) (least most least_now most_now : Span) → AreSumsTo ends t least most → slice_get ends t ≡ Some (ends_of cell) → CellIsModest cell →
-    least_now.lo ≡ least.lo +ℤ cell.least.lo → least_now.hi ≡ least.hi +ℤ cell.least.hi → most_now.lo ≡ most.lo +ℤ cell.most.lo → most_now.hi ≡ most.hi +ℤ cell.most.hi →
-    AreSumsTo ends (t + 1) least_now most_now
-sums_more ends t cell least most least_now most_now h there modest e f g k = record {
-  least_lo = sum_more _ ends t (ends_of cell) _ _ _ h.least_lo there refl modest.least.0 e;
-  least_hi = sum_more _ ends t (ends_of cell) _ _ _ h.least_hi there refl modest.least.1 f;
-  most_lo = sum_more _ ends t (ends_of cell) _ _ _ h.most_lo there refl modest.most.0 g;
-  most_hi = sum_more _ ends t (ends_of cell) _ _ _ h.most_hi there refl modest.most.1 k;
-}
-
 pub totals_same : (a b c d a' b' c' d' : ℤ) → a ≡ a' → b ≡ b' → c ≡ c' → d ≡ d' →
     (let t : Totals = record { least_lo = a; least_hi = b; most_lo = c; most_hi = d } in t) ≡ record { least_lo = a'; least_hi = b'; most_lo = c'; most_hi = d' }
 totals_same a b c d a' b' c' d' e f g h =
     ap (λ z. record { least_lo = z; least_hi = b; most_lo = c; most_hi = d }) e ∙ ap (λ z. record { least_lo = a'; least_hi = z; most_lo = c; most_hi = d }) f
     ∙ ap (λ z. record { least_lo = a'; least_hi = b'; most_lo = z; most_hi = d }) g ∙ ap (λ z. record { least_lo = a'; least_hi = b'; most_lo = c'; most_hi = z }) h
 
-pub sums_whole : (ends : List Ends) (t : ℕ) (least most : Span) → length ends ≤ t → AreSumsTo ends t least most →
-    (let sums : Totals = record { least_lo = least.lo; least_hi = least.hi; most_lo = most.lo; most_hi = most.hi } in sums) ≡ totals_of ends
-sums_whole ends t least most end h =
-    totals_same _ _ _ _ _ _ _ _ (sum_whole _ ends t least.lo end h.least_lo) (sum_whole _ ends t least.hi end h.least_hi) (sum_whole _ ends t most.lo end h.most_lo) (sum_whole _ ends t most.hi end h.most_hi)
+sum_there : (f : Ends → ℤ) (at : Topic → Ends) (topics : List Topic) (t : ℕ) (x : Topic) → slice_get topics t ≡ Some x →
+    whole_sum (map f (map at (take (t + 1) topics))) ≡ whole_sum (map f (map at (take t topics))) +ℤ f (at x)
+sum_there f at topics t x is =
+    ap (λ (l : List Topic). whole_sum (map f (map at l))) (take-there topics t x is)
+    ∙ ap (λ (l : List Ends). whole_sum (map f l)) (map-append at (take t topics) (x ∷ []))
+    ∙ ap whole_sum (map-append f (map at (take t topics)) (at x ∷ []))
+    ∙ whole_sum-push (map f (map at (take t topics))) (f (at x))
 
-pub sums_short : (ends : List Ends) (t : ℕ) (least most : Span) → t ≤ 10000 → AreSumsTo ends t least most → IsShort least × IsShort most
-sums_short ends t least most few h =
-    ((within_near t least.lo few h.least_lo.within, within_near t least.hi few h.least_hi.within), (within_near t most.lo few h.most_lo.within, within_near t most.hi few h.most_hi.within))
+pub sums_there : (cell : List Mark → List ℕ → List ℕ → Cell) (topics : List Topic) (a b t : ℕ) (e : Ends) → slice_get (cell_ends cell topics a b) t ≡ Some e →
+    added (pair_sums cell (take t topics) a b) e ≡ pair_sums cell (take (t + 1) topics) a b
+unfolding pair_sums
+sums_there cell topics a b t e is =
+    let at : Topic → Ends = λ topic. ends_of (cell topic.marks (topic.ranking a) (topic.ranking b)) in
+    let x = there topics t (omega (arith, slice_get_within (map at topics) t e is, length-mapped at topics)) in
+    let found : slice_get (map at topics) t ≡ Some (at x.0) = slice_get-map at topics t ∙ ap (option_map at) x.1 in
+    let same : e ≡ at x.0 = some_same e (at x.0) (sym is ∙ found) in
+    let more : (f : Ends → ℤ) → whole_sum (map f (map at (take t topics))) +ℤ f e ≡ whole_sum (map f (map at (take (t + 1) topics))) =
+    λ f. ap (λ (v : Ends). whole_sum (map f (map at (take t topics))) +ℤ f v) same ∙ sym (sum_there f at topics t x.0 x.1) in
+    totals_same _ _ _ _ _ _ _ _ (more (λ v. v.least_lo)) (more (λ v. v.least_hi)) (more (λ v. v.most_lo)) (more (λ v. v.most_hi))
+  where
+    some_same : (u v : Ends) → Some u ≡ Some v → u ≡ v
+    some_same u v h = cc
+
+pub sums_within : (n : ℕ) (t : Totals) (cell : Cell) → AreWithin n t → CellIsModest cell → AreWithin (n + 1) (added t (ends_of cell))
+sums_within n t cell h modest =
+    (within_step n t.least_lo cell.least.lo h.0 modest.least.0, within_step n t.least_hi cell.least.hi h.1 modest.least.1, within_step n t.most_lo cell.most.lo h.2 modest.most.0, within_step n t.most_hi cell.most.hi h.3 modest.most.1)
+
+pub sums_near : (n : ℕ) (t : Totals) → n ≤ 10000 → AreWithin n t → AreNear t
+sums_near n t few h = (within_near n t.least_lo few h.0, within_near n t.least_hi few h.1, within_near n t.most_lo few h.2, within_near n t.most_hi few h.3)
+
+no_cells : (cell : List Mark → List ℕ → List ℕ → Cell) (a b : ℕ) → pair_sums cell [] a b ≡ totals_of []
+unfolding pair_sums
+no_cells cell a b = refl
+
+constant : {A B : Type 0} (f : A → B) (y : B) (xs : List A) (ys : List B) → ((x : A) → f x ≡ y) → length ys ≡ length xs → AllByRecursion (λ z. z ≡ y) ys → ys ≡ map f xs
+constant f y [] [] same e h = refl
+constant f y [] (z ∷ ys) same e h = absurd (omega (arith, e))
+constant f y (x ∷ xs) [] same e h = absurd (omega (arith, e))
+constant f y (x ∷ xs) (z ∷ ys) same e h = ap (λ v. v ∷ ys) (h.0 ∙ sym (same x)) ∙ ap (λ vs. f x ∷ vs) (constant f y xs ys same (omega (arith, e)) h.1)
+
+pub sums_start : (cell : List Mark → List ℕ → List ℕ → Cell) (topics : List Topic) (runs : ℕ) (totals : List Totals) → length totals ≡ length (pairs_of (run_numbers runs)) → All (λ sums. sums ≡ totals_of []) totals →
+    AreSumsTo cell topics runs 0 totals
+sums_start cell topics runs totals count none =
+    let zero_within : IsWithin 0 (pos 0) = omega (arith, ints) in
+    record {
+      sums = constant (λ pair. pair_sums cell [] pair.0 pair.1) (totals_of []) (pairs_of (run_numbers runs)) totals (λ pair. no_cells cell pair.0 pair.1) count (recursion_from_All _ totals none);
+      within = λ k d lt. subst (AreWithin 0) (sym (none k d lt)) (zero_within, zero_within, zero_within, zero_within);
+    }
 
 -- ---- the two sums of one run
 pub record AreSpansTo (spans : List Span) (t : ℕ) (sums : Span) : Type 0 where

@@ -1,13 +1,16 @@
 -- What a table keeps.
-use Rattle.std.specs.Prelude.{◌≡◌, ℕ, ◌≤◌, List, All, length, map, ◌⊎◌}
+use Rattle.std.specs.Prelude.{◌≡◌, ℕ, ◌*◌, ◌^◌, ◌≤◌, List, All, length, map, take, ◌⊎◌, ℤ, pos, neg_ℤ, ◌≤ℤ◌}
 use Rattle.std.specs.List.{Contains, zip}
 use Rattle.desk_model.specs.Pairs.{pairs_of}
 use Rattle.desk_model.specs.Verdict.{verdict}
+use Rattle.desk_model.specs.Order.{Topic}
+use Rattle.desk_model.specs.declared.types.Mark.{Mark}
 use Rattle.desk_model.specs.declared.types.Totals.{Totals}
 use Rattle.desk_model.specs.declared.types.Verdict.{Verdict}
 use Rattle.fractions.specs.Ends.{IsNear, IsShort}
 use Rattle.fractions.specs.declared.span.Span.{Span}
-use Rattle.pair_table.specs.Sums.{run_numbers, turned}
+use Rattle.measure_core.specs.declared.cell.Cell.{Cell}
+use Rattle.pair_table.specs.Sums.{all_pair_sums, run_numbers, turned}
 
 -- a measure, how many runs there are, the sums of each pair in pair order, and the sums of each run's bounds
 pub record Kept (M : Type 0) : Type 0 where
@@ -24,6 +27,19 @@ AreSumsOf runs totals i j sums =
 -- all four sums are from -10^30 to 10^30
 abbrev pub AreNear : Totals → Type 0
 AreNear t = IsNear t.least_lo × IsNear t.least_hi × IsNear t.most_lo × IsNear t.most_hi
+
+-- within so many times 2*10^18 of 0
+abbrev pub IsWithin : ℕ → ℤ → Type 0
+IsWithin n z = (neg_ℤ (pos (n * (2 * 10 ^ 18))) ≤ℤ z) × (z ≤ℤ pos (n * (2 * 10 ^ 18)))
+
+-- all four sums are within so many times 2*10^18 of 0
+abbrev pub AreWithin : ℕ → Totals → Type 0
+AreWithin n t = IsWithin n t.least_lo × IsWithin n t.least_hi × IsWithin n t.most_lo × IsWithin n t.most_hi
+
+-- the sums of each pair over the topics before one, with no more in them than so many cells have
+pub record AreSumsTo (cell : List Mark → List ℕ → List ℕ → Cell) (topics : List Topic) (runs t : ℕ) (totals : List Totals) : Type 0 where
+  pub sums : totals ≡ all_pair_sums cell (take t topics) runs
+  pub within : All (AreWithin t) totals
 
 -- sums for each pair, a verdict for each sums, and bounds for each run
 pub record IsKept (runs : ℕ) (totals : List Totals) (verdicts : List Verdict) (bounds : List Span) : Type 0 where

@@ -1,5 +1,5 @@
 -- The sums over all topics of a measure's cells and bounds, for each pair of runs and each run.
-use Rattle.std.specs.Prelude.{ℕ, List, map, neg_ℤ}
+use Rattle.std.specs.Prelude.{ℕ, List, map, neg_ℤ, ◌+ℤ◌}
 use Rattle.std.specs.List.{range_with_len}
 use Rattle.desk_model.specs.Extremes.{Ends}
 use Rattle.desk_model.specs.Order.{Topic}
@@ -22,6 +22,15 @@ cell_ends cell topics a b = map (λ (topic : Topic). ends_of (cell topic.marks (
 -- the sums of two runs: those of the four ends over all topics
 unfoldable pub pair_sums : (List Mark → List ℕ → List ℕ → Cell) → List Topic → ℕ → ℕ → Totals
 pair_sums cell topics a b = totals_of (cell_ends cell topics a b)
+
+-- some sums with the ends of one more cell
+abbrev pub added : Totals → Ends → Totals
+added t e = record {
+  least_lo = t.least_lo +ℤ e.least_lo;
+  least_hi = t.least_hi +ℤ e.least_hi;
+  most_lo = t.most_lo +ℤ e.most_lo;
+  most_hi = t.most_hi +ℤ e.most_hi;
+}
 
 -- the sums of lower and of upper bounds
 abbrev pub span_sum : List Span → Span

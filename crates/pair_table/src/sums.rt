@@ -5,10 +5,10 @@ ghost use Rattle.desk_model.specs.MeasureText.{IsMeasure};
 ghost use Rattle.fractions.specs.Ends.{IsShort};
 ghost use Rattle.measure_core.specs.Laws.{SpanIsModest, CellIsModest};
 ghost use Rattle.measure_core.specs.Made.{ends_of};
-ghost use Rattle.pair_table.specs.Sums.{cell_ends, pair_sums, run_spans, run_sums};
-ghost use Rattle.pair_table.specs.Kept.{AreNear};
+ghost use Rattle.pair_table.specs.Sums.{added, cell_ends, run_spans, run_sums};
+ghost use Rattle.pair_table.specs.Kept.{AreNear, AreSumsTo};
 
-use desk_model::{Desk, Marks, Totals};
+use desk_model::{Desk, Marks, PairPlaces, Totals};
 use fractions::Span;
 use measure_core::{Cell, Measure, Steps};
 use std::sync::ledger::Ledger;
@@ -53,36 +53,43 @@ fn bounds_at<M: Measure>(measure: &M, desk: &Desk, marks: &Marks, run: u32, topi
     measure.bounds(desk.ranking(run, topic), marks.topic(topic))
 }
 
-/// The sums of two runs, by their numbers. It is one step for each topic.
-pub fn sum_cells<M: Measure, L: Ledger>(
+/// Some sums with the ends of a cell.
+fn plus(totals: &Totals, cell: Cell) -> Totals
+    requires totals { AreNear totals.now }
+    requires cell { CellIsModest cell }
+    ensures { result ≡ added totals.now (ends_of cell) }
+{
+    Totals {
+        least_lo: totals.least_lo + cell.least.lo,
+        least_hi: totals.least_hi + cell.least.hi,
+        most_lo: totals.most_lo + cell.most.lo,
+        most_hi: totals.most_hi + cell.most.hi,
+    }
+}
+
+/// Adds the cells of a topic, by its number, to the sums of all pairs over the topics before it. It is
+/// one step for each pair.
+pub fn add_cells<M: Measure, L: Ledger>(
+    totals: &mut [Totals],
     measure: &M,
     desk: &Desk,
     marks: &Marks,
-    first: u32,
-    second: u32,
+    topic: u32,
     steps: &mut Steps<L>,
-) -> Totals
+)
     requires measure { IsMeasure (M.measured measure.now) }
     requires marks { AreMarksOf desk.now marks.now }
-    requires first { first < length desk.now.runs }
-    requires second { second < length desk.now.runs }
-    ensures sums { result ≡ pair_sums (M.cell_of measure.now) (topics_under desk.now marks.now) first second }
-    ensures near { AreNear result }
-    ensures steps { steps.new ≡ steps.old + length desk.now.topics }
+    requires topic { topic < length desk.now.topics }
+    requires sums { AreSumsTo (M.cell_of measure.now) (topics_under desk.now marks.now) (length desk.now.runs) topic totals.old }
+    ensures sums { AreSumsTo (M.cell_of measure.now) (topics_under desk.now marks.now) (length desk.now.runs) (topic + 1) totals.new }
+    ensures steps { steps.new ≡ steps.old + length totals.old }
 {
-    let topics = desk.topic_count();
-    let mut least = NOTHING;
-    let mut most = NOTHING;
-    for topic in 0..topics {
-        let cell = cell_at(measure, desk, marks, first, second, topic, steps);
-        least = least.add(cell.least);
-        most = most.add(cell.most);
-    }
-    Totals {
-        least_lo: least.lo,
-        least_hi: least.hi,
-        most_lo: most.lo,
-        most_hi: most.hi,
+    let runs = desk.run_count();
+    let mut at = PairPlaces::START;
+    for place in 0..totals.len() {
+        let cell = cell_at(measure, desk, marks, at.first, at.second, topic, steps);
+        totals[place] = plus(&totals[place], cell);
+        at = at.next(runs);
     }
 }
 

@@ -1,15 +1,15 @@
-ghost use Rattle.std.specs.Prelude.{◌≡◌, ◌≢◌, ◌+◌, ◌*◌, ◌<◌, ◌≤◌, All, length, map, slice_get, Some, IfOk, OnOk, OnErr};
+ghost use Rattle.std.specs.Prelude.{◌≡◌, ◌≢◌, ◌+◌, ◌*◌, ◌<◌, ◌≤◌, All, [], length, map, slice_get, Some, IfOk, OnOk, OnErr};
 ghost use Rattle.desk_model.specs.Desk.{AreMarksOf, topics_under, pair_count};
 ghost use Rattle.desk_model.specs.Pairs.{pairs_of};
-ghost use Rattle.desk_model.specs.Verdict.{verdict};
+ghost use Rattle.desk_model.specs.Verdict.{totals_of, verdict};
 ghost use Rattle.desk_model.specs.declared.types.Totals.{Totals as Sums};
 ghost use Rattle.desk_model.specs.MeasureText.{IsMeasure};
 ghost use Rattle.fractions.specs.Ends.{IsShort};
 ghost use Rattle.pair_table.specs.Sums.{run_numbers, all_pair_sums, all_run_sums, turned};
 ghost use Rattle.pair_table.specs.Kept.{AreSumsOf, AreNear};
 
-use crate::sums::{sum_bounds, sum_cells};
-use desk_model::{Desk, Marks, Memory, PairPlaces, Totals, Verdict, verdict_of};
+use crate::sums::{add_cells, sum_bounds};
+use desk_model::{Desk, Marks, Memory, Totals, Verdict, verdict_of};
 use fractions::Span;
 use measure_core::{Measure, Steps};
 use std::alloc::{AllocError, Global};
@@ -77,7 +77,9 @@ fn rooms(
     pairs: u32,
     runs: u32,
 ) -> Result<(Vec<Totals>, Vec<Verdict>, Vec<Span>), AllocError>
-    ensures { IfOk result (λ rooms. (length rooms.0.items ≡ pairs) × (length rooms.1.items ≡ pairs) × (length rooms.2.items ≡ runs)) }
+    ensures totals { IfOk result (λ rooms. (length rooms.0.items ≡ pairs) × All (λ sums. sums ≡ totals_of []) rooms.0.items) }
+    ensures verdicts { IfOk result (λ rooms. length rooms.1.items ≡ pairs) }
+    ensures bounds { IfOk result (λ rooms. length rooms.2.items ≡ runs) }
 {
     let totals = vec![in alloc; NO_SUMS; pairs as usize]?;
     let verdicts = vec![in alloc; Verdict::Close; pairs as usize]?;
@@ -95,15 +97,13 @@ fn fill_totals<M: Measure, L: Ledger>(
     requires measure { IsMeasure (M.measured measure.now) }
     requires marks { AreMarksOf desk.now marks.now }
     requires count { length totals.old ≡ length (pairs_of (run_numbers (length desk.now.runs))) }
+    requires none { All (λ sums. sums ≡ totals_of []) totals.old }
     ensures totals { totals.new ≡ all_pair_sums (M.cell_of measure.now) (topics_under desk.now marks.now) (length desk.now.runs) }
     ensures near { All AreNear totals.new }
     ensures steps { steps.new ≡ steps.old + length totals.old * length desk.now.topics }
 {
-    let runs = desk.run_count();
-    let mut at = PairPlaces::START;
-    for place in 0..totals.len() {
-        totals[place] = sum_cells(measure, desk, marks, at.first, at.second, steps);
-        at = at.next(runs);
+    for topic in 0..desk.topic_count() {
+        add_cells(totals, measure, desk, marks, topic, steps);
     }
 }
 

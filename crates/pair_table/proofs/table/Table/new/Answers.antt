@@ -9,7 +9,7 @@ use Rattle.pair_table.proofs.table.Table.new.Goals as goal
 
 pub fill_totals-requires-clause-count : goal.fill_totals-requires-clause-count
 fill_totals-requires-clause-count g c =
-    ap length c.deref_mut.ensures.value ∙ c.in-Ok.ensures.0 ∙ ap pair_count c.run_count-runs.ensures.count ∙ sym (length-pairs (length c.args.desk.now.runs))
+    ap length c.deref_mut.ensures.value ∙ c.in-Ok.ensures.totals.0 ∙ ap pair_count c.run_count-runs.ensures.count ∙ sym (length-pairs (length c.args.desk.now.runs))
 
 pub returns-in-Ok-clause-pairs : goal.returns-in-Ok-clause-pairs
 returns-in-Ok-clause-pairs g c =
