@@ -6,7 +6,7 @@ use Rattle.std.proofs.Math.Seq.{drop-cons}
 use Rattle.std.proofs.lemmas.Bool.Decides.{nat_tests}
 use Rattle.std.proofs.lemmas.List.{get_or-set_same, get_or-set_other, length-set}
 use Rattle.desk_model.specs.Placed.{lookup, IsAscending}
-use Rattle.desk_model.specs.Ranking.{IsRanking, is_in, rank}
+use Rattle.desk_model.specs.Ranking.{is_in, rank}
 use Rattle.desk_model.specs.declared.placed.Placed.{Placed}
 use Rattle.measure_laws.specs.Pairs.{after, Taken}
 use Rattle.measure_laws.specs.Ranks.{IsWithin}
@@ -16,10 +16,21 @@ use Rattle.desk_model.specs.declared.types.Mark.{Mark}
 use Rattle.desk_model.proofs.Counts.{IsDistinct-take}
 use Rattle.precision.specs.declared.counts.Counts.{Counts}
 use Rattle.rprec.specs.declared.fronts.Fronts.{Fronts}
-use Rattle.rprec.specs.Greedy.{AreBefore, AreFronts, AreNext, exchanged, number_if}
-use Rattle.rprec.specs.Shared.{AreFlags, AreShared, entered, flagged}
+use Rattle.rprec.specs.Greedy.{AreBefore, AreFronts, exchanged}
 use Rattle.rprec.specs.Walk.{AreRanksOf, AreWalked, IsWalk, both}
 use Rattle.rprec.proofs.Steps.{fronts_exchanged, after_next, number_either}
+
+-- for each place of a list, whether another has the document among so many first ones
+pub record AreFlags (xs ys : List ℕ) (depth : ℕ → ℕ) (flags : List Bool) : Type 0 where
+  pub each : (place : ℕ) → place < length xs → get_or flags place false ≡ is_in (take (depth place) ys) (get_or xs place 0)
+
+-- the flags with that of a document of these ranks in both lists
+abbrev pub flagged : (ℕ → ℕ) → ℕ → ℕ → List Bool → List Bool
+flagged depth x y flags = if nat_le y (depth (x - 1)) then set flags (x - 1) true else flags
+
+-- the flags after two places, where they are of one document
+abbrev pub entered : (ℕ → ℕ) → Placed → Placed → List Bool → List Bool
+entered depth x y flags = if nat_eq x.doc y.doc then flagged depth x.rank y.rank flags else flags
 
 -- ---- ranks and places
 -- from a rank on: where a document is found
@@ -114,7 +125,7 @@ flag_kept depth (Some x) (Some y) flags place f = at (nat_le y (depth (x - 1)))
     at true = get_or-set_other flags (x - 1) place true false (f x refl)
     at false = refl
 
-and_false : (b : Bool) → (b && false) ≡ false
+pub and_false : (b : Bool) → (b && false) ≡ false
 and_false true = refl
 and_false false = refl
 
@@ -288,7 +299,7 @@ walk_next part elsewhere xs ys x y es fs f s dx dy w = elim (split x.doc y.doc) 
 pub head_rank : (part : ℕ → Bool) (xs : List ℕ) (x : Placed) (es : List Placed) → IsAscending (x ∷ es) → AreRanksOf part xs (x ∷ es) → length xs ≤ 10000 → (1 ≤ x.rank) × (x.rank ≤ 10000)
 head_rank part xs x es h f short = rank_within part xs (x ∷ es) x.doc (Some x.rank) (taken_head x es h) f short
 
-opened : (es : List Placed) (i : ℕ) (d : Placed) → i < length es → drop i es ≡ get_or es i d ∷ drop (i + 1) es
+pub opened : (es : List Placed) (i : ℕ) (d : Placed) → i < length es → drop i es ≡ get_or es i d ∷ drop (i + 1) es
 opened es i d h = let next : suc i ≡ i + 1 = omega arith in drop-cons es i d h ∙ ap (λ (k : ℕ). get_or es i d ∷ drop k es) next
 
 left_drop : (es : List Placed) (i p : ℕ) (d y : Placed) → i < length es → p ≡ (if nat_le (get_or es i d).doc y.doc then 1 else 0) → drop (i + p) es ≡ left (get_or es i d) y (drop (i + 1) es)
@@ -326,30 +337,18 @@ pub record AreDeeper (marks : List Mark) (a b : List ℕ) (place gone : ℕ) (be
   pub first_open : after.first.unjudged + gone ≡ before.first.unjudged + one.unjudged
   pub second_open : after.second.unjudged + gone ≡ before.second.unjudged + two.unjudged
 
-pub deeper : (marks : List Mark) (a b : List ℕ) (place : ℕ) (f : Fronts) (one two : Counts) (v w : Bool) → AreBefore marks a b place f one two v w → AreDeeper marks a b place (number_if v one.unjudged + number_if w two.unjudged) f one two
-deeper marks a b place f one two v w h =
-    let m = after_next marks a (take place b) place v f one h.first_distinct (record { counts = h.counts; next = h.first_shared; distinct = IsDistinct-take place b h.second_distinct }) h.first in
+pub deeper : (marks : List Mark) (a b : List ℕ) (place : ℕ) (f : Fronts) (one two : Counts) (both : ℕ) → AreBefore marks a b place f one two both → AreDeeper marks a b place both f one two
+deeper marks a b place f one two both h =
+    let v = is_in (take place b) (get_or a place 0) in
+    let w = is_in (take (place + 1) a) (get_or b place 0) in
+    let m = after_next marks a (take place b) place v f one h.first_distinct (record { counts = h.counts; next = λ k. refl; distinct = IsDistinct-take place b h.second_distinct }) h.first in
     let turned = fronts_exchanged marks (take (place + 1) a) (take place b) m.after m.counts in
-    let n = after_next marks b (take (place + 1) a) place w (exchanged m.after) two h.second_distinct (record { counts = turned; next = h.second_shared; distinct = IsDistinct-take (place + 1) a h.first_distinct }) h.second in
+    let n = after_next marks b (take (place + 1) a) place w (exchanged m.after) two h.second_distinct (record { counts = turned; next = λ k. refl; distinct = IsDistinct-take (place + 1) a h.first_distinct }) h.second in
     record {
       after = exchanged n.after;
       counts = fronts_exchanged marks (take (place + 1) b) (take (place + 1) a) n.after n.counts;
       first = n.other ∙ m.relevant;
       second = n.relevant ∙ ap (λ (k : ℕ). k + two.relevant) m.other;
-      first_open = omega (arith, n.gone, m.unjudged, number_either v one.unjudged);
-      second_open = omega (arith, n.unjudged, m.gone, number_either w two.unjudged);
+      first_open = omega (arith, n.gone, m.unjudged, number_either v one.unjudged, h.shared);
+      second_open = omega (arith, n.unjudged, m.gone, number_either w two.unjudged, h.shared);
     }
-
--- what the flags say of them
-pub flagged_before : (marks : List Mark) (a b : List ℕ) (place : ℕ) (f : Fronts) (one two : Counts) (in_second in_first : List Bool) → IsRanking (length marks) a → IsRanking (length marks) b → AreShared a b in_second in_first → place < 10000 →
-    AreFronts marks (take place a) (take place b) f → AreNext marks a place one → AreNext marks b place two → AreBefore marks a b place f one two (get_or in_second place false) (get_or in_first place false)
-flagged_before marks a b place f one two in_second in_first ra rb flags lt h x y = record {
-  short = lt;
-  first_distinct = ra.distinct;
-  second_distinct = rb.distinct;
-  counts = h;
-  first = x;
-  second = y;
-  first_shared = λ k. sym (flags.first.each place k);
-  second_shared = λ k. sym (flags.second.each place k);
-}

@@ -6,3 +6,4 @@ pub mod Tails
 pub mod Flags
 pub mod Blocks
 pub mod Strands
+pub mod Counted

@@ -1,15 +1,18 @@
 -- The walk over two runs in two parts, side by side.
-use Rattle.std.proofs.Common.{◌≡◌, ℕ, zero, suc, ◌+◌, ◌<◌, ◌≤◌, Bool, true, false, not, ◌&&◌, nat_eq, nat_lt, List, [], ◌∷◌, length, take, drop, get_or, Option, Some, None, arith, refl, ap, ◌∙◌, sym, inl, inr, ◌⊎◌}
+use Rattle.std.proofs.Common.{◌≡◌, ℕ, zero, suc, ◌+◌, ◌<◌, ◌≤◌, Bool, true, false, not, ◌&&◌, nat_eq, nat_le, nat_lt, List, [], ◌∷◌, length, take, drop, get_or, replicate, Option, Some, None, arith, refl, ap, ◌∙◌, sym, subst, inl, inr, ◌⊎◌}
 use Rattle.std.specs.Prelude.{if◌then◌else◌}
 use Rattle.std.specs.List.{AllByRecursion, IsDistinct}
 use Rattle.std.proofs.lemmas.Grind.{common_steps}
 use Rattle.std.proofs.lemmas.Bool.Decides.{nat_tests}
+use Rattle.std.proofs.lemmas.List.{length-replicate}
 use Rattle.desk_model.specs.Placed.{lookup, IsAscending}
-use Rattle.desk_model.specs.Ranking.{is_in, rank}
+use Rattle.desk_model.specs.Ranking.{IsRanking, is_in, rank}
 use Rattle.desk_model.specs.declared.placed.Placed.{Placed}
-use Rattle.rprec.specs.Shared.{AreShared}
-use Rattle.rprec.specs.Walk.{AreRanksOf, AreWalked, IsWalk, both}
-use Rattle.rprec.proofs.Flags.{walked_start, walked_end}
+use Rattle.desk_model.specs.declared.types.Mark.{Mark}
+use Rattle.rprec.specs.Shared.{AreShared, entered as counts_entered}
+use Rattle.rprec.specs.Walk.{AreCounted, AreRanksOf, AreWalked, IsCountedWalk, IsWalk, both}
+use Rattle.rprec.proofs.Flags.{all_down, entered, rank_first, rank_second, walk_step, walked_start, walked_end}
+use Rattle.rprec.proofs.Counted.{counted_end, counted_start, counted_step, few_counted, known_first}
 
 -- whether a document is left in two lists
 abbrev pub both_in : List Placed → List Placed → ℕ → Bool
@@ -166,12 +169,88 @@ strands_start middle xs ys all every es fs gs hs f s sx sy dx dy lx ly h k ex ey
       upper = strand_start (is_above middle) (is_below middle) xs ys gs hs es fs f s sx sy dx dy lx ly h.upper k.upper high high_other low (below_apart middle) (λ doc r t er et. turned_somewhere (both_in gs hs doc) (both_in es fs doc) (left doc r t er et)) df ds;
     }
 
--- after the last step of both
-pub strands_end : (below above : ℕ → Bool) (xs ys : List ℕ) (es fs gs hs : List Placed) (f s : List Bool) → ((doc : ℕ) → both_in es fs doc ≡ false) → ((doc : ℕ) → both_in gs hs doc ≡ false) → AreStrands below above xs ys es fs gs hs f s → AreShared xs ys f s
-strands_end below above xs ys es fs gs hs f s none other h = record {
-  first = walked_end (both_in gs hs) xs ys (λ place. place) es fs f none other h.lower.first;
-  second = walked_end (both_in gs hs) ys xs (λ place. place + 1) fs es s (λ doc. both_sym (lookup fs doc) (lookup es doc) ∙ none doc) other h.lower.second;
+-- ---- two walks with the counts so far
+pub record AreCountedStrands (marks : List Mark) (below above : ℕ → Bool) (xs ys : List ℕ) (es fs gs hs : List Placed) (counts : List ℕ) : Type 0 where
+  pub in_second : List Bool
+  pub in_first : List Bool
+  pub strands : AreStrands below above xs ys es fs gs hs in_second in_first
+  pub counted : AreCounted marks xs ys in_second in_first counts
+
+pub counted_turned : (marks : List Mark) (below above : ℕ → Bool) (xs ys : List ℕ) (es fs gs hs : List Placed) (counts : List ℕ) → AreCountedStrands marks below above xs ys es fs gs hs counts → AreCountedStrands marks above below xs ys gs hs es fs counts
+counted_turned marks below above xs ys es fs gs hs counts h = record { in_second = h.in_second; in_first = h.in_first; strands = strands_turned below above xs ys es fs gs hs h.in_second h.in_first h.strands; counted = h.counted }
+
+-- the first of them, by itself
+pub lower_walk : (marks : List Mark) (below above : ℕ → Bool) (xs ys : List ℕ) (es fs gs hs : List Placed) (counts : List ℕ) → AreCountedStrands marks below above xs ys es fs gs hs counts → IsCountedWalk marks below (both_in gs hs) xs ys es fs counts
+lower_walk marks below above xs ys es fs gs hs counts h = record { in_second = h.in_second; in_first = h.in_first; walk = h.strands.lower; counted = h.counted }
+
+-- the first of them goes on
+pub strand_walked : (marks : List Mark) (below above : ℕ → Bool) (xs ys : List ℕ) (es fs es' fs' gs hs : List Placed) (counts counts' : List ℕ) → ((doc : ℕ) → above doc ≡ true → below doc ≡ false) → IsCountedWalk marks below (both_in gs hs) xs ys es' fs' counts' → AreCountedStrands marks below above xs ys es fs gs hs counts →
+    AreCountedStrands marks below above xs ys es' fs' gs hs counts'
+strand_walked marks below above xs ys es fs es' fs' gs hs counts counts' apart w h = record {
+  in_second = w.in_second;
+  in_first = w.in_first;
+  strands = strand_next below above xs ys es fs es' fs' gs hs h.in_second h.in_first w.in_second w.in_first apart w.walk h.strands;
+  counted = w.counted;
 }
+
+-- one step of a walk
+pub walk_stepped : (marks : List Mark) (part elsewhere : ℕ → Bool) (xs ys : List ℕ) (es fs : List Placed) (i j p q : ℕ) (d : Placed) (counts counts' : List ℕ) → i < length es → j < length fs →
+    p ≡ (if nat_le (get_or es i d).doc (get_or fs j d).doc then 1 else 0) → q ≡ (if nat_le (get_or fs j d).doc (get_or es i d).doc then 1 else 0) → counts' ≡ counts_entered marks (get_or es i d) (get_or fs j d) counts →
+    IsCountedWalk marks part elsewhere xs ys (drop i es) (drop j fs) counts → IsCountedWalk marks part elsewhere xs ys (drop (i + p) es) (drop (j + q) fs) counts'
+walk_stepped marks part elsewhere xs ys es fs i j p q d counts counts' hi hj ep eq ec w =
+    let x = get_or es i d in
+    let y = get_or fs j d in
+    record {
+      in_second = entered (λ place. place) x y w.in_second;
+      in_first = entered (λ place. place + 1) y x w.in_first;
+      walk = walk_step part elsewhere xs ys es fs i j p q d w.in_second w.in_first w.walk.first_distinct w.walk.second_distinct hi hj ep eq w.walk;
+      counted =
+          subst (λ (l : List ℕ). AreCounted marks xs ys (entered (λ place. place) x y w.in_second) (entered (λ place. place + 1) y x w.in_first) l) (sym ec)
+          (counted_step marks part elsewhere xs ys es fs i j d w.in_second w.in_first counts hi hj w.walk w.counted);
+    }
+
+-- what the next step of a walk needs to know of its places
+pub record AreNextPlaces (marks : List Mark) (x y : Placed) (counts : List ℕ) : Type 0 where
+  pub first_low : 1 ≤ x.rank
+  pub first_high : x.rank ≤ 10000
+  pub second_low : 1 ≤ y.rank
+  pub second_high : y.rank ≤ 10000
+  pub known : x.doc < length marks
+  pub few : (place : ℕ) → get_or counts place 0 ≤ 2
+
+pub next_places : (marks : List Mark) (part elsewhere : ℕ → Bool) (xs ys : List ℕ) (es fs : List Placed) (i j : ℕ) (d : Placed) (counts : List ℕ) → i < length es → j < length fs → IsCountedWalk marks part elsewhere xs ys (drop i es) (drop j fs) counts → AreNextPlaces marks (get_or es i d) (get_or fs j d) counts
+next_places marks part elsewhere xs ys es fs i j d counts hi hj w =
+    let first = rank_first part elsewhere xs ys es (drop j fs) i d w.in_second w.in_first hi w.walk w.walk.first_short in
+    let second = rank_second part elsewhere xs ys (drop i es) fs j d w.in_second w.in_first hj w.walk w.walk.second_short in
+    record {
+      first_low = first.0;
+      first_high = first.1;
+      second_low = second.0;
+      second_high = second.1;
+      known = known_first marks part elsewhere xs ys es (drop j fs) i d w.in_second w.in_first counts hi w.walk w.counted;
+      few = few_counted marks xs ys w.in_second w.in_first counts w.counted;
+    }
+
+-- before the first step of both
+pub counted_strands_start : (marks : List Mark) (middle : ℕ) (xs ys : List ℕ) (all every es fs gs hs : List Placed) (counts : List ℕ) → IsRanking (length marks) xs → IsRanking (length marks) ys → AreParts middle all es gs → AreParts middle every fs hs →
+    ((doc : ℕ) → lookup all doc ≡ rank xs doc) → ((doc : ℕ) → lookup every doc ≡ rank ys doc) → ((place : ℕ) → get_or counts place 0 ≡ 0) → length counts ≡ 10000 →
+    AreCountedStrands marks (is_below middle) (is_above middle) xs ys es fs gs hs counts
+counted_strands_start marks middle xs ys all every es fs gs hs counts rx ry h k ex ey none long =
+    let down : List Bool = replicate 10000 false in
+    let size : length down ≡ 10000 = length-replicate 10000 false in
+    record {
+      in_second = down;
+      in_first = down;
+      strands = strands_start middle xs ys all every es fs gs hs down down rx.short ry.short rx.distinct ry.distinct (omega (arith, size, rx.short)) (omega (arith, size, ry.short)) h k ex ey (all_down 10000) (all_down 10000);
+      counted = counted_start marks xs ys down down counts (all_down 10000) (all_down 10000) long rx.within none;
+    }
+
+-- after the last step of both
+pub counted_strands_end : (marks : List Mark) (below above : ℕ → Bool) (xs ys : List ℕ) (es fs gs hs : List Placed) (counts : List ℕ) → ((doc : ℕ) → both_in es fs doc ≡ false) → ((doc : ℕ) → both_in gs hs doc ≡ false) → AreCountedStrands marks below above xs ys es fs gs hs counts → AreShared marks xs ys counts
+counted_strands_end marks below above xs ys es fs gs hs counts none other h =
+    let w = h.strands.lower in
+    counted_end marks xs ys h.in_second h.in_first counts (walked_end (both_in gs hs) xs ys (λ place. place) es fs h.in_second none other w.first)
+    (walked_end (both_in gs hs) ys xs (λ place. place + 1) fs es h.in_first (λ doc. both_sym (lookup fs doc) (lookup es doc) ∙ none doc) other w.second) h.counted
 
 -- ---- cutting a list
 -- a document below all of a list is not in it

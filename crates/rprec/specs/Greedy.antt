@@ -35,16 +35,15 @@ pub record AreNext (marks : List Mark) (docs : List ℕ) (place : ℕ) (counts :
   pub here : place < length docs → AreCountsOf (one_of false (mark_at marks (slice_index docs place))) (one_of true (mark_at marks (slice_index docs place))) counts
   pub past : length docs ≤ place → AreCountsOf 0 0 counts
 
--- the counts of two lists up to a place, those of the documents there, and whether the other list has these before: the second at an earlier place, the first at no later one
-pub record AreBefore (marks : List Mark) (xs ys : List ℕ) (place : ℕ) (fronts : Fronts) (one two : Counts) (in_second in_first : Bool) : Type 0 where
+-- the counts of two lists up to a place, those of the documents there, and how many unjudged ones of these the other list has by then: the second at an earlier place, the first at no later one
+pub record AreBefore (marks : List Mark) (xs ys : List ℕ) (place : ℕ) (fronts : Fronts) (one two : Counts) (both : ℕ) : Type 0 where
   pub short : place < 10000
   pub first_distinct : IsDistinct nat_eq xs
   pub second_distinct : IsDistinct nat_eq ys
   pub counts : AreFronts marks (take place xs) (take place ys) fronts
   pub first : AreNext marks xs place one
   pub second : AreNext marks ys place two
-  pub first_shared : place < length xs → is_in (take place ys) (slice_index xs place) ≡ in_second
-  pub second_shared : place < length ys → is_in (take (place + 1) xs) (slice_index ys place) ≡ in_first
+  pub shared : both ≡ number_if (is_in (take place ys) (slice_index xs place)) one.unjudged + number_if (is_in (take (place + 1) xs) (slice_index ys place)) two.unjudged
 
 -- the counts of the lists exchanged
 abbrev pub exchanged : Fronts → Fronts

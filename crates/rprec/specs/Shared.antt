@@ -1,21 +1,20 @@
--- Which documents of one list another list has among its first ones.
-use Rattle.std.specs.Prelude.{◌≡◌, ℕ, ◌+◌, ◌-◌, ◌<◌, Bool, true, false, nat_eq, nat_le, if◌then◌else◌, List, length, take, slice_index, slice_index_or, slice_set}
-use Rattle.desk_model.specs.declared.placed.Placed.{Placed}
+-- What two lists share, place by place.
+use Rattle.std.specs.Prelude.{◌≡◌, ℕ, ◌+◌, ◌-◌, ◌&&◌, max, nat_eq, nat_lt, if◌then◌else◌, List, length, take, slice_index, slice_index_or, slice_set}
+use Rattle.desk_model.specs.Mark.{mark_at}
 use Rattle.desk_model.specs.Ranking.{is_in}
+use Rattle.desk_model.specs.declared.placed.Placed.{Placed}
+use Rattle.desk_model.specs.declared.types.Mark.{Mark}
+use Rattle.measure_laws.specs.Classes.{is_unjudged}
 
--- for each place of a list, whether another has the document among so many first ones
-pub record AreFlags (xs ys : List ℕ) (depth : ℕ → ℕ) (flags : List Bool) : Type 0 where
-  pub each : (place : ℕ) → place < length xs → slice_index_or flags place false ≡ is_in (take (depth place) ys) (slice_index xs place)
+-- 1 where a list has an unjudged document at a place, and another list has it too, and else 0
+abbrev pub met : List Mark → List ℕ → List ℕ → ℕ → ℕ
+met marks docs others place = if (nat_lt place (length docs) && is_in others (slice_index docs place)) && is_unjudged (mark_at marks (slice_index docs place)) then 1 else 0
 
--- for each place of two lists, whether the other has the document before: the second at an earlier place, the first at no later one
-pub record AreShared (xs ys : List ℕ) (in_second in_first : List Bool) : Type 0 where
-  pub first : AreFlags xs ys (λ place. place) in_second
-  pub second : AreFlags ys xs (λ place. place + 1) in_first
+-- for each place of two lists, how many unjudged documents both have up to there and not both before: the second has it earlier than the first, or the first no later than the second
+pub record AreShared (marks : List Mark) (xs ys counts : List ℕ) : Type 0 where
+  pub each : (place : ℕ) → slice_index_or counts place 0 ≡ met marks xs (take place ys) place + met marks ys (take (place + 1) xs) place
 
--- the flags with that of a document of these ranks in both lists
-abbrev pub flagged : (ℕ → ℕ) → ℕ → ℕ → List Bool → List Bool
-flagged depth x y flags = if nat_le y (depth (x - 1)) then slice_set flags (x - 1) true else flags
-
--- the flags after two places, where they are of one document
-abbrev pub entered : (ℕ → ℕ) → Placed → Placed → List Bool → List Bool
-entered depth x y flags = if nat_eq x.doc y.doc then flagged depth x.rank y.rank flags else flags
+-- the counts after two places: one more at the later rank, where they are of one unjudged document
+abbrev pub entered : List Mark → Placed → Placed → List ℕ → List ℕ
+entered marks x y counts =
+    slice_set counts (max x.rank y.rank - 1) (slice_index_or counts (max x.rank y.rank - 1) 0 + (if nat_eq x.doc y.doc && is_unjudged (mark_at marks x.doc) then 1 else 0))

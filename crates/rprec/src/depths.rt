@@ -87,7 +87,7 @@ impl Depths {
         requires fronts { AreFronts marks.now (take depth a.now) (take depth b.now) fronts }
         requires a { IsRanking (length marks.now) a.now }
         requires b { IsRanking (length marks.now) b.now }
-        requires shared { AreShared a.now b.now shared.now.first shared.now.second }
+        requires shared { AreShared marks.now a.now b.now shared.now.counts }
         requires few { count ≤ 1024 }
         requires depth { depth + count ≤ 10000 }
         requires first { depth + count ≤ length a.now }
@@ -98,11 +98,10 @@ impl Depths {
         let mut fronts = fronts;
         for place in 0..count {
             let next = depth + place;
-            let in_second = shared.first[next as usize];
-            let in_first = shared.second[next as usize];
+            let both = u32::from(shared.counts[next as usize]);
             let one = counts_at(a, next, marks);
             let two = counts_at(b, next, marks);
-            fronts = deepened(fronts, one, two, in_second, in_first);
+            fronts = deepened(fronts, one, two, both);
             self.put(place, fronts);
         }
         fronts
@@ -122,7 +121,7 @@ impl Depths {
         requires fronts { AreFronts marks.now (take depth a.now) (take depth b.now) fronts }
         requires a { IsRanking (length marks.now) a.now }
         requires b { IsRanking (length marks.now) b.now }
-        requires shared { AreShared a.now b.now shared.now.first shared.now.second }
+        requires shared { AreShared marks.now a.now b.now shared.now.counts }
         requires few { count ≤ 1024 }
         requires depth { depth + count ≤ 10000 }
         ensures each { (place : ℕ) → place < count → AreFronts marks.now (take (depth + place + 1) a.now) (take (depth + place + 1) b.now) (fronts_at self.new.first self.new.second place) }
@@ -131,11 +130,10 @@ impl Depths {
         let mut fronts = fronts;
         for place in 0..count {
             let next = depth + place;
-            let in_second = shared.first[next as usize];
-            let in_first = shared.second[next as usize];
+            let both = u32::from(shared.counts[next as usize]);
             let one = next_counts(a, next, marks);
             let two = next_counts(b, next, marks);
-            fronts = deepened(fronts, one, two, in_second, in_first);
+            fronts = deepened(fronts, one, two, both);
             self.put(place, fronts);
         }
         fronts
@@ -155,7 +153,7 @@ impl Depths {
         requires fronts { AreFronts marks.now (take depth a.now) (take depth b.now) fronts }
         requires a { IsRanking (length marks.now) a.now }
         requires b { IsRanking (length marks.now) b.now }
-        requires shared { AreShared a.now b.now shared.now.first shared.now.second }
+        requires shared { AreShared marks.now a.now b.now shared.now.counts }
         requires few { count ≤ 1024 }
         requires depth { depth + count ≤ 10000 }
         ensures each { (place : ℕ) → place < count → AreFronts marks.now (take (depth + place + 1) a.now) (take (depth + place + 1) b.now) (fronts_at self.new.first self.new.second place) }

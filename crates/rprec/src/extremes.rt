@@ -61,7 +61,7 @@ fn fronts_at(
 ) -> Fronts
     requires a { IsRanking (length marks.now) a.now }
     requires b { IsRanking (length marks.now) b.now }
-    requires shared { AreShared a.now b.now shared.now.first shared.now.second }
+    requires shared { AreShared marks.now a.now b.now shared.now.counts }
     ensures { AreFronts marks.now (take depth a.now) (take depth b.now) result }
 {
     let mut fronts = Fronts {
@@ -136,7 +136,7 @@ fn best_extremes(
 pub fn find_extremes(a: &[u32], b: &[u32], shared: &Shared, all: Counts, marks: &[Mark]) -> Extremes
     requires a { IsRanking (length marks.now) a.now }
     requires b { IsRanking (length marks.now) b.now }
-    requires shared { AreShared a.now b.now shared.now.first shared.now.second }
+    requires shared { AreShared marks.now a.now b.now shared.now.counts }
     requires topic { AreTopic marks.now all }
     requires few { all.relevant + all.unjudged ≤ 25000000 }
     ensures least { IsLeast marks.now a.now b.now result.least }

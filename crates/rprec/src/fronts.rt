@@ -1,7 +1,7 @@
 ghost use Rattle.std.specs.Prelude.{◌≡◌, ℕ, ◌+◌, ◌<◌, List, length, take, true, false};
 ghost use Rattle.desk_model.specs.Ranking.{IsRanking};
 ghost use Rattle.desk_model.specs.declared.types.Mark.{Mark as M};
-ghost use Rattle.rprec.specs.Greedy.{AreBefore, AreFronts, AreNext, exchanged, number_if, one_of};
+ghost use Rattle.rprec.specs.Greedy.{AreBefore, AreFronts, AreNext, exchanged, one_of};
 
 use desk_model::Mark;
 use precision::counts::Counts;
@@ -37,13 +37,6 @@ fn counts_of(mark: Mark) -> Counts
     }
 }
 
-/// This number, or none.
-fn number_if(taken: bool, number: u32) -> u32
-    ensures { result ≡ number_if taken number }
-{
-    if taken { number } else { 0 }
-}
-
 /// The counts of the document at a place of a ranking.
 pub fn counts_at(docs: &[u32], place: u32, marks: &[Mark]) -> Counts
     requires docs { IsRanking (length marks.now) docs.now }
@@ -65,13 +58,12 @@ pub fn next_counts(docs: &[u32], place: u32, marks: &[Mark]) -> Counts
     }
 }
 
-/// The counts with those of the next document of each run, where it is known whether the other run
-/// has it before. Whether it has decides no jump here, as no processor could foresee it.
-pub fn deepened(fronts: Fronts, one: Counts, two: Counts, in_second: bool, in_first: bool) -> Fronts
-    requires { (marks : List M) × (a : List ℕ) × (b : List ℕ) × (place : ℕ) × AreBefore marks a b place fronts one two in_second in_first }
-    ensures { (marks : List M) (a b : List ℕ) (place : ℕ) → AreBefore marks a b place fronts one two in_second in_first → AreFronts marks (take (place + 1) a) (take (place + 1) b) result }
+/// The counts with those of the next document of each run, where it is known how many unjudged ones
+/// both have now and had not before.
+pub fn deepened(fronts: Fronts, one: Counts, two: Counts, both: u32) -> Fronts
+    requires { (marks : List M) × (a : List ℕ) × (b : List ℕ) × (place : ℕ) × AreBefore marks a b place fronts one two both }
+    ensures { (marks : List M) (a b : List ℕ) (place : ℕ) → AreBefore marks a b place fronts one two both → AreFronts marks (take (place + 1) a) (take (place + 1) b) result }
 {
-    let both = number_if(in_second, one.unjudged) + number_if(in_first, two.unjudged);
     Fronts {
         first: Counts {
             relevant: fronts.first.relevant + one.relevant,

@@ -60,7 +60,7 @@ fn topic(marks: &[Mark]) -> Counts
 /// The ends of the least and the greatest difference, in units.
 fn cell_of(a: &[u32], b: &[u32], shared: &Shared, marks: &[Mark]) -> Cell
     requires met { AreMet marks.now a.now b.now }
-    requires shared { AreShared a.now b.now shared.now.first shared.now.second }
+    requires shared { AreShared marks.now a.now b.now shared.now.counts }
     ensures { result ≡ exact_cell R marks.now a.now b.now }
 {
     let all = topic(marks);
@@ -82,7 +82,7 @@ fn least_values(
     ensures { IfOk result (λ values. AreValues (rprec_truth marks.now a.now b.now) (length marks.now) values.items) }
 {
     let all = topic(marks);
-    let shared = Shared::between(a, b);
+    let shared = Shared::between(a, b, marks);
     let count = find_extremes(a.docs(), b.docs(), &shared, all, marks)
         .least
         .count;
@@ -123,7 +123,7 @@ impl Measure for RPrecision {
         steps: &mut Steps<L>,
     ) -> Cell {
         steps.tick();
-        cell_of(a.docs(), b.docs(), &Shared::between(a, b), marks)
+        cell_of(a.docs(), b.docs(), &Shared::between(a, b, marks), marks)
     }
 
     fn bounds(&self, a: &Ranking, marks: &[Mark]) -> Span {

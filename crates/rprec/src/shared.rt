@@ -1,10 +1,10 @@
-ghost use Rattle.std.specs.Prelude.{◌≡◌, ℕ, ◌+◌, ◌≤◌, Bool, List, length, drop, false, nat_eq, nat_lt, slice_index_or, if◌then◌else◌, None};
+ghost use Rattle.std.specs.Prelude.{◌≡◌, ℕ, ◌+◌, ◌<◌, ◌≤◌, Bool, List, length, drop, nat_lt, slice_index_or, if◌then◌else◌, None};
 ghost use Rattle.desk_model.specs.Placed.{lookup, IsAscending};
-ghost use Rattle.std.specs.List.{IsDistinct};
+ghost use Rattle.desk_model.specs.Ranking.{IsRanking};
 ghost use Rattle.rprec.specs.Shared.{AreShared, entered};
-ghost use Rattle.rprec.specs.Walk.{IsWalk, IsWalked};
+ghost use Rattle.rprec.specs.Walk.{IsCountedWalk, IsWalked};
 
-use desk_model::{Placed, Ranking};
+use desk_model::{Mark, Placed, Ranking};
 use measure_laws::passed;
 
 /// A document in the middle of some, and 0 for none.
@@ -26,59 +26,60 @@ fn cut(places: &[Placed], middle: u32) -> (&[Placed], &[Placed])
     places.split_at(places.partition_point(|placed| placed.doc < middle))
 }
 
-/// For each place of two runs, whether the other run has the document before: the second run at an
-/// earlier place than the first, the first run at no later place than the second.
+/// For each place of two runs, how many unjudged documents both have up to there, and not both before.
 #[derive(Drop)]
 pub struct Shared {
-    pub first: [bool; 10_000],
-    pub second: [bool; 10_000],
+    pub counts: [u8; 10_000],
 }
 
 impl Shared {
     /// That of runs that share no document.
     pub fn none() -> Shared
-        ensures first { (place : ℕ) → slice_index_or result.first place false ≡ false }
-        ensures second { (place : ℕ) → slice_index_or result.second place false ≡ false }
-        ensures first_long { length result.first ≡ 10000 }
-        ensures second_long { length result.second ≡ 10000 }
+        ensures none { (place : ℕ) → slice_index_or result.counts place 0 ≡ 0 }
+        ensures long { length result.counts ≡ 10000 }
     {
         Shared {
-            first: [false; 10_000],
-            second: [false; 10_000],
+            counts: [0; 10_000],
         }
     }
 
-    /// With the document of two places, if it is one document. Whether it is decides no jump here, as
-    /// no processor could foresee it.
-    fn enter(&mut self, x: Placed, y: Placed)
+    /// With the document of two places, if it is one unjudged document. Whether it is decides no jump
+    /// here, as no processor could foresee it.
+    fn enter(&mut self, x: Placed, y: Placed, marks: &[Mark])
         requires first_low { 1 ≤ x.rank }
         requires first_high { x.rank ≤ 10000 }
         requires second_low { 1 ≤ y.rank }
         requires second_high { y.rank ≤ 10000 }
-        ensures first { self.new.first ≡ entered (λ place. place) x y self.old.first }
-        ensures second { self.new.second ≡ entered (λ place. place + 1) y x self.old.second }
+        requires known { x.doc < length marks.now }
+        requires few { (place : ℕ) → slice_index_or self.now.counts place 0 ≤ 2 }
+        ensures { self.new.counts ≡ entered marks.now x y self.old.counts }
     {
         let same = x.doc == y.doc;
-        let before = y.rank < x.rank;
-        let first = x.rank as usize - 1;
-        let second = y.rank as usize - 1;
-        self.first[first] = self.first[first] | (same & before);
-        self.second[second] = self.second[second] | (same & !before);
+        let unjudged = marks[x.doc as usize] == Mark::Unjudged;
+        let place = x.rank.max(y.rank) as usize - 1;
+        self.counts[place] = self.counts[place] + u8::from(same & unjudged);
     }
 
     /// With the documents of both that two walks have not come to.
-    fn walk(&mut self, first: &[Placed], second: &[Placed], from_first: usize, from_second: usize)
+    fn walk(
+        &mut self,
+        first: &[Placed],
+        second: &[Placed],
+        from_first: usize,
+        from_second: usize,
+        marks: &[Mark],
+    )
         requires first { from_first ≤ length first.now }
         requires second { from_second ≤ length second.now }
-        requires walk { (part : ℕ → Bool) × (elsewhere : ℕ → Bool) × (xs : List ℕ) × (ys : List ℕ) × IsWalk part elsewhere xs ys (drop from_first first.now) (drop from_second second.now) self.now.first self.now.second }
-        ensures { (part elsewhere : ℕ → Bool) (xs ys : List ℕ) → IsWalk part elsewhere xs ys (drop from_first first.now) (drop from_second second.now) self.old.first self.old.second → IsWalked part elsewhere xs ys self.new.first self.new.second }
+        requires walk { (part : ℕ → Bool) × (elsewhere : ℕ → Bool) × (xs : List ℕ) × (ys : List ℕ) × IsCountedWalk marks.now part elsewhere xs ys (drop from_first first.now) (drop from_second second.now) self.now.counts }
+        ensures { (part elsewhere : ℕ → Bool) (xs ys : List ℕ) → IsCountedWalk marks.now part elsewhere xs ys (drop from_first first.now) (drop from_second second.now) self.old.counts → IsWalked marks.now part elsewhere xs ys self.new.counts }
     {
         let mut i = from_first;
         let mut j = from_second;
         while i < first.len() && j < second.len() {
             let x = first[i];
             let y = second[j];
-            self.enter(x, y);
+            self.enter(x, y, marks);
             i += passed(x, y);
             j += passed(y, x);
         }
@@ -87,16 +88,12 @@ impl Shared {
     /// With all documents of two runs, by two walks over the documents of both, since each step of one
     /// waits for the step before it: one over the documents below a middle one, and one over the others.
     #[inline(never)]
-    fn walk_both(&mut self, a: &Ranking, b: &Ranking)
-        requires first { length a.now ≤ 10000 }
-        requires second { length b.now ≤ 10000 }
-        requires first_distinct { IsDistinct nat_eq a.now }
-        requires second_distinct { IsDistinct nat_eq b.now }
-        requires first_long { length a.now ≤ length self.now.first }
-        requires second_long { length b.now ≤ length self.now.second }
-        requires first_none { (place : ℕ) → slice_index_or self.now.first place false ≡ false }
-        requires second_none { (place : ℕ) → slice_index_or self.now.second place false ≡ false }
-        ensures { AreShared a.now b.now self.new.first self.new.second }
+    fn walk_both(&mut self, a: &Ranking, b: &Ranking, marks: &[Mark])
+        requires first { IsRanking (length marks.now) a.now }
+        requires second { IsRanking (length marks.now) b.now }
+        requires none { (place : ℕ) → slice_index_or self.now.counts place 0 ≡ 0 }
+        requires long { length self.now.counts ≡ 10000 }
+        ensures { AreShared marks.now a.now b.now self.new.counts }
     {
         let middle = middle_document(a.by_doc());
         let (low, high) = cut(a.by_doc(), middle);
@@ -108,29 +105,27 @@ impl Shared {
         while i < low.len() && j < other_low.len() && k < high.len() && l < other_high.len() {
             let x = low[i];
             let y = other_low[j];
-            self.enter(x, y);
+            self.enter(x, y, marks);
             i += passed(x, y);
             j += passed(y, x);
             let x = high[k];
             let y = other_high[l];
-            self.enter(x, y);
+            self.enter(x, y, marks);
             k += passed(x, y);
             l += passed(y, x);
         }
-        self.walk(low, other_low, i, j);
-        self.walk(high, other_high, k, l);
+        self.walk(low, other_low, i, j, marks);
+        self.walk(high, other_high, k, l, marks);
     }
 
     /// That of two runs.
-    pub fn between(a: &Ranking, b: &Ranking) -> Shared
-        requires first { length a.now ≤ 10000 }
-        requires second { length b.now ≤ 10000 }
-        requires first_distinct { IsDistinct nat_eq a.now }
-        requires second_distinct { IsDistinct nat_eq b.now }
-        ensures { AreShared a.now b.now result.first result.second }
+    pub fn between(a: &Ranking, b: &Ranking, marks: &[Mark]) -> Shared
+        requires first { IsRanking (length marks.now) a.now }
+        requires second { IsRanking (length marks.now) b.now }
+        ensures { AreShared marks.now a.now b.now result.counts }
     {
         let mut shared = Shared::none();
-        shared.walk_both(a, b);
+        shared.walk_both(a, b, marks);
         shared
     }
 }

@@ -3,7 +3,7 @@ use Rattle.std.proofs.lemmas.Bool.{cases_lt}
 use Rattle.rprec.specs.declared.fronts.Fronts.{Fronts}
 use Rattle.rprec.specs.Greedy.{AreFronts}
 use Rattle.rprec.specs.Search.{fronts_at}
-use Rattle.rprec.proofs.Flags.{flagged_before}
+use Rattle.rprec.proofs.Counted.{counted_before}
 use Rattle.rprec.proofs.depths.Depths.enter_inside.Goals as goal
 
 pub loop-place-init : goal.loop-place-init
@@ -13,11 +13,11 @@ loop-place-init c = record {
 }
 
 pub deepened-fronts-requires : goal.deepened-fronts-requires
-deepened-fronts-requires c = (c.args.marks.now, c.args.a.now, c.args.b.now, c.args.depth + c.loop-place.place, flagged_before c.args.marks.now c.args.a.now c.args.b.now (c.args.depth + c.loop-place.place) c.loop-place.fronts c.counts_at-one.result c.counts_at-two.result c.args.shared.now.first c.args.shared.now.second c.requires.a c.requires.b c.requires.shared (omega (arith, c.requires.depth, c.loop-place-test.true)) c.loop-place.invariant.fronts c.counts_at-one.ensures c.counts_at-two.ensures)
+deepened-fronts-requires c = (c.args.marks.now, c.args.a.now, c.args.b.now, c.args.depth + c.loop-place.place, counted_before c.args.marks.now c.args.a.now c.args.b.now (c.args.depth + c.loop-place.place) c.loop-place.fronts c.counts_at-one.result c.counts_at-two.result c.args.shared.now.counts c.from-both.result c.from-both.ensures c.requires.a c.requires.b c.requires.shared (omega (arith, c.requires.depth, c.loop-place-test.true)) c.loop-place.invariant.fronts c.counts_at-one.ensures c.counts_at-two.ensures)
 
 pub loop-place-preserved : goal.loop-place-preserved
 loop-place-preserved c =
-    let after = c.deepened-fronts.ensures c.args.marks.now c.args.a.now c.args.b.now (c.args.depth + c.loop-place.place) (flagged_before c.args.marks.now c.args.a.now c.args.b.now (c.args.depth + c.loop-place.place) c.loop-place.fronts c.counts_at-one.result c.counts_at-two.result c.args.shared.now.first c.args.shared.now.second c.requires.a c.requires.b c.requires.shared (omega (arith, c.requires.depth, c.loop-place-test.true)) c.loop-place.invariant.fronts c.counts_at-one.ensures c.counts_at-two.ensures) in
+    let after = c.deepened-fronts.ensures c.args.marks.now c.args.a.now c.args.b.now (c.args.depth + c.loop-place.place) (counted_before c.args.marks.now c.args.a.now c.args.b.now (c.args.depth + c.loop-place.place) c.loop-place.fronts c.counts_at-one.result c.counts_at-two.result c.args.shared.now.counts c.from-both.result c.from-both.ensures c.requires.a c.requires.b c.requires.shared (omega (arith, c.requires.depth, c.loop-place-test.true)) c.loop-place.invariant.fronts c.counts_at-one.ensures c.counts_at-two.ensures) in
     record {
       fronts = subst (λ (r : ℕ). AreFronts c.args.marks.now (take r c.args.a.now) (take r c.args.b.now) c.deepened-fronts.result) (omega arith) after;
       each = λ place lt.

@@ -1,8 +1,10 @@
-use Rattle.rprec.proofs.Flags.{all_down}
+use Rattle.std.proofs.Common.{◌≡◌, ℕ, zero, suc, get_or, replicate, refl}
 use Rattle.rprec.proofs.shared.Shared.none.Goals as goal
 
-pub returns-clause-first : goal.returns-clause-first
-returns-clause-first c place = all_down 10000 place
+all_none : (n place : ℕ) → ◌≡◌ {A = ℕ} (get_or (replicate n 0) place 0) 0
+all_none zero place = refl
+all_none (suc n) zero = refl
+all_none (suc n) (suc place) = all_none n place
 
-pub returns-clause-second : goal.returns-clause-second
-returns-clause-second c place = all_down 10000 place
+pub returns-clause-none : goal.returns-clause-none
+returns-clause-none c place = all_none 10000 place

@@ -1,87 +1,100 @@
-use Rattle.std.proofs.Common.{◌≡◌, ◌+◌, ◌≤◌, ◌<◌, ℕ, Bool, List, length, true, false, nat_le, drop, slice_index_or, arith, sym, subst}
-use Rattle.std.specs.Prelude.{if◌then◌else◌}
+use Rattle.std.proofs.Common.{◌≤◌, drop, arith}
 use Rattle.desk_model.specs.declared.placed.Placed.{Placed}
-use Rattle.rprec.specs.Shared.{entered}
-use Rattle.rprec.specs.Walk.{IsWalk}
-use Rattle.rprec.proofs.Flags.{walk_step, rank_first, rank_second, none_left}
-use Rattle.rprec.proofs.Strands.{AreStrands, is_below, is_above, below_apart, above_apart, strands_start, strands_end, strands_turned, strand_next, at_most_one, both_in}
+use Rattle.rprec.proofs.Flags.{none_left}
+use Rattle.rprec.proofs.Strands.{above_apart, at_most_one, below_apart, both_in, counted_strands_end, counted_strands_start, counted_turned, is_above, is_below, lower_walk, next_places, strand_walked, walk_stepped}
 use Rattle.rprec.proofs.shared.Shared.walk_both.Goals as goal
 
 abbrev nothing : Placed
 nothing = record { doc = 0; rank = 0 }
 
--- one step of the first walk of two
-stepped : (below above : ℕ → Bool) (xs ys : List ℕ) (es fs gs hs : List Placed) (i j p q : ℕ) (f s f' s' : List Bool) → ((doc : ℕ) → above doc ≡ true → below doc ≡ false) → i < length es → j < length fs →
-    p ≡ (if nat_le (slice_index_or es i nothing).doc (slice_index_or fs j nothing).doc then 1 else 0) → q ≡ (if nat_le (slice_index_or fs j nothing).doc (slice_index_or es i nothing).doc then 1 else 0) →
-    f' ≡ entered (λ place. place) (slice_index_or es i nothing) (slice_index_or fs j nothing) f → s' ≡ entered (λ place. place + 1) (slice_index_or fs j nothing) (slice_index_or es i nothing) s →
-    AreStrands below above xs ys (drop i es) (drop j fs) gs hs f s → AreStrands below above xs ys (drop (i + p) es) (drop (j + q) fs) gs hs f' s'
-stepped below above xs ys es fs gs hs i j p q f s f' s' apart hi hj ep eq ef es' h =
-    let w = h.lower in
-    let step = walk_step below (both_in gs hs) xs ys es fs i j p q nothing f s w.first_distinct w.second_distinct hi hj ep eq w in
-    let x = slice_index_or es i nothing in
-    let y = slice_index_or fs j nothing in
-    let walk = subst (λ flags. IsWalk below (both_in gs hs) xs ys (drop (i + p) es) (drop (j + q) fs) flags s') (sym ef) (subst (λ flags. IsWalk below (both_in gs hs) xs ys (drop (i + p) es) (drop (j + q) fs) (entered (λ place. place) x y f) flags) (sym es') step) in
-    strand_next below above xs ys (drop i es) (drop j fs) (drop (i + p) es) (drop (j + q) fs) gs hs f s f' s' apart walk h
-
 pub loop-i-init : goal.loop-i-init
-loop-i-init c =
-    record {
-      low_within = omega arith;
-      other_low_within = omega arith;
-      high_within = omega arith;
-      other_high_within = omega arith;
-      strands =
-          strands_start c.middle_document-middle.result c.args.a.now c.args.b.now c.by_doc-2.result.now c.by_doc-3.result.now c.cut.result.0.now c.cut-2.result.0.now c.cut.result.1.now c.cut-2.result.1.now c.args.self.now.first c.args.self.now.second
-          c.requires.first c.requires.second c.requires.first_distinct c.requires.second_distinct c.requires.first_long c.requires.second_long
-          (record { lower = c.cut.ensures.ascending_below; upper = c.cut.ensures.ascending_above; low = c.cut.ensures.below; high = c.cut.ensures.above })
-          (record { lower = c.cut-2.ensures.ascending_below; upper = c.cut-2.ensures.ascending_above; low = c.cut-2.ensures.below; high = c.cut-2.ensures.above })
-          c.by_doc-2.ensures.ranks c.by_doc-3.ensures.ranks c.requires.first_none c.requires.second_none;
-    }
+loop-i-init c = record {
+  low_within = omega arith;
+  other_low_within = omega arith;
+  high_within = omega arith;
+  other_high_within = omega arith;
+  strands =
+      counted_strands_start c.args.marks.now c.middle_document-middle.result c.args.a.now c.args.b.now c.by_doc-2.result.now c.by_doc-3.result.now c.cut.result.0.now c.cut-2.result.0.now c.cut.result.1.now c.cut-2.result.1.now c.args.self.now.counts
+      c.requires.first c.requires.second
+      (record { lower = c.cut.ensures.ascending_below; upper = c.cut.ensures.ascending_above; low = c.cut.ensures.below; high = c.cut.ensures.above })
+      (record { lower = c.cut-2.ensures.ascending_below; upper = c.cut-2.ensures.ascending_above; low = c.cut-2.ensures.below; high = c.cut-2.ensures.above })
+      c.by_doc-2.ensures.ranks c.by_doc-3.ensures.ranks c.requires.none c.requires.long;
+}
 
 pub enter-requires-clause-first_low : goal.enter-requires-clause-first_low
 enter-requires-clause-first_low c =
-    let w = c.loop-i.invariant.strands.lower in
-    (rank_first _ _ c.args.a.now c.args.b.now c.cut.result.0.now (drop c.loop-i.j c.cut-2.result.0.now) c.loop-i.i nothing c.loop-i.self.first c.loop-i.self.second c.loop-i-test.true w w.first_short).0
+    (next_places c.args.marks.now (is_below c.middle_document-middle.result) (both_in (drop c.loop-i.k c.cut.result.1.now) (drop c.loop-i.l c.cut-2.result.1.now)) c.args.a.now c.args.b.now c.cut.result.0.now c.cut-2.result.0.now c.loop-i.i c.loop-i.j nothing c.loop-i.self.counts c.loop-i-test.true c.if-j-other_low.true (lower_walk _ _ _ _ _ _ _ _ _ _ c.loop-i.invariant.strands)).first_low
 
 pub enter-requires-clause-first_high : goal.enter-requires-clause-first_high
 enter-requires-clause-first_high c =
-    let w = c.loop-i.invariant.strands.lower in
-    (rank_first _ _ c.args.a.now c.args.b.now c.cut.result.0.now (drop c.loop-i.j c.cut-2.result.0.now) c.loop-i.i nothing c.loop-i.self.first c.loop-i.self.second c.loop-i-test.true w w.first_short).1
+    (next_places c.args.marks.now (is_below c.middle_document-middle.result) (both_in (drop c.loop-i.k c.cut.result.1.now) (drop c.loop-i.l c.cut-2.result.1.now)) c.args.a.now c.args.b.now c.cut.result.0.now c.cut-2.result.0.now c.loop-i.i c.loop-i.j nothing c.loop-i.self.counts c.loop-i-test.true c.if-j-other_low.true (lower_walk _ _ _ _ _ _ _ _ _ _ c.loop-i.invariant.strands)).first_high
 
 pub enter-requires-clause-second_low : goal.enter-requires-clause-second_low
 enter-requires-clause-second_low c =
-    let w = c.loop-i.invariant.strands.lower in
-    (rank_second _ _ c.args.a.now c.args.b.now (drop c.loop-i.i c.cut.result.0.now) c.cut-2.result.0.now c.loop-i.j nothing c.loop-i.self.first c.loop-i.self.second c.if-j-other_low.true w w.second_short).0
+    (next_places c.args.marks.now (is_below c.middle_document-middle.result) (both_in (drop c.loop-i.k c.cut.result.1.now) (drop c.loop-i.l c.cut-2.result.1.now)) c.args.a.now c.args.b.now c.cut.result.0.now c.cut-2.result.0.now c.loop-i.i c.loop-i.j nothing c.loop-i.self.counts c.loop-i-test.true c.if-j-other_low.true (lower_walk _ _ _ _ _ _ _ _ _ _ c.loop-i.invariant.strands)).second_low
 
 pub enter-requires-clause-second_high : goal.enter-requires-clause-second_high
 enter-requires-clause-second_high c =
-    let w = c.loop-i.invariant.strands.lower in
-    (rank_second _ _ c.args.a.now c.args.b.now (drop c.loop-i.i c.cut.result.0.now) c.cut-2.result.0.now c.loop-i.j nothing c.loop-i.self.first c.loop-i.self.second c.if-j-other_low.true w w.second_short).1
+    (next_places c.args.marks.now (is_below c.middle_document-middle.result) (both_in (drop c.loop-i.k c.cut.result.1.now) (drop c.loop-i.l c.cut-2.result.1.now)) c.args.a.now c.args.b.now c.cut.result.0.now c.cut-2.result.0.now c.loop-i.i c.loop-i.j nothing c.loop-i.self.counts c.loop-i-test.true c.if-j-other_low.true (lower_walk _ _ _ _ _ _ _ _ _ _ c.loop-i.invariant.strands)).second_high
+
+pub enter-requires-clause-known : goal.enter-requires-clause-known
+enter-requires-clause-known c =
+    (next_places c.args.marks.now (is_below c.middle_document-middle.result) (both_in (drop c.loop-i.k c.cut.result.1.now) (drop c.loop-i.l c.cut-2.result.1.now)) c.args.a.now c.args.b.now c.cut.result.0.now c.cut-2.result.0.now c.loop-i.i c.loop-i.j nothing c.loop-i.self.counts c.loop-i-test.true c.if-j-other_low.true (lower_walk _ _ _ _ _ _ _ _ _ _ c.loop-i.invariant.strands)).known
+
+pub enter-requires-clause-few : goal.enter-requires-clause-few
+enter-requires-clause-few c =
+    (next_places c.args.marks.now (is_below c.middle_document-middle.result) (both_in (drop c.loop-i.k c.cut.result.1.now) (drop c.loop-i.l c.cut-2.result.1.now)) c.args.a.now c.args.b.now c.cut.result.0.now c.cut-2.result.0.now c.loop-i.i c.loop-i.j nothing c.loop-i.self.counts c.loop-i-test.true c.if-j-other_low.true (lower_walk _ _ _ _ _ _ _ _ _ _ c.loop-i.invariant.strands)).few
 
 pub enter-requires-in-loop-i-clause-first_low : goal.enter-requires-in-loop-i-clause-first_low
 enter-requires-in-loop-i-clause-first_low c =
-    let w = (stepped (is_below c.middle_document-middle.result) (is_above c.middle_document-middle.result) c.args.a.now c.args.b.now c.cut.result.0.now c.cut-2.result.0.now (drop c.loop-i.k c.cut.result.1.now) (drop c.loop-i.l c.cut-2.result.1.now) c.loop-i.i c.loop-i.j c.passed-i.result c.passed-j.result c.loop-i.self.first c.loop-i.self.second c.enter.new.self.first c.enter.new.self.second (below_apart c.middle_document-middle.result) c.loop-i-test.true c.if-j-other_low.true c.passed-i.ensures c.passed-j.ensures c.enter.ensures.first c.enter.ensures.second c.loop-i.invariant.strands).upper in
-    (rank_first _ _ c.args.a.now c.args.b.now c.cut.result.1.now (drop c.loop-i.l c.cut-2.result.1.now) c.loop-i.k nothing c.enter.new.self.first c.enter.new.self.second c.if-k-high.true w w.first_short).0
+    let walked = walk_stepped c.args.marks.now (is_below c.middle_document-middle.result) (both_in (drop c.loop-i.k c.cut.result.1.now) (drop c.loop-i.l c.cut-2.result.1.now)) c.args.a.now c.args.b.now c.cut.result.0.now c.cut-2.result.0.now c.loop-i.i c.loop-i.j c.passed-i.result c.passed-j.result nothing c.loop-i.self.counts c.enter.new.self.counts c.loop-i-test.true c.if-j-other_low.true
+    c.passed-i.ensures c.passed-j.ensures c.enter.ensures (lower_walk _ _ _ _ _ _ _ _ _ _ c.loop-i.invariant.strands) in
+    let one = counted_turned _ _ _ _ _ _ _ _ _ _ (strand_walked _ _ (is_above c.middle_document-middle.result) _ _ _ _ _ _ _ _ _ _ (below_apart c.middle_document-middle.result) walked c.loop-i.invariant.strands) in
+    (next_places c.args.marks.now (is_above c.middle_document-middle.result) _ c.args.a.now c.args.b.now c.cut.result.1.now c.cut-2.result.1.now c.loop-i.k c.loop-i.l nothing c.enter.new.self.counts c.if-k-high.true c.if-l-other_high.true (lower_walk _ _ _ _ _ _ _ _ _ _ one)).first_low
 
 pub enter-requires-in-loop-i-clause-first_high : goal.enter-requires-in-loop-i-clause-first_high
 enter-requires-in-loop-i-clause-first_high c =
-    let w = (stepped (is_below c.middle_document-middle.result) (is_above c.middle_document-middle.result) c.args.a.now c.args.b.now c.cut.result.0.now c.cut-2.result.0.now (drop c.loop-i.k c.cut.result.1.now) (drop c.loop-i.l c.cut-2.result.1.now) c.loop-i.i c.loop-i.j c.passed-i.result c.passed-j.result c.loop-i.self.first c.loop-i.self.second c.enter.new.self.first c.enter.new.self.second (below_apart c.middle_document-middle.result) c.loop-i-test.true c.if-j-other_low.true c.passed-i.ensures c.passed-j.ensures c.enter.ensures.first c.enter.ensures.second c.loop-i.invariant.strands).upper in
-    (rank_first _ _ c.args.a.now c.args.b.now c.cut.result.1.now (drop c.loop-i.l c.cut-2.result.1.now) c.loop-i.k nothing c.enter.new.self.first c.enter.new.self.second c.if-k-high.true w w.first_short).1
+    let walked = walk_stepped c.args.marks.now (is_below c.middle_document-middle.result) (both_in (drop c.loop-i.k c.cut.result.1.now) (drop c.loop-i.l c.cut-2.result.1.now)) c.args.a.now c.args.b.now c.cut.result.0.now c.cut-2.result.0.now c.loop-i.i c.loop-i.j c.passed-i.result c.passed-j.result nothing c.loop-i.self.counts c.enter.new.self.counts c.loop-i-test.true c.if-j-other_low.true
+    c.passed-i.ensures c.passed-j.ensures c.enter.ensures (lower_walk _ _ _ _ _ _ _ _ _ _ c.loop-i.invariant.strands) in
+    let one = counted_turned _ _ _ _ _ _ _ _ _ _ (strand_walked _ _ (is_above c.middle_document-middle.result) _ _ _ _ _ _ _ _ _ _ (below_apart c.middle_document-middle.result) walked c.loop-i.invariant.strands) in
+    (next_places c.args.marks.now (is_above c.middle_document-middle.result) _ c.args.a.now c.args.b.now c.cut.result.1.now c.cut-2.result.1.now c.loop-i.k c.loop-i.l nothing c.enter.new.self.counts c.if-k-high.true c.if-l-other_high.true (lower_walk _ _ _ _ _ _ _ _ _ _ one)).first_high
 
 pub enter-requires-in-loop-i-clause-second_low : goal.enter-requires-in-loop-i-clause-second_low
 enter-requires-in-loop-i-clause-second_low c =
-    let w = (stepped (is_below c.middle_document-middle.result) (is_above c.middle_document-middle.result) c.args.a.now c.args.b.now c.cut.result.0.now c.cut-2.result.0.now (drop c.loop-i.k c.cut.result.1.now) (drop c.loop-i.l c.cut-2.result.1.now) c.loop-i.i c.loop-i.j c.passed-i.result c.passed-j.result c.loop-i.self.first c.loop-i.self.second c.enter.new.self.first c.enter.new.self.second (below_apart c.middle_document-middle.result) c.loop-i-test.true c.if-j-other_low.true c.passed-i.ensures c.passed-j.ensures c.enter.ensures.first c.enter.ensures.second c.loop-i.invariant.strands).upper in
-    (rank_second _ _ c.args.a.now c.args.b.now (drop c.loop-i.k c.cut.result.1.now) c.cut-2.result.1.now c.loop-i.l nothing c.enter.new.self.first c.enter.new.self.second c.if-l-other_high.true w w.second_short).0
+    let walked = walk_stepped c.args.marks.now (is_below c.middle_document-middle.result) (both_in (drop c.loop-i.k c.cut.result.1.now) (drop c.loop-i.l c.cut-2.result.1.now)) c.args.a.now c.args.b.now c.cut.result.0.now c.cut-2.result.0.now c.loop-i.i c.loop-i.j c.passed-i.result c.passed-j.result nothing c.loop-i.self.counts c.enter.new.self.counts c.loop-i-test.true c.if-j-other_low.true
+    c.passed-i.ensures c.passed-j.ensures c.enter.ensures (lower_walk _ _ _ _ _ _ _ _ _ _ c.loop-i.invariant.strands) in
+    let one = counted_turned _ _ _ _ _ _ _ _ _ _ (strand_walked _ _ (is_above c.middle_document-middle.result) _ _ _ _ _ _ _ _ _ _ (below_apart c.middle_document-middle.result) walked c.loop-i.invariant.strands) in
+    (next_places c.args.marks.now (is_above c.middle_document-middle.result) _ c.args.a.now c.args.b.now c.cut.result.1.now c.cut-2.result.1.now c.loop-i.k c.loop-i.l nothing c.enter.new.self.counts c.if-k-high.true c.if-l-other_high.true (lower_walk _ _ _ _ _ _ _ _ _ _ one)).second_low
 
 pub enter-requires-in-loop-i-clause-second_high : goal.enter-requires-in-loop-i-clause-second_high
 enter-requires-in-loop-i-clause-second_high c =
-    let w = (stepped (is_below c.middle_document-middle.result) (is_above c.middle_document-middle.result) c.args.a.now c.args.b.now c.cut.result.0.now c.cut-2.result.0.now (drop c.loop-i.k c.cut.result.1.now) (drop c.loop-i.l c.cut-2.result.1.now) c.loop-i.i c.loop-i.j c.passed-i.result c.passed-j.result c.loop-i.self.first c.loop-i.self.second c.enter.new.self.first c.enter.new.self.second (below_apart c.middle_document-middle.result) c.loop-i-test.true c.if-j-other_low.true c.passed-i.ensures c.passed-j.ensures c.enter.ensures.first c.enter.ensures.second c.loop-i.invariant.strands).upper in
-    (rank_second _ _ c.args.a.now c.args.b.now (drop c.loop-i.k c.cut.result.1.now) c.cut-2.result.1.now c.loop-i.l nothing c.enter.new.self.first c.enter.new.self.second c.if-l-other_high.true w w.second_short).1
+    let walked = walk_stepped c.args.marks.now (is_below c.middle_document-middle.result) (both_in (drop c.loop-i.k c.cut.result.1.now) (drop c.loop-i.l c.cut-2.result.1.now)) c.args.a.now c.args.b.now c.cut.result.0.now c.cut-2.result.0.now c.loop-i.i c.loop-i.j c.passed-i.result c.passed-j.result nothing c.loop-i.self.counts c.enter.new.self.counts c.loop-i-test.true c.if-j-other_low.true
+    c.passed-i.ensures c.passed-j.ensures c.enter.ensures (lower_walk _ _ _ _ _ _ _ _ _ _ c.loop-i.invariant.strands) in
+    let one = counted_turned _ _ _ _ _ _ _ _ _ _ (strand_walked _ _ (is_above c.middle_document-middle.result) _ _ _ _ _ _ _ _ _ _ (below_apart c.middle_document-middle.result) walked c.loop-i.invariant.strands) in
+    (next_places c.args.marks.now (is_above c.middle_document-middle.result) _ c.args.a.now c.args.b.now c.cut.result.1.now c.cut-2.result.1.now c.loop-i.k c.loop-i.l nothing c.enter.new.self.counts c.if-k-high.true c.if-l-other_high.true (lower_walk _ _ _ _ _ _ _ _ _ _ one)).second_high
+
+pub enter-requires-in-loop-i-clause-known : goal.enter-requires-in-loop-i-clause-known
+enter-requires-in-loop-i-clause-known c =
+    let walked = walk_stepped c.args.marks.now (is_below c.middle_document-middle.result) (both_in (drop c.loop-i.k c.cut.result.1.now) (drop c.loop-i.l c.cut-2.result.1.now)) c.args.a.now c.args.b.now c.cut.result.0.now c.cut-2.result.0.now c.loop-i.i c.loop-i.j c.passed-i.result c.passed-j.result nothing c.loop-i.self.counts c.enter.new.self.counts c.loop-i-test.true c.if-j-other_low.true
+    c.passed-i.ensures c.passed-j.ensures c.enter.ensures (lower_walk _ _ _ _ _ _ _ _ _ _ c.loop-i.invariant.strands) in
+    let one = counted_turned _ _ _ _ _ _ _ _ _ _ (strand_walked _ _ (is_above c.middle_document-middle.result) _ _ _ _ _ _ _ _ _ _ (below_apart c.middle_document-middle.result) walked c.loop-i.invariant.strands) in
+    (next_places c.args.marks.now (is_above c.middle_document-middle.result) _ c.args.a.now c.args.b.now c.cut.result.1.now c.cut-2.result.1.now c.loop-i.k c.loop-i.l nothing c.enter.new.self.counts c.if-k-high.true c.if-l-other_high.true (lower_walk _ _ _ _ _ _ _ _ _ _ one)).known
+
+pub enter-requires-in-loop-i-clause-few : goal.enter-requires-in-loop-i-clause-few
+enter-requires-in-loop-i-clause-few c =
+    let walked = walk_stepped c.args.marks.now (is_below c.middle_document-middle.result) (both_in (drop c.loop-i.k c.cut.result.1.now) (drop c.loop-i.l c.cut-2.result.1.now)) c.args.a.now c.args.b.now c.cut.result.0.now c.cut-2.result.0.now c.loop-i.i c.loop-i.j c.passed-i.result c.passed-j.result nothing c.loop-i.self.counts c.enter.new.self.counts c.loop-i-test.true c.if-j-other_low.true
+    c.passed-i.ensures c.passed-j.ensures c.enter.ensures (lower_walk _ _ _ _ _ _ _ _ _ _ c.loop-i.invariant.strands) in
+    let one = counted_turned _ _ _ _ _ _ _ _ _ _ (strand_walked _ _ (is_above c.middle_document-middle.result) _ _ _ _ _ _ _ _ _ _ (below_apart c.middle_document-middle.result) walked c.loop-i.invariant.strands) in
+    (next_places c.args.marks.now (is_above c.middle_document-middle.result) _ c.args.a.now c.args.b.now c.cut.result.1.now c.cut-2.result.1.now c.loop-i.k c.loop-i.l nothing c.enter.new.self.counts c.if-k-high.true c.if-l-other_high.true (lower_walk _ _ _ _ _ _ _ _ _ _ one)).few
 
 pub loop-i-preserved : goal.loop-i-preserved
 loop-i-preserved c =
-    let one = stepped (is_below c.middle_document-middle.result) (is_above c.middle_document-middle.result) c.args.a.now c.args.b.now c.cut.result.0.now c.cut-2.result.0.now (drop c.loop-i.k c.cut.result.1.now) (drop c.loop-i.l c.cut-2.result.1.now) c.loop-i.i c.loop-i.j c.passed-i.result c.passed-j.result c.loop-i.self.first c.loop-i.self.second c.enter.new.self.first c.enter.new.self.second (below_apart c.middle_document-middle.result) c.loop-i-test.true c.if-j-other_low.true c.passed-i.ensures c.passed-j.ensures c.enter.ensures.first c.enter.ensures.second c.loop-i.invariant.strands in
-    let two = stepped (is_above c.middle_document-middle.result) (is_below c.middle_document-middle.result) c.args.a.now c.args.b.now c.cut.result.1.now c.cut-2.result.1.now (drop (c.loop-i.i + c.passed-i.result) c.cut.result.0.now) (drop (c.loop-i.j + c.passed-j.result) c.cut-2.result.0.now) c.loop-i.k c.loop-i.l c.passed-k.result c.passed-l.result c.enter.new.self.first c.enter.new.self.second c.enter-in-loop-i.new.self.first c.enter-in-loop-i.new.self.second (above_apart c.middle_document-middle.result) c.if-k-high.true c.if-l-other_high.true c.passed-k.ensures c.passed-l.ensures c.enter-in-loop-i.ensures.first c.enter-in-loop-i.ensures.second (strands_turned _ _ _ _ _ _ _ _ _ _ one) in
+    let walked = walk_stepped c.args.marks.now (is_below c.middle_document-middle.result) (both_in (drop c.loop-i.k c.cut.result.1.now) (drop c.loop-i.l c.cut-2.result.1.now)) c.args.a.now c.args.b.now c.cut.result.0.now c.cut-2.result.0.now c.loop-i.i c.loop-i.j c.passed-i.result c.passed-j.result nothing c.loop-i.self.counts c.enter.new.self.counts c.loop-i-test.true c.if-j-other_low.true
+    c.passed-i.ensures c.passed-j.ensures c.enter.ensures (lower_walk _ _ _ _ _ _ _ _ _ _ c.loop-i.invariant.strands) in
+    let one = counted_turned _ _ _ _ _ _ _ _ _ _ (strand_walked _ _ (is_above c.middle_document-middle.result) _ _ _ _ _ _ _ _ _ _ (below_apart c.middle_document-middle.result) walked c.loop-i.invariant.strands) in
+    let walked_too = walk_stepped c.args.marks.now (is_above c.middle_document-middle.result) _ c.args.a.now c.args.b.now c.cut.result.1.now c.cut-2.result.1.now c.loop-i.k c.loop-i.l c.passed-k.result c.passed-l.result nothing c.enter.new.self.counts c.enter-in-loop-i.new.self.counts c.if-k-high.true c.if-l-other_high.true
+    c.passed-k.ensures c.passed-l.ensures c.enter-in-loop-i.ensures (lower_walk _ _ _ _ _ _ _ _ _ _ one) in
+    let two = counted_turned _ _ _ _ _ _ _ _ _ _ (strand_walked _ _ (is_below c.middle_document-middle.result) _ _ _ _ _ _ _ _ _ _ (above_apart c.middle_document-middle.result) walked_too one) in
     let first_step : c.passed-i.result ≤ 1 = at_most_one _ c.passed-i.result c.passed-i.ensures in
     let second_step : c.passed-j.result ≤ 1 = at_most_one _ c.passed-j.result c.passed-j.ensures in
     let third_step : c.passed-k.result ≤ 1 = at_most_one _ c.passed-k.result c.passed-k.ensures in
@@ -91,22 +104,23 @@ loop-i-preserved c =
       other_low_within = omega (arith, second_step, c.if-j-other_low.true);
       high_within = omega (arith, third_step, c.if-k-high.true);
       other_high_within = omega (arith, fourth_step, c.if-l-other_high.true);
-      strands = strands_turned _ _ _ _ _ _ _ _ _ _ two;
+      strands = two;
     }
 
 pub walk-requires-clause-walk : goal.walk-requires-clause-walk
-walk-requires-clause-walk c = (is_below c.middle_document-middle.result, both_in (drop c.loop-i.k c.cut.result.1.now) (drop c.loop-i.l c.cut-2.result.1.now), c.args.a.now, c.args.b.now, c.loop-i.invariant.strands.lower)
+walk-requires-clause-walk c =
+    (is_below c.middle_document-middle.result, both_in (drop c.loop-i.k c.cut.result.1.now) (drop c.loop-i.l c.cut-2.result.1.now), c.args.a.now, c.args.b.now, lower_walk _ _ _ _ _ _ _ _ _ _ c.loop-i.invariant.strands)
 
 pub walk-requires-2-clause-walk : goal.walk-requires-2-clause-walk
 walk-requires-2-clause-walk c =
-    let first = c.walk.ensures (is_below c.middle_document-middle.result) (both_in (drop c.loop-i.k c.cut.result.1.now) (drop c.loop-i.l c.cut-2.result.1.now)) c.args.a.now c.args.b.now c.loop-i.invariant.strands.lower in
-    let after = strand_next (is_below c.middle_document-middle.result) (is_above c.middle_document-middle.result) c.args.a.now c.args.b.now (drop c.loop-i.i c.cut.result.0.now) (drop c.loop-i.j c.cut-2.result.0.now) first.es first.fs (drop c.loop-i.k c.cut.result.1.now) (drop c.loop-i.l c.cut-2.result.1.now) c.loop-i.self.first c.loop-i.self.second c.walk.new.self.first c.walk.new.self.second (below_apart c.middle_document-middle.result) first.walk c.loop-i.invariant.strands in
-    (is_above c.middle_document-middle.result, both_in first.es first.fs, c.args.a.now, c.args.b.now, after.upper)
+    let first = c.walk.ensures (is_below c.middle_document-middle.result) (both_in (drop c.loop-i.k c.cut.result.1.now) (drop c.loop-i.l c.cut-2.result.1.now)) c.args.a.now c.args.b.now (lower_walk _ _ _ _ _ _ _ _ _ _ c.loop-i.invariant.strands) in
+    let after = counted_turned _ _ _ _ _ _ _ _ _ _ (strand_walked _ _ (is_above c.middle_document-middle.result) _ _ _ _ _ _ _ _ _ _ (below_apart c.middle_document-middle.result) first.walk c.loop-i.invariant.strands) in
+    (is_above c.middle_document-middle.result, both_in first.es first.fs, c.args.a.now, c.args.b.now, lower_walk _ _ _ _ _ _ _ _ _ _ after)
 
 pub returns : goal.returns
 returns c =
-    let first = c.walk.ensures (is_below c.middle_document-middle.result) (both_in (drop c.loop-i.k c.cut.result.1.now) (drop c.loop-i.l c.cut-2.result.1.now)) c.args.a.now c.args.b.now c.loop-i.invariant.strands.lower in
-    let after = strand_next (is_below c.middle_document-middle.result) (is_above c.middle_document-middle.result) c.args.a.now c.args.b.now (drop c.loop-i.i c.cut.result.0.now) (drop c.loop-i.j c.cut-2.result.0.now) first.es first.fs (drop c.loop-i.k c.cut.result.1.now) (drop c.loop-i.l c.cut-2.result.1.now) c.loop-i.self.first c.loop-i.self.second c.walk.new.self.first c.walk.new.self.second (below_apart c.middle_document-middle.result) first.walk c.loop-i.invariant.strands in
-    let second = c.walk-2.ensures (is_above c.middle_document-middle.result) (both_in first.es first.fs) c.args.a.now c.args.b.now after.upper in
-    let end = strand_next (is_above c.middle_document-middle.result) (is_below c.middle_document-middle.result) c.args.a.now c.args.b.now (drop c.loop-i.k c.cut.result.1.now) (drop c.loop-i.l c.cut-2.result.1.now) second.es second.fs first.es first.fs c.walk.new.self.first c.walk.new.self.second c.walk-2.new.self.first c.walk-2.new.self.second (above_apart c.middle_document-middle.result) second.walk (strands_turned _ _ _ _ _ _ _ _ _ _ after) in
-    strands_end (is_above c.middle_document-middle.result) (is_below c.middle_document-middle.result) c.args.a.now c.args.b.now second.es second.fs first.es first.fs c.walk-2.new.self.first c.walk-2.new.self.second (none_left second.es second.fs second.ended) (none_left first.es first.fs first.ended) end
+    let first = c.walk.ensures (is_below c.middle_document-middle.result) (both_in (drop c.loop-i.k c.cut.result.1.now) (drop c.loop-i.l c.cut-2.result.1.now)) c.args.a.now c.args.b.now (lower_walk _ _ _ _ _ _ _ _ _ _ c.loop-i.invariant.strands) in
+    let after = counted_turned _ _ _ _ _ _ _ _ _ _ (strand_walked _ _ (is_above c.middle_document-middle.result) _ _ _ _ _ _ _ _ _ _ (below_apart c.middle_document-middle.result) first.walk c.loop-i.invariant.strands) in
+    let second = c.walk-2.ensures (is_above c.middle_document-middle.result) (both_in first.es first.fs) c.args.a.now c.args.b.now (lower_walk _ _ _ _ _ _ _ _ _ _ after) in
+    let end = strand_walked _ _ (is_below c.middle_document-middle.result) _ _ _ _ _ _ _ _ _ _ (above_apart c.middle_document-middle.result) second.walk after in
+    counted_strands_end _ (is_above c.middle_document-middle.result) (is_below c.middle_document-middle.result) _ _ _ _ _ _ _ (none_left second.es second.fs second.ended) (none_left first.es first.fs first.ended) end

@@ -1,5 +1,5 @@
 use Rattle.std.proofs.Common.{◌+◌, ◌-◌, ◌≤◌, drop, length}
-use Rattle.rprec.proofs.Strands.{AreStrands, is_below, is_above}
+use Rattle.rprec.proofs.Strands.{AreCountedStrands, is_below, is_above}
 use Rattle.rprec.proofs.shared.Shared.walk_both.Given as goal
 
 abbrev pub invariant-loop-i : goal.invariant-loop-i
@@ -8,7 +8,7 @@ invariant-loop-i l = record {
   other_low_within : l.j ≤ length l.other_low;
   high_within : l.k ≤ length l.high;
   other_high_within : l.l ≤ length l.other_high;
-  strands : AreStrands (is_below l.middle) (is_above l.middle) l.a l.b (drop l.i l.low) (drop l.j l.other_low) (drop l.k l.high) (drop l.l l.other_high) l.self.first l.self.second;
+  strands : AreCountedStrands l.marks (is_below l.middle) (is_above l.middle) l.a l.b (drop l.i l.low) (drop l.j l.other_low) (drop l.k l.high) (drop l.l l.other_high) l.self.counts;
 }
 
 abbrev pub decreases-loop-i : goal.decreases-loop-i
