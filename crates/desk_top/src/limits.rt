@@ -1,7 +1,8 @@
 // The limit of a file, and the limits of the crates below in numbers.
 ghost use Rattle.std.specs.Prelude.{◌≡◌, pos, negsuc};
 ghost use Rattle.desk_text.specs.declared.line.TheConstants.{LONGEST_LINE};
-ghost use Rattle.qrels_reader.specs.declared.limits.TheConstants.{LONGEST_NAME, MOST_TOPICS, MOST_QRELS_ROWS, MOST_NAME_BYTES, LEAST_GRADE, GREATEST_GRADE};
+ghost use Rattle.desk_model.specs.declared.name.TheConstants.Name.{LONGEST};
+ghost use Rattle.qrels_reader.specs.declared.limits.TheConstants.{MOST_TOPICS, MOST_QRELS_ROWS, MOST_NAME_BYTES, LEAST_GRADE, GREATEST_GRADE};
 ghost use Rattle.run_reader.specs.declared.limits.TheConstants.{MOST_RANKS, MOST_RUN_ROWS};
 ghost use Rattle.topics_pool.specs.declared.limits.TheConstants.{MOST_CELLS, MOST_RUNS};
 ghost use Rattle.desk_top.specs.declared.limits.TheConstants.{LONGEST_FILE};
@@ -13,7 +14,7 @@ pub const LONGEST_FILE: usize = 1_073_741_824;
 pub fn limits_in_numbers()
     ensures file { LONGEST_FILE ≡ 1073741824 }
     ensures line { LONGEST_LINE ≡ 4096 }
-    ensures name { LONGEST_NAME ≡ 255 }
+    ensures name { LONGEST ≡ 255 }
     ensures topics { MOST_TOPICS ≡ 10000 }
     ensures qrels_rows { MOST_QRELS_ROWS ≡ 5000000 }
     ensures name_bytes { MOST_NAME_BYTES ≡ 268435456 }

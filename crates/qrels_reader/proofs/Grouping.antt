@@ -56,7 +56,8 @@ names_grouped rows row (n ∷ ns) d none = by (names_grouped rows row ns d.1) (b
         ∙ ap₂ (λ x xs. x ∷ xs) (topic_of-other rows row n e) (rest (λ f. none (ap₂ (λ a b. a || b) e f)))
         ∙ sym (ap (λ b. cond b (record { name = n; documents = map judged_of (rows_on n rows) ++ judged_of row ∷ [] } ∷ map (topic_of rows) ns) (topic_of rows n ∷ with_row_on (map (topic_of rows) ns) row)) e)
 
-filter_none : {A : Type 0} (p : A → Bool) (xs : List A) → list_any p xs ≡ false → filter p xs ≡ []
+-- where no test passes nothing is left
+pub filter_none : {A : Type 0} (p : A → Bool) (xs : List A) → list_any p xs ≡ false → filter p xs ≡ []
 filter_none p [] e = refl
 filter_none p (x ∷ xs) e =
     let parts = or-false (p x) (list_any p xs) e in
@@ -139,9 +140,10 @@ module _ (count : List Judged → ℕ) (weight : Row → ℕ) (none : count [] �
       let one : sum_by (λ topic. count topic.documents) (grouped (done ++ row ∷ [])) ≡ sum_by weight (done ++ row ∷ []) = omega (arith, step, sum_by-append weight done (row ∷ []), e) in
       subst (λ rows. sum_by (λ topic. count topic.documents) (grouped rows) ≡ sum_by weight rows) (append_assoc done (row ∷ []) rest) (counted_on (done ++ row ∷ []) rest one)
 
-ones : (rows : List Row) → sum_by (λ (row : Row). 1) rows ≡ length rows
+-- one for each is how many there are
+pub ones : {A : Type 0} (xs : List A) → sum_by (λ (x : A). 1) xs ≡ length xs
 ones [] = refl
-ones (row ∷ rows) = let h = sum_by-cons (λ (row : Row). 1) row rows in omega (arith, h, ones rows)
+ones {A} (x ∷ xs) = let h = sum_by-cons (λ (x : A). 1) x xs in omega (arith, h, ones xs)
 
 pub row_count-grouped : (rows : List Row) → row_count (grouped rows) ≡ length rows
 row_count-grouped rows = counted_on length (λ row. 1) refl (λ js row. length-append js (judged_of row ∷ [])) [] rows refl ∙ ones rows

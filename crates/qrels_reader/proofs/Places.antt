@@ -31,7 +31,7 @@ pub record Later {A : Type 0} (p : A → Bool) (x : A) (xs : List A) (t : ℕ) :
   pub found : position p xs ≡ Some place
   pub next : t ≡ suc place
 
-located : {A : Type 0} (p : A → Bool) (x : A) (xs : List A) (t : ℕ) → position p (x ∷ xs) ≡ Some t → ((p x ≡ true) × (t ≡ 0)) ⊎ Later p x xs t
+pub located : {A : Type 0} (p : A → Bool) (x : A) (xs : List A) (t : ℕ) → position p (x ∷ xs) ≡ Some t → ((p x ≡ true) × (t ≡ 0)) ⊎ Later p x xs t
 located p x xs t e = by (p x) refl (position p xs) refl (sym (position-cons p x xs) ∙ e)
   where
     by : (b : Bool) → p x ≡ b → (r : Option ℕ) → position p xs ≡ r → cond (p x) (Some 0) (option_map suc (position p xs)) ≡ Some t → ((p x ≡ true) × (t ≡ 0)) ⊎ Later p x xs t

@@ -81,7 +81,8 @@ right_more rows row right named a b e =
       documents = λ name. documents_more rows row name (right.documents name) fine.0;
     }
 
-mapped : {A F G : Type 0} (f : F → G) (r : Result A F) (a : A) → result_map_both (λ x. x) f r ≡ Ok a → r ≡ Ok a
+-- a mapped answer
+pub mapped : {A F G : Type 0} (f : F → G) (r : Result A F) (a : A) → result_map_both (λ x. x) f r ≡ Ok a → r ≡ Ok a
 mapped f (Ok x) a e = (let k : x ≡ a = cc in ap Ok k)
 mapped f (Err x) a e = absurd (cc)
 
@@ -91,11 +92,12 @@ pub record Made {A B F : Type 0} (r : Result A F) (next : A → Result B F) (b :
   pub found : r ≡ Ok value
   pub made : next value ≡ Ok b
 
-parted : {A B F : Type 0} (r : Result A F) (next : A → Result B F) (b : B) → and_then r next ≡ Ok b → Made r next b
+pub parted : {A B F : Type 0} (r : Result A F) (next : A → Result B F) (b : B) → and_then r next ≡ Ok b → Made r next b
 parted (Ok a) next b e = record { value = a; found = refl; made = e }
 parted (Err x) next b e = absurd (cc)
 
-last : {A F : Type 0} (tests : List (Bool × F)) (a b : A) → unless tests a ≡ Ok b → a ≡ b
+-- the value where no test holds
+pub last : {A F : Type 0} (tests : List (Bool × F)) (a b : A) → unless tests a ≡ Ok b → a ≡ b
 last [] a b e = cc
 last (t ∷ tests) a b e = by (last tests a b) t.0 e
   where
@@ -126,11 +128,12 @@ right_line number rows line row right e = by (is_blank line) e
         subst (λ row. AreRight (with_row rows row)) (last (row_faults rows made.value) (Some made.value) row made.made)
         (right_more rows made.value right (named_form line made.value made.found) (Some made.value) row made.made)
 
-all_cons : {A : Type 0} (P : A → Type 0) (x : A) (xs : List A) → P x → All P xs → All P (x ∷ xs)
+-- a property of each
+pub all_cons : {A : Type 0} (P : A → Type 0) (x : A) (xs : List A) → P x → All P xs → All P (x ∷ xs)
 all_cons P x xs here rest zero d lt = here
 all_cons P x xs here rest (suc k) d lt = rest k d (omega arith)
 
-all_first_seen : (P : List ℕ → Type 0) (xs : List (List ℕ)) → All P xs → All P (first_seen xs)
+pub all_first_seen : (P : List ℕ → Type 0) (xs : List (List ℕ)) → All P xs → All P (first_seen xs)
 all_first_seen P [] h = h
 all_first_seen P (x ∷ xs) h =
     all_cons P x (filter (others x) (first_seen xs)) (h 0 x (omega arith)) (All-filter (others x) P (first_seen xs) (all_first_seen P xs (λ k d lt. h (suc k) d (omega arith))))

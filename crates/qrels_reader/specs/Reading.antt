@@ -2,10 +2,10 @@
 use Rattle.std.specs.Prelude.{◌≡◌, ◌⊎◌, ℕ, ◌+◌, Bool, List, [], ◌∷◌, ◌++◌, if◌then◌else◌, Option, Some, None, Result, Ok, Err, nat_lt, length, slice_index_or}
 use Rattle.std.specs.Result.{result_map_both}
 use Rattle.desk_text.specs.Lines.{lines, is_blank, fields_of}
+use Rattle.desk_model.specs.declared.name.TheConstants.Name.{LONGEST}
 use Rattle.qrels_reader.specs.declared.fault.LineFault.{LineFault}
 use Rattle.qrels_reader.specs.declared.fault.FileFault.{FileFault}
 use Rattle.qrels_reader.specs.declared.fault.FileFault.TheVariants.{Line, Memory}
-use Rattle.qrels_reader.specs.declared.limits.TheConstants.{LONGEST_NAME}
 
 -- a field of a line, by its number from 0
 abbrev pub field : List ℕ → ℕ → List ℕ
@@ -13,7 +13,7 @@ field line i = slice_index_or (fields_of line) i []
 
 -- more bytes than a name has
 abbrev pub is_long : List ℕ → Bool
-is_long name = nat_lt LONGEST_NAME (length name)
+is_long name = nat_lt LONGEST (length name)
 
 -- what is made of the value, where there is one; a fault stays
 abbrev pub and_then : {A B F : Type 0} → Result A F → (A → Result B F) → Result B F

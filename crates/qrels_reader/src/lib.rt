@@ -14,9 +14,7 @@ mod read;
 mod reader;
 
 pub use fault::{FileFault, LineFault};
-pub use limits::{
-    GREATEST_GRADE, LEAST_GRADE, LONGEST_NAME, MOST_NAME_BYTES, MOST_QRELS_ROWS, MOST_TOPICS,
-};
+pub use limits::{GREATEST_GRADE, LEAST_GRADE, MOST_NAME_BYTES, MOST_QRELS_ROWS, MOST_TOPICS};
 pub use name_index::NameIndex;
 pub use name_set::NameSet;
 pub use names::Names;

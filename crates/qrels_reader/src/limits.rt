@@ -1,8 +1,5 @@
 // The limits of a qrels file.
 
-/// The most bytes of a name.
-pub const LONGEST_NAME: usize = 255;
-
 /// The most topics.
 pub const MOST_TOPICS: usize = 10_000;
 

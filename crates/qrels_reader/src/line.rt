@@ -6,7 +6,8 @@ ghost use Rattle.qrels_reader.specs.Rows.{form_faults, row_of};
 ghost use Rattle.qrels_reader.specs.Reader.{row_said};
 
 use crate::fault::LineFault;
-use crate::limits::{GREATEST_GRADE, LEAST_GRADE, LONGEST_NAME};
+use crate::limits::{GREATEST_GRADE, LEAST_GRADE};
+use desk_model::Name;
 use desk_text::{LONGEST_LINE, fields, whole};
 
 /// What a line says.
@@ -32,7 +33,7 @@ pub fn row_text(line: &[u8]) -> Result<RowText<'_>, LineFault>
     }
     let topic = found.text(line, 0);
     let document = found.text(line, 2);
-    if topic.len() > LONGEST_NAME || document.len() > LONGEST_NAME {
+    if topic.len() > Name::LONGEST || document.len() > Name::LONGEST {
         return Err(LineFault::NameTooLong);
     }
     let Some(grade) = whole(found.text(line, 3), LEAST_GRADE, GREATEST_GRADE) else {

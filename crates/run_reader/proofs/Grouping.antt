@@ -1,6 +1,6 @@
 -- Rows that are grouped by their topics, one after the other.
 use Rattle.std.proofs.Common.{◌≡◌, ℕ, ◌+◌, List, [], ◌∷◌, ◌++◌, length, true, false, cond, refl, ap, ap₂, sym, subst, ◌∙◌, arith}
-use Rattle.std.specs.Prelude.{Bool, ◌||◌, map, filter, sum_by, nat_lt, nat_le}
+use Rattle.std.specs.Prelude.{Bool, ◌||◌, map, sum_by, nat_lt, nat_le}
 use Rattle.std.specs.List.{list_any}
 use Rattle.std.specs.Str.{bytes_eq}
 use Rattle.std.proofs.lemmas.List.{length-map, length-append, map-append, append_assoc}
@@ -15,6 +15,7 @@ use Rattle.qrels_reader.specs.declared.fault.LineFault.{LineFault}
 use Rattle.qrels_reader.specs.declared.fault.LineFault.TheVariants.{RepeatedDocument, TooDeep, TooManyRows, TooManyNameBytes}
 use Rattle.qrels_reader.specs.declared.limits.TheConstants.{MOST_NAME_BYTES}
 use Rattle.run_reader.specs.declared.limits.TheConstants.{MOST_RANKS, MOST_RUN_ROWS}
+use Rattle.qrels_reader.proofs.Grouping.{append-nil, filter_none, ones}
 use Rattle.qrels_reader.proofs.Mapped.{list_any-map}
 use Rattle.qrels_reader.proofs.Seen.{laws, same, add_name, first_seen-append, IsDistinct, list_any-first_seen, IsDistinct-first_seen, or-false}
 
@@ -22,10 +23,6 @@ use Rattle.qrels_reader.proofs.Seen.{laws, same, add_name, first_seen-append, Is
 pub rows_on-append : (name : List ℕ) (rows : List RunRow) (row : RunRow) (b : Bool) → bytes_eq name row.topic ≡ b → rows_on name (rows ++ row ∷ []) ≡ rows_on name rows ++ cond b (row ∷ []) []
 rows_on-append name rows row b e =
     filter-append (λ (r : RunRow). bytes_eq name r.topic) rows (row ∷ []) ∙ ap (λ b. rows_on name rows ++ cond b (row ∷ []) []) e
-
-pub append-nil : {A : Type 0} (xs : List A) → xs ++ [] ≡ xs
-append-nil [] = refl
-append-nil (x ∷ xs) = ap (λ ys. x ∷ ys) (append-nil xs)
 
 topic_of-other : (rows : List RunRow) (row : RunRow) (name : List ℕ) → bytes_eq row.topic name ≡ false → topic_of (rows ++ row ∷ []) name ≡ topic_of rows name
 topic_of-other rows row name e =
@@ -58,12 +55,6 @@ names_grouped rows row (n ∷ ns) d none = by (names_grouped rows row ns d.1) (b
         ap (λ b. map (topic_of (rows ++ row ∷ [])) (cond b (n ∷ ns) (n ∷ add_name ns row.topic))) e
         ∙ ap₂ (λ x xs. x ∷ xs) (topic_of-other rows row n e) (rest (λ f. none (ap₂ (λ a b. a || b) e f)))
         ∙ sym (ap (λ b. cond b (record { name = n; rows = map scored_of (rows_on n rows) ++ scored_of row ∷ [] } ∷ map (topic_of rows) ns) (topic_of rows n ∷ with_row_on (map (topic_of rows) ns) row)) e)
-
-filter_none : {A : Type 0} (p : A → Bool) (xs : List A) → list_any p xs ≡ false → filter p xs ≡ []
-filter_none p [] e = refl
-filter_none p (x ∷ xs) e =
-    let parts = or-false (p x) (list_any p xs) e in
-    ap (λ b. cond b (x ∷ filter p xs) (filter p xs)) parts.0 ∙ filter_none p xs parts.1
 
 -- the topics have the names of the rows' topics
 pub names-grouped : (rows : List RunRow) → names_of (grouped rows) ≡ topics_of rows
@@ -141,10 +132,6 @@ module _ (count : List Scored → ℕ) (weight : RunRow → ℕ) (none : count [
       ap (sum_by (λ (topic : RunTopic). count topic.rows)) (grouped-append done row) ∙ counted-with_row_on (grouped done) row in
       let one : sum_by (λ topic. count topic.rows) (grouped (done ++ row ∷ [])) ≡ sum_by weight (done ++ row ∷ []) = omega (arith, step, sum_by-append weight done (row ∷ []), e) in
       subst (λ rows. sum_by (λ topic. count topic.rows) (grouped rows) ≡ sum_by weight rows) (append_assoc done (row ∷ []) rest) (counted_on (done ++ row ∷ []) rest one)
-
-ones : (rows : List RunRow) → sum_by (λ (row : RunRow). 1) rows ≡ length rows
-ones [] = refl
-ones (row ∷ rows) = let h = sum_by-cons (λ (row : RunRow). 1) row rows in omega (arith, h, ones rows)
 
 pub row_count-grouped : (rows : List RunRow) → row_count (grouped rows) ≡ length rows
 row_count-grouped rows = counted_on length (λ row. 1) refl (λ js row. length-append js (scored_of row ∷ [])) [] rows refl ∙ ones rows

@@ -1,61 +1,16 @@
 -- The place of a topic among the topics.
-use Rattle.std.proofs.Common.{◌≡◌, ℕ, zero, suc, ◌+◌, ◌<◌, ◌≤◌, List, [], ◌∷◌, ◌++◌, length, get_or, set, true, false, cond, refl, ap, ap₂, sym, subst, ◌∙◌, arith, inl, inr, ◌⊎◌}
-use Rattle.std.specs.Prelude.{pos, Bool, All, not, ◌||◌, map, Option, Some, None, option_map, position, nat_lt, is_some}
-use Rattle.std.specs.List.{list_any, position_or_len}
+use Rattle.std.proofs.Common.{◌≡◌, ℕ, zero, suc, ◌+◌, ◌<◌, List, [], ◌∷◌, ◌++◌, length, get_or, set, true, false, cond, refl, ap, ap₂, sym, subst, ◌∙◌, arith, inl, inr}
+use Rattle.std.specs.Prelude.{pos, Bool, All, map, Some, None, is_some}
+use Rattle.std.specs.List.{list_any}
 use Rattle.std.specs.Str.{bytes_eq}
-use Rattle.std.proofs.lemmas.Bool.{lt-ltb, ltb-true, le-ltb, ltb-false}
 use Rattle.std.proofs.lemmas.List.{map-append, length-map, get_or_default}
 use Rattle.run_reader.specs.Rows.{RunRow}
 use Rattle.run_reader.specs.Run.{Scored, RunTopic, scored_of, names_of, is_topic, rows_at, rows_in, with_scored, with_row_on}
 use Rattle.run_reader.specs.Reader.{documents_seen, place_of}
 use Rattle.qrels_reader.proofs.Seen.{or-false, same}
 use Rattle.qrels_reader.proofs.Mapped.{list_any-map}
-
-later : (b : Bool) (n m : ℕ) → nat_lt n m ≡ b → cond (nat_lt (1 + n) (suc m)) (Some (1 + n)) None ≡ option_map suc (cond b (Some n) None)
-later true n m e =
-    let lt : n < m = ltb-true n m e in
-    ap (λ b. cond b (Some (1 + n)) None) (lt-ltb (1 + n) (suc m) (omega arith)) ∙ ap Some (omega arith)
-later false n m e = let le : m ≤ n = ltb-false n m e in ap (λ b. cond b (Some (1 + n)) None) (le-ltb (1 + n) (suc m) (omega arith))
-
-position-cons : {A : Type 0} (p : A → Bool) (x : A) (xs : List A) → position p (x ∷ xs) ≡ cond (p x) (Some 0) (option_map suc (position p xs))
-position-cons p x xs = by (p x)
-  where
-    by : (b : Bool) → cond (nat_lt (cond (not b) (1 + position_or_len p xs) 0) (suc (length xs))) (Some (cond (not b) (1 + position_or_len p xs) 0)) None ≡ cond b (Some 0) (option_map suc (position p xs))
-    by true = ap (λ b. cond b (Some 0) None) (lt-ltb 0 (suc (length xs)) (omega arith))
-    by false = later (nat_lt (position_or_len p xs) (length xs)) (position_or_len p xs) (length xs) refl
-
--- where a test passes first: at the head, or in the tail
-pub record Later {A : Type 0} (p : A → Bool) (x : A) (xs : List A) (t : ℕ) : Type 0 where
-  pub fails : p x ≡ false
-  pub place : ℕ
-  pub found : position p xs ≡ Some place
-  pub next : t ≡ suc place
-
-located : {A : Type 0} (p : A → Bool) (x : A) (xs : List A) (t : ℕ) → position p (x ∷ xs) ≡ Some t → ((p x ≡ true) × (t ≡ 0)) ⊎ Later p x xs t
-located p x xs t e = by (p x) refl (position p xs) refl (sym (position-cons p x xs) ∙ e)
-  where
-    by : (b : Bool) → p x ≡ b → (r : Option ℕ) → position p xs ≡ r → cond (p x) (Some 0) (option_map suc (position p xs)) ≡ Some t → ((p x ≡ true) × (t ≡ 0)) ⊎ Later p x xs t
-    by true f r g h = inl (f, (let k : Some 0 ≡ Some t = sym (ap (λ b. cond b (Some 0) (option_map suc (position p xs))) f) ∙ h in cc))
-    by false f None g h = (let k : None ≡ Some t = sym (ap₂ (λ b r. cond b (Some 0) (option_map suc r)) f g) ∙ h in absurd (cc))
-    by false f (Some s) g h = inr (record {
-      fails = f;
-      place = s;
-      found = g;
-      next = (let k : Some (suc s) ≡ Some t = sym (ap₂ (λ b r. cond b (Some 0) (option_map suc r)) f g) ∙ h in cc);
-    })
-
--- whether a test passes is whether it has a place
-pub is_some-position : {A : Type 0} (p : A → Bool) (xs : List A) → is_some (position p xs) ≡ list_any p xs
-is_some-position p [] = refl
-is_some-position p (x ∷ xs) = ap is_some (position-cons p x xs) ∙ by (is_some-position p xs) (p x) (position p xs)
-  where
-    by : is_some (position p xs) ≡ list_any p xs → (b : Bool) (r : Option ℕ) → is_some (cond b (Some 0) (option_map suc (position p xs))) ≡ (b || list_any p xs)
-    by rest true r = refl
-    by rest false r = kept (position p xs) ∙ rest
-      where
-        kept : (r : Option ℕ) → is_some (option_map suc r) ≡ is_some r
-        kept None = refl
-        kept (Some s) = refl
+use Rattle.qrels_reader.proofs.Places.{located, is_some-position}
+use Rattle.qrels_reader.proofs.Right.{all_cons}
 
 -- the topic that has a place
 pub record IsAt (ts : List RunTopic) (row : RunRow) (t : ℕ) : Type 0 where
@@ -145,10 +100,6 @@ names_of-with_scored (x ∷ ts) (suc t) scored = ap (λ ns. x.name ∷ ns) (name
 pub seen_new : (ts : List RunTopic) (name : List ℕ) (scored : Scored) → documents_seen (with_scored (ts ++ new_topic name ∷ []) (length ts) scored) ≡ documents_seen ts ++ (scored.document ∷ []) ∷ []
 seen_new [] name scored = refl
 seen_new (x ∷ ts) name scored = ap (λ ds. map (λ (j : Scored). j.document) x.rows ∷ ds) (seen_new ts name scored)
-
-all_cons : (P : List ℕ → Type 0) (x : List ℕ) (xs : List (List ℕ)) → P x → All P xs → All P (x ∷ xs)
-all_cons P x xs here rest zero d lt = here
-all_cons P x xs here rest (suc k) d lt = rest k d (omega arith)
 
 -- a property of the names of topics that have a place holds of a name that has one
 pub placed_has : (P : List ℕ → Type 0) (name : List ℕ) (ts : List RunTopic) (t : ℕ) → All P (names_of ts) → place_of name ts ≡ Some t → P name

@@ -1,6 +1,6 @@
 -- What holds of rows that were read.
-use Rattle.std.proofs.Common.{◌≡◌, Bor, ℤ, ℕ, zero, suc, ◌≤◌, List, [], ◌∷◌, ◌++◌, length, get_or, true, false, true≢false, cond, refl, ap, sym, subst, ◌∙◌, arith, length-append}
-use Rattle.std.specs.Prelude.{Bool, not, ◌||◌, ◌==◌, map, filter, All, Option, Some, None, IfSome, IfOk, unwrap_or, Result, Ok, Err, nat_le}
+use Rattle.std.proofs.Common.{◌≡◌, Bor, ℤ, ℕ, suc, ◌≤◌, List, [], ◌∷◌, ◌++◌, length, get_or, true, false, true≢false, cond, refl, ap, sym, subst, ◌∙◌, arith, length-append}
+use Rattle.std.specs.Prelude.{Bool, not, ◌||◌, ◌==◌, map, All, Option, Some, None, IfSome, IfOk, unwrap_or, Result, Ok, Err, nat_le}
 use Rattle.std.specs.List.{list_any, IsDistinct as AllDiffer}
 use Rattle.std.specs.Option.{option_copied}
 use Rattle.std.specs.Str.{bytes_eq}
@@ -13,11 +13,12 @@ use Rattle.desk_model.specs.Name.{is_name}
 use Rattle.decimal_score.specs.Reading.{score_of}
 use Rattle.decimal_score.specs.declared.score.ScoreFault.{ScoreFault}
 use Rattle.qrels_reader.specs.declared.fault.FileFault.TheVariants.{Line}
-use Rattle.qrels_reader.specs.Reading.{unless, checked, and_then, field, is_long, read_line, with_row}
-use Rattle.qrels_reader.specs.Rows.{first_seen}
+use Rattle.qrels_reader.specs.Reading.{unless, checked, field, is_long, read_line, with_row}
 use Rattle.qrels_reader.specs.Grouped as qrels_grouped
+use Rattle.qrels_reader.proofs.Grouping.{append-nil}
 use Rattle.qrels_reader.proofs.Mapped.{list_any-map}
-use Rattle.qrels_reader.proofs.Seen.{same, others, or-false, IsDistinct, IsDistinct-first_seen, IsDistinct-push, all_differ}
+use Rattle.qrels_reader.proofs.Right.{Made, mapped, parted, last, all_first_seen}
+use Rattle.qrels_reader.proofs.Seen.{same, or-false, IsDistinct, IsDistinct-first_seen, IsDistinct-push, all_differ}
 use Rattle.qrels_reader.proofs.FieldNames.{is_name-field}
 use Rattle.qrels_reader.proofs.Chains.{none_holds}
 use Rattle.run_reader.specs.declared.limits.TheConstants.{MOST_RANKS}
@@ -25,7 +26,7 @@ use Rattle.run_reader.specs.declared.used.Used.{Used}
 use Rattle.run_reader.specs.Rows.{RunRow, line_fault, row_of, tag_of, topics_of, rows_on, has_document, form_faults, formed, row_faults, read_row}
 use Rattle.run_reader.specs.Run.{Scored, RunTopic, scored_of, topic_of, grouped, names_of, rows_in, IsRun}
 use Rattle.run_reader.specs.Reader.{name_after, run_with}
-use Rattle.run_reader.proofs.Grouping.{names-grouped, rows_on-append, append-nil}
+use Rattle.run_reader.proofs.Grouping.{names-grouped, rows_on-append}
 
 abbrev pub IsNamed : RunRow → Type 0
 IsNamed row = (is_name row.topic ≡ true) × (is_name row.document ≡ true)
@@ -54,28 +55,6 @@ depth_more rows row name few room = by (bytes_eq name row.topic) refl
         let lt = leb-false MOST_RANKS (length (rows_on row.topic rows)) room in
         omega (arith, length-append (rows_on name rows) (row ∷ []))
     by false e = let kept = ap length (rows_on-append name rows row false e ∙ append-nil (rows_on name rows)) in omega arith
-
-mapped : {A F G : Type 0} (f : F → G) (r : Result A F) (a : A) → result_map_both (λ x. x) f r ≡ Ok a → r ≡ Ok a
-mapped f (Ok x) a e = (let k : x ≡ a = cc in ap Ok k)
-mapped f (Err x) a e = absurd (cc)
-
--- a value that is made of another
-pub record Made {A B F : Type 0} (r : Result A F) (next : A → Result B F) (b : B) : Type 0 where
-  pub value : A
-  pub found : r ≡ Ok value
-  pub made : next value ≡ Ok b
-
-parted : {A B F : Type 0} (r : Result A F) (next : A → Result B F) (b : B) → and_then r next ≡ Ok b → Made r next b
-parted (Ok a) next b e = record { value = a; found = refl; made = e }
-parted (Err x) next b e = absurd (cc)
-
-last : {A F : Type 0} (tests : List (Bool × F)) (a b : A) → unless tests a ≡ Ok b → a ≡ b
-last [] a b e = cc
-last (t ∷ tests) a b e = by (last tests a b) t.0 e
-  where
-    by : (unless tests a ≡ Ok b → a ≡ b) → (d : Bool) → cond d (Err t.1) (unless tests a) ≡ Ok b → a ≡ b
-    by rest true e = absurd (cc)
-    by rest false e = rest e
 
 scored_row : (line : List ℕ) (row : RunRow) (r : Result ℤ ScoreFault) → result_map_both (λ score. record { topic = field line 0; document = field line 2; score = score }) line_fault r ≡ Ok row → (row.topic ≡ field line 0) × (row.document ≡ field line 2)
 scored_row line row (Ok s) e =
@@ -161,15 +140,6 @@ module _ (qrels : List qrels_grouped.Topic) (used : Used) where
       by false b =
           let made = line_parts number rows line row b e in
           subst (λ b. IfSome (cond b name (Some (unwrap_or name (tag_of line)))) (λ n. is_name n ≡ true)) (sym b) (some name right (named_form line made.value made.found).tag)
-
-  all_cons : {A : Type 0} (P : A → Type 0) (x : A) (xs : List A) → P x → All P xs → All P (x ∷ xs)
-  all_cons P x xs here rest zero d lt = here
-  all_cons P x xs here rest (suc k) d lt = rest k d (omega arith)
-
-  all_first_seen : (P : List ℕ → Type 0) (xs : List (List ℕ)) → All P xs → All P (first_seen xs)
-  all_first_seen P [] h = h
-  all_first_seen P (x ∷ xs) h =
-      all_cons P x (filter (others x) (first_seen xs)) (h 0 x (omega arith)) (All-filter (others x) P (first_seen xs) (all_first_seen P xs (λ k d lt. h (suc k) d (omega arith))))
 
   topics_right : (P : List ℕ → Type 0) (rows : List RunRow) → All (λ row. P row.topic) rows → All P (names_of (grouped rows))
   topics_right P rows h = subst (All P) (sym (names-grouped rows)) (all_first_seen P (map (λ row. row.topic) rows) (All-map P (λ (row : RunRow). row.topic) rows h))

@@ -6,8 +6,9 @@ ghost use Rattle.run_reader.specs.Rows.{formed, tag_of, line_fault};
 ghost use Rattle.run_reader.specs.Reader.{row_said};
 
 use decimal_score::{Score, ScoreFault, read_score};
+use desk_model::Name;
 use desk_text::{LONGEST_LINE, fields};
-use qrels_reader::{LONGEST_NAME, LineFault};
+use qrels_reader::LineFault;
 
 /// What a line says.
 #[derive(Clone, Copy)]
@@ -32,7 +33,7 @@ fn line_fault(fault: ScoreFault) -> LineFault
 fn is_long(name: &[u8]) -> bool
     ensures { result ≡ is_long name.now }
 {
-    name.len() > LONGEST_NAME
+    name.len() > Name::LONGEST
 }
 
 // Whether one of the names of a line is too long.

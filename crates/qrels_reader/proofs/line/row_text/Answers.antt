@@ -27,14 +27,14 @@ returns-then-count-ne4 c =
     sym (form_is line false false true _ _ (le-ltb LONGEST_LINE (length line) (omega arith)) (sym (is_some-position is_bad line) ∙ is_none-from _ _ c.in-Ok.ensures.bad)
     (ap not (ne_eqb (length (fields_of line)) 4 (λ e. c.if-count-ne4.true (c.count.ensures ∙ number ∙ e)))) refl refl)
 
-pub returns-then-topic-gt-LONGEST_NAME : goal.returns-then-topic-gt-LONGEST_NAME
-returns-then-topic-gt-LONGEST_NAME c =
+pub returns-then-topic-gt-LONGEST : goal.returns-then-topic-gt-LONGEST
+returns-then-topic-gt-LONGEST c =
     let line = c.args.line.now in
     let number = c.in-Ok.ensures.ok.number in
     let short = le-ltb LONGEST_LINE (length line) (omega arith) in
     let good = sym (is_some-position is_bad line) ∙ is_none-from _ _ c.in-Ok.ensures.bad in
     let four = ap not (eq-eqb (length (fields_of line)) 4 (sym number ∙ sym c.count.ensures ∙ c.if-count-ne4.false)) in
-    let long : (is_long (field line 0) || is_long (field line 2)) ≡ true = elim c.then-topic-gt-LONGEST_NAME.either [
+    let long : (is_long (field line 0) || is_long (field line 2)) ≡ true = elim c.then-topic-gt-LONGEST.either [
       | inl w ↦ ap (λ b. b || is_long (field line 2)) (ap is_long (sym c.text-topic.ensures) ∙ lt-ltb 255 (length c.text-topic.result.now) w)
       | inr w ↦ ap (λ b. is_long (field line 0) || b) (ap is_long (sym c.text-document.ensures) ∙ lt-ltb 255 (length c.text-document.result.now) w.1) ∙ or-true (is_long (field line 0))
     ] in
