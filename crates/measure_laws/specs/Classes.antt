@@ -1,17 +1,11 @@
 -- Classes of documents of a topic, and how many of each there are.
-use Rattle.std.specs.Prelude.{ℕ, Bool, true, false, ◌&&◌, nat_lt, List, length, count_by}
+use Rattle.std.specs.Prelude.{ℕ, Bool, false, ◌&&◌, nat_lt, List, length, count_by}
 use Rattle.std.specs.List.{range_with_len}
+pub use Rattle.desk_model.specs.Mark.{is_unjudged}
 use Rattle.desk_model.specs.Mark.{mark_at}
 use Rattle.desk_model.specs.Completion.{with_picked}
 use Rattle.desk_model.specs.Score.{true_count}
 use Rattle.desk_model.specs.declared.types.Mark.{Mark}
-use Rattle.desk_model.specs.declared.types.Mark.TheVariants.{Unjudged, Relevant, Other}
-
--- whether a mark leaves the document open
-abbrev pub is_unjudged : Mark → Bool
-is_unjudged Unjudged = true
-is_unjudged Relevant = false
-is_unjudged Other = false
 
 -- whether a document is an unjudged one of a class
 abbrev pub open_in : List Mark → (ℕ → Bool) → ℕ → Bool
