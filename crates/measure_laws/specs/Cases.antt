@@ -10,11 +10,14 @@ use Rattle.measure_laws.specs.ReciprocalCase.{with_choice, reciprocal_choice}
 use Rattle.measure_laws.specs.RprecCase.{rprec_truth}
 use Rattle.measure_laws.specs.Shares.{biased_truth}
 
--- whether recall's least case makes an unjudged document relevant: those of b alone, and where a still leads the neutral ones
+-- the unjudged documents made relevant: those of b's first k alone, and where a leads those in both or neither
+abbrev pub picked_where : Bool → ℕ → List ℕ → List ℕ → ℕ → Bool
+picked_where leads k a b doc = only_second k a b doc || (leads && neutral k a b doc)
+
+-- those of recall's least case: a leads where it still has more relevant documents once b has its own
 abbrev pub recall_pick : ℕ → List Mark → List ℕ → List ℕ → ℕ → Bool
-recall_pick k marks a b doc =
-    let truth = with_picked marks (only_second k a b) in
-    only_second k a b doc || (nat_lt (true_among truth k b) (true_among truth k a) && neutral k a b doc)
+recall_pick k marks a b =
+    let truth = with_picked marks (only_second k a b) in picked_where (nat_lt (true_among truth k b) (true_among truth k a)) k a b
 
 -- the truth values of the least case, by measure
 abbrev pub least_truth : MeasureName → List Mark → List ℕ → List ℕ → ℕ → Bool

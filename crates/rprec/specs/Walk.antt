@@ -9,6 +9,7 @@ use Rattle.desk_model.specs.declared.placed.Placed.{Placed}
 unfoldable pub AreRanksOf : (ℕ → Bool) → List ℕ → List Placed → Type 0
 AreRanksOf part xs es = (doc r : ℕ) → lookup es doc ≡ Some r → (rank xs doc ≡ Some r) × (part doc ≡ true)
 
+-- whether two ranks are both there
 abbrev pub both : Option ℕ → Option ℕ → Bool
 both (Some x) (Some y) = true
 both (Some x) None = false
