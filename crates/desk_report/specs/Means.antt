@@ -1,13 +1,6 @@
 -- How means are printed: outward, with six digits after the point.
-use Rattle.std.specs.Prelude.{ℕ, suc, ◌+◌, ◌*◌, ◌/◌, ◌%◌, List, [], ◌∷◌, ◌++◌, drop, decimal, ℤ, pos, negsuc, neg_ℤ, ◌*ℤ◌}
-use Rattle.std.specs.Int.{int_div_euclid}
-
--- the floor and the ceiling of n over d
-abbrev pub floor_of : ℤ → ℕ → ℤ
-floor_of n d = int_div_euclid n (pos d)
-
-abbrev pub ceiling_of : ℤ → ℕ → ℤ
-ceiling_of n d = neg_ℤ (int_div_euclid (neg_ℤ n) (pos d))
+use Rattle.std.specs.Prelude.{ℕ, suc, ◌+◌, ◌*◌, ◌/◌, ◌%◌, List, [], ◌∷◌, ◌++◌, drop, decimal, ℤ, pos, negsuc, ◌*ℤ◌}
+use Rattle.fractions.specs.Numbers.{floor_of, ceiling_of}
 
 -- the six digits of a number of millionths below one
 abbrev pub six_digits : ℕ → List ℕ

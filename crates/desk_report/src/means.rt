@@ -2,7 +2,8 @@
 ghost use Rattle.std.specs.Prelude.{◌≡◌, ◌+◌, ◌*◌, ◌<◌, ◌≤◌, ◌^◌, ◌++◌, ◌∷◌, [], drop, decimal, pos, neg_ℤ, ◌≤ℤ◌, ◌*ℤ◌, OnOk};
 ghost use Rattle.std.specs.Prelude.{unsigned_abs};
 ghost use Rattle.fractions.specs.Ends.{IsShort};
-ghost use Rattle.desk_report.specs.Means.{floor_of, ceiling_of, six_digits, millionths, decimal_text, ends_text};
+ghost use Rattle.fractions.specs.Numbers.{floor_of, ceiling_of};
+ghost use Rattle.desk_report.specs.Means.{six_digits, millionths, decimal_text, ends_text};
 
 use fractions::Span;
 use itoa::Buffer;

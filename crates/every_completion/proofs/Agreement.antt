@@ -2,7 +2,7 @@
 use Rattle.std.proofs.Common.{◌≡◌, ℕ, zero, suc, ◌+◌, ◌<◌, Bool, true, false, cond, List, [], ◌∷◌, take, length, count_by, Some, ℤ, arith, refl, ap, sym, subst, ◌∙◌}
 use Rattle.std.specs.List.{AllByRecursion, range_with_len, position_from}
 use Rattle.std.proofs.lemmas.List.Elements.{recursion_from_All}
-use Rattle.desk_model.specs.Mark.{mark_at}
+use Rattle.desk_model.specs.Mark.{is_unjudged, mark_at}
 use Rattle.desk_model.specs.Completion.{Allows, Completes, picked_value, with_picked}
 use Rattle.desk_model.specs.Ranking.{IsRanking}
 use Rattle.desk_model.specs.Fraction.{Fraction, over, IsAtMost, IsAtLeast}
@@ -15,7 +15,7 @@ use Rattle.desk_model.specs.declared.types.MeasureName.TheVariants.{Precision, R
 use Rattle.desk_model.proofs.Completions.{with_picked-Completes}
 use Rattle.desk_model.proofs.Counts.{one_if, count_by-cons, count_by-agree}
 use Rattle.desk_model.proofs.PrecisionEnds.{weaker, front_within}
-use Rattle.every_completion.specs.Walk.{is_unjudged, LooksAtNoTail}
+use Rattle.every_completion.specs.Walk.{LooksAtNoTail}
 
 -- one more document of a universe
 count_next : (p : ℕ → Bool) (a n : ℕ) → count_by p (range_with_len a (suc n)) ≡ count_by p (range_with_len a n) + one_if (p (a + n))

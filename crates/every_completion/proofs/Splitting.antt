@@ -6,7 +6,7 @@ use Rattle.std.specs.Prelude.{int_lt}
 use Rattle.std.proofs.lemmas.Int.{ints, int_min_is, int_max_is}
 use Rattle.std.proofs.lemmas.List.{length-set, get_or-set_same, get_or-set_other, set-set, set-get_or}
 use borrow.Author.Differences.{up, down}
-use Rattle.desk_model.specs.Mark.{mark_at}
+use Rattle.desk_model.specs.Mark.{is_unjudged, mark_at}
 use Rattle.desk_model.specs.Completion.{Allows, Completes}
 use Rattle.desk_model.specs.Fraction.{Fraction, IsAtMost, IsAtLeast}
 use Rattle.desk_model.specs.Score.{score}
@@ -15,7 +15,7 @@ use Rattle.desk_model.specs.declared.types.Mark.{Mark}
 use Rattle.desk_model.specs.declared.types.Mark.TheVariants.{Unjudged, Relevant, Other}
 use Rattle.desk_model.specs.declared.types.MeasureName.{MeasureName}
 use Rattle.desk_model.proofs.Fractions.{at_most_out, at_most_in, at_least_out, at_least_in}
-use Rattle.every_completion.specs.Walk.{is_unjudged, joined}
+use Rattle.every_completion.specs.Walk.{joined}
 
 -- a smaller number is at most the difference too, and a greater one at least
 at_most_smaller : (z w : ℤ) (u : ℕ) (x y : Fraction) → z ≤ℤ w → IsAtMost w u x y → IsAtMost z u x y

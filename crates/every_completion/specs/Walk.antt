@@ -1,21 +1,12 @@
 -- What the walk through every completion says.
-use Rattle.std.specs.Prelude.{◌<◌, ◌≤◌, Bool, true, false, ℤ, ◌*ℤ◌, ◌≤ℤ◌}
+use Rattle.std.specs.Prelude.{◌<◌, ◌≤◌}
 use Rattle.std.specs.Int.{int_min, int_max}
 use Rattle.desk_model.specs.Fraction as model
-use Rattle.desk_model.specs.Extremes.{IsGreatest, IsSmallest}
 use Rattle.desk_model.specs.Extremes as extremes
-use Rattle.desk_model.specs.declared.types.Mark.{Mark}
-use Rattle.desk_model.specs.declared.types.Mark.TheVariants.{Unjudged, Relevant, Other}
 use Rattle.desk_model.specs.declared.types.MeasureName.{MeasureName}
 use Rattle.desk_model.specs.declared.types.MeasureName.TheVariants.{Precision, Recall, RPrecision, Reciprocal, Biased}
 use Rattle.every_completion.specs.declared.scores.Fraction.{Fraction}
 use Rattle.every_completion.specs.declared.ends.Ends.{Ends}
-
--- whether a document has no grade
-abbrev pub is_unjudged : Mark → Bool
-is_unjudged Unjudged = true
-is_unjudged Relevant = false
-is_unjudged Other = false
 
 -- a measure that looks at no place past a run's end, with a k from 1 to 10,000 where it has one
 abbrev pub LooksAtNoTail : MeasureName → Type 0
@@ -47,11 +38,3 @@ joined x y = record {
   most_lo = int_max x.most_lo y.most_lo;
   most_hi = int_max x.most_hi y.most_hi;
 }
-
--- the greatest whole number that is at most n over d
-abbrev pub IsFloor : ℤ → ℤ → ℤ → Type 0
-IsFloor n d = IsGreatest (λ z. (z *ℤ d) ≤ℤ n)
-
--- the smallest whole number that is at least n over d
-abbrev pub IsCeiling : ℤ → ℤ → ℤ → Type 0
-IsCeiling n d = IsSmallest (λ z. n ≤ℤ (z *ℤ d))

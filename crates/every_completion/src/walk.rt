@@ -1,9 +1,9 @@
 ghost use Rattle.std.specs.Prelude.{◌≡◌, ◌↔◌, ◌^◌, ◌≤◌, ◌<◌, ℕ, length, count_by, false, true, not, Err, IfOk, IfSome, IfNone, pos, neg_ℤ, ◌*ℤ◌, ◌-ℤ◌, ◌≤ℤ◌};
-ghost use Rattle.desk_model.specs.Mark.{mark_at};
+ghost use Rattle.desk_model.specs.Mark.{is_unjudged, mark_at};
 ghost use Rattle.desk_model.specs.Ranking.{IsRanking};
 ghost use Rattle.desk_model.specs.Fraction.{IsAtMost, IsAtLeast};
 ghost use Rattle.desk_model.specs.Extremes.{IsGreatest, IsSmallest, AreExtremes};
-ghost use Rattle.every_completion.specs.Walk.{is_unjudged, LooksAtNoTail, IsSmall, value_of, ends_of};
+ghost use Rattle.every_completion.specs.Walk.{LooksAtNoTail, IsSmall, value_of, ends_of};
 
 use crate::ends::{Ends, EndsFault};
 use crate::rounding::{ceiling, floor};

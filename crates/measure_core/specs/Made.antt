@@ -1,9 +1,10 @@
 -- What a maker says of a measure that it made: its numbers are those of the name that was asked for.
-use Rattle.std.specs.Prelude.{◌≡◌, ℕ, ◌+◌, ◌*◌, ◌^◌, List, length, pos, ◌+ℤ◌, ◌≤ℤ◌}
+use Rattle.std.specs.Prelude.{◌≡◌, ℕ, ◌+◌, ◌*◌, List, length, pos, ◌+ℤ◌, ◌≤ℤ◌}
 use Rattle.desk_model.specs.Extremes.{Ends, AreExtremes, AreBounds}
 use Rattle.desk_model.specs.declared.types.Mark.{Mark}
 use Rattle.desk_model.specs.declared.types.MeasureName.{MeasureName}
-use Rattle.desk_model.specs.declared.types.MeasureName.TheVariants.{Precision, Recall, RPrecision, Reciprocal, Biased}
+use Rattle.desk_model.specs.declared.types.MeasureName.TheVariants.{Biased}
+use Rattle.measure_laws.specs.Measures.{unit_of}
 use Rattle.measure_laws.specs.Shares.{biased_ends, biased_bound_lo, biased_bound_hi}
 use Rattle.fractions.specs.declared.span.Span.{Span}
 use Rattle.measure_core.specs.Laws.{AreMet, IsMet}
@@ -13,21 +14,15 @@ use Rattle.measure_core.specs.declared.cell.Cell.{Cell}
 abbrev pub ends_of : Cell → Ends
 ends_of c = record { least_lo = c.least.lo; least_hi = c.least.hi; most_lo = c.most.lo; most_hi = c.most.hi }
 
--- the ends that a name has: floors and ceilings of the extremes, and for rank-biased precision sums of shares
+-- the ends that a name has: sums of shares for rank-biased precision, and floors and ceilings of the extremes for the others
 abbrev pub HasEnds : MeasureName → List Mark → List ℕ → List ℕ → Ends → Type 0
-HasEnds (Precision k) marks a b ends = AreExtremes (Precision k) k marks a b ends
-HasEnds (Recall k) marks a b ends = AreExtremes (Recall k) (10 ^ 18) marks a b ends
-HasEnds RPrecision marks a b ends = AreExtremes RPrecision (10 ^ 18) marks a b ends
-HasEnds Reciprocal marks a b ends = AreExtremes Reciprocal (10 ^ 18) marks a b ends
 HasEnds (Biased top bottom) marks a b ends = ends ≡ biased_ends top bottom marks a b
+HasEnds measure marks a b ends = AreExtremes measure (unit_of measure) marks a b ends
 
--- the bounds of one run that a name has: floor and ceiling of its extreme scores, and for rank-biased precision sums of weights
+-- the bounds of one run that a name has: sums of weights for rank-biased precision, and floor and ceiling of its extreme scores for the others
 abbrev pub HasBounds : MeasureName → List Mark → List ℕ → Span → Type 0
-HasBounds (Precision k) marks a s = AreBounds (Precision k) k marks a s.lo s.hi
-HasBounds (Recall k) marks a s = AreBounds (Recall k) (10 ^ 18) marks a s.lo s.hi
-HasBounds RPrecision marks a s = AreBounds RPrecision (10 ^ 18) marks a s.lo s.hi
-HasBounds Reciprocal marks a s = AreBounds Reciprocal (10 ^ 18) marks a s.lo s.hi
 HasBounds (Biased top bottom) marks a s = s ≡ record { lo = pos (biased_bound_lo top bottom marks a); hi = pos (biased_bound_hi top bottom marks a) }
+HasBounds measure marks a s = AreBounds measure (unit_of measure) marks a s.lo s.hi
 
 -- these cells and bounds are those of a name
 pub record AreNumbersOf (name : MeasureName) (cell : List Mark → List ℕ → List ℕ → Cell) (bounds : List Mark → List ℕ → Span) : Type 0 where

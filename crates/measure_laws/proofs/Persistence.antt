@@ -1,22 +1,25 @@
 -- The ends of rank-biased precision, for each persistence that a measure can have.
-use Rattle.std.proofs.Common.{◌≡◌, ℕ, ◌+◌, ◌-◌, ◌*◌, ◌^◌, ◌<◌, ◌≤◌, Bool, List, [], ◌++◌, map, Some, pos, neg_ℤ, arith, ap, sym, subst, ◌∙◌}
+use Rattle.std.proofs.Common.{◌≡◌, ℕ, ◌+◌, ◌-◌, ◌*◌, ◌^◌, ◌<◌, ◌≤◌, Bool, List, [], ◌++◌, map, length, Some, ℤ, pos, neg_ℤ, ◌≤ℤ◌, arith, ap, sym, subst, ◌∙◌}
 use Rattle.std.proofs.Math.Nat.{pow-zero}
+use Rattle.std.proofs.lemmas.Int.{ints}
 use Rattle.desk_model.specs.Ranking.{rank}
 use Rattle.desk_model.specs.Completion.{Completes}
 use Rattle.desk_model.specs.Fraction.{IsAtMost, IsAtLeast, over}
-use Rattle.desk_model.specs.Score.{biased}
-use Rattle.desk_model.specs.Extremes.{InEvery, InEveryScore, IsAtMostScore, IsAtLeastScore}
+use Rattle.desk_model.specs.Score.{biased, score}
+use Rattle.desk_model.specs.Extremes.{InEvery, InEveryScore, IsAtMostScore, IsAtLeastScore, Ends}
 use Rattle.desk_model.specs.declared.types.Mark.{Mark}
 use Rattle.desk_model.specs.declared.types.MeasureName.TheVariants.{Biased}
 use Rattle.desk_model.proofs.Completions.{with_picked-Completes}
+use Rattle.desk_model.proofs.Exact.{at_most_least}
+use Rattle.desk_model.proofs.Topics.{score-den}
 use Rattle.measure_laws.specs.Ranks.{comes_before}
 use Rattle.desk_model.specs.MeasureText.{IsPersistence}
 use Rattle.measure_laws.specs.Powers.{low_weight, high_weight}
-use Rattle.measure_laws.specs.Shares.{ForPersistence, ForRun, AreNear, IsModest, biased_truth, biased_least_lo, biased_least_hi, biased_bound_lo, biased_bound_hi}
+use Rattle.measure_laws.specs.Shares.{ForPersistence, ForRun, AreNear, IsModest, biased_truth, biased_least_lo, biased_least_hi, biased_ends, biased_bound_lo, biased_bound_hi}
 use Rattle.measure_laws.specs.Cases.{HasLeastTails}
-use Rattle.measure_laws.proofs.Mirror.{every_turned}
+use Rattle.measure_laws.proofs.Mirror.{neg_twice, every_turned}
 use Rattle.measure_laws.proofs.Weights.{persistence-small}
-use Rattle.measure_laws.proofs.Biased.{little_left}
+use Rattle.measure_laws.proofs.Biased.{least_tails, little_left}
 use Rattle.measure_laws.proofs.BiasedEnds.{weight_low, weight_high, biased_low}
 use Rattle.measure_laws.proofs.BiasedUpper.{biased_high}
 use Rattle.measure_laws.proofs.BiasedTopic.{least_lo_modest, least_hi_modest, biased_width, run_low, run_high, bound_lo-most}
@@ -67,6 +70,30 @@ lo_modest top bottom marks a b p ra rb = least_lo_modest top bottom marks a b (o
 
 pub hi_modest : ForPersistence (λ top bottom marks a b. IsModest (biased_least_hi top bottom marks a b))
 hi_modest top bottom marks a b p ra rb = least_hi_modest top bottom marks a b (omega (arith, p.below_one)) (omega (arith, p.below_one)) ra rb
+
+-- the two ends of the least difference are in order: that of the least case lies between them
+pub ends_in_order : ForPersistence (λ top bottom marks a b. biased_least_lo top bottom marks a b ≤ℤ biased_least_hi top bottom marks a b)
+ends_in_order top bottom marks a b p ra rb =
+    let truth = biased_truth marks a b in
+    let tails = least_tails (Biased top bottom) in
+    let n = length marks in
+    at_most_least _ _ (10 ^ 18) (score (Biased top bottom) n truth a tails.0) (score (Biased top bottom) n truth b tails.1) (score-den (Biased top bottom) n truth a tails.0) (score-den (Biased top bottom) n truth b tails.1)
+    (least_encloses top bottom marks a b p ra rb truth tails.0 tails.1 (biased-Completes marks a b))
+    (least_case_below top bottom marks a b p ra rb tails.0 tails.1 tails.2)
+
+pub turned_in_order : ForPersistence (λ top bottom marks a b. neg_ℤ (biased_least_hi top bottom marks b a) ≤ℤ neg_ℤ (biased_least_lo top bottom marks b a))
+turned_in_order top bottom marks a b p ra rb = turned (biased_least_lo top bottom marks b a) (biased_least_hi top bottom marks b a) (ends_in_order top bottom marks b a p rb ra)
+  where
+    turned : (z w : ℤ) → z ≤ℤ w → neg_ℤ w ≤ℤ neg_ℤ z
+    turned z w h = omega (arith, ints)
+
+-- the ends of the runs exchanged are the mirror image
+pub ends_mirrored : ForPersistence (λ top bottom marks a b. let ends = biased_ends top bottom marks a b in
+    biased_ends top bottom marks b a ≡ record { least_lo = neg_ℤ ends.most_hi; least_hi = neg_ℤ ends.most_lo; most_lo = neg_ℤ ends.least_hi; most_hi = neg_ℤ ends.least_lo })
+ends_mirrored top bottom marks a b p ra rb =
+    let ends : ℤ → ℤ → Ends = λ lo hi. record { least_lo = lo; least_hi = hi; most_lo = neg_ℤ (biased_least_hi top bottom marks a b); most_hi = neg_ℤ (biased_least_lo top bottom marks a b) } in
+    sym (ap (λ z. ends z (neg_ℤ (neg_ℤ (biased_least_hi top bottom marks b a)))) (neg_twice (biased_least_lo top bottom marks b a))
+    ∙ ap (ends (biased_least_lo top bottom marks b a)) (neg_twice (biased_least_hi top bottom marks b a)))
 
 pub bounds_small : ForRun (λ top bottom marks a. (biased_bound_lo top bottom marks a ≤ 10 ^ 18) × (biased_bound_hi top bottom marks a ≤ 10 ^ 18))
 bounds_small top bottom marks a p ra = (bound_lo-most top bottom marks a (omega (arith, p.below_one)) (omega (arith, p.below_one)), omega arith)

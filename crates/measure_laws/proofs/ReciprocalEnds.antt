@@ -4,7 +4,7 @@ use Rattle.std.specs.List.{AllByRecursion, position_from}
 use Rattle.std.proofs.Math.Nat.{mul-le-mul_left}
 use Rattle.std.proofs.lemmas.List.Elements.{recursion_from_All}
 use Rattle.std.proofs.lemmas.Bool.Decides.{nat_tests}
-use Rattle.desk_model.specs.Mark.{mark_at}
+use Rattle.desk_model.specs.Mark.{is_unjudged, mark_at}
 use Rattle.desk_model.specs.Completion.{Allows, Completes, picked_value}
 use Rattle.desk_model.specs.Ranking.{IsRanking}
 use Rattle.desk_model.specs.Fraction.{Fraction}
@@ -14,7 +14,6 @@ use Rattle.desk_model.proofs.Completions.{with_picked-Completes}
 use Rattle.desk_model.proofs.PrecisionEnds.{weaker, over-pos}
 use Rattle.desk_model.proofs.Topics.{reciprocal-den}
 use Rattle.measure_laws.specs.Differences.{ArePositive, IsNoGreater, Scores, IsLeastCase}
-use Rattle.measure_laws.specs.Classes.{is_unjudged}
 use Rattle.measure_laws.specs.ReciprocalCase.{is_choice, with_choice, reciprocal_scores, unjudged_of, reciprocal_choice}
 use Rattle.measure_laws.proofs.Picks.{NoGreater, NoGreater-trans, first_least-least}
 use Rattle.desk_model.specs.declared.types.Mark.{Mark}

@@ -5,7 +5,7 @@ use Rattle.std.proofs.Math.Nat.{mul-le-mul_right}
 use Rattle.std.proofs.lemmas.Bool.{cases_lt}
 use Rattle.std.proofs.lemmas.List.Sums.{sum_by_push}
 use Rattle.std.proofs.lemmas.Bool.Decides.{nat_tests}
-use Rattle.desk_model.specs.Mark.{mark_at}
+use Rattle.desk_model.specs.Mark.{is_unjudged, mark_at}
 use Rattle.desk_model.specs.Completion.{Completes, picked_value, with_picked}
 use Rattle.desk_model.specs.Ranking.{IsRanking, is_in}
 use Rattle.desk_model.specs.Fraction.{over}
@@ -16,7 +16,7 @@ use Rattle.desk_model.proofs.PrecisionEnds.{difference_outside, front_within}
 use Rattle.desk_model.proofs.Topics.{over-den}
 use Rattle.measure_laws.specs.Fronts.{only_second, neutral}
 use Rattle.measure_laws.specs.Differences.{ArePositive, IsNoGreater, Scores, IsLeastCase}
-use Rattle.measure_laws.specs.Classes.{is_among_first, is_unjudged, open_in, size_of, judged_count}
+use Rattle.measure_laws.specs.Classes.{is_among_first, open_in, size_of, judged_count}
 use Rattle.measure_laws.specs.RprecCase.{greedy_pick, greedy_truth, greedy_scores, rprec_count, rprec_truth}
 use Rattle.measure_laws.proofs.Picks.{NoGreater, NoGreater-trans, first_least-least, first_least-all}
 use Rattle.measure_laws.proofs.RecallEnds.{every, class_count, class_least, class_most, range_below, count_le_universe, no_greater_of}

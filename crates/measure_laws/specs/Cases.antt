@@ -1,21 +1,23 @@
 -- The least case of a pair, and the tails that go with it. The most case of (a, b) is the least case of (b, a).
 use Rattle.std.specs.Prelude.{◌≡◌, ℕ, ◌^◌, Bool, true, ◌&&◌, ◌||◌, nat_lt, List, [], length, All}
 use Rattle.desk_model.specs.Completion.{with_picked}
-use Rattle.desk_model.specs.Ranking.{rank}
 use Rattle.desk_model.specs.Score.{true_among}
 use Rattle.desk_model.specs.declared.types.Mark.{Mark}
 use Rattle.desk_model.specs.declared.types.MeasureName.{MeasureName}
 use Rattle.desk_model.specs.declared.types.MeasureName.TheVariants.{Precision, Recall, RPrecision, Reciprocal, Biased}
 use Rattle.measure_laws.specs.Fronts.{only_second, neutral}
-use Rattle.measure_laws.specs.Ranks.{comes_before}
 use Rattle.measure_laws.specs.ReciprocalCase.{with_choice, reciprocal_choice}
 use Rattle.measure_laws.specs.RprecCase.{rprec_truth}
+use Rattle.measure_laws.specs.Shares.{biased_truth}
 
--- whether recall's least case makes an unjudged document relevant: those of b alone, and where a still leads the neutral ones
+-- the unjudged documents made relevant: those of b's first k alone, and where a leads those in both or neither
+abbrev pub picked_where : Bool → ℕ → List ℕ → List ℕ → ℕ → Bool
+picked_where leads k a b doc = only_second k a b doc || (leads && neutral k a b doc)
+
+-- those of recall's least case: a leads where it still has more relevant documents once b has its own
 abbrev pub recall_pick : ℕ → List Mark → List ℕ → List ℕ → ℕ → Bool
-recall_pick k marks a b doc =
-    let truth = with_picked marks (only_second k a b) in
-    only_second k a b doc || (nat_lt (true_among truth k b) (true_among truth k a) && neutral k a b doc)
+recall_pick k marks a b =
+    let truth = with_picked marks (only_second k a b) in picked_where (nat_lt (true_among truth k b) (true_among truth k a)) k a b
 
 -- the truth values of the least case, by measure
 abbrev pub least_truth : MeasureName → List Mark → List ℕ → List ℕ → ℕ → Bool
@@ -23,7 +25,7 @@ least_truth (Precision k) marks a b = with_picked marks (only_second k a b)
 least_truth (Recall k) marks a b = with_picked marks (recall_pick k marks a b)
 least_truth RPrecision marks a b = rprec_truth marks a b
 least_truth Reciprocal marks a b = with_choice marks (reciprocal_choice marks a b)
-least_truth (Biased top bottom) marks a b = with_picked marks (λ doc. comes_before (rank b doc) (rank a doc))
+least_truth (Biased top bottom) marks a b = biased_truth marks a b
 
 -- a tail of 10^24 relevant places
 pub record IsLongTail (tail : List Bool) : Type 0 where

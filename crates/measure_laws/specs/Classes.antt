@@ -1,17 +1,10 @@
 -- Classes of documents of a topic, and how many of each there are.
-use Rattle.std.specs.Prelude.{ℕ, Bool, true, false, ◌&&◌, nat_lt, List, length, count_by}
-use Rattle.std.specs.List.{range_with_len}
+use Rattle.std.specs.Prelude.{ℕ, Bool, false, ◌&&◌, nat_lt, List, length}
+pub use Rattle.desk_model.specs.Mark.{is_unjudged}
 use Rattle.desk_model.specs.Mark.{mark_at}
 use Rattle.desk_model.specs.Completion.{with_picked}
 use Rattle.desk_model.specs.Score.{true_count}
 use Rattle.desk_model.specs.declared.types.Mark.{Mark}
-use Rattle.desk_model.specs.declared.types.Mark.TheVariants.{Unjudged, Relevant, Other}
-
--- whether a mark leaves the document open
-abbrev pub is_unjudged : Mark → Bool
-is_unjudged Unjudged = true
-is_unjudged Relevant = false
-is_unjudged Other = false
 
 -- whether a document is an unjudged one of a class
 abbrev pub open_in : List Mark → (ℕ → Bool) → ℕ → Bool
@@ -19,12 +12,12 @@ open_in marks class doc = is_unjudged (mark_at marks doc) && class doc
 
 -- the number of documents of a universe in a class
 abbrev pub size_of : ℕ → (ℕ → Bool) → ℕ
-size_of n class = count_by class (range_with_len 0 n)
+size_of n class = true_count class n
 
 -- the number of documents judged relevant
 abbrev pub judged_count : List Mark → ℕ
 judged_count marks = true_count (with_picked marks (λ _. false)) (length marks)
 
--- whether a document is among the first j of a class, in ascending order
+-- whether a document is of a class, and fewer than j documents of that class come before it
 abbrev pub is_among_first : ℕ → (ℕ → Bool) → ℕ → Bool
-is_among_first j class doc = class doc && nat_lt (count_by class (range_with_len 0 doc)) j
+is_among_first j class doc = class doc && nat_lt (size_of doc class) j

@@ -1,10 +1,9 @@
 -- The least case of reciprocal rank: at most one unjudged document is relevant.
 use Rattle.std.specs.Prelude.{ℕ, Bool, false, nat_eq, List, map, filter, Option, Some, None}
-use Rattle.desk_model.specs.Mark.{mark_at}
+use Rattle.desk_model.specs.Mark.{is_unjudged, mark_at}
 use Rattle.desk_model.specs.Completion.{with_picked}
 use Rattle.desk_model.specs.Score.{first_true, reciprocal}
 use Rattle.desk_model.specs.declared.types.Mark.{Mark}
-use Rattle.measure_laws.specs.Classes.{is_unjudged}
 use Rattle.measure_laws.specs.Differences.{Scores, first_least}
 
 -- whether a document is the chosen one

@@ -51,14 +51,21 @@ biased_ends a b marks first second = record {
   most_hi = neg_ℤ (biased_least_lo a b marks second first);
 }
 
+-- the lower weights of the true documents of a run, where the unjudged ones are all true or all false, and the upper ones
+abbrev pub low_worth : ℕ → ℕ → Bool → List Mark → List ℕ → ℕ
+low_worth a b taken marks docs = gained (λ rank. low_weight a b (Some rank)) 1 (map (with_picked marks (λ _. taken)) docs)
+
+abbrev pub high_worth : ℕ → ℕ → Bool → List Mark → List ℕ → ℕ
+high_worth a b taken marks docs = gained (λ rank. high_weight a b (Some rank)) 1 (map (with_picked marks (λ _. taken)) docs)
+
 -- the lower bound of one run: the lower weights of its relevant documents
 abbrev pub biased_bound_lo : ℕ → ℕ → List Mark → List ℕ → ℕ
-biased_bound_lo a b marks docs = gained (λ rank. low_weight a b (Some rank)) 1 (map (with_picked marks (λ _. false)) docs)
+biased_bound_lo a b marks docs = low_worth a b false marks docs
 
 -- its upper bound: the upper weights of its relevant and unjudged documents and what its tail may hold, and S at most
 abbrev pub biased_bound_hi : ℕ → ℕ → List Mark → List ℕ → ℕ
 biased_bound_hi a b marks docs =
-    min (10 ^ 18) (gained (λ rank. high_weight a b (Some rank)) 1 (map (with_picked marks (λ _. true)) docs) + high_power a b (length docs))
+    min (10 ^ 18) (high_worth a b true marks docs + high_power a b (length docs))
 
 -- a fact of two rankings over the universe of the marks, under each persistence that a measure can have
 abbrev pub ForPersistence : (ℕ → ℕ → List Mark → List ℕ → List ℕ → Type 0) → Type 0

@@ -1,6 +1,7 @@
 //! Laws of the measures, each the contract of a function that does nothing.
-ghost use Rattle.std.specs.Prelude.{◌≡◌, ℕ, ◌-◌, ◌*◌, ◌^◌, ◌<◌, ◌≤◌, Bool, List, [], ◌∷◌, length, Some, None, pos, neg_ℤ};
-ghost use Rattle.desk_model.specs.Ranking.{IsRanking};
+ghost use Rattle.std.specs.Prelude.{◌≡◌, ℕ, ◌+◌, ◌-◌, ◌*◌, ◌^◌, ◌<◌, ◌≤◌, ◌≤ℤ◌, Bool, List, [], ◌∷◌, length, Some, None, MatchOption, pos, neg_ℤ};
+ghost use Rattle.std.specs.Int.{abs_diff};
+ghost use Rattle.desk_model.specs.Ranking.{IsRanking, rank};
 ghost use Rattle.desk_model.specs.Completion.{Completes};
 ghost use Rattle.desk_model.specs.Fraction.{IsAtMost, IsAtLeast};
 ghost use Rattle.desk_model.specs.Score.{score};
@@ -8,7 +9,7 @@ ghost use Rattle.desk_model.specs.Extremes.{InEvery, InEveryScore, IsAtMostScore
 ghost use Rattle.desk_model.specs.Classes.{precision_ends};
 ghost use Rattle.desk_model.specs.declared.types.Mark.{Mark};
 ghost use Rattle.desk_model.specs.declared.types.MeasureName.{MeasureName};
-ghost use Rattle.desk_model.specs.declared.types.MeasureName.TheVariants.{Precision, Biased};
+ghost use Rattle.desk_model.specs.declared.types.MeasureName.TheVariants.{Precision, Recall, RPrecision, Reciprocal, Biased};
 ghost use Rattle.measure_laws.specs.Differences.{IsLeastCase, IsFirstLeast};
 ghost use Rattle.desk_model.specs.MeasureText.{IsPersistence, IsMeasure};
 ghost use Rattle.measure_laws.specs.Measures.{IsExactMeasure, unit_of};
@@ -16,7 +17,7 @@ ghost use Rattle.measure_laws.specs.Cases.{least_truth, HasLeastTails};
 ghost use Rattle.measure_laws.specs.ReciprocalCase.{reciprocal_scores, unjudged_of, reciprocal_choice};
 ghost use Rattle.measure_laws.specs.RprecCase.{greedy_scores, rprec_counts, rprec_count};
 ghost use Rattle.measure_laws.specs.Powers.{low_power, high_power, low_weight, high_weight};
-ghost use Rattle.measure_laws.specs.Shares.{ForPersistence, ForRun, AreNear, IsModest, biased_least_lo, biased_least_hi, biased_bound_lo, biased_bound_hi};
+ghost use Rattle.measure_laws.specs.Shares.{ForPersistence, ForRun, AreNear, IsModest, biased_least_lo, biased_least_hi, biased_ends, biased_bound_lo, biased_bound_hi};
 ghost use Rattle.measure_laws.specs.Weights.{weight_of};
 
 /// The least case is a completion, and tails that go with it are there. Under precision, recall,
@@ -68,19 +69,37 @@ pub fn long_tail_leaves_little()
     ensures { (top bottom n : ℕ) → IsPersistence top bottom → n ≡ 10 ^ 24 → 10 ^ 18 * top ^ n < bottom ^ n }
 {}
 
-/// The sums of shares enclose S times the difference of two runs in every completion, under all
-/// tails, and the difference of the least case with its tails is at most the sum of upper shares.
+/// The ends of rank-biased precision enclose S times the difference of two runs in every completion,
+/// under all tails, and the difference of the least case with its tails is at most `least_hi`.
 pub fn shares_enclose()
     ensures low { ForPersistence (λ top bottom marks a b. InEvery (Biased top bottom) marks a b
-        (IsAtMost (biased_least_lo top bottom marks a b) (10 ^ 18))) }
+        (IsAtMost (biased_ends top bottom marks a b).least_lo (10 ^ 18))) }
     ensures high { ForPersistence (λ top bottom marks a b. InEvery (Biased top bottom) marks a b
-        (IsAtLeast (neg_ℤ (biased_least_lo top bottom marks b a)) (10 ^ 18))) }
+        (IsAtLeast (biased_ends top bottom marks a b).most_hi (10 ^ 18))) }
     ensures case { ForPersistence (λ top bottom marks a b. (tail_a tail_b : List Bool) →
         HasLeastTails (Biased top bottom) tail_a tail_b →
         let truth = least_truth (Biased top bottom) marks a b in
-        IsAtLeast (biased_least_hi top bottom marks a b) (10 ^ 18)
+        IsAtLeast (biased_ends top bottom marks a b).least_hi (10 ^ 18)
         (score (Biased top bottom) (length marks) truth a tail_a)
         (score (Biased top bottom) (length marks) truth b tail_b)) }
+{}
+
+/// The two ends of a least and of a greatest difference under rank-biased precision are in order.
+/// Exchanged runs have the mirror image: least and greatest exchanged, and the ends of each negated
+/// and exchanged.
+pub fn biased_ends_are_in_order()
+    ensures least { ForPersistence (λ top bottom marks a b.
+        (biased_ends top bottom marks a b).least_lo ≤ℤ (biased_ends top bottom marks a b).least_hi) }
+    ensures most { ForPersistence (λ top bottom marks a b.
+        (biased_ends top bottom marks a b).most_lo ≤ℤ (biased_ends top bottom marks a b).most_hi) }
+    ensures mirror { ForPersistence (λ top bottom marks a b.
+        let ends = biased_ends top bottom marks a b in
+        biased_ends top bottom marks b a ≡ record {
+          least_lo = neg_ℤ ends.most_hi;
+          least_hi = neg_ℤ ends.most_lo;
+          most_lo = neg_ℤ ends.least_hi;
+          most_hi = neg_ℤ ends.least_lo;
+        }) }
 {}
 
 /// The sums of weights enclose S times the score of one run in every completion, under all tails.
@@ -110,4 +129,23 @@ pub fn units_and_weights_are_modest()
         IsMeasure measure → weight_of measure marks a b doc ≤ 10 ^ 18 }
     ensures even { (measure : MeasureName) (marks : List Mark) (a b : List ℕ) (doc : ℕ) →
         weight_of measure marks b a doc ≡ weight_of measure marks a b doc }
+{}
+
+/// The unit of `P_k` is k, and that of the other measures is 10^18.
+pub fn units_are_known()
+    ensures precision { (k : ℕ) → unit_of (Precision k) ≡ k }
+    ensures recall { (k : ℕ) → unit_of (Recall k) ≡ 10 ^ 18 }
+    ensures rprec { unit_of RPrecision ≡ 10 ^ 18 }
+    ensures reciprocal { unit_of Reciprocal ≡ 10 ^ 18 }
+    ensures biased { (top bottom : ℕ) → unit_of (Biased top bottom) ≡ 10 ^ 18 }
+{}
+
+/// Under reciprocal rank the share of a document at rank r is the greatest whole number w with
+/// w * r at most 10^18, and that of an absent one is 0. Its weight in a pair is how far apart its
+/// two shares are.
+pub fn reciprocal_weight_is_known()
+    ensures { (marks : List Mark) (a b : List ℕ) (doc : ℕ) → (v : ℕ) × (w : ℕ) ×
+        MatchOption (rank a doc) (v ≡ 0) (λ r. (v * r ≤ 10 ^ 18) × (10 ^ 18 < (v + 1) * r)) ×
+        MatchOption (rank b doc) (w ≡ 0) (λ r. (w * r ≤ 10 ^ 18) × (10 ^ 18 < (w + 1) * r)) ×
+        (weight_of Reciprocal marks a b doc ≡ abs_diff v w) }
 {}

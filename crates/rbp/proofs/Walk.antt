@@ -17,14 +17,14 @@ use Rattle.desk_model.specs.Verdict.{whole_sum}
 use Rattle.desk_model.proofs.Counts.{nat_eq-true}
 use Rattle.measure_laws.specs.Ranks.{comes_before}
 use Rattle.measure_laws.specs.Powers.{low_weight, high_weight}
-use Rattle.measure_laws.specs.Shares.{low_share, high_share, share_sum}
+use Rattle.measure_laws.specs.Shares.{low_share, high_share, low_worth, high_worth, share_sum}
 use Rattle.measure_laws.proofs.BiasedEnds.{Standing, stands, ahead, behind, level}
 use Rattle.measure_laws.proofs.Merge.{absent_below, further}
 use Rattle.measure_laws.proofs.Mirror.{neg_twice}
 use Rattle.measure_laws.proofs.Places.{lt_test, even, neither, same_test, other_test, other_test_up, IsAscending-drop, at_place, stepped}
 use Rattle.measure_laws.proofs.Ranks.{gained_by_documents}
 use Rattle.measure_laws.proofs.Weights.{low_weight-most, high_weight-most}
-use Rattle.rbp.specs.Walk.{share_of, is_in_least, is_in_most, sum_of, correction, correction_sum, low_worth, high_worth}
+use Rattle.rbp.specs.Walk.{share_of, is_in_least, is_in_most, sum_of, correction, correction_sum}
 use Rattle.desk_model.specs.declared.placed.Placed.{Placed}
 use Rattle.desk_model.specs.declared.types.Mark.{Mark}
 use Rattle.desk_model.specs.declared.types.Mark.TheVariants.{Unjudged, Relevant, Other}

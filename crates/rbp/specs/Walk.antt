@@ -1,14 +1,12 @@
 -- The walk over the documents of two runs, and what each of them adds to the sums of shares.
-use Rattle.std.specs.Prelude.{ℕ, if◌then◌else◌, Bool, List, length, map, Option, Some, None, ℤ, pos, ◌+ℤ◌, ◌-ℤ◌}
+use Rattle.std.specs.Prelude.{ℕ, if◌then◌else◌, Bool, List, length, map, Option, None, ℤ, pos, ◌+ℤ◌, ◌-ℤ◌}
 use Rattle.std.specs.List.{range_with_len}
 use Rattle.desk_model.specs.Mark.{mark_at}
-use Rattle.desk_model.specs.Completion.{picked_value, with_picked}
+use Rattle.desk_model.specs.Completion.{picked_value}
 use Rattle.desk_model.specs.Ranking.{rank}
-use Rattle.desk_model.specs.Score.{gained}
 use Rattle.desk_model.specs.Verdict.{whole_sum}
 use Rattle.desk_model.specs.declared.types.Mark.{Mark}
 use Rattle.desk_model.specs.declared.types.Mark.TheVariants.{Unjudged, Relevant, Other}
-use Rattle.measure_laws.specs.Powers.{low_weight, high_weight}
 use Rattle.measure_laws.specs.Ranks.{comes_before}
 
 -- whether an unjudged document with these ranks is relevant in the least case, and in the most case
@@ -33,13 +31,6 @@ correction share picked mark x y = share_of share picked mark x y -ℤ (share_of
 -- what all documents of the universe add beyond that, by two rankings
 abbrev pub correction_sum : (Option ℕ → Option ℕ → ℤ) → (Option ℕ → Option ℕ → Bool) → List Mark → List ℕ → List ℕ → ℤ
 correction_sum share picked marks a b = whole_sum (map (λ d. correction share picked (mark_at marks d) (rank a d) (rank b d)) (range_with_len 0 (length marks)))
-
--- the lower weights of the true documents of a run, where the unjudged ones are picked or not, and the upper ones
-abbrev pub low_worth : ℕ → ℕ → Bool → List Mark → List ℕ → ℕ
-low_worth top bottom pick marks docs = gained (λ rank. low_weight top bottom (Some rank)) 1 (map (with_picked marks (λ _. pick)) docs)
-
-abbrev pub high_worth : ℕ → ℕ → Bool → List Mark → List ℕ → ℕ
-high_worth top bottom pick marks docs = gained (λ rank. high_weight top bottom (Some rank)) 1 (map (with_picked marks (λ _. pick)) docs)
 
 -- the number of a mark
 abbrev pub number_of : Mark → ℕ

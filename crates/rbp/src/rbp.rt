@@ -1,10 +1,10 @@
 ghost use Rattle.std.specs.Prelude.{◌≡◌, ◌+◌, ◌-◌, ◌≤◌, ◌<◌, ◌^◌, ◌≤ℤ◌, ◌+ℤ◌, ◌-ℤ◌, if◌then◌else◌, true, false, nat_eq, nat_lt, ◌&&◌, pos, neg_ℤ, length, All, Some, IfOk};
 ghost use Rattle.measure_laws.specs.Ranks.{IsWithin, comes_before};
 ghost use Rattle.measure_laws.specs.Powers.{low_weight, high_weight, low_power, high_power};
-ghost use Rattle.measure_laws.specs.Shares.{low_share, high_share, biased_truth, share_sum};
+ghost use Rattle.measure_laws.specs.Shares.{low_share, high_share, low_worth, high_worth, biased_truth, share_sum};
 ghost use Rattle.fractions.specs.Ends.{IsShort};
 ghost use Rattle.rbp.specs.Persistence.{IsLoose};
-ghost use Rattle.rbp.specs.Walk.{number_of, low_worth, high_worth, correction, correction_sum, is_in_least, is_in_most};
+ghost use Rattle.rbp.specs.Walk.{number_of, correction, correction_sum, is_in_least, is_in_most};
 ghost use Rattle.measure_core.specs.Laws.{AreMet, AreValues};
 ghost use Rattle.measure_core.specs.Made.{IsMadeFor};
 ghost use Rattle.desk_model.specs.MeasureText.{IsPersistence};

@@ -1,11 +1,10 @@
 -- The least case of recall in counts of documents.
-use Rattle.std.specs.Prelude.{◌≡◌, ℕ, ◌+◌, ◌-◌, Bool, true, false, ◌&&◌, ◌||◌, nat_lt, if◌then◌else◌, List, length, take}
+use Rattle.std.specs.Prelude.{◌≡◌, ℕ, ◌+◌, ◌-◌, true, false, nat_lt, if◌then◌else◌, List, length, take}
 use Rattle.desk_model.specs.Classes.{only_count}
 use Rattle.desk_model.specs.Completion.{with_picked}
 use Rattle.desk_model.specs.Ranking.{IsRanking}
 use Rattle.desk_model.specs.Score.{true_count}
 use Rattle.desk_model.specs.declared.types.Mark.{Mark}
-use Rattle.measure_laws.specs.Fronts.{only_second, neutral}
 use Rattle.precision.specs.declared.counts.Counts.{Counts}
 
 -- the counts of some documents, from how many are true where no unjudged one is and where all are
@@ -25,7 +24,3 @@ pub record AreCounts (k : ℕ) (marks : List Mark) (a b : List ℕ) (own other t
 abbrev pub least_relevant : Counts → Counts → Counts → ℕ
 least_relevant first second all =
     if nat_lt (second.relevant + second.unjudged) first.relevant then all.relevant + all.unjudged - first.unjudged else all.relevant + second.unjudged
-
--- the unjudged documents made relevant: those of b's first k alone, and where a leads those in both or neither
-abbrev pub picked_where : Bool → ℕ → List ℕ → List ℕ → ℕ → Bool
-picked_where leads k a b doc = only_second k a b doc || (leads && neutral k a b doc)

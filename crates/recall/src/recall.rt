@@ -3,12 +3,12 @@ ghost use Rattle.desk_model.specs.Completion.{with_picked};
 ghost use Rattle.desk_model.specs.Score.{true_among};
 ghost use Rattle.desk_model.specs.declared.types.Mark.{Mark as M};
 ghost use Rattle.desk_model.specs.declared.types.MeasureName.TheVariants.{Recall as R};
-ghost use Rattle.measure_laws.specs.Cases.{recall_pick};
+ghost use Rattle.measure_laws.specs.Cases.{picked_where, recall_pick};
 ghost use Rattle.measure_laws.specs.Fronts.{only_second};
 ghost use Rattle.measure_core.specs.Laws.{AreMet, AreValues};
 ghost use Rattle.measure_core.specs.Made.{IsMadeFor};
 ghost use Rattle.measure_core.specs.Numbers.{exact_least};
-ghost use Rattle.recall.specs.LeastCase.{AreCounts, least_relevant, picked_where};
+ghost use Rattle.recall.specs.LeastCase.{AreCounts, least_relevant};
 
 use crate::topic::all_documents;
 use desk_model::{Mark, MeasureName, Memory, Ranking};

@@ -3,12 +3,11 @@ use Rattle.std.proofs.Common.{◌≡◌, ℕ, zero, suc, ◌+◌, ◌<◌, ◌�
 use Rattle.std.specs.Prelude.{if◌then◌else◌}
 use Rattle.std.specs.List.{IsDistinct, AllByRecursion, position_from}
 use Rattle.std.proofs.lemmas.Bool.Decides.{nat_tests}
-use Rattle.desk_model.specs.Mark.{mark_at}
+use Rattle.desk_model.specs.Mark.{is_unjudged, mark_at}
 use Rattle.desk_model.specs.Completion.{picked_value}
 use Rattle.desk_model.specs.Ranking.{IsRanking, rank}
 use Rattle.measure_laws.specs.Ranks.{IsWithin}
 use Rattle.measure_laws.specs.Differences.{Scores, is_smaller, first_least, ArePositive}
-use Rattle.measure_laws.specs.Classes.{is_unjudged}
 use Rattle.measure_laws.specs.ReciprocalCase.{with_choice, reciprocal_scores, unjudged_of, reciprocal_choice}
 use Rattle.measure_laws.proofs.Picks.{NoGreater, NoGreater-trans, first_least-least}
 use Rattle.measure_laws.proofs.RecallEnds.{every}

@@ -12,6 +12,7 @@ use Rattle.measure_laws.specs.Classes.{is_unjudged}
 unfoldable pub AreRanksOf : (ℕ → Bool) → List ℕ → List Placed → Type 0
 AreRanksOf part xs es = (doc r : ℕ) → lookup es doc ≡ Some r → (rank xs doc ≡ Some r) × (part doc ≡ true)
 
+-- whether two ranks are both there
 abbrev pub both : Option ℕ → Option ℕ → Bool
 both (Some x) (Some y) = true
 both (Some x) None = false

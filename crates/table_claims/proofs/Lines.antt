@@ -28,7 +28,8 @@ use Rattle.fractions.specs.declared.span.Span.{Span}
 use Rattle.measure_laws.specs.Measures.{unit_of}
 use Rattle.pair_table.specs.Sums.{run_numbers}
 use Rattle.pair_table.specs.Orders.{HoldsOfPair, HoldsOfRun, ForEachPair, ForEachRun}
-use Rattle.desk_report.specs.Means.{floor_of, ceiling_of, decimal_text}
+use Rattle.fractions.specs.Numbers.{floor_of, ceiling_of}
+use Rattle.desk_report.specs.Means.{decimal_text}
 use Rattle.desk_report.specs.Table.{word_of, run_line, pair_line, head_lines, run_lines, pair_lines, ended, table_lines, table_text}
 use Rattle.table_claims.specs.Received.{whole_lines}
 use Rattle.table_claims.specs.Claims.{HoldsByName, HoldsByNames, SaysExactly, EnclosesDifference, EnclosesMean, IsPairLine, IsRunLine, IsTrueLine, ForEachLine}

@@ -7,7 +7,7 @@ use borrow.Author.Differences.{up, down}
 use Rattle.desk_model.specs.Fraction.{Fraction, IsAtMost, IsAtLeast}
 use Rattle.desk_model.proofs.Fractions.{at_most_out, at_most_in, at_least_out, at_least_in}
 use Rattle.fractions.proofs.Floors.{is_floor, ceiling_is}
-use Rattle.desk_report.specs.Means.{floor_of, ceiling_of}
+use Rattle.fractions.specs.Numbers.{floor_of, ceiling_of}
 
 -- with z = p - n and its floor f = q - m, where u units make a million
 rounded_down : (p n q m u x y d : ℕ) → 0 < u → q * u + n * 1000000 ≤ p * 1000000 + m * u → p * d + u * y ≤ u * x + n * d → q * d + 1000000 * y ≤ 1000000 * x + m * d

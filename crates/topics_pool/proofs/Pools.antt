@@ -7,9 +7,9 @@ use Rattle.std.proofs.lemmas.List.Elements.{filter-append}
 use Rattle.std.proofs.lemmas.List.FromFn.{length-range_with_len}
 use Rattle.std.proofs.lemmas.List.Sums.{sum_by-append, sum_by-cons}
 use Rattle.desk_model.specs.Ranking.{is_in, rank}
-use Rattle.desk_model.specs.Mark.{mark_at}
+use Rattle.desk_model.specs.Mark.{is_unjudged, mark_at}
 use Rattle.desk_model.specs.declared.types.Mark.{Mark}
-use Rattle.topics_pool.specs.Pool.{IsCountOf, is_relevant, is_unjudged}
+use Rattle.topics_pool.specs.Pool.{IsCountOf, is_relevant}
 use Rattle.topics_pool.specs.declared.pool.PoolCount.{PoolCount}
 
 -- ---- ranks and depths

@@ -4,7 +4,7 @@ use Rattle.std.specs.Option.{option_map_or}
 use Rattle.std.specs.List.{range_with_len, count_by}
 use Rattle.desk_model.specs.Book.{Book}
 use Rattle.desk_model.specs.Desk.{Desk, is_pooled}
-use Rattle.desk_model.specs.Mark.{mark_at}
+use Rattle.desk_model.specs.Mark.{is_unjudged, mark_at}
 use Rattle.desk_model.specs.declared.types.Mark.{Mark}
 use Rattle.desk_model.specs.declared.types.Mark.TheVariants.{Unjudged, Relevant, Other}
 use Rattle.topics_pool.specs.declared.pool.PoolCount.{PoolCount}
@@ -21,11 +21,6 @@ abbrev pub is_relevant : Mark → Bool
 is_relevant Relevant = true
 is_relevant Other = false
 is_relevant Unjudged = false
-
-abbrev pub is_unjudged : Mark → Bool
-is_unjudged Unjudged = true
-is_unjudged Relevant = false
-is_unjudged Other = false
 
 -- how many documents there are, and how many of them are judged, relevant and unjudged
 pub record IsCountOf (docs : List ℕ) (marks : List Mark) (count : PoolCount) : Type 0 where

@@ -21,7 +21,8 @@ pub struct PoolCount {
 
 impl PoolCount {
     ghost use Rattle.std.specs.Prelude.{cond, not};
-    ghost use Rattle.topics_pool.specs.Pool.{is_relevant, is_unjudged};
+    ghost use Rattle.desk_model.specs.Mark.{is_unjudged};
+    ghost use Rattle.topics_pool.specs.Pool.{is_relevant};
 
     // The counts with one more document.
     fn with(self, mark: Mark) -> PoolCount

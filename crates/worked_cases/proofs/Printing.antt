@@ -5,7 +5,8 @@ use Rattle.std.specs.Fmt.{digits}
 use Rattle.desk_model.specs.MeasureText.{measure_text, IsDepth, IsPersistence, IsMeasure, IsTextOf}
 use Rattle.desk_model.specs.declared.types.MeasureName.TheVariants.{Precision, Recall, Biased}
 use Rattle.desk_model.specs.declared.types.Verdict.TheVariants.{Close}
-use Rattle.desk_report.specs.Means.{floor_of, ceiling_of, decimal_text, ends_text}
+use Rattle.fractions.specs.Numbers.{floor_of, ceiling_of}
+use Rattle.desk_report.specs.Means.{decimal_text, ends_text}
 use Rattle.desk_report.specs.Table.{word_of, table_lines, table_text}
 use Rattle.table_claims.specs.Received.{whole_lines}
 use Rattle.worked_cases.specs.Example.{two_runs, sums}

@@ -1,6 +1,5 @@
 use Rattle.std.proofs.Common.{◌≡◌, ◌≤◌, ◌<◌, ℕ, false}
-use Rattle.desk_model.specs.Mark.{mark_at}
-use Rattle.every_completion.specs.Walk.{is_unjudged}
+use Rattle.desk_model.specs.Mark.{is_unjudged, mark_at}
 use Rattle.every_completion.proofs.walk.first_unjudged.Given as goal
 
 abbrev pub invariant-loop-doc : goal.invariant-loop-doc

@@ -1,5 +1,5 @@
 use Rattle.std.proofs.Common.{◌≡◌, ◌≤◌, take, count_by}
-use Rattle.every_completion.specs.Walk.{is_unjudged}
+use Rattle.desk_model.specs.Mark.{is_unjudged}
 use Rattle.every_completion.proofs.walk.unjudged_count.Given as goal
 
 abbrev pub invariant-loop-mark : goal.invariant-loop-mark

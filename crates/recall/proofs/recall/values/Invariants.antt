@@ -1,6 +1,6 @@
 use Rattle.std.proofs.Common.{◌≡◌, ◌<◌, ℕ, length, false, slice_index_or}
 use Rattle.desk_model.specs.Completion.{with_picked}
-use Rattle.recall.specs.LeastCase.{picked_where}
+use Rattle.measure_laws.specs.Cases.{picked_where}
 use Rattle.recall.proofs.recall.values.Given as goal
 
 abbrev pub invariant-loop-place : goal.invariant-loop-place

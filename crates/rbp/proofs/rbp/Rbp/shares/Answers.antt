@@ -1,7 +1,7 @@
 use Rattle.std.proofs.Common.{◌≡◌, ◌<◌, ℕ, List, true, false, pos, ◌∙◌, arith, ap}
-use Rattle.measure_laws.specs.Shares.{low_share, high_share, share_sum}
+use Rattle.measure_laws.specs.Shares.{low_share, high_share, low_worth, high_worth, share_sum}
 use Rattle.rbp.specs.Persistence.{Persistence}
-use Rattle.rbp.specs.Walk.{low_worth, high_worth, is_in_least, is_in_most, sum_of}
+use Rattle.rbp.specs.Walk.{is_in_least, is_in_most, sum_of}
 use Rattle.rbp.proofs.Walk.{is_low, is_high, whole_small, put_together, least_low_parts, least_high_parts, most_low_parts, most_high_parts, most_low, most_high}
 use Rattle.rbp.proofs.rbp.Rbp.shares.Goals as goal
 
