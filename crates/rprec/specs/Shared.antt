@@ -1,10 +1,9 @@
 -- What two lists share, place by place.
 use Rattle.std.specs.Prelude.{◌≡◌, ℕ, ◌+◌, ◌-◌, ◌&&◌, max, nat_eq, nat_lt, if◌then◌else◌, List, length, take, slice_index, slice_index_or, slice_set}
-use Rattle.desk_model.specs.Mark.{mark_at}
+use Rattle.desk_model.specs.Mark.{is_unjudged, mark_at}
 use Rattle.desk_model.specs.Ranking.{is_in}
 use Rattle.desk_model.specs.declared.placed.Placed.{Placed}
 use Rattle.desk_model.specs.declared.types.Mark.{Mark}
-use Rattle.measure_laws.specs.Classes.{is_unjudged}
 
 -- 1 where a list has an unjudged document at a place, and another list has it too, and else 0
 abbrev pub met : List Mark → List ℕ → List ℕ → ℕ → ℕ

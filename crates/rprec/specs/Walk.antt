@@ -3,10 +3,9 @@ use Rattle.std.specs.Prelude.{◌≡◌, ℕ, ◌+◌, ◌<◌, ◌≤◌, ◌&&
 use Rattle.std.specs.List.{IsDistinct}
 use Rattle.desk_model.specs.Placed.{lookup, IsAscending}
 use Rattle.desk_model.specs.Ranking.{is_in, rank}
-use Rattle.desk_model.specs.Mark.{mark_at}
+use Rattle.desk_model.specs.Mark.{is_unjudged, mark_at}
 use Rattle.desk_model.specs.declared.placed.Placed.{Placed}
 use Rattle.desk_model.specs.declared.types.Mark.{Mark}
-use Rattle.measure_laws.specs.Classes.{is_unjudged}
 
 -- each document that a list still has is of one part of all, and has its rank
 unfoldable pub AreRanksOf : (ℕ → Bool) → List ℕ → List Placed → Type 0
