@@ -5,7 +5,7 @@ ghost use Rattle.std.specs.Prelude.{◌≡◌, ◌<◌};
 
 use crate::run_desk;
 use any_measure::Common;
-use desk_outside::{MemShelf, MemSink, MemSource};
+use desk_outside::{MemShelf, MemSink, MemSource, Shelf};
 use measure_core::Steps;
 use std::alloc::{AllocError, Global};
 use std::marker::Brand;
@@ -68,9 +68,9 @@ fn status_of<L: Ledger>(
 }
 
 #[test]
-fn a_table_is_printed(rt: HostRuntime) -> Result<(), Fail> {
+fn a_table_is_printed_and_no_other_file_is_opened(rt: HostRuntime) -> Result<(), Fail> {
     let alloc = rt.alloc();
-    let mut files = shelf(alloc, &[])?;
+    let mut files = shelf(alloc, &[9])?;
     let mut out = MemSink::new(alloc, 1000, 3, Vec::new(alloc)).map_err(|_| AllocError)?;
     let mut err = MemSink::new(alloc, 1000, 3, Vec::new(alloc)).map_err(|_| AllocError)?;
     let words = words(alloc, &ROW)?;
@@ -81,6 +81,8 @@ fn a_table_is_printed(rt: HostRuntime) -> Result<(), Fail> {
         b"measure P_2\nlevel 1\ntopics 1\nruns 2\nrun A 0.500000 1.000000\nrun B 0.000000 0.500000\npair A above B 0.500000 0.500000\n".as_slice()
     );
     assert_eq!(rt; err.received(), b"".as_slice());
+    // Each of the three files took three calls, from 0: one to open it, one for its bytes, one for its end.
+    assert!(rt; files.open("q").is_err());
     Ok(())
 }
 

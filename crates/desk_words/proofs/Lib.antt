@@ -3,3 +3,4 @@ pub mod Walks
 pub mod Arrivals
 pub mod Saying
 pub mod Unique
+pub mod Missing

@@ -196,8 +196,11 @@ check_to parts end check are is =
     }
 
 -- the options of a word
-at_word : (word other : Text) (parts : List Part) → word ≡ other → AreParts (options_of word) parts → AreParts (options_of other) parts
+pub at_word : (word other : Text) (parts : List Part) → word ≡ other → AreParts (options_of word) parts → AreParts (options_of other) parts
 at_word word other parts e are = subst (λ (w : Text). AreParts (options_of w) parts) e are
+
+pub has_name : (word other name : Text) → word ≡ other → Contains (options_of word) name → Contains (options_of other) name
+has_name word other name e is = subst (λ (w : Text). Contains (options_of w) name) e is
 
 -- the command that parts say is the command of their words
 pub says_from : (word : Text) (parts : List Part) (end : Option (List Text)) (command : Command) → AreParts (options_of word) parts → IsCommandOf (command_line word parts end) command → SaysCommand word parts end command
@@ -260,9 +263,6 @@ module _ (values : List Text) (no_path : (p : Text) → IsPathOf values p → �
     (λ e. no_path check.qrels (subst (λ (vs : List Text). IsPathOf vs check.qrels) e says.qrels)),
     ((λ e. no_path check.cert (subst (λ (vs : List Text). IsPathOf vs check.cert) e says.cert)), tt),
   ) name is e
-
-  has_name : (word other name : Text) → word ≡ other → Contains (options_of word) name → Contains (options_of other) name
-  has_name word other name e is = subst (λ (w : Text). Contains (options_of w) name) e is
 
   pub no_command : (word name : Text) (parts : List Part) (end : Option (List Text)) (command : Command) → AreParts (options_of word) parts → Contains (options_of word) name → values_of name parts ≡ values
       → IsCommandOf (command_line word parts end) command → ⊥

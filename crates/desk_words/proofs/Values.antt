@@ -1,7 +1,8 @@
 -- The values of entries.
-use Rattle.std.proofs.Common.{◌≡◌, ℕ, zero, suc, ◌+◌, ◌<◌, ◌^◌, true, false, Bool, List, [], ◌∷◌, length, get_or, map, refl, ap, sym, ◌∙◌, arith, rules, decimal, cond}
-use Rattle.std.specs.Prelude.{Option, Some, None, option_map, unwrap_or, not, Result, Ok, Err, IfOk, IsErrAnd, codes}
+use Rattle.std.proofs.Common.{◌≡◌, ℕ, zero, suc, ◌+◌, ◌<◌, ◌^◌, true, false, Bool, List, [], ◌∷◌, length, get_or, map, refl, ap, sym, subst, ◌∙◌, arith, rules, decimal, cond}
+use Rattle.std.specs.Prelude.{Option, Some, None, option_map, unwrap_or, not, Result, Ok, Err, IfOk, IfSome, IfNone, IsErrAnd, codes}
 use Rattle.std.specs.Borrow.{Bor}
+use Rattle.std.specs.Result.{result_ok}
 use Rattle.std.specs.List.{list_any, position_or_len}
 use Rattle.clap.specs.Words.{App, Text, all_of, matched_of, fault_of, matches_of, raw_values, rows_of}
 use Rattle.clap.specs.declared.parser.matches.Found.{Found}
@@ -45,10 +46,21 @@ no_run (x ∷ xs) zero d (r ∷ rs) lt e is = cc
 no_run (x ∷ xs) (suc i) d [] lt e is = cc
 no_run (x ∷ xs) (suc i) d (r ∷ rs) lt e is = no_run xs i d rs (omega arith) e (cc)
 
-pub seed_read : (r : Result ℕ WordsFault) (words values : List Text) → values ≡ given seed_app (codes "SEED") words → fault_of seed_app words ≡ []
-    → IfOk r (λ n. values ≡ decimal n ∷ []) → IfOk r (λ n. n < 2 ^ 32) → IfOk r (λ n. IsSeedOf words n)
-seed_read (Ok n) words values is taken digits fits = record { taken = taken; digits = sym is ∙ digits; fits = fits }
-seed_read (Err e) words values is taken digits fits = tt
+-- what holds of a value, and what holds where there is none
+pub of_some : {A : Type 0} (r : Option A) (x : A) (P : A → Type 0) → r ≡ Some x → IfSome r P → P x
+of_some {A = A} r x P e h = subst (λ (r : Option A). IfSome r P) e h
+
+pub of_none : {A : Type 0} (r : Option A) (P : Type 0) → r ≡ None → IfNone r P → P
+of_none {A = A} r P e h = subst (λ (r : Option A). IfNone r P) e h
+
+pub seed_read : (r : Option ℕ) (q : Result ℕ WordsFault) (words values : List Text) → r ≡ result_ok q → values ≡ given seed_app (codes "SEED") words → fault_of seed_app words ≡ []
+    → IfSome r (λ n. values ≡ decimal n ∷ []) → IfSome r (λ n. n < 2 ^ 32) → IfOk q (λ n. IsSeedOf words n)
+seed_read r (Ok n) words values e is taken digits fits =
+    record { taken = taken; digits = sym is ∙ of_some r n (λ n. values ≡ decimal n ∷ []) e digits; fits = of_some r n (λ n. n < 2 ^ 32) e fits }
+seed_read r (Err x) words values e is taken digits fits = tt
+
+pub no_seed : (r : Option ℕ) (q : Result ℕ WordsFault) (P : Type 0) → r ≡ result_ok q → q ≡ Err Usage → IfNone r P → P
+no_seed r q P e f h = of_none r P (e ∙ ap result_ok f) h
 
 -- a fault that is handed on
 pub handed_on : {A B : Type 0} (r : Result B WordsFault) (x : WordsFault) → IsErrAnd r (λ y. y ≡ x) → r ≡ Err Usage → ◌≡◌ {A = Result A WordsFault} (Err x) (Err Usage)

@@ -194,11 +194,11 @@ module _ (s : Shape) (id : Text) (names : List Text) (reads : Reads s id (Contai
     pub holds_more : (k : Text) → holds s id (Contains names) reads k held ≡ holds s id (Contains names) reads k h ++ more k
 
   -- one turn with no fault
-  turn : (w v : Walk) (word : Text) (rest : List Text) → walked s.rules [] w word ≡ v → turn_fault s [] w word ≡ [] → walk_fault s [] w (word ∷ rest) ≡ walk_fault s [] v rest
+  pub turn : (w v : Walk) (word : Text) (rest : List Text) → walked s.rules [] w word ≡ v → turn_fault s [] w word ≡ [] → walk_fault s [] w (word ∷ rest) ≡ walk_fault s [] v rest
   unfolding walk_fault
   turn w v word rest goes none = ap₂ (λ (k : Kinds) (x : Walk). or_else k (walk_fault s [] x rest)) none goes
 
-  step : (w v : Walk) (word : Text) (rest : List Text) → walked s.rules [] w word ≡ v → fold (walked s.rules []) w (word ∷ rest) ≡ fold (walked s.rules []) v rest
+  pub step : (w v : Walk) (word : Text) (rest : List Text) → walked s.rules [] w word ≡ v → fold (walked s.rules []) w (word ∷ rest) ≡ fold (walked s.rules []) v rest
   step w v word rest goes = ap (λ (x : Walk). fold (walked s.rules []) x rest) goes
 
   -- the walk over parts

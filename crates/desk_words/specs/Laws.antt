@@ -66,6 +66,21 @@ EmptyIsUsage = (word name : Text) (parts : List Part) (end : Option (List Text))
     → AreParts (options_of word) parts → Contains (options_of word) name → values_of name parts ≡ [] ∷ []
     → IsCommandOf (command_line word parts end) command → ⊥
 
+-- a word that begins with `--`
+abbrev pub BeginsWithDashes : Text → Type 0
+BeginsWithDashes word = (rest : Text) × (word ≡ codes "--" ++ rest)
+
+-- nothing stands there that can be the value of an option before: no word, or one that begins with `--`
+abbrev pub HaveNoValue : List Text → Type 0
+HaveNoValue [] = Unit {0}
+HaveNoValue (word ∷ rest) = BeginsWithDashes word
+
+-- an option with no value is usage, whatever follows
+abbrev pub MissingIsUsage : Type 0
+MissingIsUsage = (word name : Text) (parts : List Part) (rest : List Text) (command : Command)
+    → AreParts (options_of word) parts → Contains (options_of word) name → HaveNoValue rest
+    → IsCommandOf (word ∷ (line_of parts ++ (codes "--" ++ name) ∷ rest)) command → ⊥
+
 -- `--help` and `--version` after parts are usage, whatever follows
 abbrev pub HelpIsUsage : Type 0
 HelpIsUsage = (word : Text) (parts : List Part) (rest : List Text) (command : Command) → AreParts (options_of word) parts

@@ -1,5 +1,5 @@
 //! Laws of the words, each the contract of a function that does nothing.
-ghost use Rattle.desk_words.specs.Laws.{CommandIsUnique, PartsSayTheCommand, OrderIsFree, TwiceIsUsage, EmptyIsUsage, HelpIsUsage};
+ghost use Rattle.desk_words.specs.Laws.{CommandIsUnique, PartsSayTheCommand, OrderIsFree, TwiceIsUsage, EmptyIsUsage, MissingIsUsage, HelpIsUsage};
 
 /// Words are of one command at most.
 pub fn command_is_unique()
@@ -25,6 +25,11 @@ pub fn option_twice_is_usage()
 /// An option with an empty value is usage.
 pub fn empty_value_is_usage()
     ensures { EmptyIsUsage }
+{}
+
+/// An option without a value is usage: one at the end, or one before a word that begins with `--`.
+pub fn missing_value_is_usage()
+    ensures { MissingIsUsage }
 {}
 
 /// `--help` and `--version` are usage.

@@ -38,8 +38,8 @@ fn read_job(alloc: Global, words: &[String], least: usize) -> Result<Job, WordsF
     let matches = job_words(alloc, words)?;
     Ok(Job {
         qrels: path(alloc, matches.get_strs("qrels").unwrap_or(&[]))?,
-        measure: measure(matches.get_strs("measure").unwrap_or(&[]))?,
-        level: level(matches.get_strs("level").unwrap_or(&[]))?,
+        measure: measure(matches.get_strs("measure").unwrap_or(&[])).ok_or(WordsFault::Usage)?,
+        level: level(matches.get_strs("level").unwrap_or(&[])).ok_or(WordsFault::Usage)?,
         runs: runs(alloc, matches.get_strs("RUN").unwrap_or(&[]), least)?,
     })
 }
@@ -61,5 +61,5 @@ fn read_seed(alloc: Global, words: &[String]) -> Result<u32, WordsFault>
     ensures usage { result ≡ Err WordsFault.Usage → (number : ℕ) → IsSeedOf (map string_bytes words.now) number → ⊥ }
 {
     let matches = seed_words(alloc, words)?;
-    seed(matches.get_strs("SEED").unwrap_or(&[]))
+    seed(matches.get_strs("SEED").unwrap_or(&[])).ok_or(WordsFault::Usage)
 }

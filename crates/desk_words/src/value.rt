@@ -21,46 +21,42 @@ pub fn path(alloc: Global, values: &[&str]) -> Result<Path, WordsFault>
     }
 }
 
-/// The measure that the one value names.
-pub fn measure(values: &[&str]) -> Result<MeasureName, WordsFault>
-    ensures ok { IfOk result (λ m. IsMeasureOf (map (λ v. v.now) values.now) m) }
-    ensures usage { result ≡ Err WordsFault.Usage → (m : MeasureName) → IsMeasureOf (map (λ v. v.now) values.now) m → ⊥ }
+/// The measure that the one value names, and none where it names none or is not one.
+pub fn measure(values: &[&str]) -> Option<MeasureName>
+    ensures some { IfSome result (λ m. IsMeasureOf (map (λ v. v.now) values.now) m) }
+    ensures none { IfNone result ((m : MeasureName) → IsMeasureOf (map (λ v. v.now) values.now) m → ⊥) }
 {
     match *values {
         [text] => match read_measure(text.as_bytes()) {
-            Ok(name) => Ok(name),
-            Err(_) => Err(WordsFault::Usage),
+            Ok(name) => Some(name),
+            Err(_) => None,
         },
-        _ => Err(WordsFault::Usage),
+        _ => None,
     }
 }
 
-/// The level that the one value says, or 1 where there is no value.
-pub fn level(values: &[&str]) -> Result<u32, WordsFault>
-    ensures ok { IfOk result (λ n. IsLevelOf (map (λ v. v.now) values.now) n) }
-    ensures usage { result ≡ Err WordsFault.Usage → (n : ℕ) → IsLevelOf (map (λ v. v.now) values.now) n → ⊥ }
+/// The level that the one value says, or 1 where there is no value; and none where the values say no level.
+pub fn level(values: &[&str]) -> Option<u32>
+    ensures some { IfSome result (λ n. IsLevelOf (map (λ v. v.now) values.now) n) }
+    ensures none { IfNone result ((n : ℕ) → IsLevelOf (map (λ v. v.now) values.now) n → ⊥) }
 {
     match *values {
-        [] => Ok(1),
+        [] => Some(1),
         [text] => level_in(text),
-        _ => Err(WordsFault::Usage),
+        _ => None,
     }
 }
 
 // The level that the text says.
-fn level_in(text: &str) -> Result<u32, WordsFault>
-    ensures ok { IfOk result (λ n. (text.now ≡ decimal n) × (1 ≤ n) × (n ≤ 1000)) }
-    ensures usage { result ≡ Err WordsFault.Usage → (n : ℕ) → 1 ≤ n → n ≤ 1000 → text.now ≢ decimal n }
+fn level_in(text: &str) -> Option<u32>
+    ensures some { IfSome result (λ n. (text.now ≡ decimal n) × (1 ≤ n) × (n ≤ 1000)) }
+    ensures none { IfNone result ((n : ℕ) → 1 ≤ n → n ≤ 1000 → text.now ≢ decimal n) }
 {
-    match number(text, 1000) {
-        Some(level) => {
-            if level == 0 {
-                return Err(WordsFault::Usage);
-            }
-            Ok(level)
-        }
-        None => Err(WordsFault::Usage),
+    let level = number(text, 1000)?;
+    if level == 0 {
+        return None;
     }
+    Some(level)
 }
 
 // The number that the text is, in digits with no sign and no leading zero.
@@ -75,18 +71,15 @@ fn number(text: &str, most: u32) -> Option<u32>
     }
 }
 
-/// The seed that the one value says.
-pub fn seed(values: &[&str]) -> Result<u32, WordsFault>
-    ensures ok { IfOk result (λ n. map (λ v. v.now) values.now ≡ decimal n ∷ []) }
-    ensures fits { IfOk result (λ n. n < 2 ^ 32) }
-    ensures usage { result ≡ Err WordsFault.Usage → (n : ℕ) → n < 2 ^ 32 → map (λ v. v.now) values.now ≢ decimal n ∷ [] }
+/// The seed that the one value says, and none where the values say no seed.
+pub fn seed(values: &[&str]) -> Option<u32>
+    ensures some { IfSome result (λ n. map (λ v. v.now) values.now ≡ decimal n ∷ []) }
+    ensures fits { IfSome result (λ n. n < 2 ^ 32) }
+    ensures none { IfNone result ((n : ℕ) → n < 2 ^ 32 → map (λ v. v.now) values.now ≢ decimal n ∷ []) }
 {
     match *values {
-        [text] => match number(text, u32::MAX) {
-            Some(seed) => Ok(seed),
-            None => Err(WordsFault::Usage),
-        },
-        _ => Err(WordsFault::Usage),
+        [text] => number(text, u32::MAX),
+        _ => None,
     }
 }
 
