@@ -15,7 +15,8 @@ use Rattle.qrels_reader.specs.Reading.{unless, checked, and_then, field, is_long
 use Rattle.qrels_reader.specs.Rows.{Row, row_of, grade_of, form_faults, row_faults, read_row}
 use Rattle.qrels_reader.specs.Grouped.{Topic, grouped, faults_after, with_row_on, documents_on, is_topic, row_count, name_bytes_in}
 use Rattle.qrels_reader.specs.Reader.{ReadsLine}
-use Rattle.qrels_reader.proofs.Grouping.{grouped-append, row_faults-grouped}
+use Rattle.qrels_reader.proofs.RowFiles.{judgements}
+use Rattle.qrels_reader.proofs.Grouping.{grouped-append, repeated, is_topic-grouped, length-grouped, row_count-grouped, name_bytes_in-grouped}
 
 -- what the tests of a line's form give
 pub form_is : (line : List ℕ) (a b c d e : Bool) → nat_lt LONGEST_LINE (length line) ≡ a → list_any is_bad line ≡ b → not (length (fields_of line) == 4) ≡ c → (is_long (field line 0) || is_long (field line 2)) ≡ d → is_none (grade_of line) ≡ e
@@ -67,28 +68,41 @@ none_holds (t ∷ tests) a b e = by (none_holds tests a b) t.0 refl e
     by rest true f e = absurd (cc)
     by rest false f e = (f, rest e)
 
-filled : (number : ℕ) (rows : List Row) (line : List ℕ) → is_blank line ≡ false → read_line read_row number rows line ≡ result_map_both (λ row. row) (Line number) (read_row rows line)
-filled number rows line b = ap (λ b. cond b (Ok None) (result_map_both (λ row. row) (Line number) (read_row rows line))) b
+-- what is read of a line with a row: the row, or the first of its faults
+module _ {R : Type 0} (number : ℕ) (row : R) (tests : List (Bool × LineFault)) (read : Result (Option R) FileFault) (is : read ≡ result_map_both (λ row. row) (Line number) (unless tests (Some row))) where
+  pub read_whole : checked tests ≡ Ok (tt {0}) → read ≡ Ok (Some row)
+  read_whole right = is ∙ ap (result_map_both (λ row. row) (Line number)) (unless-ok tests (tt {0}) (tt {0}) (Some row) right)
+
+  pub read_refused : (e : FileFault) → (e ≡ Memory) ⊎ ((fault : LineFault) × (checked tests ≡ Err fault) × (e ≡ Line number fault)) → (e ≡ Memory) ⊎ (read ≡ Err e)
+  read_refused e (inl w) = inl w
+  read_refused e (inr w) = inr (is ∙ ap (result_map_both (λ row. row) (Line number)) (unless-err tests (tt {0}) (Some row) w.0 w.1) ∙ ap Err (sym w.2))
+
+-- the faults of a row are those after the topics of the rows before it
+faults_are : (ts : List Topic) (rows : List Row) (row : Row) → ts ≡ grouped rows → row_faults rows row ≡ faults_after ts row
+faults_are ts rows row e =
+    let a = repeated judgements row.topic row.document rows in
+    let b = is_topic-grouped judgements row.topic rows in
+    let c = length-grouped judgements rows in
+    let d = row_count-grouped judgements rows in
+    let f = name_bytes_in-grouped judgements rows in
+    (λ i. (sym a i, RepeatedDocument) ∷ (not (sym b i) && nat_le MOST_TOPICS (sym c i), TooManyTopics) ∷ (nat_le MOST_QRELS_ROWS (sym d i), TooManyRows) ∷ (nat_lt MOST_NAME_BYTES (sym f i + length row.document), TooManyNameBytes) ∷ [])
+    ∙ ap (λ ts. faults_after ts row) (sym e)
+
+-- what is read of a line of the right form
+read_is : (number : ℕ) (rows : List Row) (line : List ℕ) (row : Row) (ts : List Topic) → is_blank line ≡ false → ts ≡ grouped rows → unless (form_faults line) (row_of line) ≡ Ok row
+    → read_line read_row number rows line ≡ result_map_both (λ row. row) (Line number) (unless (faults_after ts row) (Some row))
+read_is number rows line row ts b e f =
+    ap (λ b. cond b (Ok None) (result_map_both (λ row. row) (Line number) (read_row rows line))) b
+    ∙ ap (λ r. result_map_both (λ row. row) (Line number) (and_then r (λ row. unless (row_faults rows row) (Some row)))) f
+    ∙ ap (λ tests. result_map_both (λ row. row) (Line number) (unless tests (Some row))) (faults_are ts rows row e)
 
 -- a line of the right form
 pub read_formed : (number : ℕ) (rows : List Row) (line : List ℕ) (row : Row) (ts ts' : List Topic) (answer : Result (Unit {0}) FileFault) → is_blank line ≡ false → ts ≡ grouped rows → unless (form_faults line) (row_of line) ≡ Ok row
     → OnOk answer (checked (faults_after ts row) ≡ Ok (tt {0})) → OnOk answer (ts' ≡ with_row_on ts row)
     → IfErr answer (λ e. (e ≡ Memory) ⊎ ((fault : LineFault) × (checked (faults_after ts row) ≡ Err fault) × (e ≡ Line number fault))) → ReadsLine number rows line answer ts'
 read_formed number rows line row ts ts' (Ok done) b e f right added wrong =
-    let same : faults_after ts row ≡ row_faults rows row = ap (λ ts. faults_after ts row) e ∙ sym (row_faults-grouped rows row) in
-    let fine : unless (row_faults rows row) (Some row) ≡ Ok (Some row) = ap (λ tests. unless tests (Some row)) (sym same) ∙ unless-ok (faults_after ts row) (tt {0}) (tt {0}) (Some row) right in (
-      Some row,
-      filled number rows line b ∙ ap (λ r. result_map_both (λ row. row) (Line number) (and_then r (λ row. unless (row_faults rows row) (Some row)))) f ∙ ap (result_map_both (λ row. row) (Line number)) fine,
-      added ∙ ap (λ ts. with_row_on ts row) e ∙ sym (grouped-append rows row),
-    )
-read_formed number rows line row ts ts' (Err fault) b e f right added wrong = elim wrong [
-  | inl w ↦ inl w
-  | inr w ↦
-      let same : faults_after ts row ≡ row_faults rows row = ap (λ ts. faults_after ts row) e ∙ sym (row_faults-grouped rows row) in
-      let found : unless (row_faults rows row) (Some row) ≡ Err w.0 = ap (λ tests. unless tests (Some row)) (sym same) ∙ unless-err (faults_after ts row) (tt {0}) (Some row) w.0 w.1 in
-      inr (filled number rows line b ∙ ap (λ r. result_map_both (λ row. row) (Line number) (and_then r (λ row. unless (row_faults rows row) (Some row)))) f
-      ∙ ap (result_map_both (λ row. row) (Line number)) found ∙ ap Err (sym w.2))
-]
+    (Some row, read_whole number row (faults_after ts row) _ (read_is number rows line row ts b e f) right, added ∙ ap (λ ts. with_row_on ts row) e ∙ sym (grouped-append judgements rows row))
+read_formed number rows line row ts ts' (Err fault) b e f right added wrong = read_refused number row (faults_after ts row) _ (read_is number rows line row ts b e f) fault wrong
 
 pub on_ok : {A E P Q : Type 0} (r : Result A E) → (P → Q) → OnOk r P → OnOk r Q
 on_ok (Ok a) f p = f p

@@ -1,6 +1,7 @@
 pub mod Cutting
 pub mod Mapped
 pub mod Numbering
+pub mod RowFiles
 pub mod Zipped
 pub mod Seen
 pub mod Grouping
@@ -9,4 +10,5 @@ pub mod Chains
 pub mod Grades
 pub mod Progress
 pub mod FieldNames
+pub mod NamedRows
 pub mod Right

@@ -1,8 +1,9 @@
 -- Tests on the elements of a list that is seen through a function.
-use Rattle.std.proofs.Common.{◌≡◌, ◌+◌, List, [], ◌∷◌, refl, ap, ap₂, sym}
-use Rattle.std.specs.Prelude.{Bool, map, position, cond, Some, None, ◌||◌, not, nat_lt}
+use Rattle.std.proofs.Common.{◌≡◌, ℕ, ◌+◌, List, [], ◌∷◌, refl, ap, ap₂, sym, ◌∙◌}
+use Rattle.std.specs.Prelude.{Bool, map, sum_by, position, cond, Some, None, ◌||◌, not, nat_lt}
 use Rattle.std.specs.List.{list_any, prefix_len}
 use Rattle.std.proofs.lemmas.List.{length-map}
+use Rattle.std.proofs.lemmas.List.Sums.{sum_by-cons}
 
 pub list_any-map : {A B : Type 0} (test : B → Bool) (f : A → B) (xs : List A) → list_any (λ x. test (f x)) xs ≡ list_any test (map f xs)
 list_any-map test f [] = refl
@@ -15,3 +16,12 @@ prefix_len-map test f (x ∷ xs) = ap (λ n. cond (test (f x)) (1 + n) 0) (prefi
 pub position-map : {A B : Type 0} (test : B → Bool) (f : A → B) (xs : List A) → position (λ x. test (f x)) xs ≡ position test (map f xs)
 position-map test f xs =
     ap₂ (λ n m. cond (nat_lt n m) (Some n) None) (prefix_len-map (λ y. not (test y)) f xs) (sym (length-map xs f))
+
+-- seen through two functions one after the other
+pub map-map : {A B C : Type 0} (f : B → C) (g : A → B) (h : A → C) → ((x : A) → f (g x) ≡ h x) → (xs : List A) → map f (map g xs) ≡ map h xs
+map-map f g h e [] = refl
+map-map f g h e (x ∷ xs) = ap₂ (λ y ys. y ∷ ys) (e x) (map-map f g h e xs)
+
+pub sum_by-map : {A B : Type 0} (count : B → ℕ) (f : A → B) (xs : List A) → sum_by (λ x. count (f x)) xs ≡ sum_by count (map f xs)
+sum_by-map count f [] = refl
+sum_by-map count f (x ∷ xs) = sum_by-cons (λ x. count (f x)) x xs ∙ ap (λ n. count (f x) + n) (sum_by-map count f xs) ∙ sym (sum_by-cons count (f x) (map f xs))

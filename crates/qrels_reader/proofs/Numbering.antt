@@ -1,5 +1,5 @@
 -- The numbers of names that are added where they are new.
-use Rattle.std.proofs.Common.{◌≡◌, ℕ, ◌<◌, ◌+◌, List, [], ◌∷◌, ◌++◌, true, false, Some, None, refl, ap, ap₂, sym, ◌∙◌, arith, length, position}
+use Rattle.std.proofs.Common.{◌≡◌, ℕ, ◌<◌, ◌+◌, List, [], ◌∷◌, ◌++◌, true, false, Some, None, refl, ap, ◌∙◌, arith, length, position}
 use Rattle.std.specs.Prelude.{Bool, map, cond, ◌||◌, not, nat_lt, if◌then◌else◌}
 use Rattle.std.specs.List.{list_any, position_or_len}
 use Rattle.std.proofs.lemmas.Bool.Decides.{nat_tests}

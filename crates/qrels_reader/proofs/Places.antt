@@ -5,11 +5,9 @@ use Rattle.std.specs.List.{list_any, position_or_len}
 use Rattle.std.specs.Str.{bytes_eq}
 use Rattle.std.proofs.lemmas.Bool.{lt-ltb, ltb-true, le-ltb, ltb-false}
 use Rattle.std.proofs.lemmas.List.{map-append, length-map, get_or_default}
-use Rattle.qrels_reader.specs.Rows.{Row}
-use Rattle.qrels_reader.specs.Grouped.{Judged, Topic, judged_of, names_of, is_topic, documents_at, documents_on, with_document, with_row_on}
-use Rattle.qrels_reader.specs.Reader.{documents_seen, place_of}
 use Rattle.qrels_reader.proofs.Seen.{or-false}
 use Rattle.qrels_reader.proofs.Mapped.{list_any-map}
+use Rattle.qrels_reader.proofs.RowFiles.{Kind, names_of, is_topic, place_of, members_at, documents_seen}
 
 later : (b : Bool) (n m : ℕ) → nat_lt n m ≡ b → cond (nat_lt (1 + n) (suc m)) (Some (1 + n)) None ≡ option_map suc (cond b (Some n) None)
 later true n m e =
@@ -57,76 +55,83 @@ is_some-position p (x ∷ xs) = ap is_some (position-cons p x xs) ∙ by (is_som
         kept None = refl
         kept (Some s) = refl
 
--- the topic that has a place
-pub record IsAt (ts : List Topic) (row : Row) (t : ℕ) : Type 0 where
-  pub within : t < length ts
-  pub documents : documents_at ts t ≡ documents_on row.topic ts
-  pub put : with_document ts t (judged_of row) ≡ with_row_on ts row
+module _ {Row Member Topic : Type 0} (kind : Kind Row Member Topic) where
+  -- the topic that has a place
+  pub at_name : (ts : List Topic) (name : List ℕ) (t : ℕ) → place_of kind name ts ≡ Some t → (t < length ts) × (members_at kind ts t ≡ kind.members_on name ts)
+  at_name [] name t e = absurd (let k : None ≡ Some t = e in cc)
+  at_name (x ∷ ts) name t e = elim (located (bytes_eq name) (kind.name x) (names_of kind ts) t e) [
+    | inl w ↦ subst (λ t. (t < length (x ∷ ts)) × (members_at kind (x ∷ ts) t ≡ kind.members_on name (x ∷ ts))) (sym w.1) (omega arith, sym (on true w.0))
+    | inr w ↦
+        let rest = at_name ts name w.place w.found in
+        subst (λ t. (t < length (x ∷ ts)) × (members_at kind (x ∷ ts) t ≡ kind.members_on name (x ∷ ts))) (sym w.next) ((let h = rest.0 in omega arith), rest.1 ∙ sym (on false w.fails))
+  ]
+    where
+      on : (b : Bool) → bytes_eq name (kind.name x) ≡ b → kind.members_on name (x ∷ ts) ≡ cond b (kind.members x) (kind.members_on name ts)
+      on b h = kind.on_some name x ts ∙ ap (λ b. cond b (kind.members x) (kind.members_on name ts)) h
 
-pub at_place : (ts : List Topic) (row : Row) (t : ℕ) → place_of row.topic ts ≡ Some t → IsAt ts row t
-at_place [] row t e = absurd (let k : None ≡ Some t = e in cc)
-at_place (x ∷ ts) row t e = elim (located (bytes_eq row.topic) x.name (names_of ts) t e) [
-  | inl w ↦ subst (IsAt (x ∷ ts) row) (sym w.1) (record {
-    within = omega arith;
-    documents = sym (ap (λ b. cond b x.documents (documents_on row.topic ts)) w.0);
-    put = sym (ap (λ b. cond b (record { name = x.name; documents = x.documents ++ judged_of row ∷ [] } ∷ ts) (x ∷ with_row_on ts row)) w.0);
-  })
-  | inr w ↦
-      let rest = at_place ts row w.place w.found in
-      subst (IsAt (x ∷ ts) row) (sym w.next) (record {
-        within = (let h = rest.within in omega arith);
-        documents = rest.documents ∙ sym (ap (λ b. cond b x.documents (documents_on row.topic ts)) w.fails);
-        put = ap (λ us. x ∷ us) rest.put ∙ sym (ap (λ b. cond b (record { name = x.name; documents = x.documents ++ judged_of row ∷ [] } ∷ ts) (x ∷ with_row_on ts row)) w.fails);
-      })
-]
+  -- a row that is added to topics of which the first has, or has not, its name
+  with_row-cons : (x : Topic) (ts : List Topic) (row : Row) (b : Bool) → bytes_eq (kind.topic row) (kind.name x) ≡ b → kind.with_row (x ∷ ts) row ≡ cond b (kind.made (kind.name x) (kind.members x ++ kind.member row ∷ []) ∷ ts) (x ∷ kind.with_row ts row)
+  with_row-cons x ts row b e = kind.row_some x ts row ∙ ap (λ b. cond b (kind.made (kind.name x) (kind.members x ++ kind.member row ∷ []) ∷ ts) (x ∷ kind.with_row ts row)) e
 
--- a topic that has none
-pub no_place : (name : List ℕ) (ts : List Topic) → place_of name ts ≡ None → is_topic name ts ≡ false
-no_place name ts e = sym (is_some-position (bytes_eq name) (names_of ts)) ∙ ap is_some e
+  -- the member of a row is put into the place of its topic
+  pub put_at : (ts : List Topic) (row : Row) (t : ℕ) → place_of kind (kind.topic row) ts ≡ Some t → kind.with_member ts t (kind.member row) ≡ kind.with_row ts row
+  put_at [] row t e = absurd (let k : None ≡ Some t = e in cc)
+  put_at (x ∷ ts) row t e = elim (located (bytes_eq (kind.topic row)) (kind.name x) (names_of kind ts) t e) [
+    | inl w ↦ ap (λ t. kind.with_member (x ∷ ts) t (kind.member row)) w.1 ∙ kind.put_first x ts (kind.member row) ∙ sym (with_row-cons x ts row true w.0)
+    | inr w ↦
+        ap (λ t. kind.with_member (x ∷ ts) t (kind.member row)) w.next ∙ kind.put_later x ts w.place (kind.member row) ∙ ap (λ us. x ∷ us) (put_at ts row w.place w.found)
+        ∙ sym (with_row-cons x ts row false w.fails)
+  ]
 
-pub documents_on-none : (name : List ℕ) (ts : List Topic) → is_topic name ts ≡ false → documents_on name ts ≡ []
-documents_on-none name [] e = refl
-documents_on-none name (x ∷ ts) e =
-    let parts = or-false (bytes_eq name x.name) (is_topic name ts) e in
-    ap (λ b. cond b x.documents (documents_on name ts)) parts.0 ∙ documents_on-none name ts parts.1
+  -- a topic that has none
+  pub no_place : (name : List ℕ) (ts : List Topic) → place_of kind name ts ≡ None → is_topic kind name ts ≡ false
+  no_place name ts e = sym (is_some-position (bytes_eq name) (names_of kind ts)) ∙ ap is_some e
 
-abbrev pub new_topic : List ℕ → Topic
-new_topic name = record { name = name; documents = [] }
+  pub members_on-none : (name : List ℕ) (ts : List Topic) → is_topic kind name ts ≡ false → kind.members_on name ts ≡ []
+  members_on-none name [] e = kind.on_none name
+  members_on-none name (x ∷ ts) e =
+      let parts = or-false (bytes_eq name (kind.name x)) (is_topic kind name ts) e in
+      kind.on_some name x ts ∙ ap (λ b. cond b (kind.members x) (kind.members_on name ts)) parts.0 ∙ members_on-none name ts parts.1
 
-pub put_new : (ts : List Topic) (row : Row) → is_topic row.topic ts ≡ false → with_document (ts ++ new_topic row.topic ∷ []) (length ts) (judged_of row) ≡ with_row_on ts row
-put_new [] row e = refl
-put_new (x ∷ ts) row e =
-    let parts = or-false (bytes_eq row.topic x.name) (is_topic row.topic ts) e in
-    ap (λ us. x ∷ us) (put_new ts row parts.1)
-    ∙ sym (ap (λ b. cond b (record { name = x.name; documents = x.documents ++ judged_of row ∷ [] } ∷ ts) (x ∷ with_row_on ts row)) parts.0)
+  -- a new topic at the end, and the member of a row that is put there
+  pub put_new : (ts : List Topic) (row : Row) → is_topic kind (kind.topic row) ts ≡ false → kind.with_member (ts ++ kind.made (kind.topic row) [] ∷ []) (length ts) (kind.member row) ≡ kind.with_row ts row
+  put_new [] row e =
+      let new = kind.made (kind.topic row) [] in
+      kind.put_first new [] (kind.member row) ∙ ap₂ (λ n ms. kind.made n (ms ++ kind.member row ∷ []) ∷ []) (kind.name-made (kind.topic row) []) (kind.members-made (kind.topic row) []) ∙ sym (kind.row_none row)
+  put_new (x ∷ ts) row e =
+      let parts = or-false (bytes_eq (kind.topic row) (kind.name x)) (is_topic kind (kind.topic row) ts) e in
+      kind.put_later x (ts ++ kind.made (kind.topic row) [] ∷ []) (length ts) (kind.member row) ∙ ap (λ us. x ∷ us) (put_new ts row parts.1) ∙ sym (with_row-cons x ts row false parts.0)
 
-pub documents_at-new : (ts : List Topic) (name : List ℕ) → documents_at (ts ++ new_topic name ∷ []) (length ts) ≡ []
-documents_at-new [] name = refl
-documents_at-new (x ∷ ts) name = documents_at-new ts name
+  pub members_at-new : (ts : List Topic) (name : List ℕ) → members_at kind (ts ++ kind.made name [] ∷ []) (length ts) ≡ []
+  members_at-new [] name = kind.members-made name []
+  members_at-new (x ∷ ts) name = members_at-new ts name
 
--- the names of the documents of one topic
-pub get_or-documents_seen : (ts : List Topic) (t : ℕ) → get_or (documents_seen ts) t [] ≡ map (λ judged. judged.document) (documents_at ts t)
-get_or-documents_seen [] t = refl
-get_or-documents_seen (x ∷ ts) zero = refl
-get_or-documents_seen (x ∷ ts) (suc t) = get_or-documents_seen ts t
+  -- the names of the documents of one topic
+  get_or-documents_seen : (ts : List Topic) (t : ℕ) → get_or (documents_seen kind ts) t [] ≡ map kind.document (members_at kind ts t)
+  get_or-documents_seen [] t = refl
+  get_or-documents_seen (x ∷ ts) zero = refl
+  get_or-documents_seen (x ∷ ts) (suc t) = get_or-documents_seen ts t
 
-pub documents_seen-with_document : (ts : List Topic) (t : ℕ) (judged : Judged) → documents_seen (with_document ts t judged) ≡ set (documents_seen ts) t (get_or (documents_seen ts) t [] ++ judged.document ∷ [])
-documents_seen-with_document [] t judged = refl
-documents_seen-with_document (x ∷ ts) zero judged = ap (λ ds. ds ∷ documents_seen ts) (map-append (λ (j : Judged). j.document) x.documents (judged ∷ []))
-documents_seen-with_document (x ∷ ts) (suc t) judged = ap (λ us. map (λ (j : Judged). j.document) x.documents ∷ us) (documents_seen-with_document ts t judged)
+  documents_seen-with_member : (ts : List Topic) (t : ℕ) (m : Member) → documents_seen kind (kind.with_member ts t m) ≡ set (documents_seen kind ts) t (get_or (documents_seen kind ts) t [] ++ kind.document m ∷ [])
+  documents_seen-with_member [] t m = ap (documents_seen kind) (kind.put_none t m)
+  documents_seen-with_member (x ∷ ts) zero m =
+      ap (documents_seen kind) (kind.put_first x ts m)
+      ∙ ap (λ ds. ds ∷ documents_seen kind ts) (ap (map kind.document) (kind.members-made (kind.name x) (kind.members x ++ m ∷ [])) ∙ map-append kind.document (kind.members x) (m ∷ []))
+  documents_seen-with_member (x ∷ ts) (suc t) m =
+      ap (documents_seen kind) (kind.put_later x ts t m) ∙ ap (λ us. map kind.document (kind.members x) ∷ us) (documents_seen-with_member ts t m)
 
--- whether a document was seen in its topic
-pub any-seen : (ts : List Topic) (seen : List (List (List ℕ))) (t : ℕ) (x : List (List ℕ)) (document : List ℕ) → seen ≡ documents_seen ts → t < length ts → x ≡ get_or seen t x → list_any (bytes_eq document) x ≡ list_any (λ judged. bytes_eq document judged.document) (documents_at ts t)
-any-seen ts seen t x document e lt f =
-    let size = ap length e in
-    let names : x ≡ map (λ judged. judged.document) (documents_at ts t) =
-    f ∙ get_or_default seen t x [] (omega (arith, size, length-map ts (λ (topic : Topic). map (λ judged. judged.document) topic.documents))) ∙ ap (λ xs. get_or xs t []) e ∙ get_or-documents_seen ts t in
-    ap (list_any (bytes_eq document)) names ∙ sym (list_any-map (bytes_eq document) (λ (judged : Judged). judged.document) (documents_at ts t))
+  -- what was seen in a topic's place
+  seen_at : (ts : List Topic) (seen : List (List (List ℕ))) (t : ℕ) (x : List (List ℕ)) → seen ≡ documents_seen kind ts → t < length ts → x ≡ get_or seen t x → x ≡ get_or (documents_seen kind ts) t []
+  seen_at ts seen t x e lt f =
+      let size = ap length e in
+      f ∙ get_or_default seen t x [] (omega (arith, size, length-map ts (λ topic. map kind.document (kind.members topic)))) ∙ ap (λ xs. get_or xs t []) e
 
--- a document that is put into its topic is seen there
-pub seen_more : (ts : List Topic) (seen : List (List (List ℕ))) (t : ℕ) (x x' : List (List ℕ)) (judged : Judged) → seen ≡ documents_seen ts → t < length ts → x ≡ get_or seen t x → x' ≡ x ++ judged.document ∷ [] → set seen t x' ≡ documents_seen (with_document ts t judged)
-seen_more ts seen t x x' judged e lt f g =
-    let size = ap length e in
-    let here : x ≡ get_or (documents_seen ts) t [] =
-    f ∙ get_or_default seen t x [] (omega (arith, size, length-map ts (λ (topic : Topic). map (λ judged. judged.document) topic.documents))) ∙ ap (λ xs. get_or xs t []) e in
-    ap₂ (λ xs y. set xs t y) e (g ∙ ap (λ xs. xs ++ judged.document ∷ []) here) ∙ sym (documents_seen-with_document ts t judged)
+  -- whether a document was seen in its topic
+  pub any-seen : (ts : List Topic) (seen : List (List (List ℕ))) (t : ℕ) (x : List (List ℕ)) (document : List ℕ) → seen ≡ documents_seen kind ts → t < length ts → x ≡ get_or seen t x → list_any (bytes_eq document) x ≡ list_any (λ member. bytes_eq document (kind.document member)) (members_at kind ts t)
+  any-seen ts seen t x document e lt f =
+      ap (list_any (bytes_eq document)) (seen_at ts seen t x e lt f ∙ get_or-documents_seen ts t) ∙ sym (list_any-map (bytes_eq document) kind.document (members_at kind ts t))
+
+  -- a document that is put into its topic is seen there
+  pub seen_more : (ts : List Topic) (seen : List (List (List ℕ))) (t : ℕ) (x x' : List (List ℕ)) (m : Member) → seen ≡ documents_seen kind ts → t < length ts → x ≡ get_or seen t x → x' ≡ x ++ kind.document m ∷ [] → set seen t x' ≡ documents_seen kind (kind.with_member ts t m)
+  seen_more ts seen t x x' m e lt f g =
+      ap₂ (λ xs y. set xs t y) e (g ∙ ap (λ xs. xs ++ kind.document m ∷ []) (seen_at ts seen t x e lt f)) ∙ sym (documents_seen-with_member ts t m)

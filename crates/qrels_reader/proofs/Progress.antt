@@ -8,6 +8,7 @@ use Rattle.qrels_reader.specs.Reading.{and_then, with_row, rows_from, rows_of}
 use Rattle.qrels_reader.specs.Rows.{Row, read_row}
 use Rattle.qrels_reader.specs.Grouped.{Topic, grouped, qrels_of, row_count, IsQrels}
 use Rattle.qrels_reader.specs.Reader.{ReadsLine}
+use Rattle.qrels_reader.proofs.RowFiles.{judgements}
 use Rattle.qrels_reader.proofs.Grouping.{row_count-grouped}
 use Rattle.qrels_reader.proofs.Right.{AreRight, right_line, is_qrels}
 
@@ -33,7 +34,7 @@ read_next bytes line at next number topics topics' p e reads =
 -- at the end
 pub ended : (bytes : List ℕ) (at number : ℕ) (topics : List Topic) → Progress bytes at number topics → length bytes ≤ at → cond (row_count topics == 0) (Err NoTopics) (Ok topics) ≡ qrels_of bytes
 ended bytes at number topics p le =
-    ap₂ (λ n ts. cond (n == 0) (Err NoTopics) (Ok ts)) (ap row_count p.so_far ∙ row_count-grouped p.rows) p.so_far
+    ap₂ (λ n ts. cond (n == 0) (Err NoTopics) (Ok ts)) (ap row_count p.so_far ∙ row_count-grouped judgements p.rows) p.so_far
     ∙ sym (ap (λ rows. and_then rows (λ rows. cond (length rows == 0) (Err NoTopics) (Ok (grouped rows)))) (p.rest ∙ ap (λ bs. rows_from read_row (number + 1) p.rows (lines bs)) (drop_all at bytes le)))
 
 -- and what was read is right

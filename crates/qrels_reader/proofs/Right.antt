@@ -1,32 +1,30 @@
 -- What holds of rows that were read.
-use Rattle.std.proofs.Common.{◌≡◌, ℕ, zero, suc, ◌+◌, ◌<◌, ◌≤◌, List, [], ◌∷◌, ◌++◌, length, get_or, true, false, true≢false, cond, refl, ap, sym, subst, ◌∙◌, arith, length-append}
-use Rattle.std.specs.Prelude.{Bool, not, ◌&&◌, ◌||◌, ◌==◌, map, filter, All, Option, Some, None, Result, Ok, Err, nat_le}
-use Rattle.std.specs.List.{list_any, IsDistinct as AllDiffer}
+use Rattle.std.proofs.Common.{◌≡◌, ℕ, ◌+◌, ◌<◌, ◌≤◌, List, [], ◌∷◌, ◌++◌, length, true, false, cond, refl, ap, subst, ◌∙◌, arith, length-append}
+use Rattle.std.specs.Prelude.{Bool, not, ◌&&◌, ◌||◌, ◌==◌, map, All, Option, Some, None, Result, Ok, Err, nat_le}
+use Rattle.std.specs.List.{list_any}
 use Rattle.std.specs.Str.{bytes_eq}
 use Rattle.std.specs.Result.{result_map_both}
-use Rattle.std.proofs.lemmas.Bool.{ltb-false, leb-false, eqb-true}
+use Rattle.std.proofs.lemmas.Bool.{ltb-false, leb-false, eqb-true, not-false}
 use Rattle.std.proofs.lemmas.List.{map-append}
-use Rattle.std.proofs.lemmas.List.Elements.{All-push, All-map, All-filter}
+use Rattle.std.proofs.lemmas.List.Elements.{All-push}
 use Rattle.std.proofs.lemmas.List.Sums.{sum_by-append}
 use Rattle.desk_text.specs.Lines.{is_blank, fields_of}
 use Rattle.desk_model.specs.Name.{is_name}
 use Rattle.qrels_reader.specs.declared.fault.FileFault.TheVariants.{Line}
 use Rattle.qrels_reader.specs.declared.limits.TheConstants.{MOST_TOPICS, MOST_QRELS_ROWS, MOST_NAME_BYTES}
 use Rattle.qrels_reader.specs.Reading.{unless, and_then, field, is_long, read_line, with_row}
-use Rattle.qrels_reader.specs.Rows.{Row, first_seen, topics_of, rows_on, has_topic, has_document, name_bytes_of, row_of, form_faults, row_faults, read_row}
-use Rattle.qrels_reader.specs.Grouped.{Judged, Topic, judged_of, topic_of, grouped, names_of, row_count, IsQrels}
-use Rattle.qrels_reader.proofs.Mapped.{list_any-map}
-use Rattle.qrels_reader.proofs.Seen.{same, others, add_name, first_seen-append, or-false, IsDistinct, IsDistinct-first_seen, IsDistinct-push, all_differ}
-use Rattle.qrels_reader.proofs.Grouping.{names-grouped, has_topic-topics, row_count-grouped, name_bytes_in-grouped, length-grouped, rows_on-append, append-nil}
+use Rattle.qrels_reader.specs.Rows.{Row, first_seen, topics_of, rows_on, has_topic, name_bytes_of, row_of, form_faults, row_faults, read_row}
+use Rattle.qrels_reader.specs.Grouped.{Topic, grouped, row_count, IsQrels}
+use Rattle.qrels_reader.proofs.Seen.{add_name, first_seen-append, or-false, IsDistinct}
+use Rattle.qrels_reader.proofs.RowFiles.{judgements}
+use Rattle.qrels_reader.proofs.NamedRows.{IsNamed, documents_more, names_right, names_differ, documents_right, documents_differ}
+use Rattle.qrels_reader.proofs.Grouping.{has_topic-topics, row_count-grouped, name_bytes_in-grouped, length-grouped}
 use Rattle.qrels_reader.proofs.FieldNames.{is_name-field}
 use Rattle.qrels_reader.proofs.Chains.{none_holds}
 
-abbrev pub IsNamed : Row → Type 0
-IsNamed row = (is_name row.topic ≡ true) × (is_name row.document ≡ true)
-
 -- rows have names, and are no more than the limits allow
 pub record AreRight (rows : List Row) : Type 0 where
-  pub named : All IsNamed rows
+  pub named : All (IsNamed judgements) rows
   pub topics : length (topics_of rows) ≤ MOST_TOPICS
   pub count : length rows ≤ MOST_QRELS_ROWS
   pub bytes : name_bytes_of rows ≤ MOST_NAME_BYTES
@@ -46,39 +44,25 @@ length-add_name (x ∷ ns) n = by (length-add_name ns n) (bytes_eq n x)
 length-topics_of : (rows : List Row) (row : Row) → length (topics_of (rows ++ row ∷ [])) ≡ length (topics_of rows) + cond (has_topic row.topic rows) 0 1
 length-topics_of rows row =
     ap (λ ns. length (first_seen ns)) (map-append (λ (r : Row). r.topic) rows (row ∷ [])) ∙ ap length (first_seen-append (map (λ r. r.topic) rows) row.topic)
-    ∙ length-add_name (topics_of rows) row.topic ∙ ap (λ b. length (topics_of rows) + cond b 0 1) (has_topic-topics row.topic rows)
+    ∙ length-add_name (topics_of rows) row.topic ∙ ap (λ b. length (topics_of rows) + cond b 0 1) (has_topic-topics judgements row.topic rows)
 
 few_topics : (known : Bool) (n : ℕ) → n ≤ MOST_TOPICS → (not known && nat_le MOST_TOPICS n) ≡ false → n + cond known 0 1 ≤ MOST_TOPICS
 few_topics true n le e = omega arith
 few_topics false n le e = let lt = leb-false MOST_TOPICS n e in omega arith
 
-documents_more : (rows : List Row) (row : Row) (name : List ℕ) → IsDistinct (map (λ row. row.document) (rows_on name rows)) → has_document row.topic row.document rows ≡ false → IsDistinct (map (λ row. row.document) (rows_on name (rows ++ row ∷ [])))
-documents_more rows row name distinct new = by (bytes_eq name row.topic) refl
-  where
-    absent : bytes_eq name row.topic ≡ true → list_any (bytes_eq row.document) (map (λ row. row.document) (rows_on name rows)) ≡ false
-    absent e =
-        sym (list_any-map (bytes_eq row.document) (λ (r : Row). r.document) (rows_on name rows))
-        ∙ ap (λ n. list_any (λ (r : Row). bytes_eq row.document r.document) (rows_on n rows)) (same name row.topic e) ∙ new
-
-    by : (b : Bool) → bytes_eq name row.topic ≡ b → IsDistinct (map (λ row. row.document) (rows_on name (rows ++ row ∷ [])))
-    by true e =
-        subst IsDistinct (sym (ap (map (λ (r : Row). r.document)) (rows_on-append name rows row true e) ∙ map-append (λ (r : Row). r.document) (rows_on name rows) (row ∷ [])))
-        (IsDistinct-push (map (λ row. row.document) (rows_on name rows)) row.document distinct (absent e))
-    by false e = subst IsDistinct (sym (ap (map (λ (r : Row). r.document)) (rows_on-append name rows row false e ∙ append-nil (rows_on name rows)))) distinct
-
 -- one more row that is right
-pub right_more : (rows : List Row) (row : Row) → AreRight rows → IsNamed row → {A : Type 0} (a b : A) → unless (row_faults rows row) a ≡ Ok b → AreRight (rows ++ row ∷ [])
+pub right_more : (rows : List Row) (row : Row) → AreRight rows → IsNamed judgements row → {A : Type 0} (a b : A) → unless (row_faults rows row) a ≡ Ok b → AreRight (rows ++ row ∷ [])
 right_more rows row right named a b e =
     let fine = none_holds (row_faults rows row) a b e in
     let few = few_topics (has_topic row.topic rows) (length (topics_of rows)) right.topics fine.1.0 in
     let room = leb-false MOST_QRELS_ROWS (length rows) fine.1.1.0 in
     let short = ltb-false MOST_NAME_BYTES (name_bytes_of rows + length row.document) fine.1.1.1.0 in
     record {
-      named = All-push IsNamed rows row right.named named;
+      named = All-push (IsNamed judgements) rows row right.named named;
       topics = omega (arith, length-topics_of rows row, few);
       count = omega (arith, length-append rows (row ∷ []), room);
       bytes = omega (arith, sum_by-append (λ (r : Row). length r.document) rows (row ∷ []), short);
-      documents = λ name. documents_more rows row name (right.documents name) fine.0;
+      documents = λ name. documents_more judgements rows row name (right.documents name) fine.0;
     }
 
 -- a mapped answer
@@ -106,16 +90,12 @@ last (t ∷ tests) a b e = by (last tests a b) t.0 e
     by rest false e = rest e
 
 -- the row of a line whose form is right has names
-named_form : (line : List ℕ) (row : Row) → unless (form_faults line) (row_of line) ≡ Ok row → IsNamed row
+named_form : (line : List ℕ) (row : Row) → unless (form_faults line) (row_of line) ≡ Ok row → IsNamed judgements row
 named_form line row e =
     let fine = none_holds (form_faults line) (row_of line) row e in
-    let count : length (fields_of line) ≡ 4 = eqb-true (length (fields_of line)) 4 (denied (length (fields_of line) == 4) fine.1.1.0) in
+    let count : length (fields_of line) ≡ 4 = eqb-true (length (fields_of line)) 4 (not-false (length (fields_of line) == 4) fine.1.1.0) in
     let short = or-false (is_long (field line 0)) (is_long (field line 2)) fine.1.1.1.0 in
-    subst IsNamed (last (form_faults line) (row_of line) row e) (is_name-field line 0 fine.1.0 (omega arith) short.0, is_name-field line 2 fine.1.0 (omega arith) short.1)
-  where
-    denied : (b : Bool) → not b ≡ false → b ≡ true
-    denied true e = refl
-    denied false e = absurd (true≢false e)
+    subst (IsNamed judgements) (last (form_faults line) (row_of line) row e) (is_name-field line 0 fine.1.0 (omega arith) short.0, is_name-field line 2 fine.1.0 (omega arith) short.1)
 
 -- the rows with those of one more line are right
 pub right_line : (number : ℕ) (rows : List Row) (line : List ℕ) (row : Option Row) → AreRight rows → read_line read_row number rows line ≡ Ok row → AreRight (with_row rows row)
@@ -128,50 +108,19 @@ right_line number rows line row right e = by (is_blank line) e
         subst (λ row. AreRight (with_row rows row)) (last (row_faults rows made.value) (Some made.value) row made.made)
         (right_more rows made.value right (named_form line made.value made.found) (Some made.value) row made.made)
 
--- a property of each
-pub all_cons : {A : Type 0} (P : A → Type 0) (x : A) (xs : List A) → P x → All P xs → All P (x ∷ xs)
-all_cons P x xs here rest zero d lt = here
-all_cons P x xs here rest (suc k) d lt = rest k d (omega arith)
-
-pub all_first_seen : (P : List ℕ → Type 0) (xs : List (List ℕ)) → All P xs → All P (first_seen xs)
-all_first_seen P [] h = h
-all_first_seen P (x ∷ xs) h =
-    all_cons P x (filter (others x) (first_seen xs)) (h 0 x (omega arith)) (All-filter (others x) P (first_seen xs) (all_first_seen P xs (λ k d lt. h (suc k) d (omega arith))))
-
-names_right : (rows : List Row) → All IsNamed rows → All (λ name. is_name name ≡ true) (names_of (grouped rows))
-names_right rows named =
-    subst (All (λ name. is_name name ≡ true)) (sym (names-grouped rows))
-    (all_first_seen (λ name. is_name name ≡ true) (map (λ row. row.topic) rows) (All-map (λ name. is_name name ≡ true) (λ (row : Row). row.topic) rows (λ k d lt. (named k d lt).0)))
-
-documents_right : (rows : List Row) → All IsNamed rows → All (λ topic. All (λ judged. is_name judged.document ≡ true) topic.documents) (grouped rows)
-documents_right rows named =
-    All-map (λ (topic : Topic). All (λ (judged : Judged). is_name judged.document ≡ true) topic.documents) (topic_of rows) (topics_of rows) (λ k d lt. on_topic (get_or (topics_of rows) k d))
-  where
-    on_topic : (name : List ℕ) → All (λ (judged : Judged). is_name judged.document ≡ true) (map judged_of (rows_on name rows))
-    on_topic name =
-        All-map (λ (judged : Judged). is_name judged.document ≡ true) judged_of (rows_on name rows)
-        (All-filter (λ (r : Row). bytes_eq name r.topic) (λ r. is_name r.document ≡ true) rows (λ j x le. (named j x le).1))
-
 -- rows that are right are those of a file that was read, once there is one
 pub is_qrels : (rows : List Row) → AreRight rows → 0 < row_count (grouped rows) → IsQrels (grouped rows)
 is_qrels rows right some = record {
   some_topic = at_least (grouped rows) some;
-  named = names_right rows right.named;
-  distinct = subst (AllDiffer bytes_eq) (sym (names-grouped rows)) (all_differ (topics_of rows) (IsDistinct-first_seen (map (λ row. row.topic) rows)));
-  documents = documents_right rows right.named;
-  distinct_documents = All-map (λ (topic : Topic). AllDiffer bytes_eq (map (λ (j : Judged). j.document) topic.documents)) (topic_of rows) (topics_of rows) (λ k d lt. differ (get_or (topics_of rows) k d));
-  topics = omega (arith, length-grouped rows, right.topics);
-  rows = omega (arith, row_count-grouped rows, right.count);
-  name_bytes = omega (arith, name_bytes_in-grouped rows, right.bytes);
+  named = names_right judgements (λ name. is_name name ≡ true) rows (λ k d lt. (right.named k d lt).0);
+  distinct = names_differ judgements rows;
+  documents = documents_right judgements (λ name. is_name name ≡ true) rows (λ k d lt. (right.named k d lt).1);
+  distinct_documents = documents_differ judgements rows right.documents;
+  topics = omega (arith, length-grouped judgements rows, right.topics);
+  rows = omega (arith, row_count-grouped judgements rows, right.count);
+  name_bytes = omega (arith, name_bytes_in-grouped judgements rows, right.bytes);
 }
   where
-    documents-judged : (rs : List Row) → map (λ (j : Judged). j.document) (map judged_of rs) ≡ map (λ row. row.document) rs
-    documents-judged [] = refl
-    documents-judged (r ∷ rs) = ap (λ xs. r.document ∷ xs) (documents-judged rs)
-
-    differ : (name : List ℕ) → AllDiffer bytes_eq (map (λ (j : Judged). j.document) (map judged_of (rows_on name rows)))
-    differ name = subst (AllDiffer bytes_eq) (sym (documents-judged (rows_on name rows))) (all_differ (map (λ row. row.document) (rows_on name rows)) (right.documents name))
-
     at_least : (ts : List Topic) → 0 < row_count ts → 0 < length ts
     at_least [] h = absurd (omega arith)
     at_least (t ∷ ts) h = omega arith

@@ -1,5 +1,6 @@
 -- Lists that are kept apart: names as bytes and ends, documents as names and grades, topics as names and documents.
-use Rattle.std.specs.Prelude.{◌≡◌, ◌≤◌, ℕ, zero, suc, List, [], ◌∷◌, length, slice_range, ℤ}
+use Rattle.std.specs.Prelude.{◌≡◌, ◌≤◌, ℕ, zero, suc, List, [], ◌∷◌, length, map, slice_range, ℤ}
+use Rattle.std.specs.List.{zip}
 use Rattle.qrels_reader.specs.Grouped.{Judged, Topic, row_count, name_bytes_in}
 
 -- the pieces of bytes from a place on, by their ends
@@ -14,15 +15,11 @@ IsCut start (end ∷ ends) bytes = (start ≤ end) × IsCut end ends bytes
 
 -- documents with their grades
 abbrev pub judged_in : List (List ℕ) → List ℤ → List Judged
-judged_in [] grades = []
-judged_in (document ∷ documents) [] = []
-judged_in (document ∷ documents) (grade ∷ grades) = record { document = document; grade = grade } ∷ judged_in documents grades
+judged_in documents grades = map (λ pair. record { document = pair.0; grade = pair.1 }) (zip documents grades)
 
 -- topics with their documents
 abbrev pub topics_in : List (List ℕ) → List (List Judged) → List Topic
-topics_in [] documents = []
-topics_in (name ∷ names) [] = []
-topics_in (name ∷ names) (judged ∷ documents) = record { name = name; documents = judged } ∷ topics_in names documents
+topics_in names documents = map (λ pair. record { name = pair.0; documents = pair.1 }) (zip names documents)
 
 -- where a piece begins, by its number from 0
 abbrev pub start_at : ℕ → List ℕ → ℕ → ℕ

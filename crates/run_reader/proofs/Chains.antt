@@ -1,9 +1,10 @@
 -- Faults that are looked for one after the other.
-use Rattle.std.proofs.Common.{◌≡◌, ℕ, ◌+◌, List, [], ◌∷◌, length, true, false, cond, refl, ap, sym, subst, ◌∙◌, inl, inr, ◌⊎◌}
+use Rattle.std.proofs.Common.{◌≡◌, ℕ, ◌+◌, List, [], ◌∷◌, length, true, false, cond, refl, ap, sym, subst, ◌∙◌, inr, ◌⊎◌}
 use Rattle.std.specs.Prelude.{Bool, not, ◌||◌, ◌==◌, Some, None, Result, Ok, Err, OnOk, IfErr, nat_lt, nat_le}
 use Rattle.std.specs.List.{list_any}
 use Rattle.std.specs.Result.{result_map_both}
 use Rattle.std.specs.Str.{bytes_eq}
+use Rattle.std.proofs.lemmas.List.{length-map}
 use Rattle.desk_text.specs.Lines.{is_bad, is_blank, fields_of}
 use Rattle.desk_text.specs.declared.line.TheConstants.{LONGEST_LINE}
 use Rattle.qrels_reader.specs.declared.fault.LineFault.{LineFault}
@@ -13,13 +14,15 @@ use Rattle.qrels_reader.specs.declared.fault.FileFault.TheVariants.{Line, Memory
 use Rattle.qrels_reader.specs.declared.limits.TheConstants.{MOST_NAME_BYTES}
 use Rattle.qrels_reader.specs.Reading.{unless, checked, and_then, field, is_long, read_line}
 use Rattle.qrels_reader.specs.Grouped.{Topic, is_topic}
-use Rattle.qrels_reader.proofs.Chains.{unless-ok, unless-err, on_ok}
+use Rattle.qrels_reader.proofs.Chains.{read_whole, read_refused, on_ok}
 use Rattle.run_reader.specs.declared.limits.TheConstants.{MOST_RANKS, MOST_RUN_ROWS}
 use Rattle.run_reader.specs.declared.used.Used.{Used}
-use Rattle.run_reader.specs.Rows.{RunRow, row_of, tag_of, formed, row_faults, read_row}
-use Rattle.run_reader.specs.Run.{RunTopic, grouped, faults_after, with_row_on, rows_in, row_count, name_bytes_in}
+use Rattle.run_reader.specs.Rows.{RunRow, row_of, tag_of, rows_on, formed, row_faults, read_row}
+use Rattle.run_reader.specs.Run.{RunTopic, scored_of, grouped, faults_after, with_row_on, rows_in, row_count, name_bytes_in}
 use Rattle.run_reader.specs.Reader.{ReadsLine}
-use Rattle.run_reader.proofs.Grouping.{grouped-append, row_faults-grouped}
+use Rattle.qrels_reader.proofs.Grouping.{grouped-append, repeated, members_on-grouped, name_bytes_in-grouped}
+use Rattle.run_reader.proofs.Runs.{runs}
+use Rattle.run_reader.proofs.Grouping.{row_count-grouped}
 
 -- what the tests of a line's form give
 pub formed_is : (line : List ℕ) (a b c d : Bool) → nat_lt LONGEST_LINE (length line) ≡ a → list_any is_bad line ≡ b → not (length (fields_of line) == 6) ≡ c → (is_long (field line 0) || (is_long (field line 2) || is_long (tag_of line))) ≡ d
@@ -31,6 +34,16 @@ pub row_is : (used : Used) (ts : List RunTopic) (row : RunRow) (a b c d : Bool) 
     → nat_le MOST_RUN_ROWS (used.rows + row_count ts) ≡ c → nat_lt MOST_NAME_BYTES (used.name_bytes + name_bytes_in ts + length row.document) ≡ d
     → checked (faults_after used ts row) ≡ checked ((a, RepeatedDocument) ∷ (b, TooDeep) ∷ (c, TooManyRows) ∷ (d, TooManyNameBytes) ∷ [])
 row_is used ts row a b c d p q r s = λ i. checked ((p i, RepeatedDocument) ∷ (q i, TooDeep) ∷ (r i, TooManyRows) ∷ (s i, TooManyNameBytes) ∷ [])
+
+-- the faults of a row are those after the topics of the rows before it
+faults_are : (used : Used) (ts : List RunTopic) (rows : List RunRow) (row : RunRow) → ts ≡ grouped rows → row_faults used rows row ≡ faults_after used ts row
+faults_are used ts rows row e =
+    let a = repeated runs row.topic row.document rows in
+    let b : length (rows_in row.topic (grouped rows)) ≡ length (rows_on row.topic rows) = ap length (members_on-grouped runs row.topic rows) ∙ length-map (rows_on row.topic rows) scored_of in
+    let c = row_count-grouped rows in
+    let d = name_bytes_in-grouped runs rows in
+    (λ i. (sym a i, RepeatedDocument) ∷ (nat_le MOST_RANKS (sym b i), TooDeep) ∷ (nat_le MOST_RUN_ROWS (used.rows + sym c i), TooManyRows) ∷ (nat_lt MOST_NAME_BYTES (used.name_bytes + sym d i + length row.document), TooManyNameBytes) ∷ [])
+    ∙ ap (λ ts. faults_after used ts row) (sym e)
 
 module _ (qrels : List Topic) (used : Used) (number : ℕ) (rows : List RunRow) (line : List ℕ) where
   filled : is_blank line ≡ false → read_line (read_row qrels used) number rows line ≡ result_map_both (λ row. row) (Line number) (read_row qrels used rows line)
@@ -55,21 +68,17 @@ module _ (qrels : List Topic) (used : Used) (number : ℕ) (rows : List RunRow) 
   pub read_dropped : (row : RunRow) (ts : List RunTopic) → is_blank line ≡ false → formed line ≡ Ok row → is_topic row.topic qrels ≡ false → ts ≡ grouped rows → ReadsLine qrels used number rows line (Ok tt) ts
   read_dropped row ts b f k e = (None, read_rest row b f false k, e)
 
+  read_is : (row : RunRow) (ts : List RunTopic) → is_blank line ≡ false → formed line ≡ Ok row → is_topic row.topic qrels ≡ true → ts ≡ grouped rows
+      → read_line (read_row qrels used) number rows line ≡ result_map_both (λ row. row) (Line number) (unless (faults_after used ts row) (Some row))
+  read_is row ts b f k e = read_rest row b f true k ∙ ap (λ tests. result_map_both (λ row. row) (Line number) (unless tests (Some row))) (faults_are used ts rows row e)
+
   -- a row on a topic of the qrels
-  pub read_kept : (row : RunRow) (ts ts' : List RunTopic) (answer : Result (Unit {0}) FileFault) → is_blank line ≡ false → formed line ≡ Ok row → is_topic row.topic qrels ≡ true → ts ≡ grouped rows
+  read_kept : (row : RunRow) (ts ts' : List RunTopic) (answer : Result (Unit {0}) FileFault) → is_blank line ≡ false → formed line ≡ Ok row → is_topic row.topic qrels ≡ true → ts ≡ grouped rows
       → OnOk answer (checked (faults_after used ts row) ≡ Ok (tt {0})) → OnOk answer (ts' ≡ with_row_on ts row)
       → IfErr answer (λ e. (e ≡ Memory) ⊎ ((fault : LineFault) × (checked (faults_after used ts row) ≡ Err fault) × (e ≡ Line number fault))) → ReadsLine qrels used number rows line answer ts'
   read_kept row ts ts' (Ok done) b f k e right added wrong =
-      let same : faults_after used ts row ≡ row_faults used rows row = ap (λ ts. faults_after used ts row) e ∙ sym (row_faults-grouped used rows row) in
-      let fine : unless (row_faults used rows row) (Some row) ≡ Ok (Some row) = ap (λ tests. unless tests (Some row)) (sym same) ∙ unless-ok (faults_after used ts row) (tt {0}) (tt {0}) (Some row) right in
-      (Some row, read_rest row b f true k ∙ ap (result_map_both (λ row. row) (Line number)) fine, added ∙ ap (λ ts. with_row_on ts row) e ∙ sym (grouped-append rows row))
-  read_kept row ts ts' (Err fault) b f k e right added wrong = elim wrong [
-    | inl w ↦ inl w
-    | inr w ↦
-        let same : faults_after used ts row ≡ row_faults used rows row = ap (λ ts. faults_after used ts row) e ∙ sym (row_faults-grouped used rows row) in
-        let found : unless (row_faults used rows row) (Some row) ≡ Err w.0 = ap (λ tests. unless tests (Some row)) (sym same) ∙ unless-err (faults_after used ts row) (tt {0}) (Some row) w.0 w.1 in
-        inr (read_rest row b f true k ∙ ap (result_map_both (λ row. row) (Line number)) found ∙ ap Err (sym w.2))
-  ]
+      (Some row, read_whole number row (faults_after used ts row) _ (read_is row ts b f k e) right, added ∙ ap (λ ts. with_row_on ts row) e ∙ sym (grouped-append runs rows row))
+  read_kept row ts ts' (Err fault) b f k e right added wrong = read_refused number row (faults_after used ts row) _ (read_is row ts b f k e) fault wrong
 
   -- a row of a line
   pub read_said : (row : RunRow) (ts ts' : List RunTopic) (answer : Result (Unit {0}) FileFault) → is_blank line ≡ false → formed line ≡ Ok row → ts ≡ grouped rows

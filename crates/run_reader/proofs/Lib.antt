@@ -1,5 +1,5 @@
 pub mod Grouping
-pub mod Zipped
+pub mod Runs
 pub mod Places
 pub mod Chains
 pub mod Progress

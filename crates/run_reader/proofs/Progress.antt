@@ -13,7 +13,9 @@ use Rattle.run_reader.specs.Rows.{RunRow, tag_of, read_row}
 use Rattle.run_reader.specs.Run.{RunTopic, Run, grouped, names_of, name_of, named, run_of, IsRun}
 use Rattle.run_reader.specs.Reader.{ReadsLine, name_after, run_with}
 use Rattle.run_reader.proofs.Right.{AreRight, none_right, right_line, name_right, is_run, topics_known}
-use Rattle.run_reader.proofs.Grouping.{row_count-grouped, name_bytes_in-grouped}
+use Rattle.qrels_reader.proofs.Grouping.{name_bytes_in-grouped}
+use Rattle.run_reader.proofs.Runs.{runs}
+use Rattle.run_reader.proofs.Grouping.{row_count-grouped}
 
 -- the name after one more line
 name_of-next : (name : Option (List ℕ)) (line : List ℕ) (ls : List (List ℕ)) → name_of (name_after name line) ls ≡ name_of name (line ∷ ls)
@@ -37,7 +39,7 @@ name_of-none None = refl
 run_with-grouped : (name : Option (List ℕ)) (used : Used) (rows : List RunRow) → run_with name used (grouped rows) ≡ named name used rows
 run_with-grouped None used rows = refl
 run_with-grouped (Some n) used rows =
-    λ i. Ok (record { name = n; topics = grouped rows; used = record { rows = used.rows + row_count-grouped rows i; name_bytes = used.name_bytes + name_bytes_in-grouped rows i } })
+    λ i. Ok (record { name = n; topics = grouped rows; used = record { rows = used.rows + row_count-grouped rows i; name_bytes = used.name_bytes + name_bytes_in-grouped runs rows i } })
 
 module _ (given : Option (List ℕ)) (qrels : List Topic) (used : Used) (bytes : List ℕ) where
   -- some lines are read, and the others are those from a place on

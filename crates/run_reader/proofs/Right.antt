@@ -1,13 +1,12 @@
 -- What holds of rows that were read.
-use Rattle.std.proofs.Common.{◌≡◌, Bor, ℤ, ℕ, suc, ◌≤◌, List, [], ◌∷◌, ◌++◌, length, get_or, true, false, true≢false, cond, refl, ap, sym, subst, ◌∙◌, arith, length-append}
-use Rattle.std.specs.Prelude.{Bool, not, ◌||◌, ◌==◌, map, All, Option, Some, None, IfSome, IfOk, unwrap_or, Result, Ok, Err, nat_le}
-use Rattle.std.specs.List.{list_any, IsDistinct as AllDiffer}
+use Rattle.std.proofs.Common.{◌≡◌, Bor, ℤ, ℕ, suc, ◌≤◌, List, [], ◌∷◌, ◌++◌, length, true, false, cond, refl, ap, sym, subst, ◌∙◌, arith, length-append}
+use Rattle.std.specs.Prelude.{Bool, ◌||◌, ◌==◌, map, All, Option, Some, None, IfSome, IfOk, unwrap_or, Result, Ok, Err, nat_le}
 use Rattle.std.specs.Option.{option_copied}
 use Rattle.std.specs.Str.{bytes_eq}
 use Rattle.std.specs.Result.{result_map_both}
-use Rattle.std.proofs.lemmas.Bool.{leb-false, eqb-true}
-use Rattle.std.proofs.lemmas.List.{map-append, length-map}
-use Rattle.std.proofs.lemmas.List.Elements.{All-push, All-map, All-filter}
+use Rattle.std.proofs.lemmas.Bool.{leb-false, eqb-true, not-false}
+use Rattle.std.proofs.lemmas.List.{append-nil, length-map}
+use Rattle.std.proofs.lemmas.List.Elements.{All-push}
 use Rattle.desk_text.specs.Lines.{is_blank, fields_of}
 use Rattle.desk_model.specs.Name.{is_name}
 use Rattle.decimal_score.specs.Reading.{score_of}
@@ -15,35 +14,18 @@ use Rattle.decimal_score.specs.declared.score.ScoreFault.{ScoreFault}
 use Rattle.qrels_reader.specs.declared.fault.FileFault.TheVariants.{Line}
 use Rattle.qrels_reader.specs.Reading.{unless, checked, field, is_long, read_line, with_row}
 use Rattle.qrels_reader.specs.Grouped as qrels_grouped
-use Rattle.qrels_reader.proofs.Grouping.{append-nil}
-use Rattle.qrels_reader.proofs.Mapped.{list_any-map}
-use Rattle.qrels_reader.proofs.Right.{Made, mapped, parted, last, all_first_seen}
-use Rattle.qrels_reader.proofs.Seen.{same, or-false, IsDistinct, IsDistinct-first_seen, IsDistinct-push, all_differ}
+use Rattle.qrels_reader.proofs.Right.{Made, mapped, parted, last}
+use Rattle.qrels_reader.proofs.Seen.{same, or-false, IsDistinct}
 use Rattle.qrels_reader.proofs.FieldNames.{is_name-field}
 use Rattle.qrels_reader.proofs.Chains.{none_holds}
 use Rattle.run_reader.specs.declared.limits.TheConstants.{MOST_RANKS}
 use Rattle.run_reader.specs.declared.used.Used.{Used}
-use Rattle.run_reader.specs.Rows.{RunRow, line_fault, row_of, tag_of, topics_of, rows_on, has_document, form_faults, formed, row_faults, read_row}
-use Rattle.run_reader.specs.Run.{Scored, RunTopic, scored_of, topic_of, grouped, names_of, rows_in, IsRun}
+use Rattle.run_reader.specs.Rows.{RunRow, line_fault, row_of, tag_of, rows_on, form_faults, formed, row_faults, read_row}
+use Rattle.run_reader.specs.Run.{Scored, RunTopic, scored_of, grouped, names_of, rows_in, IsRun}
 use Rattle.run_reader.specs.Reader.{name_after, run_with}
-use Rattle.run_reader.proofs.Grouping.{names-grouped, rows_on-append}
-
-abbrev pub IsNamed : RunRow → Type 0
-IsNamed row = (is_name row.topic ≡ true) × (is_name row.document ≡ true)
-
-documents_more : (rows : List RunRow) (row : RunRow) (name : List ℕ) → IsDistinct (map (λ row. row.document) (rows_on name rows)) → has_document row.topic row.document rows ≡ false → IsDistinct (map (λ row. row.document) (rows_on name (rows ++ row ∷ [])))
-documents_more rows row name distinct new = by (bytes_eq name row.topic) refl
-  where
-    absent : bytes_eq name row.topic ≡ true → list_any (bytes_eq row.document) (map (λ row. row.document) (rows_on name rows)) ≡ false
-    absent e =
-        sym (list_any-map (bytes_eq row.document) (λ (r : RunRow). r.document) (rows_on name rows))
-        ∙ ap (λ n. list_any (λ (r : RunRow). bytes_eq row.document r.document) (rows_on n rows)) (same name row.topic e) ∙ new
-
-    by : (b : Bool) → bytes_eq name row.topic ≡ b → IsDistinct (map (λ row. row.document) (rows_on name (rows ++ row ∷ [])))
-    by true e =
-        subst IsDistinct (sym (ap (map (λ (r : RunRow). r.document)) (rows_on-append name rows row true e) ∙ map-append (λ (r : RunRow). r.document) (rows_on name rows) (row ∷ [])))
-        (IsDistinct-push (map (λ row. row.document) (rows_on name rows)) row.document distinct (absent e))
-    by false e = subst IsDistinct (sym (ap (map (λ (r : RunRow). r.document)) (rows_on-append name rows row false e ∙ append-nil (rows_on name rows)))) distinct
+use Rattle.qrels_reader.proofs.Grouping.{rows_on-append}
+use Rattle.qrels_reader.proofs.NamedRows.{IsNamed, documents_more, names_right, names_differ, members_right, documents_right, documents_differ}
+use Rattle.run_reader.proofs.Runs.{runs}
 
 depth_more : (rows : List RunRow) (row : RunRow) (name : List ℕ) → length (rows_on name rows) ≤ MOST_RANKS → nat_le MOST_RANKS (length (rows_on row.topic rows)) ≡ false → length (rows_on name (rows ++ row ∷ [])) ≤ MOST_RANKS
 depth_more rows row name few room = by (bytes_eq name row.topic) refl
@@ -51,10 +33,10 @@ depth_more rows row name few room = by (bytes_eq name row.topic) refl
     by : (b : Bool) → bytes_eq name row.topic ≡ b → length (rows_on name (rows ++ row ∷ [])) ≤ MOST_RANKS
     by true e =
         let here : length (rows_on name rows) ≡ length (rows_on row.topic rows) = ap (λ n. length (rows_on n rows)) (same name row.topic e) in
-        let more = ap length (rows_on-append name rows row true e) in
+        let more = ap length (rows_on-append runs name rows row true e) in
         let lt = leb-false MOST_RANKS (length (rows_on row.topic rows)) room in
         omega (arith, length-append (rows_on name rows) (row ∷ []))
-    by false e = let kept = ap length (rows_on-append name rows row false e ∙ append-nil (rows_on name rows)) in omega arith
+    by false e = let kept = ap length (rows_on-append runs name rows row false e ∙ append-nil (rows_on name rows)) in omega arith
 
 scored_row : (line : List ℕ) (row : RunRow) (r : Result ℤ ScoreFault) → result_map_both (λ score. record { topic = field line 0; document = field line 2; score = score }) line_fault r ≡ Ok row → (row.topic ≡ field line 0) × (row.document ≡ field line 2)
 scored_row line row (Ok s) e =
@@ -65,14 +47,14 @@ scored_row line row (Err f) e = absurd (cc)
 
 -- what a line of the right form has
 pub record IsFormed (line : List ℕ) (row : RunRow) : Type 0 where
-  pub named : IsNamed row
+  pub named : IsNamed runs row
   pub tag : is_name (tag_of line) ≡ true
 
 named_form : (line : List ℕ) (row : RunRow) → formed line ≡ Ok row → IsFormed line row
 named_form line row e =
     let made = parted (checked (form_faults line)) (λ done. row_of line) row e in
     let fine = none_holds (form_faults line) (tt {0}) made.value made.found in
-    let count : length (fields_of line) ≡ 6 = eqb-true (length (fields_of line)) 6 (denied (length (fields_of line) == 6) fine.1.1.0) in
+    let count : length (fields_of line) ≡ 6 = eqb-true (length (fields_of line)) 6 (not-false (length (fields_of line) == 6) fine.1.1.0) in
     let short = or-false (is_long (field line 0)) (is_long (field line 2) || is_long (tag_of line)) fine.1.1.1.0 in
     let rest = or-false (is_long (field line 2)) (is_long (tag_of line)) short.1 in
     let parts = scored_row line row (score_of (field line 4)) made.made in
@@ -80,15 +62,11 @@ named_form line row e =
       named = (ap is_name parts.0 ∙ is_name-field line 0 fine.1.0 (omega arith) short.0, ap is_name parts.1 ∙ is_name-field line 2 fine.1.0 (omega arith) rest.0);
       tag = is_name-field line 5 fine.1.0 (omega arith) rest.1;
     }
-  where
-    denied : (b : Bool) → not b ≡ false → b ≡ true
-    denied true e = refl
-    denied false e = absurd (true≢false e)
 
 module _ (qrels : List qrels_grouped.Topic) (used : Used) where
   -- rows have names, stand on topics of the qrels, and are no more on a topic than the limit allows
   pub record AreRight (rows : List RunRow) : Type 0 where
-    pub named : All IsNamed rows
+    pub named : All (IsNamed runs) rows
     pub known : All (λ row. qrels_grouped.is_topic row.topic qrels ≡ true) rows
     pub documents : (name : List ℕ) → IsDistinct (map (λ row. row.document) (rows_on name rows))
     pub depth : (name : List ℕ) → length (rows_on name rows) ≤ MOST_RANKS
@@ -96,13 +74,13 @@ module _ (qrels : List qrels_grouped.Topic) (used : Used) where
   pub none_right : AreRight []
   none_right = record { named = λ k d lt. absurd (omega arith); known = λ k d lt. absurd (omega arith); documents = λ name. tt; depth = λ name. omega arith }
 
-  right_more : (rows : List RunRow) (row : RunRow) → AreRight rows → IsNamed row → qrels_grouped.is_topic row.topic qrels ≡ true → {A : Type 0} (a b : A) → unless (row_faults used rows row) a ≡ Ok b → AreRight (rows ++ row ∷ [])
+  right_more : (rows : List RunRow) (row : RunRow) → AreRight rows → IsNamed runs row → qrels_grouped.is_topic row.topic qrels ≡ true → {A : Type 0} (a b : A) → unless (row_faults used rows row) a ≡ Ok b → AreRight (rows ++ row ∷ [])
   right_more rows row right named known a b e =
       let fine = none_holds (row_faults used rows row) a b e in
       record {
-        named = All-push IsNamed rows row right.named named;
+        named = All-push (IsNamed runs) rows row right.named named;
         known = All-push (λ row. qrels_grouped.is_topic row.topic qrels ≡ true) rows row right.known known;
-        documents = λ name. documents_more rows row name (right.documents name) fine.0;
+        documents = λ name. documents_more runs rows row name (right.documents name) fine.0;
         depth = λ name. depth_more rows row name (right.depth name) fine.1.0;
       }
 
@@ -117,7 +95,7 @@ module _ (qrels : List qrels_grouped.Topic) (used : Used) where
   pub right_line : (number : ℕ) (rows : List RunRow) (line : List ℕ) (row : Option RunRow) → AreRight rows → read_line (read_row qrels used) number rows line ≡ Ok row → AreRight (with_row rows row)
   right_line number rows line row right e = by (is_blank line) refl
     where
-      kept : (made : RunRow) → IsNamed made → (known : Bool) → qrels_grouped.is_topic made.topic qrels ≡ known → cond known (unless (row_faults used rows made) (Some made)) (Ok None) ≡ Ok row → AreRight (with_row rows row)
+      kept : (made : RunRow) → IsNamed runs made → (known : Bool) → qrels_grouped.is_topic made.topic qrels ≡ known → cond known (unless (row_faults used rows made) (Some made)) (Ok None) ≡ Ok row → AreRight (with_row rows row)
       kept made named true k f = subst (λ row. AreRight (with_row rows row)) (last (row_faults used rows made) (Some made) row f) (right_more rows made right named k (Some made) row f)
       kept made named false k f = (let none : None ≡ row = cc in subst (λ row. AreRight (with_row rows row)) none right)
 
@@ -141,35 +119,19 @@ module _ (qrels : List qrels_grouped.Topic) (used : Used) where
           let made = line_parts number rows line row b e in
           subst (λ b. IfSome (cond b name (Some (unwrap_or name (tag_of line)))) (λ n. is_name n ≡ true)) (sym b) (some name right (named_form line made.value made.found).tag)
 
-  topics_right : (P : List ℕ → Type 0) (rows : List RunRow) → All (λ row. P row.topic) rows → All P (names_of (grouped rows))
-  topics_right P rows h = subst (All P) (sym (names-grouped rows)) (all_first_seen P (map (λ row. row.topic) rows) (All-map P (λ (row : RunRow). row.topic) rows h))
-
   -- the topics stand in the qrels
   pub topics_known : (rows : List RunRow) → AreRight rows → All (λ name. qrels_grouped.is_topic name qrels ≡ true) (names_of (grouped rows))
-  topics_known rows right = topics_right (λ name. qrels_grouped.is_topic name qrels ≡ true) rows right.known
+  topics_known rows right = names_right runs (λ name. qrels_grouped.is_topic name qrels ≡ true) rows right.known
 
   -- rows that are right make a run
   pub is_run : (rows : List RunRow) → AreRight rows → IsRun (grouped rows)
   is_run rows right = record {
-    named = topics_right (λ name. is_name name ≡ true) rows (λ k d lt. (right.named k d lt).0);
-    distinct = subst (AllDiffer bytes_eq) (sym (names-grouped rows)) (all_differ (topics_of rows) (IsDistinct-first_seen (map (λ row. row.topic) rows)));
-    documents = All-map (λ (topic : RunTopic). All (λ (scored : Scored). is_name scored.document ≡ true) topic.rows) (topic_of rows) (topics_of rows) (λ k d lt. on_topic (get_or (topics_of rows) k d));
-    distinct_documents = All-map (λ (topic : RunTopic). AllDiffer bytes_eq (map (λ (s : Scored). s.document) topic.rows)) (topic_of rows) (topics_of rows) (λ k d lt. differ (get_or (topics_of rows) k d));
-    depth = All-map (λ (topic : RunTopic). length topic.rows ≤ MOST_RANKS) (topic_of rows) (topics_of rows)
-        (λ k d lt. let n = right.depth (get_or (topics_of rows) k d) in omega (arith, length-map (rows_on (get_or (topics_of rows) k d) rows) scored_of));
+    named = names_right runs (λ name. is_name name ≡ true) rows (λ k d lt. (right.named k d lt).0);
+    distinct = names_differ runs rows;
+    documents = documents_right runs (λ name. is_name name ≡ true) rows (λ k d lt. (right.named k d lt).1);
+    distinct_documents = documents_differ runs rows right.documents;
+    depth = members_right runs (λ scored. length scored ≤ MOST_RANKS) rows (λ name. let n = right.depth name in omega (arith, length-map (rows_on name rows) scored_of));
   }
-    where
-      on_topic : (name : List ℕ) → All (λ (scored : Scored). is_name scored.document ≡ true) (map scored_of (rows_on name rows))
-      on_topic name =
-          All-map (λ (scored : Scored). is_name scored.document ≡ true) scored_of (rows_on name rows)
-          (All-filter (λ (r : RunRow). bytes_eq name r.topic) (λ r. is_name r.document ≡ true) rows (λ j x le. (right.named j x le).1))
-
-      documents-scored : (rs : List RunRow) → map (λ (s : Scored). s.document) (map scored_of rs) ≡ map (λ row. row.document) rs
-      documents-scored [] = refl
-      documents-scored (r ∷ rs) = ap (λ xs. r.document ∷ xs) (documents-scored rs)
-
-      differ : (name : List ℕ) → AllDiffer bytes_eq (map (λ (s : Scored). s.document) (map scored_of (rows_on name rows)))
-      differ name = subst (AllDiffer bytes_eq) (sym (documents-scored (rows_on name rows))) (all_differ (map (λ row. row.document) (rows_on name rows)) (right.documents name))
 
 -- what holds of the rows of each topic holds of those of a name
 pub rows_in_right : (P : List Scored → Type 0) → P [] → (topics : List RunTopic) → All (λ topic. P topic.rows) topics → (name : List ℕ) → P (rows_in name topics)

@@ -1,6 +1,6 @@
 -- A topic is that of its rows.
 use Rattle.std.proofs.Common.{◌≡◌, ℕ, ◌<◌, ◌≤◌, Bool, true, false, cond, List, [], ◌∷◌, ◌++◌, length, get_or, map, Option, Some, None, refl, ap, sym, ◌∙◌, subst, length-append, arith}
-use Rattle.std.specs.Prelude.{Vec, Result, Ok, Err, IfOk, All, flat_map, slice_get, position, ℤ, pos}
+use Rattle.std.specs.Prelude.{Vec, Result, Ok, Err, IfOk, All, flat_map, slice_get, position, ℤ}
 use Rattle.std.specs.List.{list_any}
 use Rattle.std.specs.List.Sorted.{IsPermutation}
 use Rattle.std.specs.Str.{bytes_eq}
@@ -10,10 +10,10 @@ use Rattle.std.proofs.lemmas.List.Sums.{sum_by-cons}
 use Rattle.std.proofs.lemmas.Option.{slice_get_within, get_or_from_slice_get}
 use Rattle.desk_model.specs.Name.{is_name, AreAscending}
 use Rattle.desk_model.specs.Book.{Book, IsBook}
-use Rattle.qrels_reader.specs.Rows.{Row}
 use Rattle.qrels_reader.specs.Grouped.{Topic, Judged, names_of, documents_at, documents_on, row_count}
 use Rattle.qrels_reader.specs.declared.limits.TheConstants.{MOST_QRELS_ROWS}
-use Rattle.qrels_reader.proofs.Places.{at_place}
+use Rattle.qrels_reader.proofs.RowFiles.{judgements}
+use Rattle.qrels_reader.proofs.Places.{at_name}
 use Rattle.qrels_reader.proofs.Zipped.{part-le}
 use Rattle.run_reader.specs.Run as reader
 use Rattle.run_reader.specs.Run.{Run, RunTopic, Scored, rows_in, rows_on_topic}
@@ -24,10 +24,7 @@ use Rattle.topics_pool.specs.Made.{AreBooksOf}
 
 -- the topic that has a name is found where it stands
 pub at_number : (qrels : List Topic) (name : List ℕ) (t : ℕ) → position (bytes_eq name) (names_of qrels) ≡ Some t → (t < length qrels) × (documents_at qrels t ≡ documents_on name qrels)
-at_number qrels name t is =
-    let row : Row = record { topic = name; document = []; grade = pos 0 } in
-    let at = at_place qrels row t is in
-    (at.within, at.documents)
+at_number = at_name judgements
 
 -- a topic has no more rows than its run
 rows_within : (topics : List RunTopic) (name : List ℕ) → length (rows_in name topics) ≤ reader.row_count topics
@@ -57,7 +54,7 @@ module _ (qrels : List Topic) (runs : List Run) (name : List ℕ) (t : ℕ) (set
         let long = length_permutation set docs moved in
         let parts = gathered.few in
         let first = length-map (documents_at qrels t) (λ (d : Judged). d.document) in
-        let part = part-le (λ documents. length documents) qrels t refl in
+        let part = part-le judgements length qrels t refl in
         let rest = all_rows_within runs name in
         omega (arith, long, parts, first, part, rest, few, rows)
 

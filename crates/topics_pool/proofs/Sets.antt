@@ -3,11 +3,10 @@ use Rattle.std.proofs.Common.{◌≡◌, ℕ, zero, suc, ◌+◌, ◌≤◌, Boo
 use Rattle.std.specs.Prelude.{flat_map, slice_get, Some, position, IsPermutation}
 use Rattle.std.proofs.lemmas.List.Quantifiers.{position-Some}
 use Rattle.std.proofs.lemmas.List.Sorted.{All-permutation, length_permutation, list_any-IsPermutation}
-use Rattle.std.proofs.lemmas.List.{take_more, length-map, get_or-map, get_or_append_left, map-append}
+use Rattle.std.proofs.lemmas.List.{append-nil, take_more, length-map, get_or-map, get_or_append_left, map-append}
 use Rattle.std.proofs.lemmas.Grind.{flat_map-append}
 use Rattle.std.proofs.lemmas.Option.{slice_get_within, get_or_from_slice_get}
 use Rattle.desk_model.proofs.Nested.{take-there}
-use Rattle.qrels_reader.proofs.Grouping.{append-nil}
 use Rattle.std.specs.Prelude.{◌||◌, All}
 use Rattle.std.specs.List.{list_any, AllByRecursion, IsDistinct}
 use Rattle.std.specs.Str.{bytes_eq}

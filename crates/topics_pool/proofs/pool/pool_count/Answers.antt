@@ -8,7 +8,7 @@ use Rattle.desk_model.specs.Book.{Book}
 use Rattle.desk_model.specs.declared.types.Mark.{Mark}
 use Rattle.desk_model.specs.Desk.{is_pooled}
 use Rattle.desk_model.proofs.Nested.{zipped_at, length-zipped}
-use Rattle.qrels_reader.proofs.Grouping.{append-nil}
+use Rattle.std.proofs.lemmas.List.{append-nil}
 use Rattle.topics_pool.specs.Pool.{IsCountOf}
 use Rattle.topics_pool.proofs.Pools.{filter_next, filter_few, counted}
 use Rattle.topics_pool.proofs.pool.pool_count.Goals as goal

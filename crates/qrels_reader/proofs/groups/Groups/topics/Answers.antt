@@ -1,6 +1,7 @@
-use Rattle.std.proofs.Common.{length, ap, sym, ◌∙◌}
-use Rattle.qrels_reader.proofs.Zipped.{length-topics_in}
+use Rattle.std.proofs.Common.{sym, ◌∙◌}
+use Rattle.qrels_reader.proofs.Zipped.{length_held}
+use Rattle.qrels_reader.proofs.RowFiles.{judgements, holding}
 use Rattle.qrels_reader.proofs.groups.Groups.topics.Goals as goal
 
 pub returns : goal.returns
-returns c = c.len.ensures ∙ sym (length-topics_in c.self.inside.topics c.self.inside.judgements.items c.self.invariant.matched) ∙ ap length c.self.view_is
+returns c = c.len.ensures ∙ sym (length_held judgements (holding c.self.invariant c.self.view_is))

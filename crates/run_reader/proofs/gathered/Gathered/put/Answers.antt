@@ -1,9 +1,11 @@
-use Rattle.std.proofs.Common.{◌≡◌, refl, sym, ap, ◌∙◌}
+use Rattle.std.proofs.Common.{sym, ap, ◌∙◌}
 use Rattle.std.specs.Prelude.{position}
 use Rattle.std.specs.Str.{bytes_eq}
 use Rattle.run_reader.specs.Run.{scored_of, names_of}
 use Rattle.run_reader.specs.Reader.{row_said, documents_seen, documents_noted}
-use Rattle.run_reader.proofs.Places.{at_place, no_place, names_of-with_scored}
+use Rattle.qrels_reader.proofs.Places.{put_at, no_place}
+use Rattle.run_reader.proofs.Runs.{runs}
+use Rattle.run_reader.proofs.Places.{names_of-with_scored}
 use Rattle.qrels_reader.proofs.Chains.{on_ok}
 use Rattle.run_reader.proofs.gathered.Gathered.put.Goals as goal
 
@@ -14,12 +16,12 @@ put_new-requires-clause-tracked c = record {
 }
 
 pub put_new-requires-clause-new : goal.put_new-requires-clause-new
-put_new-requires-clause-new c = no_place c.args.row.now.topic.now c.args.self.now.kept (sym c.requires.place ∙ c.in-None.is)
+put_new-requires-clause-new c = no_place runs c.args.row.now.topic.now c.args.self.now.kept (sym c.requires.place ∙ c.in-None.is)
 
 pub returns-in-Some-clause-added : goal.returns-in-Some-clause-added
 returns-in-Some-clause-added c =
-    let place = at_place c.args.self.now.kept (row_said c.args.row.now) c.in-Some.t (sym c.requires.place ∙ c.in-Some.is) in
-    on_ok c.add_document.result (λ e. e ∙ place.put) c.add_document.ensures
+    let put = put_at runs c.args.self.now.kept (row_said c.args.row.now) c.in-Some.t (sym c.requires.place ∙ c.in-Some.is) in
+    on_ok c.add_document.result (λ e. e ∙ put) c.add_document.ensures
 
 pub returns-in-Some-clause-tracked : goal.returns-in-Some-clause-tracked
 returns-in-Some-clause-tracked c =

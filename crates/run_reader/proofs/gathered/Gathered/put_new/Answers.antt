@@ -1,9 +1,11 @@
-use Rattle.std.proofs.Common.{◌≡◌, [], ◌∷◌, ◌++◌, refl, sym, ap, ap₂, ◌∙◌}
+use Rattle.std.proofs.Common.{◌≡◌, [], ◌∷◌, ◌++◌, sym, ap, ap₂, ◌∙◌}
 use Rattle.std.specs.Str.{bytes_eq}
 use Rattle.indexmap.specs.IndexSet.{insert_key}
 use Rattle.run_reader.specs.Run.{scored_of, with_scored}
 use Rattle.run_reader.specs.Reader.{row_said, documents_seen}
-use Rattle.run_reader.proofs.Places.{put_new, seen_new}
+use Rattle.qrels_reader.proofs.Places.{put_new}
+use Rattle.run_reader.proofs.Runs.{runs}
+use Rattle.run_reader.proofs.Places.{seen_new}
 use Rattle.run_reader.proofs.gathered.Gathered.put_new.Goals as goal
 
 pub returns-clause-added : goal.returns-clause-added
@@ -11,7 +13,7 @@ returns-clause-added c =
     let row = row_said c.args.row.now in
     c.in_ok-add_document.ensures
     ∙ ap₂ (λ ts t. with_scored ts t (scored_of row)) c.in_ok-add_topic.ensures c.topics-t.ensures
-    ∙ put_new c.args.self.now.kept row c.requires.new
+    ∙ put_new runs c.args.self.now.kept row c.requires.new
 
 pub returns-clause-tracked : goal.returns-clause-tracked
 returns-clause-tracked c =

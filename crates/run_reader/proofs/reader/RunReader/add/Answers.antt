@@ -1,17 +1,15 @@
-use Rattle.std.proofs.Common.{◌≡◌, ◌+◌, ◌≤◌, true, false, refl, ap, sym, subst, ◌∙◌, length, arith}
-use Rattle.std.specs.Prelude.{All, Bool, not, OnOk}
+use Rattle.std.proofs.Common.{◌≡◌, ◌+◌, ◌≤◌, true, ap, sym, subst, ◌∙◌, length, arith}
+use Rattle.std.specs.Prelude.{All, OnOk}
+use Rattle.std.proofs.lemmas.Bool.{not-false}
 use Rattle.qrels_reader.specs.Grouped.{is_topic}
 use Rattle.qrels_reader.specs.declared.limits.TheConstants.{MOST_NAME_BYTES}
 use Rattle.run_reader.specs.declared.limits.TheConstants.{MOST_RUN_ROWS}
 use Rattle.run_reader.specs.Run.{names_of, row_count, name_bytes_in, with_row_on}
 use Rattle.run_reader.specs.Reader.{row_said}
-use Rattle.run_reader.proofs.Grouping.{row_count-with_row_on, name_bytes_in-with_row_on}
+use Rattle.qrels_reader.proofs.Grouping.{row_count-with_row, name_bytes_in-with_row}
+use Rattle.run_reader.proofs.Runs.{runs}
 use Rattle.run_reader.proofs.Places.{names_with}
 use Rattle.run_reader.proofs.reader.RunReader.add.Goals as goal
-
-denied : (b : Bool) → not b ≡ false → b ≡ true
-denied true e = refl
-denied false e = absurd (cc)
 
 pub returns-in_ok-put-in-Ok-clause-sound : goal.returns-in_ok-put-in-Ok-clause-sound
 returns-in_ok-put-in-Ok-clause-sound c =
@@ -19,7 +17,7 @@ returns-in_ok-put-in-Ok-clause-sound c =
     let row = row_said c.args.row.now in
     let looked = c.place-place.new.self.kept in
     let added : c.put.new.self.kept ≡ with_row_on looked row = c.in_ok-put-in-Ok.ensures.added ∙ ap (λ ts. with_row_on ts row) c.in_ok-is_repeated.ensures.kept in
-    let known : is_topic row.topic reader.qrels.now ≡ true = denied (is_topic row.topic reader.qrels.now) (sym c.lacks.ensures ∙ c.if-lacks.false) in
+    let known : is_topic row.topic reader.qrels.now ≡ true = not-false (is_topic row.topic reader.qrels.now) (sym c.lacks.ensures ∙ c.if-lacks.false) in
     let few : reader.used.rows + row_count looked + 1 ≤ MOST_RUN_ROWS = subst (λ r. OnOk r (reader.used.rows + row_count looked + 1 ≤ MOST_RUN_ROWS)) c.in-Ok.ensures.none c.room-room.ensures.few in
     let small : reader.used.name_bytes + name_bytes_in looked + length row.document ≤ MOST_NAME_BYTES =
     subst (λ r. OnOk r (reader.used.name_bytes + name_bytes_in looked + length row.document ≤ MOST_NAME_BYTES)) c.in-Ok.ensures.none c.room-room.ensures.small in
@@ -27,6 +25,6 @@ returns-in_ok-put-in-Ok-clause-sound c =
     record {
       tracked = c.in_ok-put-in-Ok.ensures.tracked;
       known = subst (λ ts. All (λ name. is_topic name reader.qrels.now ≡ true) (names_of ts)) (sym added) (names_with (λ name. is_topic name reader.qrels.now ≡ true) looked row names known);
-      few = (let rows = ap row_count added in omega (arith, row_count-with_row_on looked row, few));
-      small = (let bytes = ap name_bytes_in added in omega (arith, name_bytes_in-with_row_on looked row, small));
+      few = (let rows = ap row_count added in omega (arith, row_count-with_row runs looked row, few));
+      small = (let bytes = ap name_bytes_in added in omega (arith, name_bytes_in-with_row runs looked row, small));
     }

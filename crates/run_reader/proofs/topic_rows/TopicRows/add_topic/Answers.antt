@@ -1,22 +1,18 @@
 use Rattle.std.proofs.Common.{ap, ap₂, sym, ◌∙◌, ◌++◌, ◌∷◌, []}
 use Rattle.std.specs.List.{list_any}
 use Rattle.std.specs.Str.{bytes_eq}
-use Rattle.run_reader.specs.Run.{names_of}
-use Rattle.run_reader.proofs.Zipped.{names-topics_in, TopicAdded, topic_added}
+use Rattle.qrels_reader.proofs.Zipped.{names_held, topic_added}
+use Rattle.run_reader.proofs.Runs.{runs, holding, is_counted}
 use Rattle.run_reader.proofs.topic_rows.TopicRows.add_topic.Goals as goal
 
 pub add-requires : goal.add-requires
 add-requires c =
-    ap (list_any (bytes_eq c.args.name.now)) (sym (names-topics_in c.self.inside.topics c.self.inside.scored.items c.self.invariant.matched) ∙ ap names_of c.self.view_is) ∙ c.requires
+    ap (list_any (bytes_eq c.args.name.now)) (sym (names_held runs (holding c.self.invariant c.self.view_is))) ∙ c.requires
 
 pub invariant_of-self-2 : goal.invariant_of-self-2
 invariant_of-self-2 c =
-    let added : TopicAdded c.self.inside.topics c.self.inside.scored.items c.add.new.self c.push.new.self.items c.self.inside.rows c.self.inside.name_bytes c.args.name.now =
-    topic_added _ _ _ _ _ _ _ c.self.invariant c.in_ok-add.ensures.ok (c.in-Ok.ensures.items ∙ ap₂ (λ js j. js ++ j ∷ []) c.reserve.ensures.items c.new.ensures) in
-    added.is_counted
+    is_counted (topic_added runs (holding c.self.invariant c.self.view_is) _ _ c.args.name.now c.in_ok-add.ensures.ok (c.in-Ok.ensures.items ∙ ap₂ (λ js j. js ++ j ∷ []) c.reserve.ensures.items c.new.ensures))
 
 pub returns : goal.returns
 returns c =
-    let added : TopicAdded c.self.inside.topics c.self.inside.scored.items c.add.new.self c.push.new.self.items c.self.inside.rows c.self.inside.name_bytes c.args.name.now =
-    topic_added _ _ _ _ _ _ _ c.self.invariant c.in_ok-add.ensures.ok (c.in-Ok.ensures.items ∙ ap₂ (λ js j. js ++ j ∷ []) c.reserve.ensures.items c.new.ensures) in
-    added.topics ∙ ap (λ ts. ts ++ record { name = c.args.name.now; rows = [] } ∷ []) c.self.view_is
+    (topic_added runs (holding c.self.invariant c.self.view_is) _ _ c.args.name.now c.in_ok-add.ensures.ok (c.in-Ok.ensures.items ∙ ap₂ (λ js j. js ++ j ∷ []) c.reserve.ensures.items c.new.ensures)).topics_are

@@ -1,13 +1,12 @@
-use Rattle.std.proofs.Common.{◌<◌, length, ap, sym, arith}
-use Rattle.run_reader.proofs.Zipped.{length-topics_in, held}
+use Rattle.std.proofs.Common.{sym, arith}
+use Rattle.qrels_reader.proofs.Zipped.{in_place, held}
+use Rattle.run_reader.proofs.Runs.{runs, holding}
 use Rattle.run_reader.proofs.topic_rows.TopicRows.at.Goals as goal
 
 pub index-requires : goal.index-requires
 index-requires c =
-    let n = ap length c.self.view_is in omega (arith, length-topics_in c.self.inside.topics c.self.inside.scored.items c.self.invariant.matched, c.self.invariant.matched, n)
+    let lt = in_place runs (holding c.self.invariant c.self.view_is) c.args.t c.requires in omega (arith, lt)
 
 pub returns : goal.returns
 returns c =
-    let n = ap length c.self.view_is in
-    let lt : c.args.t < length c.self.inside.scored.items = omega (arith, length-topics_in c.self.inside.topics c.self.inside.scored.items c.self.invariant.matched, c.self.invariant.matched, n) in
-    sym (held c.self.inside.topics c.self.inside.scored.items c.args.self.now c.args.t c.index.result.now c.self.invariant.matched c.self.view_is lt c.index.ensures)
+    sym (held runs (holding c.self.invariant c.self.view_is) c.args.t c.index.result.now c.requires c.index.ensures)
