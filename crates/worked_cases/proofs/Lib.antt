@@ -9,6 +9,7 @@ pub mod Shares
 pub mod Lines
 pub mod ScoreTexts
 pub mod Files
+pub mod Loaded
 pub mod Orders
 pub mod Words
 pub mod Printing
