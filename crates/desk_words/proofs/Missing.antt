@@ -1,6 +1,6 @@
 -- An option without a value.
 use Rattle.std.proofs.Common.{◌≡◌, ℕ, true, false, Bool, List, [], ◌∷◌, ◌++◌, refl, ap, sym, ◌∙◌, codes, inl, inr}
-use Rattle.std.specs.Prelude.{Option, Some, None, ◌⊎◌, ◌&&◌, Contains, fold}
+use Rattle.std.specs.Prelude.{Option, Some, None, ◌⊎◌, Contains, fold}
 use Rattle.std.specs.Str.{bytes_eq}
 use Rattle.clap.specs.Words.{Rule, Shape, Text, fault_of}
 use Rattle.clap.specs.Kinds.{Kinds, or_else}
@@ -11,10 +11,11 @@ use Rattle.desk_words.specs.Parser.{job_app, check_app}
 use Rattle.desk_words.specs.Parts.{Part, line_of, AreParts, job_options, check_options}
 use Rattle.desk_words.specs.Laws.{HaveNoValue, MissingIsUsage}
 use Rattle.desk_words.specs.declared.command.Command.TheVariants.{Table, Certify, Session, Verify, Demo}
-use Rattle.desk_words.proofs.Walks.{Reads, Reached, option_built, other_built, all_values, at, waiting_for, name_walked, name_fault, walk_parts, turn, step}
+use Rattle.desk_words.proofs.Walks.{Reads, Reached, option_built, other_built, all_values, and_false, at, waiting_for, name_walked, name_fault, walk_parts, turn, step}
 use Rattle.desk_words.proofs.Arrivals.{among}
 use Rattle.desk_words.proofs.Saying.{job_shape, check_shape, job_reads, check_reads, no_options, at_word, has_name}
 
+-- there is a fault
 abbrev pub IsFaulty : Kinds → Type 0
 IsFaulty kinds = kinds ≡ [] → ⊥
 
@@ -25,10 +26,6 @@ or_faulty (x ∷ xs) other f e = cc
 or_later : (one other : Kinds) → IsFaulty other → IsFaulty (or_else one other)
 or_later [] other f e = f e
 or_later (x ∷ xs) other f e = cc
-
-no_less : (b : Bool) → (b && false) ≡ false
-no_less true = refl
-no_less false = refl
 
 -- a long name is none, or that of an option
 abbrev pub AreLongs : Shape → List Text → Type 0
@@ -67,7 +64,7 @@ module _ (s : Shape) (id : Text) (names : List Text) (reads : Reads s id (Contai
   dashes n h = refl
 
   trailing_turn : (n : Text) (h : Held) (word : Text) → Contains names n → IsFaulty (turn_fault s [] (after_dashes n h) word)
-  trailing_turn n h word is = rw (reads.index, no_less (is_pending (other_built id) (Some (n, [])))) (unused n h is)
+  trailing_turn n h word is = rw (reads.index, and_false (is_pending (other_built id) (Some (n, [])))) (unused n h is)
 
   walk_turn : (w : Walk) (word : Text) (rest : List Text) → IsFaulty (turn_fault s [] w word) → IsFaulty (walk_fault s [] w (word ∷ rest))
   unfolding walk_fault

@@ -34,7 +34,7 @@ pub record Reads (s : Shape) (id : Text) (IsOption : Text → Type 0) : Type 0 w
   pub joined_long : (n v : Text) → IsOption n → long_of (45 ∷ 45 ∷ (n ++ 61 ∷ v)) ≡ Some (n, Some v)
   pub joined_more : (n v : Text) → IsOption n → bytes_eq (45 ∷ 45 ∷ (n ++ 61 ∷ v)) (45 ∷ 45 ∷ []) ≡ false
 
-and_false : (b : Bool) → (b && false) ≡ false
+pub and_false : (b : Bool) → (b && false) ≡ false
 and_false true = refl
 and_false false = refl
 

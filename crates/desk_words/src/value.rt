@@ -21,16 +21,13 @@ pub fn path(alloc: Global, values: &[&str]) -> Result<Path, WordsFault>
     }
 }
 
-/// The measure that the one value names, and none where it names none or is not one.
+/// The measure that the one value names, and none where there is not one value or it names none.
 pub fn measure(values: &[&str]) -> Option<MeasureName>
     ensures some { IfSome result (λ m. IsMeasureOf (map (λ v. v.now) values.now) m) }
     ensures none { IfNone result ((m : MeasureName) → IsMeasureOf (map (λ v. v.now) values.now) m → ⊥) }
 {
     match *values {
-        [text] => match read_measure(text.as_bytes()) {
-            Ok(name) => Some(name),
-            Err(_) => None,
-        },
+        [text] => read_measure(text.as_bytes()).ok(),
         _ => None,
     }
 }
