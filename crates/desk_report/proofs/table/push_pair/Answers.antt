@@ -1,11 +1,11 @@
-use Rattle.std.proofs.Common.{◌≡◌, ℕ, List, [], ◌∷◌, ◌++◌, to_z, of_z, arith, ap, ◌∙◌, append_assoc}
+use Rattle.std.proofs.Common.{◌≡◌, ℕ, List, [], ◌∷◌, ◌++◌, to_z, of_z, arith, ◌∙◌, append_assoc}
 use Rattle.std.specs.Int.{w128}
 use Rattle.std.proofs.lemmas.Int.{ints}
 use Rattle.std.proofs.lemmas.Result.{on_ok_weaker}
 use Rattle.std.specs.Prelude.{codes}
 use Rattle.desk_model.specs.Verdict.{verdict}
 use Rattle.desk_report.specs.Means.{ends_text}
-use Rattle.desk_report.specs.Table.{ended, word_of, pair_line}
+use Rattle.desk_report.specs.Table.{ended, word_of}
 use Rattle.desk_report.proofs.Joins.{four}
 use Rattle.desk_report.proofs.table.push_pair.Goals as goal
 

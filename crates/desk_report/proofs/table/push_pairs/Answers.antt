@@ -1,10 +1,7 @@
-use Rattle.std.proofs.Common.{◌≡◌, ℕ, ◌+◌, ◌<◌, ◌≤◌, List, [], ◌∷◌, ◌++◌, length, drop, get_or, pos, refl, ap, sym, ◌∙◌, arith}
-use Rattle.std.specs.Prelude.{slice_get, Some}
-use Rattle.std.proofs.lemmas.Grind.{common_steps}
-use Rattle.desk_model.specs.Pairs.{pairs_of, pairs_from}
-use Rattle.desk_model.specs.declared.pairs.PairPlaces.{PairPlaces}
+use Rattle.std.proofs.Common.{length, get_or, pos, ◌∙◌, arith}
+use Rattle.desk_model.specs.Pairs.{pairs_of}
 use Rattle.desk_model.specs.declared.types.Totals.{Totals}
-use Rattle.desk_model.proofs.PairPlace.{ArePlaces, pairs_from-start, pairs_from-next, pairs_from-end, places_after-placed, drop-there}
+use Rattle.desk_model.proofs.PairPlace.{pairs_from-next, places_after-placed}
 use Rattle.desk_report.specs.Table.{pair_line}
 use Rattle.desk_report.proofs.Joins.{one_more, all_lines, get_or-there, unfinished, there_from}
 use Rattle.desk_report.proofs.table.push_pairs.Goals as goal

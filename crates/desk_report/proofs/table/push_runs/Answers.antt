@@ -1,4 +1,4 @@
-use Rattle.std.proofs.Common.{◌≡◌, ◌++◌, arith, get_or, pos}
+use Rattle.std.proofs.Common.{arith, get_or, pos}
 use Rattle.fractions.specs.declared.span.Span.{Span}
 use Rattle.desk_report.specs.Table.{run_line}
 use Rattle.desk_report.proofs.Joins.{one_more, all_lines, get_or-there}

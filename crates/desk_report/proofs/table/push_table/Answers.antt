@@ -3,7 +3,7 @@ use Rattle.std.specs.Int.{w128}
 use Rattle.std.proofs.lemmas.Int.{ints}
 use Rattle.std.specs.Prelude.{unsigned_abs, flat_map}
 use Rattle.std.proofs.lemmas.Result.{on_ok_weaker}
-use Rattle.desk_report.specs.Table.{ended, head_lines, run_lines, pair_lines, table_text, table_lines}
+use Rattle.desk_report.specs.Table.{ended, head_lines, table_text, table_lines}
 use Rattle.desk_report.proofs.Joins.{whole}
 use Rattle.desk_report.proofs.table.push_table.Goals as goal
 
