@@ -1,5 +1,5 @@
 //! Commands.
-ghost use Rattle.std.specs.Prelude.{◌≡◌, string_bytes};
+ghost use Rattle.std.specs.Prelude.{◌≡◌, ◌<◌, ◌≤◌, length, string_bytes, vec_len};
 
 use desk_model::{MeasureName, Name};
 use std::marker::Model;
@@ -37,7 +37,7 @@ pub struct Job {
     pub measure: MeasureName,
     /// The least grade of a relevant document, from 1 to 1,000.
     pub level: u32,
-    /// From 1 to 256 runs, in the order of the words; for a certificate from 2.
+    /// The runs in the order of the words; for a certificate two at least.
     pub runs: RunWords,
 }
 
@@ -48,7 +48,7 @@ pub struct Check {
     pub qrels: Path,
     /// The file of the certificate.
     pub cert: Path,
-    /// From 2 to 256 runs, in the order of the words.
+    /// The runs in the order of the words, two at least.
     pub runs: RunWords,
 }
 
@@ -89,24 +89,28 @@ impl Path {
     }
 }
 
-/// Runs in their order.
+/// From 1 to 256 runs, in their order.
 #[derive(Debug, Drop)]
 pub struct RunWords {
     words: Vec<RunWord>,
 }
 
 impl Model for RunWords {
-    ghost use Rattle.std.specs.Prelude.{List};
+    ghost use Rattle.std.specs.Prelude.{List, ◌<◌, ◌≤◌, length};
     ghost use Rattle.desk_words.specs.declared.command.RunWord.{RunWord};
 
     ghost Value = { List RunWord };
 
     ghost view = { λ r. r.words.items };
+
+    ghost invariant = { λ r. (0 < length r.words.items) × (length r.words.items ≤ 256) };
 }
 
 impl RunWords {
     /// These runs.
     pub fn new(words: Vec<RunWord>) -> RunWords
+        requires some { 0 < vec_len words }
+        requires few { vec_len words ≤ 256 }
         ensures { result ≡ words.items }
     {
         RunWords { words }
@@ -114,7 +118,9 @@ impl RunWords {
 
     /// The runs, the first at place 0.
     pub fn as_slice(&self) -> &[RunWord]
-        ensures { result.now ≡ self.now }
+        ensures runs { result.now ≡ self.now }
+        ensures some { 0 < length self.now }
+        ensures few { length self.now ≤ 256 }
     {
         self.words.as_slice()
     }

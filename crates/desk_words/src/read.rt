@@ -1,5 +1,5 @@
 //! The command of the words.
-ghost use Rattle.std.specs.Prelude.{◌≡◌, ℕ, IfOk, Err, map, string_bytes};
+ghost use Rattle.std.specs.Prelude.{◌≡◌, ◌<◌, ℕ, IfOk, Err, map, string_bytes};
 ghost use Rattle.desk_words.specs.Words.{IsCommandOf, IsJobOf, IsCheckOf, IsSeedOf};
 ghost use Rattle.desk_words.specs.declared.command.Command.{Command};
 ghost use Rattle.desk_words.specs.declared.command.Job.{Job};
@@ -32,6 +32,7 @@ pub fn read_words(alloc: Global, words: &[String]) -> Result<Command, WordsFault
 }
 
 fn read_job(alloc: Global, words: &[String], least: usize) -> Result<Job, WordsFault>
+    requires { 0 < least }
     ensures ok { IfOk result (λ job. IsJobOf least (map string_bytes words.now) job) }
     ensures usage { result ≡ Err WordsFault.Usage → (job : Job) → IsJobOf least (map string_bytes words.now) job → ⊥ }
 {

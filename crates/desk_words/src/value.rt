@@ -82,6 +82,7 @@ pub fn seed(values: &[&str]) -> Option<u32>
 
 /// The runs of the RUN words, from `least` to 256.
 pub fn runs(alloc: Global, values: &[&str], least: usize) -> Result<RunWords, WordsFault>
+    requires { 0 < least }
     ensures ok { IfOk result (λ runs. AreRunsOf least (map (λ v. v.now) values.now) runs) }
     ensures usage { result ≡ Err WordsFault.Usage → (runs : List RunWord) → AreRunsOf least (map (λ v. v.now) values.now) runs → ⊥ }
 {
