@@ -4,3 +4,4 @@ pub mod Arrivals
 pub mod Saying
 pub mod Unique
 pub mod Missing
+pub mod Cutting

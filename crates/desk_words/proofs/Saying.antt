@@ -301,48 +301,48 @@ empty_is_usage word name parts end command are is e =
 
 -- a long word of no option
 module _ (s : Shape) (id : Text) (names : List Text) (reads : Reads s id (Contains names)) where
-  unknown_turn : (b : Bool) (h : Held) (word n : Text) → long_of word ≡ Some (n, None) → bytes_eq word (45 ∷ 45 ∷ []) ≡ false → arg_by_long s.rules n ≡ None → turn_fault s [] (at b false h) word ≡ UnknownArgument ∷ []
-  unknown_turn true h word n long more none = rw (more, long, none) refl
-  unknown_turn false h word n long more none = rw (more, long, none) refl
+  unknown_turn : (b : Bool) (h : Held) (word n : Text) (v : Option Text) → long_of word ≡ Some (n, v) → bytes_eq word (45 ∷ 45 ∷ []) ≡ false → arg_by_long s.rules n ≡ None → turn_fault s [] (at b false h) word ≡ UnknownArgument ∷ []
+  unknown_turn true h word n v long more none = rw (more, long, none) refl
+  unknown_turn false h word n v long more none = rw (more, long, none) refl
 
-  pub unknown_walk : (parts : List Part) (word n : Text) (rest : List Text) → AreParts names parts → long_of word ≡ Some (n, None) → bytes_eq word (45 ∷ 45 ∷ []) ≡ false → arg_by_long s.rules n ≡ None
+  pub unknown_walk : (parts : List Part) (word n : Text) (v : Option Text) (rest : List Text) → AreParts names parts → long_of word ≡ Some (n, v) → bytes_eq word (45 ∷ 45 ∷ []) ≡ false → arg_by_long s.rules n ≡ None
       → walk_fault s [] (at false false nothing_held) (line_of parts ++ word ∷ rest) ≡ UnknownArgument ∷ []
   unfolding walk_fault
-  unknown_walk parts word n rest are long more none =
+  unknown_walk parts word n v rest are long more none =
       let r = walk_parts s id names reads parts false nothing_held are refl in
-      r.faults (word ∷ rest) ∙ ap (λ k. or_else k (walk_fault s [] (walked s.rules [] (at r.waits false r.held) word) rest)) (unknown_turn r.waits r.held word n long more none)
+      r.faults (word ∷ rest) ∙ ap (λ k. or_else k (walk_fault s [] (walked s.rules [] (at r.waits false r.held) word) rest)) (unknown_turn r.waits r.held word n v long more none)
 
-pub job_unknown : (parts : List Part) (word n : Text) (rest : List Text) → AreParts job_options parts → long_of word ≡ Some (n, None) → bytes_eq word (45 ∷ 45 ∷ []) ≡ false → arg_by_long job_shape.rules n ≡ None
+pub job_unknown : (parts : List Part) (word n : Text) (v : Option Text) (rest : List Text) → AreParts job_options parts → long_of word ≡ Some (n, v) → bytes_eq word (45 ∷ 45 ∷ []) ≡ false → arg_by_long job_shape.rules n ≡ None
     → fault_of job_app (line_of parts ++ word ∷ rest) ≡ [] → ⊥
-job_unknown parts word n rest are long more none taken =
-    let walk = unknown_walk job_shape (codes "RUN") job_options job_reads parts word n rest are long more none in
+job_unknown parts word n v rest are long more none taken =
+    let walk = unknown_walk job_shape (codes "RUN") job_options job_reads parts word n v rest are long more none in
     let known : fault_of job_app (line_of parts ++ word ∷ rest) ≡ UnknownArgument ∷ [] = rw walk refl in
     let no : [] ≡ UnknownArgument ∷ [] = sym taken ∙ known in
     cc
 
-pub check_unknown : (parts : List Part) (word n : Text) (rest : List Text) → AreParts check_options parts → long_of word ≡ Some (n, None) → bytes_eq word (45 ∷ 45 ∷ []) ≡ false → arg_by_long check_shape.rules n ≡ None
+pub check_unknown : (parts : List Part) (word n : Text) (v : Option Text) (rest : List Text) → AreParts check_options parts → long_of word ≡ Some (n, v) → bytes_eq word (45 ∷ 45 ∷ []) ≡ false → arg_by_long check_shape.rules n ≡ None
     → fault_of check_app (line_of parts ++ word ∷ rest) ≡ [] → ⊥
-check_unknown parts word n rest are long more none taken =
-    let walk = unknown_walk check_shape (codes "RUN") check_options check_reads parts word n rest are long more none in
+check_unknown parts word n v rest are long more none taken =
+    let walk = unknown_walk check_shape (codes "RUN") check_options check_reads parts word n v rest are long more none in
     let known : fault_of check_app (line_of parts ++ word ∷ rest) ≡ UnknownArgument ∷ [] = rw walk refl in
     let no : [] ≡ UnknownArgument ∷ [] = sym taken ∙ known in
     cc
 
-pub seed_unknown : (parts : List Part) (word n : Text) (rest : List Text) → AreParts no_options parts → long_of word ≡ Some (n, None) → bytes_eq word (45 ∷ 45 ∷ []) ≡ false → arg_by_long seed_shape.rules n ≡ None
+pub seed_unknown : (parts : List Part) (word n : Text) (v : Option Text) (rest : List Text) → AreParts no_options parts → long_of word ≡ Some (n, v) → bytes_eq word (45 ∷ 45 ∷ []) ≡ false → arg_by_long seed_shape.rules n ≡ None
     → fault_of seed_app (line_of parts ++ word ∷ rest) ≡ [] → ⊥
-seed_unknown parts word n rest are long more none taken =
-    let walk = unknown_walk seed_shape (codes "SEED") no_options seed_reads parts word n rest are long more none in
+seed_unknown parts word n v rest are long more none taken =
+    let walk = unknown_walk seed_shape (codes "SEED") no_options seed_reads parts word n v rest are long more none in
     let known : fault_of seed_app (line_of parts ++ word ∷ rest) ≡ UnknownArgument ∷ [] = rw walk refl in
     let no : [] ≡ UnknownArgument ∷ [] = sym taken ∙ known in
     cc
 
 unknown_word : (word w n : Text) (parts : List Part) (rest : List Text) (command : Command) → AreParts (options_of word) parts → long_of w ≡ Some (n, None) → bytes_eq w (45 ∷ 45 ∷ []) ≡ false
     → arg_by_long job_shape.rules n ≡ None → arg_by_long check_shape.rules n ≡ None → arg_by_long seed_shape.rules n ≡ None → IsCommandOf (word ∷ (line_of parts ++ w ∷ rest)) command → ⊥
-unknown_word word w n parts rest (Table job) are long more a b c is = job_unknown parts w n rest (at_word word (codes "table") parts is.0 are) long more a is.1.taken
-unknown_word word w n parts rest (Certify job) are long more a b c is = job_unknown parts w n rest (at_word word (codes "certify") parts is.0 are) long more a is.1.taken
-unknown_word word w n parts rest (Session job) are long more a b c is = job_unknown parts w n rest (at_word word (codes "session") parts is.0 are) long more a is.1.taken
-unknown_word word w n parts rest (Verify check) are long more a b c is = check_unknown parts w n rest (at_word word (codes "verify") parts is.0 are) long more b is.1.taken
-unknown_word word w n parts rest (Demo seed) are long more a b c is = seed_unknown parts w n rest (at_word word (codes "demo") parts is.0 are) long more c is.1.taken
+unknown_word word w n parts rest (Table job) are long more a b c is = job_unknown parts w n None rest (at_word word (codes "table") parts is.0 are) long more a is.1.taken
+unknown_word word w n parts rest (Certify job) are long more a b c is = job_unknown parts w n None rest (at_word word (codes "certify") parts is.0 are) long more a is.1.taken
+unknown_word word w n parts rest (Session job) are long more a b c is = job_unknown parts w n None rest (at_word word (codes "session") parts is.0 are) long more a is.1.taken
+unknown_word word w n parts rest (Verify check) are long more a b c is = check_unknown parts w n None rest (at_word word (codes "verify") parts is.0 are) long more b is.1.taken
+unknown_word word w n parts rest (Demo seed) are long more a b c is = seed_unknown parts w n None rest (at_word word (codes "demo") parts is.0 are) long more c is.1.taken
 
 pub help_is_usage : HelpIsUsage
 help_is_usage word parts rest command are =

@@ -1,8 +1,9 @@
 -- How clap walks over parts.
-use Rattle.std.proofs.Common.{◌≡◌, true, false, Bool, List, [], ◌∷◌, ◌++◌, length, refl, ap, ap₂, sym, ◌∙◌, arith, cond, append_assoc, append-nil}
+use Rattle.std.proofs.Common.{◌≡◌, ℕ, true, false, true≢false, Bool, List, [], ◌∷◌, ◌++◌, length, refl, ap, ap₂, sym, ◌∙◌, arith, cond, append_assoc, append-nil}
 use Rattle.std.specs.Prelude.{Some, None, ◌&&◌, ◌==◌, nat_lt, fold, unwrap_or, option_map, Contains}
 use Rattle.std.specs.Str.{bytes_eq}
 use Rattle.std.proofs.lemmas.Bool.{and_from, false_from_ne_true, lt-ltb}
+use Rattle.std.proofs.lemmas.Bool.Decides.{nat_tests}
 use Rattle.std.proofs.lemmas.Slice.Eq.{bytes_eq-Decides}
 use Rattle.clap.specs.Words.{Row, Rule, Shape, Text}
 use Rattle.clap.specs.Lexer.{long_of, short_of}
@@ -56,6 +57,25 @@ bare (x ∷ y ∷ rest) h = by_first (x == 45) refl
     by_first : (b : Bool) → (x == 45) ≡ b → IsBare (x ∷ y ∷ rest)
     by_first true e = let no : true ≡ false = sym (and_from (x == 45) (nat_lt 1 (length (x ∷ y ∷ rest))) e (lt-ltb 1 (length (x ∷ y ∷ rest)) (omega arith))) ∙ h in cc
     by_first false e = record { more = rw e refl; no_long = rw e refl; no_short = rw e refl }
+
+-- what a word looks like that begins with one `-` and is longer
+pub record IsShort (word flags : Text) : Type 0 where
+  pub more : bytes_eq word (45 ∷ 45 ∷ []) ≡ false
+  pub no_long : long_of word ≡ None
+  pub short : short_of word ≡ Some flags
+
+pub short_word : (x : ℕ) (xs : Text) → (x == 45) ≡ false → IsShort (45 ∷ x ∷ xs) (x ∷ xs)
+short_word x xs e = record { more = rw e refl; no_long = rw e refl; short = rw e refl }
+
+-- the bytes of a dashed word
+pub dashed_bytes : (word : Text) → is_dashed word ≡ true → (x : ℕ) × (xs : Text) × (word ≡ 45 ∷ x ∷ xs)
+dashed_bytes [] h = absurd (true≢false (sym h))
+dashed_bytes (y ∷ []) h = absurd (true≢false (sym h ∙ and_false (y == 45)))
+dashed_bytes (y ∷ x ∷ xs) h = go (y == 45) refl
+  where
+    go : (b : Bool) → (y == 45) ≡ b → (x' : ℕ) × (xs' : Text) × (y ∷ x ∷ xs ≡ 45 ∷ x' ∷ xs')
+    go true e = let is : y ≡ 45 = grind (arith, nat_tests) in (x, xs, ap (λ n. n ∷ x ∷ xs) is)
+    go false e = let no : is_dashed (y ∷ x ∷ xs) ≡ false = rw e refl in absurd (true≢false (sym h ∙ no))
 
 -- the values of an entry after more of them come to an entry
 pub values_more : (k n : Text) (how : Reading) (vs : List Text) (rows : List Row)
@@ -191,6 +211,7 @@ module _ (s : Shape) (id : Text) (names : List Text) (reads : Reads s id (Contai
     pub faults : (end : List Text) → walk_fault s [] (at b t h) (line ++ end) ≡ walk_fault s [] (at waits u held) end
     pub walks : (end : List Text) → fold (walked s.rules []) (at b t h) (line ++ end) ≡ fold (walked s.rules []) (at waits u held) end
     pub sound : settles s id (Contains names) reads held ≡ []
+    pub unskipped : held.skip ≡ h.skip
     pub holds_more : (k : Text) → holds s id (Contains names) reads k held ≡ holds s id (Contains names) reads k h ++ more k
 
   -- one turn with no fault
@@ -203,7 +224,7 @@ module _ (s : Shape) (id : Text) (names : List Text) (reads : Reads s id (Contai
 
   -- the walk over parts
   pub walk_parts : (parts : List Part) (b : Bool) (h : Held) → AreParts names parts → settles s id (Contains names) reads h ≡ [] → Reached b false h (line_of parts) (λ k. all_values id k parts) false
-  walk_parts [] b h are sound = record { waits = b; held = h; faults = λ end. refl; walks = λ end. refl; sound = sound; holds_more = λ k. sym (append-nil (holds s id (Contains names) reads k h)) }
+  walk_parts [] b h are sound = record { waits = b; held = h; faults = λ end. refl; walks = λ end. refl; sound = sound; unskipped = refl; holds_more = λ k. sym (append-nil (holds s id (Contains names) reads k h)) }
   walk_parts (spaced n v ∷ parts) b h are sound =
       let is = bare v are.1 in
       let mid = waiting_for s id (Contains names) reads n h in
@@ -218,6 +239,7 @@ module _ (s : Shape) (id : Text) (names : List Text) (reads : Reads s id (Contai
             ∙ turn mid (at false false after) v (line_of parts ++ end) two (value_fault s id (Contains names) reads n v h are.0 is) ∙ rest.faults end;
         walks = λ end. step (at b false h) mid (45 ∷ 45 ∷ n) (v ∷ line_of parts ++ end) one ∙ step mid (at false false after) v (line_of parts ++ end) two ∙ rest.walks end;
         sound = rest.sound;
+        unskipped = rest.unskipped;
         holds_more = λ k. rest.holds_more k ∙ ap (λ vs. vs ++ all_values id k parts) (option_holds s id (Contains names) reads k n v h are.0) ∙ append_assoc (holds s id (Contains names) reads k h) (cond (bytes_eq n k) (v ∷ []) []) (all_values id k parts);
       }
   walk_parts (joined n v ∷ parts) b h are sound =
@@ -230,6 +252,7 @@ module _ (s : Shape) (id : Text) (names : List Text) (reads : Reads s id (Contai
         faults = λ end. turn (at b false h) (at false false after) (45 ∷ 45 ∷ (n ++ 61 ∷ v)) (line_of parts ++ end) one (joined_fault s id (Contains names) reads b n v h are.0 sound) ∙ rest.faults end;
         walks = λ end. step (at b false h) (at false false after) (45 ∷ 45 ∷ (n ++ 61 ∷ v)) (line_of parts ++ end) one ∙ rest.walks end;
         sound = rest.sound;
+        unskipped = rest.unskipped;
         holds_more = λ k. rest.holds_more k ∙ ap (λ vs. vs ++ all_values id k parts) (joined_holds s id (Contains names) reads k n v h) ∙ append_assoc (holds s id (Contains names) reads k h) (cond (bytes_eq n k) (v ∷ []) []) (all_values id k parts);
       }
   walk_parts (alone word ∷ parts) b h are sound =
@@ -243,12 +266,13 @@ module _ (s : Shape) (id : Text) (names : List Text) (reads : Reads s id (Contai
         faults = λ end. turn (at b false h) (at true false after) word (line_of parts ++ end) one (alone_fault s id (Contains names) reads b word h is sound) ∙ rest.faults end;
         walks = λ end. step (at b false h) (at true false after) word (line_of parts ++ end) one ∙ rest.walks end;
         sound = rest.sound;
+        unskipped = rest.unskipped;
         holds_more = λ k. rest.holds_more k ∙ ap (λ vs. vs ++ all_values id k parts) (alone_holds s id (Contains names) reads k word h) ∙ append_assoc (holds s id (Contains names) reads k h) (cond (bytes_eq id k) (word ∷ []) []) (all_values id k parts);
       }
 
   -- the walk over words after `--`
   pub walk_trailing : (words : List Text) (b : Bool) (h : Held) → settles s id (Contains names) reads h ≡ [] → Reached b true h words (λ k. cond (bytes_eq id k) words []) true
-  walk_trailing [] b h sound = record { waits = b; held = h; faults = λ end. refl; walks = λ end. refl; sound = sound; holds_more = λ k. sym (ap (λ vs. holds s id (Contains names) reads k h ++ vs) (same (bytes_eq id k)) ∙ append-nil (holds s id (Contains names) reads k h)) }
+  walk_trailing [] b h sound = record { waits = b; held = h; faults = λ end. refl; walks = λ end. refl; sound = sound; unskipped = refl; holds_more = λ k. sym (ap (λ vs. holds s id (Contains names) reads k h ++ vs) (same (bytes_eq id k)) ∙ append-nil (holds s id (Contains names) reads k h)) }
     where
       same : (c : Bool) → cond {A = List Text} c [] [] ≡ []
       same true = refl
@@ -263,6 +287,7 @@ module _ (s : Shape) (id : Text) (names : List Text) (reads : Reads s id (Contai
         faults = λ end. turn (at b true h) (at true true after) word (words ++ end) one (trailing_fault s id (Contains names) reads b word h sound) ∙ rest.faults end;
         walks = λ end. step (at b true h) (at true true after) word (words ++ end) one ∙ rest.walks end;
         sound = rest.sound;
+        unskipped = rest.unskipped;
         holds_more = λ k. rest.holds_more k ∙ ap (λ vs. vs ++ cond (bytes_eq id k) words []) (alone_holds s id (Contains names) reads k word h) ∙ append_assoc (holds s id (Contains names) reads k h) (cond (bytes_eq id k) (word ∷ []) []) (cond (bytes_eq id k) words [])
             ∙ ap (λ vs. holds s id (Contains names) reads k h ++ vs) (join (bytes_eq id k));
       }

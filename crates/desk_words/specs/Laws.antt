@@ -1,9 +1,9 @@
 -- What parts of a command line say.
-use Rattle.std.specs.Prelude.{◌≡◌, ℕ, ◌<◌, ◌^◌, List, [], ◌∷◌, ◌++◌, ◌↔◌, if◌then◌else◌, Contains, codes, decimal, Option}
-use Rattle.std.specs.Str.{bytes_eq}
+use Rattle.std.specs.Prelude.{◌≡◌, ℕ, ◌<◌, ◌^◌, true, List, [], ◌∷◌, ◌++◌, ◌↔◌, ◌⊎◌, if◌then◌else◌, All, Contains, codes, decimal, Option}
+use Rattle.std.specs.Str.{bytes_eq, IsUtf8}
 use Rattle.clap.specs.Words.{Text}
 use Rattle.desk_words.specs.Words.{IsPathOf, IsMeasureOf, IsLevelOf, AreRunsOf, IsCommandOf}
-use Rattle.desk_words.specs.Parts.{Part, AreParts, line_of, values_of, words_alone, end_of, words_at_end, job_options, check_options}
+use Rattle.desk_words.specs.Parts.{Part, AreParts, is_dashed, line_of, values_of, words_alone, end_of, words_at_end, job_options, check_options}
 use Rattle.desk_words.specs.declared.command.Job.{Job}
 use Rattle.desk_words.specs.declared.command.Check.{Check}
 use Rattle.desk_words.specs.declared.command.Command.{Command}
@@ -70,16 +70,41 @@ EmptyIsUsage = (word name : Text) (parts : List Part) (end : Option (List Text))
 abbrev pub BeginsWithDashes : Text → Type 0
 BeginsWithDashes word = (rest : Text) × (word ≡ codes "--" ++ rest)
 
--- nothing stands there that can be the value of an option before: no word, or one that begins with `--`
+-- a text that begins with `-` and is longer
+abbrev pub IsDashed : Text → Type 0
+IsDashed word = (is_dashed word ≡ true) × IsUtf8 word
+
+-- nothing stands there that can be the value of an option before: no word, one that begins with `--`, or a text that begins with `-` and
+-- is longer
 abbrev pub HaveNoValue : List Text → Type 0
 HaveNoValue [] = Unit {0}
-HaveNoValue (word ∷ rest) = BeginsWithDashes word
+HaveNoValue (word ∷ rest) = BeginsWithDashes word ⊎ IsDashed word
 
 -- an option with no value is usage, whatever follows
 abbrev pub MissingIsUsage : Type 0
 MissingIsUsage = (word name : Text) (parts : List Part) (rest : List Text) (command : Command)
     → AreParts (options_of word) parts → Contains (options_of word) name → HaveNoValue rest
     → IsCommandOf (word ∷ (line_of parts ++ (codes "--" ++ name) ∷ rest)) command → ⊥
+
+-- parts, and words after `--`, whose words these are
+pub record AreWordsOf (names : List Text) (words : List Text) : Type 0 where
+  pub parts : List Part
+  pub end : Option (List Text)
+  pub are_parts : AreParts names parts
+  pub line : words ≡ line_of parts ++ end_of end
+
+-- a command's word, parts that its options allow, and an end, whose words these are and which say the command
+pub record IsLineOfParts (words : List Text) (command : Command) : Type 0 where
+  pub word : Text
+  pub parts : List Part
+  pub end : Option (List Text)
+  pub are_parts : AreParts (options_of word) parts
+  pub line : words ≡ command_line word parts end
+  pub says : SaysCommand word parts end command
+
+-- texts that are of a command are the words of parts that say it, so all others are usage
+abbrev pub EachLineIsOfParts : Type 0
+EachLineIsOfParts = (words : List Text) (command : Command) → All IsUtf8 words → IsCommandOf words command → IsLineOfParts words command
 
 -- `--help` and `--version` after parts are usage, whatever follows
 abbrev pub HelpIsUsage : Type 0

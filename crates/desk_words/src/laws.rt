@@ -1,5 +1,5 @@
 //! Laws of the words, each the contract of a function that does nothing.
-ghost use Rattle.desk_words.specs.Laws.{CommandIsUnique, PartsSayTheCommand, OrderIsFree, TwiceIsUsage, EmptyIsUsage, MissingIsUsage, HelpIsUsage};
+ghost use Rattle.desk_words.specs.Laws.{CommandIsUnique, PartsSayTheCommand, OrderIsFree, TwiceIsUsage, EmptyIsUsage, MissingIsUsage, HelpIsUsage, EachLineIsOfParts};
 
 /// Words are of one command at most.
 pub fn command_is_unique()
@@ -27,7 +27,14 @@ pub fn empty_value_is_usage()
     ensures { EmptyIsUsage }
 {}
 
-/// An option without a value is usage: one at the end, or one before a word that begins with `--`.
+/// Each line of a command is one of a word and of parts that say the command: options that it has, each with a value,
+/// words that begin with no `-` or are `-`, and words after `--`. All other lines are usage.
+pub fn each_line_is_of_parts()
+    ensures { EachLineIsOfParts }
+{}
+
+/// An option without a value is usage: one at the end, one before a word that begins with `--`, or one before a word that
+/// begins with `-` and is longer.
 pub fn missing_value_is_usage()
     ensures { MissingIsUsage }
 {}

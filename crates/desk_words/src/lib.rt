@@ -9,8 +9,8 @@ mod value;
 
 pub use command::{Check, Command, Job, Path, RunWord, RunWords, WordsFault};
 pub use laws::{
-    command_is_unique, empty_value_is_usage, help_is_usage, missing_value_is_usage,
-    option_twice_is_usage, order_of_options_is_free, parts_say_the_command,
+    command_is_unique, each_line_is_of_parts, empty_value_is_usage, help_is_usage,
+    missing_value_is_usage, option_twice_is_usage, order_of_options_is_free, parts_say_the_command,
 };
 pub use read::read_words;
 
