@@ -77,8 +77,9 @@ module _ (qrels : List Topic) (runs : List Run) (books : List Book) (names : Lis
           rankings = all-zipped (AreRankingsOf books) (AreRankingsOver books) runs rankings (λ run per h. zip-weaker (IsRankingOf run) over books per (λ book docs r. r.ranking) h) zipped;
         }
 
-    pub is_desk_of : (desk : Desk) → desk ≡ record { topics = books; runs = names; rankings = rankings } → IsDeskOf qrels runs desk
-    is_desk_of desk is = subst (IsDeskOf qrels runs) (sym is) (record {
+    pub is_desk_of : (desk : Desk) → desk ≡ record { topics = books; runs = names; rankings = rankings } → IsDesk (record { topics = books; runs = names; rankings = rankings }) → IsDeskOf qrels runs desk
+    is_desk_of desk is valid = subst (IsDeskOf qrels runs) (sym is) (record {
+      valid = valid;
       topics = are.topics;
       books = are.of_rows;
       run_names = named;

@@ -3,7 +3,7 @@ use Rattle.std.specs.Prelude.{◌≡◌, ℕ, ◌*◌, ◌≤◌, Bool, length, 
 use Rattle.std.specs.List.{list_any, range_with_len}
 use Rattle.std.specs.Str.{bytes_eq}
 use Rattle.desk_model.specs.Book.{Book, file_grade_of}
-use Rattle.desk_model.specs.Desk.{Desk, ranking_of, pair_count}
+use Rattle.desk_model.specs.Desk.{Desk, IsDesk, ranking_of, pair_count}
 use Rattle.qrels_reader.specs.Grouped.{Topic, Judged, names_of, documents_on}
 use Rattle.run_reader.specs.Run.{Run, rows_on_topic, row_count}
 use Rattle.trec_order.specs.Order.{IsTrecOrder}
@@ -47,6 +47,7 @@ run_names runs = map (λ (run : Run). run.name) runs
 
 -- a desk of these rows: the topics are those of the qrels, and each run ranks the documents of its rows
 pub record IsDeskOf (qrels : List Topic) (runs : List Run) (desk : Desk) : Type 0 where
+  pub valid : IsDesk desk
   pub topics : HaveSameNames (topic_names desk.topics) (names_of qrels)
   pub books : All (IsBookOf qrels runs) desk.topics
   pub run_names : desk.runs ≡ map (λ (run : Run). run.name) runs
