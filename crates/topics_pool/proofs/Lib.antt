@@ -7,3 +7,4 @@ pub mod Ranked
 pub mod Desks
 pub mod Pools
 pub mod AddedUp
+pub mod OneDesk

@@ -14,7 +14,7 @@ mod universe;
 
 pub use build::build_desk;
 pub use fault::DeskFault;
-pub use laws::rows_add_up;
+pub use laws::{desk_is_one, rows_add_up};
 pub use limits::{MOST_CELLS, MOST_RUNS};
 pub use pool::{PoolCount, pool_count};
 
