@@ -9,3 +9,4 @@ pub mod Names
 pub mod Nested
 pub mod Decimals
 pub mod PairPlace
+pub mod DeskTopics

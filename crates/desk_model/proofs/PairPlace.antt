@@ -79,3 +79,13 @@ places_after-placed n at placed lt = go (nat_lt (at.second + 1) n) refl
     go false t =
         let end : n ≤ at.second + 1 = grind (arith, nat_tests) in
         rw t (record { order = omega arith; within = omega (arith, placed.order); last = λ e. omega arith })
+
+-- what stands at a place and after it
+pub there_from : {X : Type 0} (xs : List X) (i : ℕ) (x : X) (rest : List X) → drop i xs ≡ x ∷ rest → (slice_get xs i ≡ Some x) × (drop (i + 1) xs ≡ rest)
+there_from [] zero x rest e = absurd (cc)
+there_from [] (suc i) x rest e = absurd (cc)
+there_from (y ∷ xs) zero x rest e = let p : y ≡ x = cc in let q : xs ≡ rest = cc in (ap Some p, q)
+there_from (y ∷ xs) (suc i) x rest e =
+    let later = there_from xs i x rest e in
+    let step : suc i + 1 ≡ suc (i + 1) = omega arith in
+    (later.0, ap (λ n. drop n (y ∷ xs)) step ∙ later.1)

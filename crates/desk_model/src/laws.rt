@@ -1,6 +1,7 @@
 //! Laws of completions, each the contract of a function that does nothing.
-ghost use Rattle.std.specs.Prelude.{◌≡◌, ◌↔◌, ℕ, ◌*◌, ◌<◌, true, false, List, length, ℤ, pos, ◌≤ℤ◌, ◌<ℤ◌};
+ghost use Rattle.std.specs.Prelude.{◌≡◌, ◌↔◌, ℕ, ◌*◌, ◌<◌, ◌≤◌, true, false, All, List, length, ℤ, pos, ◌≤ℤ◌, ◌<ℤ◌};
 ghost use Rattle.desk_model.specs.Completion.{Completion};
+ghost use Rattle.desk_model.specs.Desk.{Desk, IsDesk, AreMarksOf, topics_under};
 ghost use Rattle.desk_model.specs.Ranking.{IsRanking};
 ghost use Rattle.desk_model.specs.Fraction.{IsAtMost, IsAtLeast};
 ghost use Rattle.desk_model.specs.Order.{Topic, IsCompletion, run_mean, IsAlwaysAbove, AreAlwaysEqual};
@@ -77,4 +78,16 @@ pub fn precision_is_counted()
         AreExtremes (Precision k) k marks a b (precision_ends k marks a b) }
     ensures bounds { (k : ℕ) (marks : List Mark) (a : List ℕ) → 0 < k → IsRanking (length marks) a →
         AreBounds (Precision k) k marks a (pos (front_count false k marks a)) (pos (front_count true k marks a)) }
+{}
+
+/// There are as many topics under marks as topics of the desk, each has a universe of at most
+/// 25,000,000 documents, and each run's rankings of them are over their universes.
+pub fn rankings_are_over_universes()
+    ensures topics { (desk : Desk) (marks : List (List Mark)) → AreMarksOf desk marks →
+        length (topics_under desk marks) ≡ length desk.topics }
+    ensures small { (desk : Desk) (marks : List (List Mark)) → IsDesk desk → AreMarksOf desk marks →
+        All (λ topic. length topic.marks ≤ 25000000) (topics_under desk marks) }
+    ensures rankings { (desk : Desk) (marks : List (List Mark)) (run : ℕ) → IsDesk desk → AreMarksOf desk marks →
+        run < length desk.runs →
+        All (λ topic. IsRanking (length topic.marks) (topic.ranking run)) (topics_under desk marks) }
 {}

@@ -2,7 +2,9 @@
 use Rattle.std.proofs.Common.{◌≡◌, ℕ, zero, suc, ◌+◌, ◌<◌, ◌≤◌, List, [], ◌∷◌, ◌++◌, length, take, get_or, map, Some, refl, ap, sym, ◌∙◌, append_assoc, append-nil, Bool, true, false, drop, length-drop, arith}
 use Rattle.std.specs.Prelude.{flat_map, slice_get}
 use Rattle.std.specs.List.{zip}
-use Rattle.std.proofs.lemmas.List.{take_all}
+use Rattle.std.proofs.lemmas.List.{length-map, take_all}
+use Rattle.std.proofs.lemmas.Option.{slice_get-map}
+use Rattle.std.specs.Option.{option_map}
 use Rattle.std.proofs.lemmas.Grind.{flat_map-append}
 use Rattle.std.specs.Prelude.{nat_lt}
 use Rattle.std.proofs.lemmas.Bool.Decides.{nat_tests}
@@ -30,15 +32,6 @@ length-zip [] ys h = refl
 length-zip (x ∷ xs) [] h = absurd (omega arith)
 length-zip (x ∷ xs) (y ∷ ys) h = ap suc (length-zip xs ys (omega arith))
 
-slice_get-mapped : {A B : Type 0} (f : A → B) (xs : List A) (i : ℕ) (x : A) → slice_get xs i ≡ Some x → slice_get (map f xs) i ≡ Some (f x)
-slice_get-mapped f [] i x e = absurd (cc)
-slice_get-mapped f (y ∷ xs) zero x e = let p : y ≡ x = cc in rw p refl
-slice_get-mapped f (y ∷ xs) (suc i) x e = slice_get-mapped f xs i x e
-
-length-mapped : {A B : Type 0} (f : A → B) (xs : List A) → length (map f xs) ≡ length xs
-length-mapped f [] = refl
-length-mapped f (x ∷ xs) = ap suc (length-mapped f xs)
-
 pub get_or-there : {X : Type 0} (xs : List X) (i : ℕ) (d : X) → i < length xs → slice_get xs i ≡ Some (get_or xs i d)
 get_or-there [] i d h = absurd (omega arith)
 get_or-there (x ∷ xs) zero d h = refl
@@ -52,7 +45,7 @@ flat_map-push (l ∷ lines) line = ap (λ rest. ended l ++ rest) (flat_map-push 
 pub one_more : {A B : Type 0} (f : A × B → List ℕ) (xs : List A) (ys : List B) (i : ℕ) (x : A) (y : B) (o before now : List ℕ) → slice_get xs i ≡ Some x → slice_get ys i ≡ Some y →
     before ≡ o ++ flat_map ended (take i (map f (zip xs ys))) → now ≡ before ++ ended (f (x, y)) → now ≡ o ++ flat_map ended (take (i + 1) (map f (zip xs ys)))
 one_more f xs ys i x y o before now e g h k =
-    let there = take-there (map f (zip xs ys)) i (f (x, y)) (slice_get-mapped f (zip xs ys) i (x, y) (slice_get-zip xs ys i x y e g)) in
+    let there = take-there (map f (zip xs ys)) i (f (x, y)) (slice_get-map f (zip xs ys) i ∙ ap (option_map f) (slice_get-zip xs ys i x y e g)) in
     k ∙ ap (λ t. t ++ ended (f (x, y))) h ∙ append_assoc o (flat_map ended (take i (map f (zip xs ys)))) (ended (f (x, y)))
     ∙ ap (λ t. o ++ t) (sym (flat_map-push (take i (map f (zip xs ys))) (f (x, y))) ∙ ap (flat_map ended) (sym there))
 
@@ -60,7 +53,7 @@ one_more f xs ys i x y o before now e g h k =
 pub all_lines : {A B : Type 0} (f : A × B → List ℕ) (xs : List A) (ys : List B) (i : ℕ) (o now : List ℕ) → length ys ≡ length xs → length xs ≤ i →
     now ≡ o ++ flat_map ended (take i (map f (zip xs ys))) → now ≡ o ++ flat_map ended (map f (zip xs ys))
 all_lines f xs ys i o now same end h =
-    let whole : take i (map f (zip xs ys)) ≡ map f (zip xs ys) = take_all i (map f (zip xs ys)) (omega (arith, length-mapped f (zip xs ys), length-zip xs ys same)) in
+    let whole : take i (map f (zip xs ys)) ≡ map f (zip xs ys) = take_all i (map f (zip xs ys)) (omega (arith, length-map (zip xs ys) f, length-zip xs ys same)) in
     rw whole at h
 
 -- ---- going over the pairs
@@ -74,16 +67,6 @@ unfinished xs at i placed left lt = go (nat_lt at.second (length xs)) refl
         let end : at.second ≡ length xs = grind (arith, nat_tests, placed.within) in
         let none : drop i (pairs_of xs) ≡ [] = left ∙ pairs_from-end xs at placed end in
         absurd (omega (arith, length-drop i (pairs_of xs), ap length none))
-
--- what stands at a place and after it
-pub there_from : {X : Type 0} (xs : List X) (i : ℕ) (x : X) (rest : List X) → drop i xs ≡ x ∷ rest → (slice_get xs i ≡ Some x) × (drop (i + 1) xs ≡ rest)
-there_from [] zero x rest e = absurd (cc)
-there_from [] (suc i) x rest e = absurd (cc)
-there_from (y ∷ xs) zero x rest e = let p : y ≡ x = cc in let q : xs ≡ rest = cc in (ap Some p, q)
-there_from (y ∷ xs) (suc i) x rest e =
-    let later = there_from xs i x rest e in
-    let step : suc i + 1 ≡ suc (i + 1) = omega arith in
-    (later.0, ap (λ n. drop n (y ∷ xs)) step ∙ later.1)
 
 -- three parts of a table
 pub whole : (o p q r : List ℕ) (head runs pairs : List (List ℕ)) → p ≡ o ++ flat_map ended head → q ≡ p ++ flat_map ended runs → r ≡ q ++ flat_map ended pairs → r ≡ o ++ flat_map ended (head ++ runs ++ pairs)

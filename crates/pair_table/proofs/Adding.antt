@@ -24,7 +24,7 @@ use Rattle.measure_core.specs.Made.{ends_of}
 use Rattle.measure_core.specs.declared.cell.Cell.{Cell}
 use Rattle.pair_table.specs.Kept.{AreNear, AreSumsTo, AreWithin, IsWithin}
 use Rattle.pair_table.specs.Sums.{added, cell_ends, pair_sums, run_numbers, span_sum}
-use Rattle.pair_table.proofs.DeskTopics.{length-mapped}
+use Rattle.std.proofs.lemmas.List.{length-map}
 
 within_step : (n : ℕ) (z w : ℤ) → IsWithin n z → IsModest w → IsWithin (n + 1) (z +ℤ w)
 within_step n z w h k = omega (arith, ints)
@@ -80,7 +80,7 @@ pub sums_there : (cell : List Mark → List ℕ → List ℕ → Cell) (topics :
 unfolding pair_sums
 sums_there cell topics a b t e is =
     let at : Topic → Ends = λ topic. ends_of (cell topic.marks (topic.ranking a) (topic.ranking b)) in
-    let x = there topics t (omega (arith, slice_get_within (map at topics) t e is, length-mapped at topics)) in
+    let x = there topics t (omega (arith, slice_get_within (map at topics) t e is, length-map topics at)) in
     let found : slice_get (map at topics) t ≡ Some (at x.0) = slice_get-map at topics t ∙ ap (option_map at) x.1 in
     let same : e ≡ at x.0 = some_same e (at x.0) (sym is ∙ found) in
     let more : (f : Ends → ℤ) → whole_sum (map f (map at (take t topics))) +ℤ f e ≡ whole_sum (map f (map at (take (t + 1) topics))) =

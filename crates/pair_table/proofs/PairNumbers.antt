@@ -5,13 +5,13 @@ use Rattle.std.specs.List.{range_with_len}
 use Rattle.std.specs.Option.{option_map}
 use Rattle.std.proofs.lemmas.Bool.Decides.{nat_tests}
 use Rattle.std.proofs.lemmas.Option.{slice_get-map}
+use Rattle.std.proofs.lemmas.List.{length-map}
 use Rattle.std.proofs.lemmas.List.FromFn.{length-range_with_len}
 use Rattle.desk_model.specs.Desk.{pair_count}
 use Rattle.desk_model.specs.Pairs.{pairs_of, pairs_from, places_after}
 use Rattle.desk_model.specs.declared.pairs.PairPlaces.{PairPlaces}
-use Rattle.desk_model.proofs.PairPlace.{ArePlaces, pairs_from-start, pairs_from-next, pairs_from-end, places_after-placed}
+use Rattle.desk_model.proofs.PairPlace.{ArePlaces, there_from, pairs_from-start, pairs_from-next, pairs_from-end, places_after-placed}
 use Rattle.pair_table.specs.Sums.{run_numbers}
-use Rattle.pair_table.proofs.DeskTopics.{length-mapped}
 
 -- the number at a place of a range
 pub numbered : (start n i : ℕ) → i < n → slice_get (range_with_len start n) i ≡ Some (start + i)
@@ -31,7 +31,7 @@ length-joined [] ys = omega arith
 length-joined (x ∷ xs) ys = let rest = length-joined xs ys in omega (arith, rest)
 
 length-first : (start n : ℕ) → length {A = ℕ × ℕ} (map (λ (y : ℕ). (start, y)) (range_with_len (start + 1) n)) ≡ n
-length-first start n = length-mapped (λ (y : ℕ). (start, y)) (range_with_len (start + 1) n) ∙ length-range_with_len (start + 1) n
+length-first start n = length-map (range_with_len (start + 1) n) (λ (y : ℕ). (start, y)) ∙ length-range_with_len (start + 1) n
 
 length-more : (start n : ℕ) → length (pairs_of (range_with_len start (suc n))) ≡ n + length (pairs_of (range_with_len (start + 1) n))
 length-more start n =
@@ -58,7 +58,7 @@ pub length-pairs_of : {X : Type 0} (xs : List X) (start : ℕ) → length (pairs
 length-pairs_of [] start = refl
 length-pairs_of {X = X} (x ∷ xs) start =
     let rest : length (pairs_of (range_with_len (start + 1) (length xs))) ≡ length (pairs_of xs) = length-pairs_of xs (start + 1) in
-    let first : length {A = X × X} (map (λ y. (x, y)) xs) ≡ length xs = length-mapped (λ y. (x, y)) xs in
+    let first : length {A = X × X} (map (λ y. (x, y)) xs) ≡ length xs = length-map xs (λ y. (x, y)) in
     let joined = length-joined (map (λ y. (x, y)) xs) (pairs_of xs) in
     let more = length-more start (length xs) in
     omega (arith, rest, first, joined, more)
@@ -125,15 +125,6 @@ pair_numbered n i j order within =
     ∙ ap (λ (m : ℕ). Some (m, 0 + i + gap + 1)) first ∙ ap (λ (m : ℕ). Some (i, m)) second
 
 -- ---- going over the pairs
-there_from : {X : Type 0} (xs : List X) (i : ℕ) (x : X) (rest : List X) → drop i xs ≡ x ∷ rest → (slice_get xs i ≡ Some x) × (drop (i + 1) xs ≡ rest)
-there_from [] zero x rest e = absurd (cc)
-there_from [] (suc i) x rest e = absurd (cc)
-there_from (y ∷ xs) zero x rest e = let p : y ≡ x = cc in let q : xs ≡ rest = cc in (ap Some p, q)
-there_from (y ∷ xs) (suc i) x rest e =
-    let later = there_from xs i x rest e in
-    let step : suc i + 1 ≡ suc (i + 1) = omega arith in
-    (later.0, ap (λ n. drop n (y ∷ xs)) step ∙ later.1)
-
 -- the pair with a number stands at the places, and so do those after it
 pub record IsAt (n i : ℕ) (at : PairPlaces) : Type 0 where
   pub left : drop i (pairs_of (run_numbers n)) ≡ pairs_from at (run_numbers n)

@@ -20,14 +20,18 @@ ghost use Rattle.pair_table.specs.Kept.{AreSumsOf};
 ghost use Rattle.pair_table.specs.Numbers.{AreNumbersIn};
 ghost use Rattle.pair_table.specs.Orders.{HoldsOfPair, HoldsOfRun, total_width, IsNearZero, ForEachPair, ForEachRun};
 
-/// A table of a measure whose cells and bounds are a name's has the numbers of that name, and no two
-/// tables of one name, desk and marks differ.
+/// A table of a measure whose cells and bounds are a name's has the numbers of that name.
 pub fn tables_have_named_numbers()
-    ensures named { (name : MeasureName) (cell : List Mark → List ℕ → List ℕ → Cell) (bounds : List Mark → List ℕ → Span)
+    ensures { (name : MeasureName) (cell : List Mark → List ℕ → List ℕ → Cell) (bounds : List Mark → List ℕ → Span)
         (desk : Desk) (marks : List (List Mark)) → AreNumbersOf name cell bounds → IsDesk desk → AreMarksOf desk marks →
         AreNumbersIn name desk marks (all_run_sums bounds (topics_under desk marks) (length desk.runs))
         (all_pair_sums cell (topics_under desk marks) (length desk.runs)) }
-    ensures determined { (name : MeasureName) (desk : Desk) (marks : List (List Mark)) (b c : List Span) (t u : List Totals) →
+{}
+
+/// The name fixes the numbers: a desk and its marks have one list of bounds and one of sums under a
+/// measure's name.
+pub fn numbers_are_one()
+    ensures { (name : MeasureName) (desk : Desk) (marks : List (List Mark)) (b c : List Span) (t u : List Totals) →
         AreNumbersIn name desk marks b t → AreNumbersIn name desk marks c u → (b ≡ c) × (t ≡ u) }
 {}
 

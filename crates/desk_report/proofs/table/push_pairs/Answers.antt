@@ -3,7 +3,8 @@ use Rattle.desk_model.specs.Pairs.{pairs_of}
 use Rattle.desk_model.specs.declared.types.Totals.{Totals}
 use Rattle.desk_model.proofs.PairPlace.{pairs_from-next, places_after-placed}
 use Rattle.desk_report.specs.Table.{pair_line}
-use Rattle.desk_report.proofs.Joins.{one_more, all_lines, get_or-there, unfinished, there_from}
+use Rattle.desk_report.proofs.Joins.{one_more, all_lines, get_or-there, unfinished}
+use Rattle.desk_model.proofs.PairPlace.{there_from}
 use Rattle.desk_report.proofs.table.push_pairs.Goals as goal
 
 pub run_name-requires-in-loop-each : goal.run_name-requires-in-loop-each

@@ -8,14 +8,14 @@ use Rattle.measure_core.specs.Made.{ends_of}
 use Rattle.pair_table.specs.Sums.{added, run_numbers, pair_sums}
 use Rattle.pair_table.specs.Kept.{AreNear, AreWithin}
 use Rattle.pair_table.proofs.Adding.{sums_near, sums_there, sums_within}
-use Rattle.pair_table.proofs.DeskTopics.{length-mapped}
+use Rattle.std.proofs.lemmas.List.{length-map}
 use Rattle.pair_table.proofs.Filling.{refilled_here, refilled_more}
 use Rattle.pair_table.proofs.PairNumbers.{at_within, at_next}
 use Rattle.pair_table.proofs.sums.add_cells.Goals as goal
 
 -- as many sums as there are pairs
 counted : {A B : Type 0} (f : A → B) (xs : List A) (ys : List B) → ys ≡ map f xs → length ys ≡ length xs
-counted f xs ys e = ap length e ∙ length-mapped f xs
+counted f xs ys e = ap length e ∙ length-map xs f
 
 abbrev nothing : Totals
 nothing = record { least_lo = pos 0; least_hi = pos 0; most_lo = pos 0; most_hi = pos 0 }

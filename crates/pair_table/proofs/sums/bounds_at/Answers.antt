@@ -1,6 +1,7 @@
 use Rattle.std.proofs.Common.{arith, subst, sym}
 use Rattle.measure_core.specs.Laws.{IsMet, SpanIsModest}
-use Rattle.pair_table.proofs.DeskTopics.{one_met_at, length-marks, bounds_there}
+use Rattle.desk_model.proofs.DeskTopics.{length-marks}
+use Rattle.pair_table.proofs.DeskTopics.{one_met_at, bounds_there}
 use Rattle.pair_table.proofs.sums.bounds_at.Goals as goal
 
 pub topic-requires : goal.topic-requires

@@ -1,6 +1,7 @@
 use Rattle.std.proofs.Common.{arith, subst, sym}
 use Rattle.measure_core.specs.Laws.{AreMet, CellIsModest}
-use Rattle.pair_table.proofs.DeskTopics.{met_at, length-marks, cell_there}
+use Rattle.desk_model.proofs.DeskTopics.{length-marks}
+use Rattle.pair_table.proofs.DeskTopics.{met_at, cell_there}
 use Rattle.pair_table.proofs.sums.cell_at.Goals as goal
 
 pub topic-requires : goal.topic-requires

@@ -2,7 +2,8 @@ use Rattle.std.proofs.Common.{◌≤◌, length, arith}
 use Rattle.desk_model.specs.Desk.{topics_under}
 use Rattle.desk_model.specs.Order.{Topic}
 use Rattle.pair_table.specs.Sums.{run_spans, run_sums}
-use Rattle.pair_table.proofs.DeskTopics.{length-topics_under, length-mapped}
+use Rattle.desk_model.proofs.DeskTopics.{length-topics_under}
+use Rattle.std.proofs.lemmas.List.{length-map}
 use Rattle.pair_table.proofs.Adding.{no_spans, spans_more, spans_whole, spans_short, modest_short}
 use Rattle.pair_table.proofs.sums.sum_bounds.Goals as goal
 
@@ -27,7 +28,7 @@ returns-clause-sums g c =
     let bounds = g.M.Measure.bounds_of c.args.measure.now in
     let at = λ (topic : Topic). bounds topic.marks (topic.ranking c.args.run) in
     let end : length (run_spans bounds topics c.args.run) ≤ c.loop-topic.topic =
-    omega (arith, length-mapped at topics, length-topics_under c.args.desk.now c.args.marks.now c.requires.marks) in
+    omega (arith, length-map topics at, length-topics_under c.args.desk.now c.args.marks.now c.requires.marks) in
     spans_whole _ c.loop-topic.topic c.loop-topic.sums end c.loop-topic.invariant.sums
 
 pub returns-clause-near : goal.returns-clause-near

@@ -4,7 +4,7 @@ use Rattle.desk_model.specs.Desk.{topics_under}
 use Rattle.desk_model.specs.Order.{Topic}
 use Rattle.pair_table.specs.Sums.{all_pair_sums}
 use Rattle.pair_table.proofs.Adding.{sums_start}
-use Rattle.pair_table.proofs.DeskTopics.{length-topics_under}
+use Rattle.desk_model.proofs.DeskTopics.{length-topics_under}
 use Rattle.pair_table.proofs.table.fill_totals.Goals as goal
 
 pub loop-topic-init : goal.loop-topic-init

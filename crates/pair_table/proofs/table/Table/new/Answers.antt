@@ -3,7 +3,7 @@ use Rattle.std.proofs.lemmas.Grind.{common_steps}
 use Rattle.desk_model.specs.Desk.{pair_count, topics_under}
 use Rattle.desk_model.specs.Pairs.{pairs_of}
 use Rattle.pair_table.specs.Sums.{run_numbers, pair_sums}
-use Rattle.pair_table.proofs.DeskTopics.{length-mapped}
+use Rattle.std.proofs.lemmas.List.{length-map}
 use Rattle.pair_table.proofs.PairNumbers.{length-pairs, length-pairs_of}
 use Rattle.pair_table.proofs.table.Table.new.Goals as goal
 
@@ -15,6 +15,6 @@ pub returns-in-Ok-clause-pairs : goal.returns-in-Ok-clause-pairs
 returns-in-Ok-clause-pairs g c =
     let runs = c.args.desk.now.runs in
     let f = λ (pair : ℕ × ℕ). pair_sums (g.M.Measure.cell_of c.args.measure) (topics_under c.args.desk.now c.args.marks.now) pair.0 pair.1 in
-    let made : length c.fill_totals.new.totals ≡ length (pairs_of (run_numbers (length runs))) = ap length c.fill_totals.ensures.totals ∙ length-mapped f (pairs_of (run_numbers (length runs))) in
+    let made : length c.fill_totals.new.totals ≡ length (pairs_of (run_numbers (length runs))) = ap length c.fill_totals.ensures.totals ∙ length-map (pairs_of (run_numbers (length runs))) f in
     let count : length c.fill_totals.new.totals ≡ length (pairs_of runs) = made ∙ length-pairs_of runs 0 in
     grind (arith, common_steps)
