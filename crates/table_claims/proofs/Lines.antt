@@ -4,7 +4,6 @@ use Rattle.std.specs.Prelude.{◌==◌, if◌then◌else◌, codes, decimal, sli
 use Rattle.std.specs.List.{AllZip, AllByRecursion, enumerate_from}
 use Rattle.std.proofs.lemmas.Bool.{eqb-false}
 use Rattle.std.proofs.lemmas.List.{length-map}
-use Rattle.std.proofs.lemmas.List.FromFn.{length-enumerate_from}
 use Rattle.std.proofs.lemmas.List.Elements.{All-from_recursion, recursion_from_All}
 use Rattle.std.proofs.Math.Nat.{mul-pos}
 use Rattle.desk_text.specs.Lines.{fields_of}
@@ -23,7 +22,7 @@ use Rattle.desk_model.specs.declared.types.MeasureName.TheVariants.{Precision, R
 use Rattle.desk_model.specs.declared.types.Totals.{Totals}
 use Rattle.desk_model.specs.declared.types.Verdict.{Verdict}
 use Rattle.desk_model.specs.declared.types.Verdict.TheVariants.{Above, Below, Equal, Open, Close}
-use Rattle.desk_model.proofs.Nested.{length-zipped}
+use Rattle.desk_model.proofs.DeskTopics.{length-topics_under}
 use Rattle.fractions.specs.declared.span.Span.{Span}
 use Rattle.measure_laws.specs.Measures.{unit_of}
 use Rattle.pair_table.specs.Sums.{run_numbers}
@@ -268,10 +267,6 @@ unit_positive (Recall k) h = omega arith
 unit_positive RPrecision h = omega arith
 unit_positive Reciprocal h = omega arith
 unit_positive (Biased top bottom) h = omega arith
-
-length-topics_under : (desk : Desk) (marks : List (List Mark)) → AreMarksOf desk marks → length (topics_under desk marks) ≡ length desk.topics
-length-topics_under desk marks h =
-    length-map (enumerate_from 0 marks) (λ p. record { marks = p.1; ranking = λ run. ranking_of desk run p.0 }) ∙ length-enumerate_from 0 marks ∙ length-zipped (λ (book : Book) (topic : List Mark). length topic ≡ length book.docs) desk.topics marks h
 
 pub table_sound : (name : MeasureName) (desk : Desk) (marks : List (List Mark)) (level : ℕ) (bounds : List Span) (totals : List Totals) → IsMeasure name → IsDesk desk → AreMarksOf desk marks →
     AllZip (λ run s. HoldsOfRun name (topics_under desk marks) run s) (run_numbers (length desk.runs)) bounds →
