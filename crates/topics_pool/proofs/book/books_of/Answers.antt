@@ -28,6 +28,7 @@ topic_book-requires-clause-each c =
     let items = λ (each : Vec (List ℕ) Global). each.items in
     sym (length-map c.loop-name.rankings items) ∙ length-zipped (AreRankingsOf c.loop-name.books.items) c.args.runs.now (map items c.loop-name.rankings) c.loop-name.invariant.rankings
 
+-- one more topic
 pub loop-name-preserved : goal.loop-name-preserved
 loop-name-preserved c =
     let names = c.args.names.now in
@@ -42,8 +43,8 @@ loop-name-preserved c =
       names = ap (λ bs. map (λ (b : Book). b.name) bs) pushed ∙ map-append (λ (b : Book). b.name) books (book ∷ [])
           ∙ ap₂ (λ ns n. ns ++ n ∷ []) c.loop-name.invariant.names (c.in_ok-topic_book-in-Some.ensures.name ∙ c.as_bytes-in-Some.ensures.bytes)
           ∙ sym (take-there names c.loop-name.name-index name got);
-      books = subst (All IsBook) (sym pushed) (All-push IsBook books book c.loop-name.invariant.books c.in_ok-topic_book-in-Some.ensures.book);
-      rankings = subst (λ bs. AllZip (AreRankingsOf bs) c.args.runs.now (map items c.topic_book.new.rankings)) (sym pushed)
+      books = subst (All IsBook) (sym {A = List Book} pushed) (All-push IsBook books book c.loop-name.invariant.books c.in_ok-topic_book-in-Some.ensures.book);
+      rankings = subst (λ bs. AllZip (AreRankingsOf bs) c.args.runs.now (map items c.topic_book.new.rankings)) (sym {A = List Book} pushed)
           (topic_step c.args.runs.now books book (map items c.loop-name.rankings) (map items c.topic_book.new.rankings) c.loop-name.invariant.rankings long c.in_ok-topic_book-in-Some.ensures.ranked);
-      of_rows = subst (All (IsBookOf c.args.qrels.now c.args.runs.now)) (sym pushed) (All-push (IsBookOf c.args.qrels.now c.args.runs.now) books book c.loop-name.invariant.of_rows c.in_ok-topic_book-in-Some.ensures.of_rows);
+      of_rows = subst (All (IsBookOf c.args.qrels.now c.args.runs.now)) (sym {A = List Book} pushed) (All-push (IsBookOf c.args.qrels.now c.args.runs.now) books book c.loop-name.invariant.of_rows c.in_ok-topic_book-in-Some.ensures.of_rows);
     }
