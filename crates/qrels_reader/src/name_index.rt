@@ -1,5 +1,5 @@
 // Borrowed names that differ, in the order in which they came.
-ghost use Rattle.std.specs.Prelude.{◌≡◌, ◌<◌, [], length, position, is_some, not, slice_get, Some, IfOk, OnOk};
+ghost use Rattle.std.specs.Prelude.{◌≡◌, ◌<◌, [], length, position, is_some, not, slice_get, Some, IfOk, OnOk, OnErr};
 ghost use Rattle.std.specs.List.{list_any};
 ghost use Rattle.std.specs.Str.{bytes_eq};
 ghost use Rattle.indexmap.specs.IndexSet.{insert_key};
@@ -59,19 +59,23 @@ impl<'a> NameIndex<'a> {
         }
     }
 
-    /// Puts a name at the end where it is not there yet, and answers whether it was not.
+    /// Puts a name at the end where it is not there yet, and answers whether it was not. It fails only where memory runs
+    /// out, and then changes nothing.
     pub fn add(&mut self, name: &'a [u8]) -> Result<bool, AllocError>
         ensures new { IfOk result (λ is_new. is_new ≡ not (list_any (bytes_eq name.now) self.old)) }
         ensures names { OnOk result (self.new ≡ insert_key bytes_eq self.old name.now) }
+        ensures unchanged { OnErr result (self.new ≡ self.old) }
     {
         let (_, is_new) = self.names.insert_full(name)?;
         Ok(is_new)
     }
 
-    /// The number of a name, which is put at the end where it is not there yet.
+    /// The number of a name, which is put at the end where it is not there yet. It fails only where memory runs out, and
+    /// then changes nothing.
     pub fn number(&mut self, name: &'a [u8]) -> Result<usize, AllocError>
         ensures number { IfOk result (λ i. position (bytes_eq name.now) self.new ≡ Some i) }
         ensures names { OnOk result (self.new ≡ insert_key bytes_eq self.old name.now) }
+        ensures unchanged { OnErr result (self.new ≡ self.old) }
     {
         let (i, _) = self.names.insert_full(name)?;
         Ok(i)
