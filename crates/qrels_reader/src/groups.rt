@@ -1,5 +1,5 @@
 // The rows of a qrels file as they are read, grouped by their topics.
-ghost use Rattle.std.specs.Prelude.{◌≡◌, ◌≤◌, ◌+◌, ◌^◌, ◌<◌, [], ◌∷◌, ◌++◌, length, position, option_map, slice_get, Some, OnOk, false};
+ghost use Rattle.std.specs.Prelude.{◌≡◌, ◌≤◌, ◌+◌, ◌^◌, ◌<◌, [], ◌∷◌, ◌++◌, length, position, option_map, slice_get, Some, OnOk, OnErr, false};
 ghost use Rattle.std.specs.Str.{bytes_eq};
 ghost use Rattle.qrels_reader.specs.Grouped.{is_topic, names_of, documents_at, row_count, name_bytes_in, with_document, bytes_in};
 
@@ -101,10 +101,11 @@ impl Groups {
         self.topics.place(name)
     }
 
-    // A topic with no document.
+    // A topic with no document. Where memory runs out, nothing changes.
     pub fn add_topic(&mut self, alloc: Global, name: &[u8]) -> Result<(), AllocError>
         requires { is_topic name.now self.old ≡ false }
-        ensures { OnOk result (self.new ≡ self.old ++ record { name = name.now; documents = [] } ∷ []) }
+        ensures ok { OnOk result (self.new ≡ self.old ++ record { name = name.now; documents = [] } ∷ []) }
+        ensures err { OnErr result (self.new ≡ self.old) }
     {
         self.judgements.reserve(1)?;
         self.topics.add(alloc, name)?;
@@ -114,12 +115,13 @@ impl Groups {
         }
     }
 
-    // One more document of a topic.
+    // One more document of a topic. Where memory runs out, nothing changes.
     pub fn add_document(&mut self, t: usize, document: &[u8], grade: i16) -> Result<(), AllocError>
         requires topic { t < length self.old }
         requires rows { row_count self.old + 1 < 2 ^ 32 }
         requires names { name_bytes_in self.old + length document.now < 2 ^ 32 }
-        ensures { OnOk result (self.new ≡ with_document self.old t (record { document = document.now; grade = grade })) }
+        ensures ok { OnOk result (self.new ≡ with_document self.old t (record { document = document.now; grade = grade })) }
+        ensures err { OnErr result (self.new ≡ self.old) }
     {
         let judgements = &mut self.judgements[t];
         judgements.push(document, grade)?;

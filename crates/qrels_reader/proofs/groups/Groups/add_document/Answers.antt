@@ -20,7 +20,7 @@ invariant_of-self-2 c =
     let judged : Judged = record { document = c.args.document.now; grade = c.args.grade } in
     is_counted (member_added judgements (holding c.self.invariant c.self.view_is) c.args.t c.index_mut-judgements.result.now c.push.new.self judged c.requires.topic c.index_mut-judgements.ensures.value (c.in_ok-push.ensures.ok ∙ ap (λ g. c.index_mut-judgements.result.now ++ record { document = c.args.document.now; grade = g } ∷ []) (to_z-of_z w16 c.args.grade c.ranges.grade)))
 
-pub returns : goal.returns
-returns c =
+pub returns-clause-ok : goal.returns-clause-ok
+returns-clause-ok c =
     let judged : Judged = record { document = c.args.document.now; grade = c.args.grade } in
     (member_added judgements (holding c.self.invariant c.self.view_is) c.args.t c.index_mut-judgements.result.now c.push.new.self judged c.requires.topic c.index_mut-judgements.ensures.value (c.in_ok-push.ensures.ok ∙ ap (λ g. c.index_mut-judgements.result.now ++ record { document = c.args.document.now; grade = g } ∷ []) (to_z-of_z w16 c.args.grade c.ranges.grade))).topics_are

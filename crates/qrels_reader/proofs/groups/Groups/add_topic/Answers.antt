@@ -13,6 +13,6 @@ pub invariant_of-self-2 : goal.invariant_of-self-2
 invariant_of-self-2 c =
     is_counted (topic_added judgements (holding c.self.invariant c.self.view_is) _ _ c.args.name.now c.in_ok-add.ensures.ok (c.in-Ok.ensures.items ∙ ap₂ (λ js j. js ++ j ∷ []) c.reserve.ensures.items c.new.ensures))
 
-pub returns : goal.returns
-returns c =
+pub returns-clause-ok : goal.returns-clause-ok
+returns-clause-ok c =
     (topic_added judgements (holding c.self.invariant c.self.view_is) _ _ c.args.name.now c.in_ok-add.ensures.ok (c.in-Ok.ensures.items ∙ ap₂ (λ js j. js ++ j ∷ []) c.reserve.ensures.items c.new.ensures)).topics_are

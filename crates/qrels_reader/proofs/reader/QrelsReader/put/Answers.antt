@@ -19,7 +19,7 @@ add_topic-requires c = no_place judgements c.args.row.now.topic.now c.args.self.
 pub put_at-requires-in-None-clause-new : goal.put_at-requires-in-None-clause-new
 put_at-requires-in-None-clause-new c =
     ap (list_any (λ (judged : Judged). bytes_eq c.args.row.now.document.now judged.document))
-    (ap₂ documents_at c.in_ok-add_topic-in-None.ensures c.topics-t.ensures ∙ members_at-new judgements c.args.self.now.groups c.args.row.now.topic.now)
+    (ap₂ documents_at c.in_ok-add_topic-in-None.ensures.ok c.topics-t.ensures ∙ members_at-new judgements c.args.self.now.groups c.args.row.now.topic.now)
 
 pub returns-in-Some-clause-added : goal.returns-in-Some-clause-added
 returns-in-Some-clause-added c =
@@ -31,5 +31,5 @@ returns-in_ok-push-in-None-clause-added c =
     let row = row_said c.args.row.now in
     let none = no_place judgements c.args.row.now.topic.now c.args.self.now.groups (sym c.requires.place ∙ c.in-None.is) in
     on_ok c.put_at-in-None.result
-    (λ e. e ∙ ap₂ (λ ts t. with_document ts t (judged_of row)) c.in_ok-add_topic-in-None.ensures c.topics-t.ensures ∙ put_new judgements c.args.self.now.groups row none)
+    (λ e. e ∙ ap₂ (λ ts t. with_document ts t (judged_of row)) c.in_ok-add_topic-in-None.ensures.ok c.topics-t.ensures ∙ put_new judgements c.args.self.now.groups row none)
     c.put_at-in-None.ensures.added

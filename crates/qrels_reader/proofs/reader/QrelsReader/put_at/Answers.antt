@@ -14,5 +14,5 @@ pub returns-clause-tracked : goal.returns-clause-tracked
 returns-clause-tracked c =
     let judged : Judged = record { document = c.args.row.now.document.now; grade = to_z w16 (of_z w16 c.args.row.now.grade) } in
     on_ok c.add.result
-    (λ e. seen_more judgements c.args.self.now.groups c.args.self.now.seen.items c.args.t c.index_mut-seen.result.now c.add.new.self judged c.requires.tracked c.requires.topic c.index_mut-seen.ensures.value e ∙ ap documents_seen (sym c.in_ok-add_document.ensures))
+    (λ e. seen_more judgements c.args.self.now.groups c.args.self.now.seen.items c.args.t c.index_mut-seen.result.now c.add.new.self judged c.requires.tracked c.requires.topic c.index_mut-seen.ensures.value e ∙ ap documents_seen (sym c.in_ok-add_document.ensures.ok))
     c.add.ensures.ok
