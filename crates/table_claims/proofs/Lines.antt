@@ -1,15 +1,13 @@
 -- Each line of a table is true.
 use Rattle.std.proofs.Common.{◌≡◌, ℕ, ◌*◌, ◌<◌, List, [], ◌∷◌, ◌++◌, length, take, get_or, refl, ap, sym, subst, ◌∙◌, arith, rules, append_assoc, pos, ◌*ℤ◌, Some}
 use Rattle.std.specs.Prelude.{◌==◌, if◌then◌else◌, codes, decimal, slice_get, All, flat_map, true}
-use Rattle.std.specs.List.{AllZip, AllByRecursion, enumerate_from}
+use Rattle.std.specs.List.{AllZip, AllByRecursion}
 use Rattle.std.proofs.lemmas.Bool.{eqb-false}
-use Rattle.std.proofs.lemmas.List.{length-map}
 use Rattle.std.proofs.lemmas.List.Elements.{All-from_recursion, recursion_from_All}
 use Rattle.std.proofs.Math.Nat.{mul-pos}
 use Rattle.desk_text.specs.Lines.{fields_of}
-use Rattle.desk_model.specs.Book.{Book}
 use Rattle.desk_model.specs.Name.{is_name}
-use Rattle.desk_model.specs.Desk.{Desk, IsDesk, AreMarksOf, topics_under, ranking_of}
+use Rattle.desk_model.specs.Desk.{Desk, IsDesk, AreMarksOf, topics_under}
 use Rattle.desk_model.specs.Extremes.{IsAtMostScore, IsAtLeastScore}
 use Rattle.desk_model.specs.Fraction.{IsAtMost, IsAtLeast, over}
 use Rattle.desk_model.specs.MeasureText.{IsMeasure, measure_text}
