@@ -9,7 +9,7 @@ use precision::Precision;
 use rbp::Rbp;
 use recall::Recall;
 use recip_rank::RecipRank;
-use rprec::RPrecision;
+use rprec::Rprec;
 use std::alloc::Global;
 
 /// One of the measures that are built.
@@ -20,7 +20,7 @@ pub enum AnyMeasure {
     /// `recall_k`.
     Recall(Recall),
     /// `Rprec`.
-    RPrecision(RPrecision),
+    RPrecision(Rprec),
     /// `recip_rank`.
     Reciprocal(RecipRank),
     /// `rbp_p`.
@@ -51,7 +51,7 @@ impl AnyMeasure {
         match name {
             MeasureName::Precision(k) => Ok(AnyMeasure::Precision(Precision::new(k))),
             MeasureName::Recall(k) => Ok(AnyMeasure::Recall(Recall::new(k))),
-            MeasureName::RPrecision => Ok(AnyMeasure::RPrecision(RPrecision::new())),
+            MeasureName::RPrecision => Ok(AnyMeasure::RPrecision(Rprec::new())),
             MeasureName::Reciprocal => Ok(AnyMeasure::Reciprocal(RecipRank::new())),
             MeasureName::Biased { top, bottom } => {
                 Ok(AnyMeasure::Biased(Rbp::new(alloc, top, bottom)?))

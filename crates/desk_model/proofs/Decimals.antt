@@ -1,5 +1,5 @@
 -- The decimals of a persistence.
-use Rattle.std.proofs.Common.{◌≡◌, ◌≢◌, ℕ, zero, suc, ◌+◌, ◌-◌, ◌*◌, ◌/◌, ◌%◌, ◌^◌, ◌<◌, ◌≤◌, List, [], ◌∷◌, ◌++◌, drop, length, get_or, refl, ap, ap₂, sym, subst, ◌∙◌, arith, rules, append-nil, append_assoc, length-append, add-one}
+use Rattle.std.proofs.Common.{◌≡◌, ◌≢◌, ℕ, zero, suc, ◌+◌, ◌-◌, ◌*◌, ◌/◌, ◌%◌, ◌^◌, ◌<◌, ◌≤◌, List, [], ◌∷◌, ◌++◌, drop, length, get_or, refl, ap, ap₂, sym, subst, ◌∙◌, arith, append-nil, append_assoc, length-append, add-one}
 use Rattle.std.specs.Prelude.{true, false, Bool, decimal, replicate, ◌&&◌, Option, Some, None, IfSome, IfNone, MatchOption, take, codes, ℤ, pos, neg_ℤ, cond, int_le, nat_le, nat_lt, ◌==◌}
 use Rattle.std.specs.Str.{all_ascii_digits, bytes_eq}
 use Rattle.std.specs.Char.{is_ascii_digit}
@@ -7,7 +7,6 @@ use Rattle.std.proofs.lemmas.Bool.{and_parts, and_from, ne_eqb, lt-ltb, leb-true
 use Rattle.std.proofs.lemmas.List.{replicate_more, length-replicate, take-append-drop}
 use Rattle.std.proofs.lemmas.Bool.Decides.{nat_tests}
 use Rattle.std.proofs.lemmas.Nat.{pow-add}
-use Rattle.std.proofs.lemmas.Str.Parse.{IsNumeralModel, numerals_by_fold}
 use Rattle.std.proofs.lemmas.Fmt.{decimal_digit, decimal_step, digits_decimal, digits_value-decimal, decimal_injective}
 use Rattle.std.proofs.lemmas.Slice.Eq.{bytes_eq-Decides}
 use Rattle.std.proofs.Math.Nat.{pow-suc, mul_assoc, add-mul, mul-one, one-le-pow, pow-le-pow_right, mul-le-mul_right, mul-lt-mul_of_pos_right}
@@ -16,11 +15,8 @@ use Rattle.std.specs.Borrow.{Bor}
 use Rattle.desk_model.specs.declared.types.MeasureName.{MeasureName}
 use Rattle.desk_model.specs.declared.types.MeasureName.TheVariants.{Precision, Recall, RPrecision, Reciprocal, Biased}
 use Rattle.desk_text.specs.Numbers.{read_on, is_plain, plain_of, is_digits, whole_of}
-use Rattle.desk_text.proofs.Digits.{plain_is_decimal, plain_of-decimal}
+use Rattle.desk_text.proofs.Digits.{plain_is_decimal, plain_of-decimal, own}
 use Rattle.desk_model.specs.MeasureText.{IsDepth, IsMeasure, IsPersistence, IsTextOf}
-
-own : IsNumeralModel (λ ds. all_ascii_digits ds ≡ true) (read_on 0)
-own = numerals_by_fold _ (search rules) read_on (search rules)
 
 pub pow_ten : (d : ℕ) → 10 ^ (suc d) ≡ 10 * 10 ^ d
 pow_ten d = let e = pow-suc 10 d in omega arith

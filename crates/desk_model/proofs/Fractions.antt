@@ -33,7 +33,7 @@ not_negative_part (pos n) h = omega (arith, ints)
 not_negative_part (negsuc n) h = absurd (omega (arith, ints))
 
 -- a number times a difference of naturals
-times_difference : (u m n : ℕ) → u * up (pos m -ℤ pos n) + u * n ≡ u * down (pos m -ℤ pos n) + u * m
+pub times_difference : (u m n : ℕ) → u * up (pos m -ℤ pos n) + u * n ≡ u * down (pos m -ℤ pos n) + u * m
 times_difference u m n =
     let plain : up (pos m -ℤ pos n) + n ≡ down (pos m -ℤ pos n) + m = omega (arith, ints) in
     omega (arith, ap (λ s. u * s) plain)

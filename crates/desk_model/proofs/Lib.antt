@@ -10,3 +10,5 @@ pub mod Nested
 pub mod Decimals
 pub mod PairPlace
 pub mod DeskTopics
+pub mod Floors
+pub mod MarkTests

@@ -3,9 +3,10 @@ use Rattle.std.proofs.Common.{◌≡◌, ℕ, zero, suc, ◌+◌, ◌*◌, ◌<�
 use Rattle.std.specs.List.{IsDistinct, AllByRecursion}
 use Rattle.std.proofs.Math.Nat.{mul-le-mul_right}
 use Rattle.std.proofs.lemmas.Int.{ints}
-use Rattle.std.proofs.lemmas.Bool.Decides.{nat_tests}
 use Rattle.std.proofs.lemmas.List.Elements.{recursion_from_All, All-take}
 use borrow.Author.Differences.{up, down}
+use Rattle.std.proofs.Math.Bool.{or-true}
+use Rattle.std.proofs.lemmas.Bool.{eq-eqb}
 use Rattle.desk_model.specs.Mark.{mark_at}
 use Rattle.desk_model.specs.Completion.{Completes, picked_value, with_picked}
 use Rattle.desk_model.specs.Classes.{only_count, precision_least, precision_most, precision_ends, front_count}
@@ -26,7 +27,7 @@ pub difference_outside : (p : ℕ → Bool) (xs ys : List ℕ) → IsDistinct na
     count_by p xs + count_by (λ d. p d && not (is_in xs d)) ys ≡ count_by p ys + count_by (λ d. p d && not (is_in ys d)) xs
 difference_outside p xs ys h k = omega (arith, count_by-split p (is_in ys) xs, count_by-split p (is_in xs) ys, count_by-swap p xs ys h k)
 
-and_weaker : (b c e : Bool) → (b ≡ true → c ≡ true) → (b && e) ≡ true → (c && e) ≡ true
+pub and_weaker : (b c e : Bool) → (b ≡ true → c ≡ true) → (b && e) ≡ true → (c && e) ≡ true
 and_weaker true c e h k = ap (λ v. v && e) (h refl) ∙ k
 and_weaker false c e h k = absurd (cc)
 
@@ -58,26 +59,15 @@ pub least_bound : (marks : List Mark) (truth : ℕ → Bool) (xs ys : List ℕ) 
 least_bound marks truth xs ys dx dy wx wy c =
     omega (arith, difference_outside truth xs ys dx dy, outside_least marks truth xs ys wx c, outside_most marks truth ys xs wy c)
 
-or_true : (b : Bool) → (b || true) ≡ true
-or_true true = refl
-or_true false = refl
-
-and_true : (b : Bool) → (b && true) ≡ b
-and_true true = refl
-and_true false = refl
-
 pub weaker : (P Q : ℕ → Type 0) → ((d : ℕ) → P d → Q d) → (xs : List ℕ) → AllByRecursion P xs → AllByRecursion Q xs
 weaker P Q f [] h = tt
 weaker P Q f (x ∷ xs) h = (f x h.0, weaker P Q f xs h.1)
-
-nat_eq-same : (n : ℕ) → nat_eq n n ≡ true
-nat_eq-same n = grind (arith, nat_tests)
 
 -- each document of a list is in it
 pub is_in_members : (xs : List ℕ) → AllByRecursion (λ d. is_in xs d ≡ true) xs
 is_in_members [] = tt
 is_in_members (x ∷ xs) =
-    (ap (λ b. b || is_in xs x) (nat_eq-same x), weaker (λ d. is_in xs d ≡ true) (λ d. (nat_eq x d || is_in xs d) ≡ true) (λ d h. ap (λ b. nat_eq x d || b) h ∙ or_true (nat_eq x d)) xs (is_in_members xs))
+    (ap (λ b. b || is_in xs x) (eq-eqb x x refl), weaker (λ d. is_in xs d ≡ true) (λ d. (nat_eq x d || is_in xs d) ≡ true) (λ d h. ap (λ b. nat_eq x d || b) h ∙ or-true (nat_eq x d)) xs (is_in_members xs))
 
 at_first : (b e : Bool) (m : Mark) → e ≡ true → (picked_value (b && not e) m && not b) ≡ (picked_value false m && not b)
 at_first true true m h = ap (λ v. v && false) refl

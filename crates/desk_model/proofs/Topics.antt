@@ -1,8 +1,8 @@
 -- From whole numbers beside each topic's difference or score to the means of all topics.
-use Rattle.std.proofs.Common.{◌≡◌, ◌≢◌, ℕ, zero, suc, ◌<◌, ◌*◌, Bool, cond, nat_eq, true, false, List, [], ◌∷◌, length, Option, Some, None, ℤ, pos, ◌+ℤ◌, ◌≤ℤ◌, ◌<ℤ◌, arith, ap, refl, sym}
+use Rattle.std.proofs.Common.{◌≡◌, ◌≢◌, ℕ, zero, suc, ◌<◌, ◌*◌, Bool, cond, nat_eq, List, [], ◌∷◌, length, Option, Some, None, ℤ, pos, ◌+ℤ◌, ◌≤ℤ◌, ◌<ℤ◌, arith, ap, refl, sym}
 use Rattle.std.specs.List.{AllZip}
 use Rattle.std.proofs.lemmas.Int.{ints}
-use Rattle.std.proofs.lemmas.Bool.Decides.{nat_tests}
+use Rattle.std.proofs.lemmas.Bool.{eq-eqb, ne_eqb}
 use Rattle.desk_model.specs.Completion.{Completion}
 use Rattle.desk_model.specs.Fraction.{Fraction, over, plus, total, IsAtMost, IsAtLeast}
 use Rattle.desk_model.specs.Score.{score, reciprocal, first_true}
@@ -83,12 +83,6 @@ one_total_in_every fact adds m r (z ∷ zs) (t ∷ ts) (x ∷ xs) h c =
     adds.step z (whole_sum zs) (run_score m r t x) (over 0 1) (total (run_scores m r ts xs)) (over 0 1)
     (h.0 x.truth (x.tail r) c.0) (one_total_in_every fact adds m r zs ts xs h.1 c.1)
 
-nat_eq-same : (n : ℕ) → nat_eq n n ≡ true
-nat_eq-same n = grind (arith, nat_tests)
-
-nat_eq-apart : (m n : ℕ) → m ≢ n → nat_eq m n ≡ false
-nat_eq-apart m n h = grind (arith, nat_tests)
-
 -- one tail for a and another for b
 abbrev tails : ℕ → List Bool → List Bool → ℕ → List Bool
 tails a tail_a tail_b r = cond (nat_eq r a) tail_a tail_b
@@ -103,8 +97,8 @@ total_in_some fact adds m a b apart (z ∷ zs) [] h = absurd h
 total_in_some fact adds m a b apart (z ∷ zs) (t ∷ ts) h =
     let rest = total_in_some fact adds m a b apart zs ts h.1 in
     let x : Completion = record { truth = h.0.0; tail = tails a h.0.1 h.0.2 } in
-    let first : run_score m a t x ≡ score m (length t.marks) h.0.0 (t.ranking a) h.0.1 = ap (score m (length t.marks) h.0.0 (t.ranking a)) (ap (λ v. cond v h.0.1 h.0.2) (nat_eq-same a)) in
-    let second : run_score m b t x ≡ score m (length t.marks) h.0.0 (t.ranking b) h.0.2 = ap (score m (length t.marks) h.0.0 (t.ranking b)) (ap (λ v. cond v h.0.1 h.0.2) (nat_eq-apart b a (λ e. apart (sym e)))) in
+    let first : run_score m a t x ≡ score m (length t.marks) h.0.0 (t.ranking a) h.0.1 = ap (score m (length t.marks) h.0.0 (t.ranking a)) (ap (λ v. cond v h.0.1 h.0.2) (eq-eqb a a refl)) in
+    let second : run_score m b t x ≡ score m (length t.marks) h.0.0 (t.ranking b) h.0.2 = ap (score m (length t.marks) h.0.0 (t.ranking b)) (ap (λ v. cond v h.0.1 h.0.2) (ne_eqb b a (λ e. apart (sym e)))) in
     let here : fact z (run_score m a t x) (run_score m b t x) = rw (first, second) h.0.4 in
     (x ∷ rest.0, (h.0.3, rest.1), adds.step z (whole_sum zs) (run_score m a t x) (run_score m b t x) (total (run_scores m a ts rest.0)) (total (run_scores m b ts rest.0)) here rest.2)
 

@@ -14,3 +14,4 @@ pub mod Book
 pub mod Desk
 pub mod MeasureText
 pub mod Pairs
+pub mod Floors

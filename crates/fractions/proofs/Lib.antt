@@ -1,4 +1,4 @@
-pub mod Floors
 pub mod PlacesMore
 pub mod Spans
 pub mod Enclosures
+pub mod Ratio

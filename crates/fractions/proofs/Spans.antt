@@ -6,7 +6,7 @@ use Rattle.desk_model.specs.Extremes.{IsGreatest, IsSmallest}
 use Rattle.measure_laws.proofs.Unique.{greatest_unique, smallest_unique}
 use Rattle.fractions.specs.Ends.{IsFloor, IsCeiling}
 use Rattle.fractions.specs.Numbers.{floor_of, ceiling_of, scaled_difference, difference_span}
-use Rattle.fractions.proofs.Floors.{is_floor, ceiling_is}
+use Rattle.desk_model.proofs.Floors.{is_floor, ceiling_is}
 use Rattle.fractions.specs.declared.span.Span.{Span}
 
 pub is_ceiling : (n : ℤ) (d : ℕ) → 0 < d → IsCeiling n (pos d) (ceiling_of n d)

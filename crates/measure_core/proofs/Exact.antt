@@ -34,7 +34,8 @@ use Rattle.fractions.specs.declared.span.Span.{Span}
 use Rattle.measure_laws.proofs.Unique.{greatest_unique, smallest_unique, extremes_unique}
 use Rattle.measure_core.specs.declared.cell.Cell.{Cell}
 use Rattle.measure_core.specs.Laws.{IsMet, Bounds, mirrored, SpanIsModest, MeetsLaws}
-use Rattle.measure_core.specs.Made.{ends_of, HasEnds, HasBounds, AreNumbersOf}
+use Rattle.measure_laws.specs.Ends.{HasEnds}
+use Rattle.measure_core.specs.Made.{ends_of, HasBounds, AreNumbersOf}
 use Rattle.measure_core.specs.Numbers.{exact_least, exact_cell, exact_bounds}
 use Rattle.measure_core.proofs.Turned.{negated_twice, turned_modest, meets_laws}
 

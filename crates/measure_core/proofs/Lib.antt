@@ -2,3 +2,4 @@ pub mod Turned
 pub mod Exact
 pub mod RunBounds
 pub mod Narrow
+pub mod Cells

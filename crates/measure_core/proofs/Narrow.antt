@@ -19,7 +19,8 @@ use Rattle.fractions.specs.Ends.{IsFloor, IsCeiling}
 use Rattle.fractions.specs.Numbers.{scaled_difference, difference_span}
 use Rattle.fractions.proofs.Spans.{difference_floor, difference_ceiling}
 use Rattle.measure_core.specs.Laws.{AreMet}
-use Rattle.measure_core.specs.Made.{ends_of, HasEnds, AreNarrow}
+use Rattle.measure_laws.specs.Ends.{HasEnds}
+use Rattle.measure_core.specs.Made.{ends_of, AreNarrow}
 use Rattle.measure_core.specs.Numbers.{exact_least, exact_cell}
 use Rattle.measure_core.proofs.Exact.{extremes}
 

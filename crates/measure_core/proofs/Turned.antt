@@ -8,7 +8,8 @@ use Rattle.desk_model.specs.declared.types.MeasureName.{MeasureName}
 use Rattle.desk_model.specs.MeasureText.{IsMeasure}
 use Rattle.measure_laws.specs.Measures.{unit_of}
 use Rattle.measure_laws.specs.Cases.{least_truth}
-use Rattle.measure_laws.proofs.Mirror.{neg_twice, at_most_turned, at_least_turned, every_turned}
+use Rattle.small_lemmas.proofs.Numbers.{neg_twice}
+use Rattle.measure_laws.proofs.Mirror.{at_most_turned, at_least_turned, every_turned}
 use Rattle.measure_laws.proofs.LeastCases.{least_truth-Completes}
 use Rattle.measure_laws.proofs.Weights.{unit-size, weight-most, weight-even}
 use Rattle.fractions.specs.declared.span.Span.{Span}

@@ -9,7 +9,8 @@ ghost use Rattle.measure_laws.specs.Measures.{IsExactMeasure};
 ghost use Rattle.fractions.specs.declared.span.Span.{Span};
 ghost use Rattle.measure_core.specs.declared.cell.Cell.{Cell};
 ghost use Rattle.measure_core.specs.Laws.{AreMet, MeetsLaws, OwesLaws};
-ghost use Rattle.measure_core.specs.Made.{HasEnds, AreNumbersOf, AreNarrow};
+ghost use Rattle.measure_laws.specs.Ends.{HasEnds};
+ghost use Rattle.measure_core.specs.Made.{AreNumbersOf, AreNarrow};
 ghost use Rattle.measure_core.specs.Numbers.{exact_cell, exact_bounds};
 
 /// A few laws of a measure give all of them.

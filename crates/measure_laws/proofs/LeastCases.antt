@@ -1,7 +1,7 @@
 -- The least case of each measure but rank-biased precision has the least difference of all completions.
-use Rattle.std.proofs.Common.{◌≡◌, ℕ, ◌+◌, ◌*◌, ◌<◌, ◌≤◌, true, false, nat_lt, List, length, take, arith}
+use Rattle.std.proofs.Common.{ℕ, ◌+◌, ◌*◌, ◌<◌, ◌≤◌, nat_lt, List, length, take, arith}
 use Rattle.std.proofs.Math.Nat.{mul-le-mul_left}
-use Rattle.std.proofs.lemmas.Bool.Decides.{nat_tests}
+use Rattle.std.proofs.lemmas.Bool.{ltb-true, ltb-false}
 use Rattle.desk_model.specs.Completion.{with_picked, Completes}
 use Rattle.desk_model.specs.Ranking.{IsRanking, rank}
 use Rattle.desk_model.specs.Fraction.{over}
@@ -28,7 +28,7 @@ same_denominator : (a b a' b' k : ℕ) → 0 < k → a' + b ≤ a + b' → IsNoG
 same_denominator a b a' b' k h le =
     rw (over-pos a' k h, over-pos b' k h, over-pos a k h, over-pos b k h) (omega (arith, mul-le-mul_left (k * (k * k)) le))
 
-precision_least_case : (k : ℕ) (marks : List Mark) (a b : List ℕ) → 0 < k → IsRanking (length marks) a → IsRanking (length marks) b → IsLeastCase (Precision k) marks a b (with_picked marks (only_second k a b))
+pub precision_least_case : (k : ℕ) (marks : List Mark) (a b : List ℕ) → 0 < k → IsRanking (length marks) a → IsRanking (length marks) b → IsLeastCase (Precision k) marks a b (with_picked marks (only_second k a b))
 precision_least_case k marks a b h ra rb =
     let dx = IsDistinct-take k a ra.distinct in
     let dy = IsDistinct-take k b rb.distinct in
@@ -40,19 +40,13 @@ precision_least_case k marks a b h ra rb =
           (omega (arith, least_attained marks (take k a) (take k b) dx dy, least_bound marks truth (take k a) (take k b) dx dy (front_within k (length marks) a ra) (front_within k (length marks) b rb) c));
     }
 
-leads : (m n : ℕ) → nat_lt m n ≡ true → m < n
-leads m n h = grind (arith, nat_tests)
-
-trails : (m n : ℕ) → nat_lt m n ≡ false → n ≤ m
-trails m n h = grind (arith, nat_tests)
-
-recall_case : (k : ℕ) (marks : List Mark) (a b : List ℕ) → IsRanking (length marks) a → IsRanking (length marks) b → IsLeastCase (Recall k) marks a b (least_truth (Recall k) marks a b)
+pub recall_case : (k : ℕ) (marks : List Mark) (a b : List ℕ) → IsRanking (length marks) a → IsRanking (length marks) b → IsLeastCase (Recall k) marks a b (least_truth (Recall k) marks a b)
 recall_case k marks a b ra rb =
     let truth = with_picked marks (only_second k a b) in
     let even = least_attained marks (take k a) (take k b) (IsDistinct-take k a ra.distinct) (IsDistinct-take k b rb.distinct) in
     recall_least_case k marks a b ra rb (nat_lt (true_among truth k b) (true_among truth k a))
-    (λ e. omega (arith, even, leads (true_among truth k b) (true_among truth k a) e))
-    (λ e. omega (arith, even, trails (true_among truth k b) (true_among truth k a) e))
+    (λ e. omega (arith, even, ltb-true (true_among truth k b) (true_among truth k a) e))
+    (λ e. omega (arith, even, ltb-false (true_among truth k b) (true_among truth k a) e))
 
 pub least_case_is_least : (m : MeasureName) (marks : List Mark) (a b : List ℕ) → IsMeasure m → IsExactMeasure m → IsRanking (length marks) a → IsRanking (length marks) b → IsLeastCase m marks a b (least_truth m marks a b)
 least_case_is_least (Precision k) marks a b h e ra rb = precision_least_case k marks a b h.0 ra rb

@@ -2,8 +2,6 @@ pub mod LeastEnds
 pub mod Ranks
 pub mod Picks
 pub mod Mirror
-pub mod Merge
-pub mod Places
 pub mod Weights
 pub mod RecallEnds
 pub mod ReciprocalEnds
@@ -17,3 +15,9 @@ pub mod BiasedTopic
 pub mod Persistence
 pub mod Firsts
 pub mod Unique
+pub mod NamedEnds
+pub mod RprecFirst
+pub mod Ratios
+pub mod FirstRanks
+pub mod LeastDifferences
+pub mod ReciprocalDifferences

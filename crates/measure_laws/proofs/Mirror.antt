@@ -11,11 +11,6 @@ use Rattle.measure_laws.specs.Differences.{IsLeastCase}
 use Rattle.desk_model.specs.declared.types.Mark.{Mark}
 use Rattle.desk_model.specs.declared.types.MeasureName.{MeasureName}
 
-pub neg_twice : (z : ℤ) → neg_ℤ (neg_ℤ z) ≡ z
-neg_twice (pos zero) = refl
-neg_twice (pos (suc n)) = refl
-neg_twice (negsuc n) = refl
-
 -- the parts of a negated number
 pub turned_parts : (z : ℤ) → (up (neg_ℤ z) ≡ down z) × (down (neg_ℤ z) ≡ up z)
 turned_parts (pos zero) = (refl, refl)

@@ -17,7 +17,8 @@ use Rattle.desk_model.specs.MeasureText.{IsPersistence}
 use Rattle.measure_laws.specs.Powers.{low_weight, high_weight}
 use Rattle.measure_laws.specs.Shares.{ForPersistence, ForRun, AreNear, IsModest, biased_truth, biased_least_lo, biased_least_hi, biased_ends, biased_bound_lo, biased_bound_hi}
 use Rattle.measure_laws.specs.Cases.{HasLeastTails}
-use Rattle.measure_laws.proofs.Mirror.{neg_twice, every_turned}
+use Rattle.small_lemmas.proofs.Numbers.{neg_twice}
+use Rattle.measure_laws.proofs.Mirror.{every_turned}
 use Rattle.measure_laws.proofs.Weights.{persistence-small}
 use Rattle.measure_laws.proofs.Biased.{least_tails, little_left}
 use Rattle.measure_laws.proofs.BiasedEnds.{weight_low, weight_high, biased_low}
@@ -45,7 +46,7 @@ least_case_below top bottom marks a b p ra rb tail_a tail_b tails =
     let few : top + (bottom - top) ≤ 1000000 = omega (arith, p.below_one, persistence-small top bottom p) in
     let high : IsAtLeast (biased_least_hi top bottom marks a b) (10 ^ 18) (biased top bottom (map truth a ++ [])) (biased top bottom (map truth b ++ tail_b)) =
     subst (λ (n : ℕ). IsAtLeast (biased_least_hi top n marks a b) (10 ^ 18) (biased top n (map truth a ++ [])) (biased top n (map truth b ++ tail_b))) (parts top bottom p.below_one)
-    (biased_high top (bottom - top) marks a b p.positive apart few ra rb tail_b tails.1) in
+    (biased_high top (bottom - top) (length marks) truth a b p.positive apart few ra rb tail_b tails.1) in
     subst (λ (t : List Bool). IsAtLeast (biased_least_hi top bottom marks a b) (10 ^ 18) (biased top bottom (map truth a ++ t)) (biased top bottom (map truth b ++ tail_b))) (sym tails.0) high
 
 -- the least case is a completion

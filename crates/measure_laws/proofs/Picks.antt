@@ -1,10 +1,9 @@
 -- The first candidate with the smallest difference has a difference no greater than any other.
-use Rattle.std.proofs.Common.{◌≡◌, ℕ, ◌+◌, ◌*◌, ◌<◌, ◌≤◌, Bool, true, false, List, [], ◌∷◌, ◌++◌, arith, refl, nat_lt, inl, inr, ap, sym, subst}
+use Rattle.std.proofs.Common.{◌≡◌, ℕ, ◌+◌, ◌*◌, ◌<◌, ◌≤◌, Bool, true, false, List, [], ◌∷◌, ◌++◌, arith, refl, inl, inr, ap, sym, subst}
 use Rattle.std.specs.Prelude.{if◌then◌else◌}
 use Rattle.std.specs.List.{AllByRecursion}
 use Rattle.std.proofs.Math.Nat.{mul-le-mul_left, mul-le-mul_right, mul-pos, le_of_mul-le-mul_right}
-use Rattle.std.proofs.lemmas.Bool.{cases_lt}
-use Rattle.std.proofs.lemmas.Bool.Decides.{nat_tests}
+use Rattle.std.proofs.lemmas.Bool.{cases_lt, ltb-true, ltb-false, lt-ltb, le-ltb}
 use Rattle.measure_laws.specs.Differences.{ArePositive, IsFirstLeast, IsNoGreater, Scores, is_smaller, first_least}
 
 abbrev pub NoGreater : Scores → Scores → Type 0
@@ -23,17 +22,11 @@ NoGreater-trans s t u h k l =
 pub NoGreater-refl : (s : Scores) → NoGreater s s
 NoGreater-refl s = omega arith
 
-lt_of_test : (m n : ℕ) → nat_lt m n ≡ true → m < n
-lt_of_test m n h = grind (arith, nat_tests)
-
-le_of_test : (m n : ℕ) → nat_lt m n ≡ false → n ≤ m
-le_of_test m n h = grind (arith, nat_tests)
-
 -- the better of two candidates
 chosen : {X : Type 0} (scores : X → Scores) (best c : X) (b : Bool) → is_smaller (scores c) (scores best) ≡ b →
     NoGreater (scores (if b then c else best)) (scores best) × NoGreater (scores (if b then c else best)) (scores c)
-chosen scores best c true e = let less = lt_of_test _ _ e in (omega (arith, less), NoGreater-refl (scores c))
-chosen scores best c false e = let more = le_of_test _ _ e in (NoGreater-refl (scores best), omega (arith, more))
+chosen scores best c true e = let less = ltb-true _ _ e in (omega (arith, less), NoGreater-refl (scores c))
+chosen scores best c false e = let more = ltb-false _ _ e in (NoGreater-refl (scores best), omega (arith, more))
 
 -- it is no greater than the best so far and than each of the rest
 pub first_least-least : {X : Type 0} (scores : X → Scores) → ((x : X) → ArePositive (scores x)) → (best : X) (cs : List X) →
@@ -56,12 +49,14 @@ pub first_least-all : {X : Type 0} (P : X → Type 0) (scores : X → Scores) (b
 first_least-all P scores best [] h k = h
 first_least-all {X} P scores best (c ∷ cs) h k = first_least-all P scores (if is_smaller (scores c) (scores best) then c else best) cs (either_of P c best (is_smaller (scores c) (scores best)) k.0 h) k.1
 
+-- more candidates go on from the chosen one
+pub first_least-append : {X : Type 0} (scores : X → Scores) (best : X) (xs ys : List X) → first_least scores best (xs ++ ys) ≡ first_least scores (first_least scores best xs) ys
+first_least-append scores best [] ys = refl
+first_least-append scores best (x ∷ xs) ys = first_least-append scores (if is_smaller (scores x) (scores best) then x else best) xs ys
+
 -- ---- it is the first such candidate
 lt_of_mul : (m n k : ℕ) → m * k < n * k → m < n
 lt_of_mul m n k h = elim (cases_lt m n) [ inl less ↦ less | inr more ↦ absurd (omega (arith, h, mul-le-mul_right k more)) ]
-
-true_test : (m n : ℕ) → m < n → nat_lt m n ≡ true
-true_test m n h = grind (arith, nat_tests)
 
 strict_step : (a c d a' c' d' a'' c'' d'' : ℕ) → 0 < d → 0 < d' → 0 < d'' → a * d' + c' * d ≤ a' * d + c * d' → a' * d'' + c'' * d' < a'' * d' + c' * d'' → a * d'' + c'' * d < a'' * d + c * d''
 strict_step a c d a' c' d' a'' c'' d'' p q r k l =
@@ -71,9 +66,9 @@ strict_step a c d a' c' d' a'' c'' d'' p q r k l =
 -- no greater than one that is smaller than a third
 test_trans : (s t u : Scores) → ArePositive s → ArePositive t → ArePositive u → NoGreater s t → is_smaller t u ≡ true → is_smaller s u ≡ true
 test_trans s t u p q r h k =
-    true_test _ _
+    lt-ltb _ _
     (strict_step (s.first.num * s.second.den) (s.second.num * s.first.den) (s.first.den * s.second.den) (t.first.num * t.second.den) (t.second.num * t.first.den) (t.first.den * t.second.den)
-    (u.first.num * u.second.den) (u.second.num * u.first.den) (u.first.den * u.second.den) (mul-pos p.first p.second) (mul-pos q.first q.second) (mul-pos r.first r.second) h (lt_of_test _ _ k))
+    (u.first.num * u.second.den) (u.second.num * u.first.den) (u.first.den * u.second.den) (mul-pos p.first p.second) (mul-pos q.first q.second) (mul-pos r.first r.second) h (ltb-true _ _ k))
 
 strict_then : (a c d a' c' d' a'' c'' d'' : ℕ) → 0 < d → 0 < d' → 0 < d'' → a * d' + c' * d < a' * d + c * d' → a' * d'' + c'' * d' ≤ a'' * d' + c' * d'' → a * d'' + c'' * d < a'' * d + c * d''
 strict_then a c d a' c' d' a'' c'' d'' p q r k l =
@@ -83,15 +78,12 @@ strict_then a c d a' c' d' a'' c'' d'' p q r k l =
 -- smaller than one that is no greater than a third
 smaller_trans : (s t u : Scores) → ArePositive s → ArePositive t → ArePositive u → is_smaller s t ≡ true → NoGreater t u → is_smaller s u ≡ true
 smaller_trans s t u p q r h k =
-    true_test _ _
+    lt-ltb _ _
     (strict_then (s.first.num * s.second.den) (s.second.num * s.first.den) (s.first.den * s.second.den) (t.first.num * t.second.den) (t.second.num * t.first.den) (t.first.den * t.second.den)
-    (u.first.num * u.second.den) (u.second.num * u.first.den) (u.first.den * u.second.den) (mul-pos p.first p.second) (mul-pos q.first q.second) (mul-pos r.first r.second) (lt_of_test _ _ h) k)
+    (u.first.num * u.second.den) (u.second.num * u.first.den) (u.first.den * u.second.den) (mul-pos p.first p.second) (mul-pos q.first q.second) (mul-pos r.first r.second) (ltb-true _ _ h) k)
 
-no_smaller : (s t : Scores) → NoGreater s t → is_smaller t s ≡ false
-no_smaller s t h = false_test _ _ (omega (arith, h))
-  where
-    false_test : (m n : ℕ) → n ≤ m → nat_lt m n ≡ false
-    false_test m n h = grind (arith, nat_tests)
+pub no_smaller : (s t : Scores) → NoGreater s t → is_smaller t s ≡ false
+no_smaller s t h = le-ltb _ _ (omega (arith, h))
 
 all_no_smaller : {X : Type 0} (scores : X → Scores) (x : X) (cs : List X) → AllByRecursion (λ c. NoGreater (scores x) (scores c)) cs → AllByRecursion (λ c. is_smaller (scores c) (scores x) ≡ false) cs
 all_no_smaller scores x [] h = tt
@@ -117,7 +109,7 @@ stands_still {X} scores positive best c w cs (x ∷ xs) others s g e =
       before = best ∷ c ∷ xs;
       others = others;
       stands = ap (λ (ys : List X). best ∷ c ∷ ys) rest;
-      greater = (here, (smaller_trans (scores w) (scores best) (scores c) (positive w) (positive best) (positive c) here (le_of_test _ _ e), g.1));
+      greater = (here, (smaller_trans (scores w) (scores best) (scores c) (positive w) (positive best) (positive c) here (ltb-false _ _ e), g.1));
     }
 
 -- one more candidate

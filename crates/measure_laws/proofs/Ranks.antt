@@ -5,7 +5,8 @@ use Rattle.std.specs.Option.{option_map}
 use Rattle.std.specs.List.{IsDistinct, AllByRecursion, position_from, sum_by, range_with_len}
 use Rattle.std.proofs.lemmas.List.Sums.{sum_by-cons}
 use Rattle.std.proofs.lemmas.Iterator.Adapters.{position_from-zero}
-use Rattle.std.proofs.lemmas.Bool.Decides.{nat_tests}
+use Rattle.std.proofs.lemmas.Bool.{eq-eqb}
+use Rattle.small_lemmas.proofs.Tests.{apart_below, apart_over}
 use Rattle.desk_model.specs.Ranking.{rank}
 use Rattle.desk_model.specs.Score.{gained}
 use Rattle.desk_model.proofs.Counts.{nat_eq-sym, nat_eq-true}
@@ -45,32 +46,23 @@ absent : (x : ℕ) (s : ℕ) (xs : List ℕ) → AllByRecursion (λ y. nat_eq x 
 absent x s [] h = refl
 absent x s (y ∷ xs) h = ap (λ b. cond b (Some s) (position_from (λ each. nat_eq each x) (s + 1) xs)) (nat_eq-sym y x ∙ h.0) ∙ absent x (s + 1) xs h.1
 
-nat_eq-same : (n : ℕ) → nat_eq n n ≡ true
-nat_eq-same n = grind (arith, nat_tests)
-
-apart : (x y : ℕ) → y < x → nat_eq x y ≡ false
-apart x y h = grind (arith, nat_tests)
-
-apart_above : (x y : ℕ) → x < y → nat_eq x y ≡ false
-apart_above x y h = grind (arith, nat_tests)
-
 split : (m n : ℕ) → m ≤ n → (m ≡ n) ⊎ (m < n)
 split m n h = grind arith
 
 none_later : (g : ℕ → ℕ) (x start n : ℕ) → x < start → sum_by (λ d. if nat_eq x d then g d else 0) (range_with_len start n) ≡ 0
 none_later g x start zero h = refl
 none_later g x start (suc n) h =
-    omega (arith, sum_by-cons (λ d. if nat_eq x d then g d else 0) start (range_with_len (start + 1) n), ap (λ b. if b then g start else 0) (apart_above x start h), none_later g x (start + 1) n (omega arith))
+    omega (arith, sum_by-cons (λ d. if nat_eq x d then g d else 0) start (range_with_len (start + 1) n), ap (λ b. if b then g start else 0) (apart_below x start h), none_later g x (start + 1) n (omega arith))
 
 -- a sum in which one document alone counts
 pub one_counts : (g : ℕ → ℕ) (x : ℕ) (start n : ℕ) → start ≤ x → x < start + n → sum_by (λ d. if nat_eq x d then g d else 0) (range_with_len start n) ≡ g x
 one_counts g x start zero p q = absurd (omega arith)
 one_counts g x start (suc n) p q = elim (split start x p) [
   | inl here ↦
-      let yes' : (if nat_eq x start then g start else 0) ≡ g x = ap (λ z. if nat_eq x z then g z else 0) here ∙ ap (λ b. if b then g x else 0) (nat_eq-same x) in
+      let yes' : (if nat_eq x start then g start else 0) ≡ g x = ap (λ z. if nat_eq x z then g z else 0) here ∙ ap (λ b. if b then g x else 0) (eq-eqb x x refl) in
       omega (arith, sum_by-cons (λ d. if nat_eq x d then g d else 0) start (range_with_len (start + 1) n), yes', none_later g x (start + 1) n (omega arith))
   | inr later ↦
-      let no' : (if nat_eq x start then g start else 0) ≡ 0 = ap (λ b. if b then g start else 0) (apart x start later) in
+      let no' : (if nat_eq x start then g start else 0) ≡ 0 = ap (λ b. if b then g start else 0) (apart_over x start later) in
       omega (arith, sum_by-cons (λ d. if nat_eq x d then g d else 0) start (range_with_len (start + 1) n), no', one_counts g x (start + 1) n (omega arith) (omega arith))
 ]
 

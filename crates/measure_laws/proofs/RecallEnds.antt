@@ -2,8 +2,9 @@
 use Rattle.std.proofs.Common.{◌≡◌, ℕ, zero, suc, ◌+◌, ◌*◌, ◌<◌, ◌≤◌, ◌-◌, max, Bool, true, false, not, ◌&&◌, ◌||◌, nat_eq, List, [], ◌∷◌, take, length, count_by, arith, refl, ap, ◌∙◌, inl, inr, subst}
 use Rattle.std.specs.List.{IsDistinct, AllByRecursion, range_with_len}
 use Rattle.std.proofs.Math.Nat.{mul-le-mul_left, mul-le-mul_right, mul-le-mul}
-use Rattle.std.proofs.lemmas.Bool.{cases_lt}
-use Rattle.std.proofs.lemmas.Bool.Decides.{nat_tests}
+use Rattle.std.proofs.lemmas.Bool.{cases_lt, eq-eqb}
+use Rattle.std.proofs.Math.Bool.{or-true}
+use Rattle.small_lemmas.proofs.Tests.{apart_below}
 use Rattle.desk_model.specs.Mark.{mark_at}
 use Rattle.desk_model.specs.Completion.{Completes, picked_value, with_picked}
 use Rattle.desk_model.specs.Ranking.{IsRanking, is_in}
@@ -12,7 +13,7 @@ use Rattle.desk_model.specs.Score.{true_count}
 use Rattle.desk_model.specs.Classes.{only_count}
 use Rattle.desk_model.proofs.Counts.{one_if, count_by-cons, count_by-swap, count_by-weaker, count_by-agree, IsDistinct-take}
 use Rattle.desk_model.proofs.Completions.{allowed_least, allowed_most, with_picked-Completes}
-use Rattle.desk_model.proofs.PrecisionEnds.{weaker, front_within, is_in_members, difference_outside, outside_least, outside_most}
+use Rattle.desk_model.proofs.PrecisionEnds.{weaker, front_within, is_in_members, difference_outside, outside_least, outside_most, and_weaker}
 use Rattle.measure_laws.specs.Differences.{IsNoGreater, IsLeastCase}
 use Rattle.desk_model.specs.declared.types.Mark.{Mark}
 use Rattle.desk_model.specs.declared.types.MeasureName.TheVariants.{Recall}
@@ -52,30 +53,20 @@ over-max m zero h = let none : m ≡ 0 = omega arith in rw none refl
 over-max m (suc r) h = let one_r : max 1 (suc r) ≡ suc r = omega arith in rw one_r refl
 
 -- ---- the classes in the whole universe
-nat_eq-below : (x y : ℕ) → x < y → nat_eq x y ≡ false
-nat_eq-below x y h = grind (arith, nat_tests)
-
 range_apart : (x start n : ℕ) → x < start → AllByRecursion (λ y. nat_eq x y ≡ false) (range_with_len start n)
 range_apart x start zero h = tt
-range_apart x start (suc n) h = (nat_eq-below x start h, range_apart x (start + 1) n (omega arith))
+range_apart x start (suc n) h = (apart_below x start h, range_apart x (start + 1) n (omega arith))
 
 pub IsDistinct-range : (start n : ℕ) → IsDistinct nat_eq (range_with_len start n)
 unfolding IsDistinct
 IsDistinct-range start zero = tt
 IsDistinct-range start (suc n) = (range_apart start (start + 1) n (omega arith), IsDistinct-range (start + 1) n)
 
-nat_eq-same : (n : ℕ) → nat_eq n n ≡ true
-nat_eq-same n = grind (arith, nat_tests)
-
-or_true : (b : Bool) → (b || true) ≡ true
-or_true true = refl
-or_true false = refl
-
 pub in_range : (start n d : ℕ) → start ≤ d → d < start + n → is_in (range_with_len start n) d ≡ true
 in_range start zero d h k = absurd (omega arith)
 in_range start (suc n) d h k = elim (cases_lt start d) [
-  | inl later ↦ ap (λ b. nat_eq start d || b) (in_range (start + 1) n d (omega arith) (omega arith)) ∙ or_true (nat_eq start d)
-  | inr here ↦ let same : start ≡ d = omega arith in ap (λ b. b || is_in (range_with_len (start + 1) n) d) (subst (λ (x : ℕ). nat_eq start x ≡ true) same (nat_eq-same start))
+  | inl later ↦ ap (λ b. nat_eq start d || b) (in_range (start + 1) n d (omega arith) (omega arith)) ∙ or-true (nat_eq start d)
+  | inr here ↦ let same : start ≡ d = omega arith in ap (λ b. b || is_in (range_with_len (start + 1) n) d) (subst (λ (x : ℕ). nat_eq start x ≡ true) same (eq-eqb start start refl))
 ]
 
 and_turn : (t o i : Bool) → (t && (i && not o)) ≡ ((t && not o) && i)
@@ -112,7 +103,7 @@ is_neutral xs ys d = not (is_in ys d && not (is_in xs d)) && not (is_in xs d && 
 abbrev pub neutral_count : (ℕ → Bool) → ℕ → List ℕ → List ℕ → ℕ
 neutral_count p n xs ys = count_by (λ d. p d && is_neutral xs ys d) (range_with_len 0 n)
 
-three : (t i j : Bool) → one_if t ≡ one_if (t && (i && not j)) + one_if (t && (j && not i)) + one_if (t && (not (j && not i) && not (i && not j)))
+pub three : (t i j : Bool) → one_if t ≡ one_if (t && (i && not j)) + one_if (t && (j && not i)) + one_if (t && (not (j && not i) && not (i && not j)))
 three true true true = refl
 three true true false = refl
 three true false true = refl
@@ -149,18 +140,18 @@ and_false' true false = refl
 and_false' false true = refl
 and_false' false false = refl
 
-choice_first : (v i j : Bool) (m : Mark) → i ≡ true → (picked_value ((j && not i) || (v && (not (j && not i) && not (i && not j)))) m && not j) ≡ (picked_value false m && not j)
+pub choice_first : (v i j : Bool) (m : Mark) → i ≡ true → (picked_value ((j && not i) || (v && (not (j && not i) && not (i && not j)))) m && not j) ≡ (picked_value false m && not j)
 choice_first v true true m h = and_false' (picked_value ((true && not true) || (v && (not (true && not true) && not (true && not true)))) m) (picked_value false m)
 choice_first true true false m h = refl
 choice_first false true false m h = refl
 choice_first v false j m h = absurd (cc)
 
-choice_second : (v i j : Bool) (m : Mark) → j ≡ true → (picked_value ((j && not i) || (v && (not (j && not i) && not (i && not j)))) m && not i) ≡ (picked_value true m && not i)
+pub choice_second : (v i j : Bool) (m : Mark) → j ≡ true → (picked_value ((j && not i) || (v && (not (j && not i) && not (i && not j)))) m && not i) ≡ (picked_value true m && not i)
 choice_second v true true m h = and_false' (picked_value ((true && not true) || (v && (not (true && not true) && not (true && not true)))) m) (picked_value true m)
 choice_second v false true m h = refl
 choice_second v i false m h = absurd (cc)
 
-choice_neutral : (v i j : Bool) (m : Mark) → (picked_value ((j && not i) || (v && (not (j && not i) && not (i && not j)))) m && (not (j && not i) && not (i && not j))) ≡ (picked_value v m && (not (j && not i) && not (i && not j)))
+pub choice_neutral : (v i j : Bool) (m : Mark) → (picked_value ((j && not i) || (v && (not (j && not i) && not (i && not j)))) m && (not (j && not i) && not (i && not j))) ≡ (picked_value v m && (not (j && not i) && not (i && not j)))
 choice_neutral true true true m = refl
 choice_neutral false true true m = refl
 choice_neutral v true false m = and_false' (picked_value ((false && not true) || (v && (not (true && not false) && not (false && not true)))) m) (picked_value v m)
@@ -169,10 +160,6 @@ choice_neutral true false false m = refl
 choice_neutral false false false m = refl
 
 -- ---- bounds of a class in every completion
-and_weaker : (b c e : Bool) → (b ≡ true → c ≡ true) → (b && e) ≡ true → (c && e) ≡ true
-and_weaker true c e h k = ap (λ v. v && e) (h refl) ∙ k
-and_weaker false c e h k = absurd (cc)
-
 pub class_least : (marks : List Mark) (truth e : ℕ → Bool) (zs : List ℕ) → AllByRecursion (λ d. d < length marks) zs → Completes marks truth →
     count_by (λ d. picked_value false (mark_at marks d) && e d) zs ≤ count_by (λ d. truth d && e d) zs
 class_least marks truth e zs within c =

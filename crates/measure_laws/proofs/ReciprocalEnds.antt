@@ -3,14 +3,14 @@ use Rattle.std.proofs.Common.{◌≡◌, ℕ, ◌+◌, ◌*◌, ◌<◌, ◌≤�
 use Rattle.std.specs.List.{AllByRecursion, position_from}
 use Rattle.std.proofs.Math.Nat.{mul-le-mul_left}
 use Rattle.std.proofs.lemmas.List.Elements.{recursion_from_All}
-use Rattle.std.proofs.lemmas.Bool.Decides.{nat_tests}
+use Rattle.std.proofs.lemmas.Bool.{eq-eqb}
 use Rattle.desk_model.specs.Mark.{is_unjudged, mark_at}
 use Rattle.desk_model.specs.Completion.{Allows, Completes, picked_value}
 use Rattle.desk_model.specs.Ranking.{IsRanking}
 use Rattle.desk_model.specs.Fraction.{Fraction}
 use Rattle.desk_model.specs.Score.{first_true, reciprocal}
 use Rattle.desk_model.proofs.Counts.{nat_eq-true}
-use Rattle.desk_model.proofs.Completions.{with_picked-Completes}
+use Rattle.desk_model.proofs.Completions.{with_picked-Completes, allowed_least}
 use Rattle.desk_model.proofs.PrecisionEnds.{weaker, over-pos}
 use Rattle.desk_model.proofs.Topics.{reciprocal-den}
 use Rattle.measure_laws.specs.Differences.{ArePositive, IsNoGreater, Scores, IsLeastCase}
@@ -60,11 +60,6 @@ more_true s t r (x ∷ xs) h k = more_step (s x) (t x) r (position_from s (r + 1
 
 -- ---- the candidate that a completion has
 -- at one document: what the chosen one shows there
-none_below : (m : Mark) (b : Bool) → Allows m b → picked_value false m ≡ true → b ≡ true
-none_below Relevant b h e = h
-none_below Unjudged b h e = absurd (cc)
-none_below Other b h e = absurd (cc)
-
 -- a candidate that shows the same first true rank in a list, and no other true documents
 pub record Matches (marks : List Mark) (truth : ℕ → Bool) (P : Option ℕ → Type 0) (r : ℕ) (ys : List ℕ) : Type 0 where
   pub choice : Option ℕ
@@ -77,17 +72,14 @@ one_fewer marks truth y c yes' d h e = at (nat_eq y d) refl
   where
     at : (b : Bool) → nat_eq y d ≡ b → truth d ≡ true
     at true f = subst (λ (z : ℕ). truth z ≡ true) (nat_eq-true y d f) yes'
-    at false f = none_below (mark_at marks d) (truth d) (c d h) (sym (ap (λ v. picked_value v (mark_at marks d)) f) ∙ e)
+    at false f = allowed_least (mark_at marks d) (truth d) (c d h) (sym (ap (λ v. picked_value v (mark_at marks d)) f) ∙ e)
 
 none_fewer : (marks : List Mark) (truth : ℕ → Bool) → Completes marks truth → (d : ℕ) → d < length marks → with_choice marks None d ≡ true → truth d ≡ true
-none_fewer marks truth c d h e = none_below (mark_at marks d) (truth d) (c d h) e
+none_fewer marks truth c d h e = allowed_least (mark_at marks d) (truth d) (c d h) e
 
 not_true : (b c : Bool) → c ≡ false → (b ≡ true → c ≡ true) → b ≡ false
 not_true true c h k = let yes' : c ≡ true = k refl in absurd (cc)
 not_true false c h k = refl
-
-pub nat_eq-same : (n : ℕ) → nat_eq n n ≡ true
-nat_eq-same n = grind (arith, nat_tests)
 
 -- the first document is true: it is the chosen one, or judged
 first_matches : (marks : List Mark) (truth : ℕ → Bool) (P : Option ℕ → Type 0) (r y : ℕ) (ys : List ℕ) → Completes marks truth → P None → (m : Mark) → m ≡ mark_at marks y → (is_unjudged m ≡ true → P (Some y)) →
@@ -96,7 +88,7 @@ first_matches marks truth P r y ys c none Unjudged e one h yes' = record {
   choice = Some y;
   known = one refl;
   fewer = one_fewer marks truth y c yes';
-  same = ap (λ b. cond b (Some r) (position_from (with_choice marks (Some y)) (r + 1) ys)) (ap (λ v. picked_value v (mark_at marks y)) (nat_eq-same y) ∙ ap (picked_value true) (sym e))
+  same = ap (λ b. cond b (Some r) (position_from (with_choice marks (Some y)) (r + 1) ys)) (ap (λ v. picked_value v (mark_at marks y)) (eq-eqb y y refl) ∙ ap (picked_value true) (sym e))
       ∙ sym (ap (λ b. cond b (Some r) (position_from truth (r + 1) ys)) yes');
 }
 first_matches marks truth P r y ys c none Relevant e one h yes' = record {

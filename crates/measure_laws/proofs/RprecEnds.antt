@@ -5,6 +5,7 @@ use Rattle.std.proofs.Math.Nat.{mul-le-mul_right}
 use Rattle.std.proofs.lemmas.Bool.{cases_lt}
 use Rattle.std.proofs.lemmas.List.Sums.{sum_by_push}
 use Rattle.std.proofs.lemmas.Bool.Decides.{nat_tests}
+use Rattle.std.proofs.Math.Bool.{and-true}
 use Rattle.desk_model.specs.Mark.{is_unjudged, mark_at}
 use Rattle.desk_model.specs.Completion.{Completes, picked_value, with_picked}
 use Rattle.desk_model.specs.Ranking.{IsRanking, is_in}
@@ -19,12 +20,12 @@ use Rattle.measure_laws.specs.Differences.{ArePositive, IsNoGreater, Scores, IsL
 use Rattle.measure_laws.specs.Classes.{is_among_first, open_in, size_of, judged_count}
 use Rattle.measure_laws.specs.RprecCase.{greedy_pick, greedy_truth, greedy_scores, rprec_count, rprec_truth}
 use Rattle.measure_laws.proofs.Picks.{NoGreater, NoGreater-trans, first_least-least, first_least-all}
-use Rattle.measure_laws.proofs.RecallEnds.{every, class_count, class_least, class_most, range_below, count_le_universe, no_greater_of}
+use Rattle.measure_laws.proofs.RecallEnds.{every, class_count, class_least, class_most, range_below, count_le_universe, no_greater_of, three}
 use Rattle.desk_model.specs.declared.types.Mark.{Mark}
 use Rattle.desk_model.specs.declared.types.Mark.TheVariants.{Unjudged, Relevant, Other}
 use Rattle.desk_model.specs.declared.types.MeasureName.TheVariants.{RPrecision}
 
-range_push : (s n : ℕ) → range_with_len s (suc n) ≡ range_with_len s n ++ (s + n) ∷ []
+pub range_push : (s n : ℕ) → range_with_len s (suc n) ≡ range_with_len s n ++ (s + n) ∷ []
 range_push s zero = ap (λ k. k ∷ []) (omega arith)
 range_push s (suc n) = ap (λ ks. s ∷ ks) (range_push (s + 1) n ∙ ap (λ k. range_with_len (s + 1) n ++ k ∷ []) (omega arith))
 
@@ -51,7 +52,7 @@ pub greedy_least : (r p q v p0 q0 v0 p1 q1 v1 : ℕ) → p0 ≤ p → p ≤ p0 +
 greedy_least r p q v p0 q0 v0 p1 q1 v1 a b c d e f s = omega arith
 
 -- ---- a class of documents, given by where a document stands
-one_if_picked : (b : Bool) (m : Mark) (e : Bool) → one_if (picked_value b m && e) ≡ one_if (picked_value false m && e) + one_if ((is_unjudged m && e) && b)
+pub one_if_picked : (b : Bool) (m : Mark) (e : Bool) → one_if (picked_value b m && e) ≡ one_if (picked_value false m && e) + one_if ((is_unjudged m && e) && b)
 one_if_picked true Unjudged true = refl
 one_if_picked true Unjudged false = refl
 one_if_picked false Unjudged true = refl
@@ -61,7 +62,7 @@ one_if_picked b Relevant false = refl
 one_if_picked b Other e = refl
 
 -- the true documents of a class: those judged relevant, and those picked
-count_picked : (marks : List Mark) (pick e : ℕ → Bool) (zs : List ℕ) →
+pub count_picked : (marks : List Mark) (pick e : ℕ → Bool) (zs : List ℕ) →
     count_by (λ d. with_picked marks pick d && e d) zs ≡ count_by (λ d. with_picked marks (λ _. false) d && e d) zs + count_by (λ d. open_in marks e d && pick d) zs
 count_picked marks pick e [] = refl
 count_picked marks pick e (z ∷ zs) =
@@ -73,10 +74,6 @@ count_picked marks pick e (z ∷ zs) =
       one_if_picked (pick z) (mark_at marks z) (e z),
       count_picked marks pick e zs,
     )
-
-and_true : (b : Bool) → (b && true) ≡ b
-and_true true = refl
-and_true false = refl
 
 -- what the greedy pick picks in each class
 in_second : (u i j l m k : Bool) → ((u && (j && not i)) && (((u && (j && not i)) && l) || (((u && (not (j && not i) && not (i && not j))) && m) || ((u && (i && not j)) && k)))) ≡ ((u && (j && not i)) && l)
@@ -96,7 +93,7 @@ in_both true false true l m k = refl
 in_both true false false l true k = refl
 in_both true false false l false k = refl
 
-in_first : (u i j l m k : Bool) → ((u && (i && not j)) && (((u && (j && not i)) && l) || (((u && (not (j && not i) && not (i && not j))) && m) || ((u && (i && not j)) && k)))) ≡ ((u && (i && not j)) && k)
+pub in_first : (u i j l m k : Bool) → ((u && (i && not j)) && (((u && (j && not i)) && l) || (((u && (not (j && not i) && not (i && not j))) && m) || ((u && (i && not j)) && k)))) ≡ ((u && (i && not j)) && k)
 in_first false i j l m k = refl
 in_first true true true l m k = refl
 in_first true true false l m k = refl
@@ -104,14 +101,7 @@ in_first true false true l m k = refl
 in_first true false false l m k = refl
 
 -- three classes make the universe
-three : (t i j : Bool) → one_if t ≡ one_if (t && (i && not j)) + one_if (t && (j && not i)) + one_if (t && (not (j && not i) && not (i && not j)))
-three true true true = refl
-three true true false = refl
-three true false true = refl
-three true false false = refl
-three false i j = refl
-
-count_three : (p : ℕ → Bool) (r : ℕ) (a b zs : List ℕ) → count_by p zs ≡ count_by (λ d. p d && only_second r b a d) zs + count_by (λ d. p d && only_second r a b d) zs + count_by (λ d. p d && neutral r a b d) zs
+pub count_three : (p : ℕ → Bool) (r : ℕ) (a b zs : List ℕ) → count_by p zs ≡ count_by (λ d. p d && only_second r b a d) zs + count_by (λ d. p d && only_second r a b d) zs + count_by (λ d. p d && neutral r a b d) zs
 count_three p r a b [] = refl
 count_three p r a b (z ∷ zs) =
     omega (
@@ -149,7 +139,7 @@ class_bounds : (marks : List Mark) (truth e : ℕ → Bool) → Completes marks 
     (true_in truth e (length marks) ≤ true_in (with_picked marks (λ _. false)) e (length marks) + size_of (length marks) (open_in marks e))
 class_bounds marks truth e c =
     let zs = range_with_len 0 (length marks) in
-    let all : count_by (λ d. open_in marks e d && true) zs ≡ size_of (length marks) (open_in marks e) = count_by-agree _ _ zs (every _ (λ d. and_true (open_in marks e d)) zs) in
+    let all : count_by (λ d. open_in marks e d && true) zs ≡ size_of (length marks) (open_in marks e) = count_by-agree _ _ zs (every _ (λ d. and-true (open_in marks e d)) zs) in
     (class_least marks truth e zs (range_below (length marks)) c, omega (arith, class_most marks truth e zs (range_below (length marks)) c, count_picked marks (λ _. true) e zs, all))
 
 -- the numbers of a topic at r relevant documents
@@ -178,7 +168,7 @@ greedy_is marks a b r h k =
     let e3 = neutral r a b in
     let judged : judged_count marks ≡ true_in base e1 n + true_in base e2 n + true_in base e3 n = count_three base r a b zs in
     let open_all : size_of n (open_in marks (λ _. true)) ≡ size_of n (open_in marks e1) + size_of n (open_in marks e2) + size_of n (open_in marks e3) =
-    count_by-agree _ _ zs (every _ (λ d. and_true (is_unjudged (mark_at marks d))) zs) ∙ count_three (λ d. is_unjudged (mark_at marks d)) r a b zs in
+    count_by-agree _ _ zs (every _ (λ d. and-true (is_unjudged (mark_at marks d))) zs) ∙ count_three (λ d. is_unjudged (mark_at marks d)) r a b zs in
     let second : true_in best e2 n ≡ true_in base e2 n + min (r - judged_count marks) (size_of n (open_in marks e2)) =
     omega (arith, count_picked marks (greedy_pick marks a b r) e2 zs, greedy_second marks a b r zs, count-is_among_first (r - judged_count marks) (open_in marks e2) n) in
     let both : true_in best e3 n ≡ true_in base e3 n + min (r - judged_count marks - size_of n (open_in marks e2)) (size_of n (open_in marks e3)) =
@@ -214,7 +204,7 @@ all_at P start (suc n) d h k l = elim (cases_lt start d) [
   | inr here ↦ let same : start ≡ d = omega arith in subst P same h.0
 ]
 
-range_all : (P : ℕ → Type 0) (start n : ℕ) → ((d : ℕ) → start ≤ d → d < start + n → P d) → AllByRecursion P (range_with_len start n)
+pub range_all : (P : ℕ → Type 0) (start n : ℕ) → ((d : ℕ) → start ≤ d → d < start + n → P d) → AllByRecursion P (range_with_len start n)
 range_all P start zero f = tt
 range_all P start (suc n) f = (f start (omega arith) (omega arith), range_all P (start + 1) n (λ d h k. f d (omega arith) (omega arith)))
 
@@ -222,19 +212,19 @@ from_first : (P : ℕ → Type 0) (j u d : ℕ) → P j → AllByRecursion P (ra
 from_first P j u d h k l m = elim (cases_lt j d) [ inl later ↦ all_at P (j + 1) u d k (omega arith) (omega arith) | inr here ↦ let same : j ≡ d = omega arith in subst P same h ]
 
 -- the number of true documents of a completion
-total_bounds : (marks : List Mark) (truth : ℕ → Bool) → Completes marks truth →
+pub total_bounds : (marks : List Mark) (truth : ℕ → Bool) → Completes marks truth →
     (judged_count marks ≤ true_count truth (length marks)) × (true_count truth (length marks) ≤ judged_count marks + size_of (length marks) (open_in marks (λ _. true)))
 total_bounds marks truth c =
     let zs = range_with_len 0 (length marks) in
     let bounds = class_bounds marks truth (λ _. true) c in
-    let same = λ (p : ℕ → Bool). let e : count_by (λ d. p d && true) zs ≡ count_by p zs = count_by-agree _ _ zs (every _ (λ d. and_true (p d)) zs) in e in
+    let same = λ (p : ℕ → Bool). let e : count_by (λ d. p d && true) zs ≡ count_by p zs = count_by-agree _ _ zs (every _ (λ d. and-true (p d)) zs) in e in
     (omega (arith, bounds.0, same (with_picked marks (λ _. false)), same truth), omega (arith, bounds.1, same (with_picked marks (λ _. false)), same truth))
 
 pub greedy_positive : (marks : List Mark) (a b : List ℕ) (r : ℕ) → ArePositive (greedy_scores marks a b r)
 greedy_positive marks a b r = record { first = over-den (true_among (greedy_truth marks a b r) r a) r; second = over-den (true_among (greedy_truth marks a b r) r b) r }
 
 -- the greedy choice of as many documents is no greater than a completion
-greedy_no_greater : (marks : List Mark) (a b : List ℕ) → IsRanking (length marks) a → IsRanking (length marks) b → (truth : ℕ → Bool) → Completes marks truth → (r : ℕ) → true_count truth (length marks) ≡ r → Greedy marks a b r →
+pub greedy_no_greater : (marks : List Mark) (a b : List ℕ) → IsRanking (length marks) a → IsRanking (length marks) b → (truth : ℕ → Bool) → Completes marks truth → (r : ℕ) → true_count truth (length marks) ≡ r → Greedy marks a b r →
     IsNoGreater (greedy_scores marks a b r).first (greedy_scores marks a b r).second (over (true_among truth r a) r) (over (true_among truth r b) r)
 greedy_no_greater marks a b ra rb truth c r e g =
     let n = length marks in
@@ -249,6 +239,13 @@ greedy_no_greater marks a b ra rb truth c r e g =
     (omega (arith, e, count_le_universe truth n (take r a) dx wx)) (omega (arith, e, count_le_universe truth n (take r b) dy wy)) (omega (arith, g.total, count_le_universe best n (take r a) dx wx)) (omega (arith, g.total, count_le_universe best n (take r b) dy wy))
     (omega (arith, mul-le-mul_right (max 1 r) le))
 
+-- the number of relevant documents of the case is one that the topic can have
+pub rprec_within : (marks : List Mark) (a b : List ℕ) → (judged_count marks ≤ rprec_count marks a b) × (rprec_count marks a b ≤ judged_count marks + size_of (length marks) (open_in marks (λ _. true)))
+rprec_within marks a b =
+    let j = judged_count marks in
+    let u = size_of (length marks) (open_in marks (λ _. true)) in
+    first_least-all (λ r. (j ≤ r) × (r ≤ j + u)) (greedy_scores marks a b) j (range_with_len (j + 1) u) (omega arith, omega arith) (range_all _ (j + 1) u (λ d h k. (omega (arith, h), omega (arith, k))))
+
 -- the case of R-precision has the least difference
 pub rprec_least_case : (marks : List Mark) (a b : List ℕ) → IsRanking (length marks) a → IsRanking (length marks) b → IsLeastCase RPrecision marks a b (rprec_truth marks a b)
 rprec_least_case marks a b ra rb =
@@ -258,7 +255,7 @@ rprec_least_case marks a b ra rb =
     let value = greedy_scores marks a b in
     let chosen = rprec_count marks a b in
     let best = first_least-least value (greedy_positive marks a b) j (range_with_len (j + 1) u) in
-    let within : (j ≤ chosen) × (chosen ≤ j + u) = first_least-all (λ r. (j ≤ r) × (r ≤ j + u)) value j (range_with_len (j + 1) u) (omega arith, omega arith) (range_all _ (j + 1) u (λ d h k. (omega (arith, h), omega (arith, k)))) in
+    let within = rprec_within marks a b in
     let total : true_count (rprec_truth marks a b) n ≡ chosen = (greedy_is marks a b chosen within.0 within.1).total in
     record {
       completes = with_picked-Completes marks (greedy_pick marks a b chosen);

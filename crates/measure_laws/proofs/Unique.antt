@@ -1,6 +1,6 @@
 -- A greatest and a smallest whole number are the only ones, and so are the ends of a topic.
-use Rattle.std.proofs.Common.{◌≡◌, ℕ, ◌<◌, List, length, ℤ, ◌≤ℤ◌, arith, ap, ◌∙◌}
-use Rattle.std.proofs.lemmas.Int.{ints}
+use Rattle.std.proofs.Common.{◌≡◌, ℕ, ◌<◌, List, length, ℤ, ap, ◌∙◌}
+use Rattle.small_lemmas.proofs.Numbers.{both_ways}
 use Rattle.desk_model.specs.Ranking.{IsRanking}
 use Rattle.desk_model.specs.Extremes.{IsGreatest, IsSmallest, Ends, AreExtremes}
 use Rattle.desk_model.specs.Classes.{precision_ends}
@@ -8,9 +8,6 @@ use Rattle.desk_model.specs.declared.types.Mark.{Mark}
 use Rattle.desk_model.specs.declared.types.MeasureName.{MeasureName}
 use Rattle.desk_model.specs.declared.types.MeasureName.TheVariants.{Precision}
 use Rattle.desk_model.proofs.PrecisionEnds.{precision_extremes}
-
-both_ways : (z w : ℤ) → z ≤ℤ w → w ≤ℤ z → z ≡ w
-both_ways z w h k = omega (arith, ints)
 
 pub greatest_unique : (P : ℤ → Type 0) (z w : ℤ) → IsGreatest P z → IsGreatest P w → z ≡ w
 greatest_unique P z w h k = both_ways z w (k.others z h.so) (h.others w k.so)

@@ -9,4 +9,5 @@ pub mod ReciprocalCase
 pub mod RprecCase
 pub mod Cases
 pub mod Weights
-pub mod Pairs
+pub mod Ends
+pub mod LeastDifference

@@ -1,13 +1,14 @@
 -- The least case of R-precision: for each number r of relevant documents a greedy choice, and of these the first with the smallest difference.
-use Rattle.std.specs.Prelude.{ℕ, ◌+◌, ◌-◌, Bool, true, ◌||◌, List, ◌∷◌, length}
+use Rattle.std.specs.Prelude.{◌≡◌, ℕ, ◌+◌, ◌-◌, ◌≤◌, Bool, true, ◌||◌, List, ◌∷◌, length}
 use Rattle.std.specs.List.{range_with_len}
 use Rattle.desk_model.specs.Completion.{with_picked}
 use Rattle.desk_model.specs.Fraction.{over}
-use Rattle.desk_model.specs.Score.{true_among}
+use Rattle.desk_model.specs.Score.{true_among, true_count}
 use Rattle.desk_model.specs.declared.types.Mark.{Mark}
+use Rattle.desk_model.specs.declared.types.MeasureName.TheVariants.{RPrecision}
 use Rattle.measure_laws.specs.Fronts.{only_second, neutral}
 use Rattle.measure_laws.specs.Classes.{open_in, size_of, judged_count, is_among_first}
-use Rattle.measure_laws.specs.Differences.{Scores, first_least}
+use Rattle.measure_laws.specs.Differences.{IsLeastCase, Scores, first_least}
 
 -- the unjudged documents made relevant where r are to be: first those of b's first r alone, then those in both or neither, then those of a's first r alone
 abbrev pub greedy_pick : List Mark → List ℕ → List ℕ → ℕ → ℕ → Bool
@@ -44,3 +45,13 @@ rprec_count marks a b = first_least (greedy_scores marks a b) (judged_count mark
 -- the completion of the least case
 abbrev pub rprec_truth : List Mark → List ℕ → List ℕ → ℕ → Bool
 rprec_truth marks a b = greedy_truth marks a b (rprec_count marks a b)
+
+-- a completion with r relevant documents has the least difference of all completions
+abbrev pub IsAttainedAt : List Mark → List ℕ → List ℕ → ℕ → Type 0
+IsAttainedAt marks a b r =
+    (truth : ℕ → Bool) × (true_count truth (length marks) ≡ r) × IsLeastCase RPrecision marks a b truth
+
+-- the smallest number of relevant documents of a completion with the least difference
+pub record IsSmallestAttained (marks : List Mark) (a b : List ℕ) (r : ℕ) : Type 0 where
+  pub attained : IsAttainedAt marks a b r
+  pub others : (s : ℕ) → IsAttainedAt marks a b s → r ≤ s

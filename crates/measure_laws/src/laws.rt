@@ -1,5 +1,5 @@
 //! Laws of the measures, each the contract of a function that does nothing.
-ghost use Rattle.std.specs.Prelude.{◌≡◌, ℕ, ◌+◌, ◌-◌, ◌*◌, ◌^◌, ◌<◌, ◌≤◌, ◌≤ℤ◌, Bool, List, [], ◌∷◌, length, Some, None, MatchOption, pos, neg_ℤ};
+ghost use Rattle.std.specs.Prelude.{◌≡◌, ℕ, ℤ, ◌+◌, ◌-◌, ◌*◌, ◌^◌, ◌<◌, ◌≤◌, ◌≤ℤ◌, Bool, List, [], ◌∷◌, length, Some, None, MatchOption, pos, neg_ℤ};
 ghost use Rattle.std.specs.Int.{abs_diff};
 ghost use Rattle.desk_model.specs.Ranking.{IsRanking, rank};
 ghost use Rattle.desk_model.specs.Completion.{Completes};
@@ -15,10 +15,11 @@ ghost use Rattle.desk_model.specs.MeasureText.{IsPersistence, IsMeasure};
 ghost use Rattle.measure_laws.specs.Measures.{IsExactMeasure, unit_of};
 ghost use Rattle.measure_laws.specs.Cases.{least_truth, HasLeastTails};
 ghost use Rattle.measure_laws.specs.ReciprocalCase.{reciprocal_scores, unjudged_of, reciprocal_choice};
-ghost use Rattle.measure_laws.specs.RprecCase.{greedy_scores, rprec_counts, rprec_count};
+ghost use Rattle.measure_laws.specs.RprecCase.{IsSmallestAttained, greedy_scores, rprec_counts, rprec_count};
 ghost use Rattle.measure_laws.specs.Powers.{low_power, high_power, low_weight, high_weight};
 ghost use Rattle.measure_laws.specs.Shares.{ForPersistence, ForRun, AreNear, IsModest, biased_least_lo, biased_least_hi, biased_ends, biased_bound_lo, biased_bound_hi};
 ghost use Rattle.measure_laws.specs.Weights.{weight_of};
+ghost use Rattle.measure_laws.specs.Ends.{HasEnds, IsUpperEnd, IsLowerEnd};
 
 /// The least case is a completion, and tails that go with it are there. Under precision, recall,
 /// R-precision and reciprocal rank no completion has a smaller difference.
@@ -41,6 +42,9 @@ pub fn least_case_is_first()
         IsFirstLeast (reciprocal_scores marks a b) (None ∷ unjudged_of marks b) (reciprocal_choice marks a b) }
     ensures rprec { (marks : List Mark) (a b : List ℕ) →
         IsFirstLeast (greedy_scores marks a b) (rprec_counts marks) (rprec_count marks a b) }
+    ensures rprec_smallest { (marks : List Mark) (a b : List ℕ) →
+        IsRanking (length marks) a → IsRanking (length marks) b →
+        IsSmallestAttained marks a b (rprec_count marks a b) }
 {}
 
 /// The ends of a topic are determined, and under precision they are counts of documents: the two ends
@@ -148,4 +152,27 @@ pub fn reciprocal_weight_is_known()
         MatchOption (rank a doc) (v ≡ 0) (λ r. (v * r ≤ 10 ^ 18) × (10 ^ 18 < (v + 1) * r)) ×
         MatchOption (rank b doc) (w ≡ 0) (λ r. (w * r ≤ 10 ^ 18) × (10 ^ 18 < (w + 1) * r)) ×
         (weight_of Reciprocal marks a b doc ≡ abs_diff v w) }
+{}
+
+/// The ends of a measure's name enclose unit times the difference in every completion.
+pub fn named_ends_enclose()
+    ensures low { (measure : MeasureName) (marks : List Mark) (a b : List ℕ) (ends : Ends) →
+        IsMeasure measure → IsRanking (length marks) a → IsRanking (length marks) b →
+        HasEnds measure marks a b ends → InEvery measure marks a b (IsAtMost ends.least_lo (unit_of measure)) }
+    ensures high { (measure : MeasureName) (marks : List Mark) (a b : List ℕ) (ends : Ends) →
+        IsMeasure measure → IsRanking (length marks) a → IsRanking (length marks) b →
+        HasEnds measure marks a b ends → InEvery measure marks a b (IsAtLeast ends.most_hi (unit_of measure)) }
+{}
+
+/// In a completion unit times the difference is at most the upper end, with the tails of the least
+/// case, and at least the lower end, with those of the most case.
+pub fn ends_of_a_completion_hold()
+    ensures upper { (measure : MeasureName) (universe : ℕ) (truth : ℕ → Bool) (a b : List ℕ) (z : ℤ)
+        (tail_a tail_b : List Bool) → IsMeasure measure → IsRanking universe a → IsRanking universe b →
+        IsUpperEnd measure universe truth a b z → HasLeastTails measure tail_a tail_b →
+        IsAtLeast z (unit_of measure) (score measure universe truth a tail_a) (score measure universe truth b tail_b) }
+    ensures lower { (measure : MeasureName) (universe : ℕ) (truth : ℕ → Bool) (a b : List ℕ) (z : ℤ)
+        (tail_a tail_b : List Bool) → IsMeasure measure → IsRanking universe a → IsRanking universe b →
+        IsLowerEnd measure universe truth a b z → HasLeastTails measure tail_b tail_a →
+        IsAtMost z (unit_of measure) (score measure universe truth a tail_a) (score measure universe truth b tail_b) }
 {}

@@ -2,6 +2,4 @@
 #![tactic(auto)]
 
 pub mod laws;
-pub mod pairs;
-
-pub use pairs::passed;
+pub mod least_differences;

@@ -9,9 +9,9 @@ use Rattle.desk_model.specs.declared.types.MeasureName.TheVariants.{Precision}
 use Rattle.desk_model.proofs.PrecisionEnds.{precision_extremes, precision_bounds}
 use Rattle.fractions.specs.declared.span.Span.{Span}
 use Rattle.fractions.proofs.Spans.{span, span_same}
-use Rattle.measure_core.specs.declared.cell.Cell.{Cell}
 use Rattle.measure_core.specs.Laws.{AreMet, IsMet}
 use Rattle.measure_core.specs.Numbers.{exact_cell, exact_bounds}
+use Rattle.measure_core.proofs.Cells.{cell, cell_same}
 use Rattle.measure_core.proofs.Exact.{ends_are, bounds_are}
 
 difference_read : (z : ℤ) (m n m' n' : ℕ) → z ≡ pos m -ℤ pos n → m ≡ m' → n ≡ n' → z ≡ pos m' -ℤ pos n'
@@ -35,13 +35,6 @@ bounds_read k marks a low high least most h r el eh fl fh =
     rw (low_is, high_is) (precision_bounds k marks a h r)
 
 -- ---- the numbers that the extremes determine
--- a cell of two spans
-abbrev pub cell : Span → Span → Cell
-cell s t = record { least = s; most = t }
-
-cell_same : (s t s' t' : Span) → s ≡ s' → t ≡ t' → cell s t ≡ cell s' t'
-cell_same s t s' t' e f = ap (λ x. cell x t) e ∙ ap (λ x. cell s' x) f
-
 pub cell_is : (k : ℕ) (marks : List Mark) (a b : List ℕ) (low high : ℤ) (s t : Span) → IsMeasure (Precision k) → AreMet marks a b →
     AreExtremes (Precision k) k marks a b (record { least_lo = low; least_hi = low; most_lo = high; most_hi = high }) →
     s.lo ≡ low → s.hi ≡ low → t.lo ≡ high → t.hi ≡ high → cell s t ≡ exact_cell (Precision k) marks a b

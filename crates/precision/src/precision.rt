@@ -8,13 +8,13 @@ ghost use Rattle.measure_laws.specs.Fronts.{only_second};
 ghost use Rattle.measure_core.specs.Laws.{AreValues};
 ghost use Rattle.measure_core.specs.Made.{IsMadeFor};
 
-use crate::counts::{front_documents, is_among_first, own_counts};
 use desk_model::{Mark, MeasureName, Memory, Ranking};
 use fractions::Span;
 use measure_core::{Cell, Measure, Steps};
 use std::alloc::Global;
 use std::marker::Model;
 use std::sync::ledger::Ledger;
+use topic_counts::counts::{front_documents, is_among_first, own_counts};
 
 /// The measure `P_k`, for a k from 1 to 10,000. Its unit is k: what it answers are numbers of
 /// documents.

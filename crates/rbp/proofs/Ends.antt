@@ -8,14 +8,11 @@ use Rattle.measure_laws.specs.Shares.{biased_least_lo, biased_least_hi}
 use Rattle.desk_model.specs.declared.types.Mark.{Mark}
 use Rattle.fractions.specs.declared.span.Span.{Span}
 use Rattle.fractions.proofs.Spans.{span, span_same}
-use Rattle.measure_core.specs.declared.cell.Cell.{Cell}
+use Rattle.measure_core.proofs.Cells.{cell}
 use Rattle.rbp.specs.Numbers.{biased_least, biased_cell, biased_bounds}
 
 pub joined : (x y x' y' : ℤ) → x ≡ x' → y ≡ y' → x -ℤ y ≡ x' -ℤ y'
 joined x y x' y' e f = ap (λ z. z -ℤ y) e ∙ ap (λ z. x' -ℤ z) f
-
-abbrev pub cell : Span → Span → Cell
-cell s t = record { least = s; most = t }
 
 pub cell_is : (top bottom : ℕ) (marks : List Mark) (a b : List ℕ) (least other most : Span) →
     least.lo ≡ biased_least_lo top bottom marks a b → least.hi ≡ biased_least_hi top bottom marks a b → other.lo ≡ biased_least_lo top bottom marks b a → other.hi ≡ biased_least_hi top bottom marks b a →

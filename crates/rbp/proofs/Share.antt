@@ -1,31 +1,15 @@
 -- The share of a document that two runs have, by two tests.
-use Rattle.std.proofs.Common.{◌≡◌, ℕ, ◌-◌, ◌<◌, ◌≤◌, Bool, true, false, ◌&&◌, nat_le, nat_lt, Option, Some, None, ℤ, pos, negsuc, neg_ℤ, ◌+ℤ◌, ◌-ℤ◌, ◌<ℤ◌, ◌≤ℤ◌, arith, refl, ap, sym, subst, ◌∙◌, inl, inr}
+use Rattle.std.proofs.Common.{◌≡◌, ℕ, ◌-◌, ◌<◌, ◌≤◌, Bool, true, false, ◌&&◌, nat_le, nat_lt, Option, Some, None, ℤ, pos, neg_ℤ, ◌+ℤ◌, ◌-ℤ◌, ◌≤ℤ◌, arith, refl, ap, sym, subst, ◌∙◌, inl, inr}
 use Rattle.std.specs.Prelude.{if◌then◌else◌, int_lt}
 use Rattle.std.proofs.lemmas.Int.{ints}
-use Rattle.std.proofs.lemmas.Bool.{cases_lt}
-use Rattle.std.proofs.lemmas.Bool.Decides.{nat_tests}
+use Rattle.std.proofs.lemmas.Bool.{cases_lt, lt-ltb, le-ltb, le-leb, lt-leb}
+use Rattle.small_lemmas.proofs.Tests.{positive, not_positive, negative, not_negative}
 use Rattle.measure_laws.specs.Powers.{low_weight, high_weight}
 use Rattle.measure_laws.specs.Shares.{low_share, high_share}
 use Rattle.measure_laws.proofs.BiasedSizes.{weights_order}
 use Rattle.rbp.specs.Walk.{correction, is_in_least}
 use Rattle.desk_model.specs.declared.types.Mark.{Mark}
 use Rattle.desk_model.specs.declared.types.Mark.TheVariants.{Unjudged, Relevant}
-
-positive : (z : ℤ) → int_lt (pos 0) z ≡ true → pos 0 <ℤ z
-positive (pos n) h = let k : 0 < n = grind (arith, nat_tests, h) in omega (arith, ints)
-positive (negsuc n) h = absurd (cc)
-
-not_positive : (z : ℤ) → int_lt (pos 0) z ≡ false → z ≤ℤ pos 0
-not_positive (pos n) h = let k : n ≤ 0 = grind (arith, nat_tests, h) in omega (arith, ints)
-not_positive (negsuc n) h = omega (arith, ints)
-
-negative : (z : ℤ) → int_lt z (pos 0) ≡ true → z <ℤ pos 0
-negative (pos n) h = absurd (grind (arith, nat_tests, h))
-negative (negsuc n) h = omega (arith, ints)
-
-not_negative : (z : ℤ) → int_lt z (pos 0) ≡ false → pos 0 ≤ℤ z
-not_negative (pos n) h = omega (arith, ints)
-not_negative (negsuc n) h = absurd (cc)
 
 raised : (b : Bool) (l h : ℕ) (z : ℤ) → int_lt z (pos 0) ≡ b → z ≡ pos l -ℤ pos h → (if b then pos 0 else z) ≡ pos (l - h)
 raised true l h z t e = let below = negative z t in omega (arith, ints, below, e)
@@ -35,39 +19,27 @@ lowered : (b : Bool) (l h : ℕ) (z : ℤ) → int_lt (pos 0) z ≡ b → z ≡ 
 lowered true l h z t e = let above = positive z t in omega (arith, ints, above, e)
 lowered false l h z t e = let below = not_positive z t in omega (arith, ints, below, e)
 
-is_less : (m n : ℕ) → m < n → nat_lt m n ≡ true
-is_less m n h = grind (arith, nat_tests)
-
-not_less : (m n : ℕ) → n ≤ m → nat_lt m n ≡ false
-not_less m n h = grind (arith, nat_tests)
-
-is_most : (m n : ℕ) → m ≤ n → nat_le m n ≡ true
-is_most m n h = grind (arith, nat_tests)
-
-not_most : (m n : ℕ) → n < m → nat_le m n ≡ false
-not_most m n h = grind (arith, nat_tests)
-
 low_tested : (x y l h : ℕ) (z : ℤ) → (x ≡ y → l ≤ h) → z ≡ pos l -ℤ pos h →
     (if nat_le x y && int_lt z (pos 0) then pos 0 else z) ≡ (if nat_lt x y then pos (l - h) else if nat_lt y x then pos l -ℤ pos h else pos 0)
 low_tested x y l h z level e = elim (cases_lt x y) [
-  | inl less ↦ rw (is_most x y (omega arith), is_less x y less) (raised (int_lt z (pos 0)) l h z refl e)
+  | inl less ↦ rw (le-leb x y (omega arith), lt-ltb x y less) (raised (int_lt z (pos 0)) l h z refl e)
   | inr more ↦ elim (cases_lt y x) [
-    | inl less ↦ rw (not_most x y less, not_less x y more, is_less y x less) e
+    | inl less ↦ rw (lt-leb x y less, le-ltb x y more, lt-ltb y x less) e
     | inr same ↦
         let none : pos (l - h) ≡ pos 0 = let within = level (omega arith) in omega (arith, ints, within) in
-        rw (is_most x y same, not_less x y more, not_less y x same) (raised (int_lt z (pos 0)) l h z refl e ∙ none)
+        rw (le-leb x y same, le-ltb x y more, le-ltb y x same) (raised (int_lt z (pos 0)) l h z refl e ∙ none)
   ]
 ]
 
 high_tested : (x y l h : ℕ) (z : ℤ) → (x ≡ y → l ≤ h) → z ≡ pos h -ℤ pos l →
     (if nat_le y x && int_lt (pos 0) z then pos 0 else z) ≡ (if nat_lt x y then pos h -ℤ pos l else if nat_lt y x then neg_ℤ (pos (l - h)) else pos 0)
 high_tested x y l h z level e = elim (cases_lt x y) [
-  | inl less ↦ rw (not_most y x less, is_less x y less) e
+  | inl less ↦ rw (lt-leb y x less, lt-ltb x y less) e
   | inr more ↦ elim (cases_lt y x) [
-    | inl less ↦ rw (is_most y x (omega arith), not_less x y more, is_less y x less) (lowered (int_lt (pos 0) z) l h z refl e)
+    | inl less ↦ rw (le-leb y x (omega arith), le-ltb x y more, lt-ltb y x less) (lowered (int_lt (pos 0) z) l h z refl e)
     | inr same ↦
         let none : neg_ℤ (pos (l - h)) ≡ pos 0 = let within = level (omega arith) in omega (arith, ints, within) in
-        rw (is_most y x more, not_less x y more, not_less y x same) (lowered (int_lt (pos 0) z) l h z refl e ∙ none)
+        rw (le-leb y x more, le-ltb x y more, le-ltb y x same) (lowered (int_lt (pos 0) z) l h z refl e ∙ none)
   ]
 ]
 

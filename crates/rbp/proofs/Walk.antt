@@ -4,10 +4,11 @@ use Rattle.std.specs.Prelude.{if◌then◌else◌}
 use Rattle.std.specs.List.{AllByRecursion, range_with_len, sum_by}
 use Rattle.std.proofs.Math.Seq.{drop-cons}
 use Rattle.std.proofs.lemmas.Int.{ints}
-use Rattle.std.proofs.lemmas.Bool.{cases_lt}
+use Rattle.std.proofs.lemmas.Bool.{cases_lt, leb-false, eq-eqb}
 use Rattle.std.proofs.lemmas.List.{drop_all}
 use Rattle.std.proofs.lemmas.List.Elements.{recursion_from_All}
 use Rattle.std.proofs.lemmas.List.Sums.{sum_by-cons}
+use Rattle.small_lemmas.proofs.Tests.{apart_below, apart_over}
 use Rattle.desk_model.specs.Mark.{mark_at}
 use Rattle.desk_model.specs.Completion.{picked_value, with_picked}
 use Rattle.desk_model.specs.Ranking.{IsRanking, rank}
@@ -19,9 +20,9 @@ use Rattle.measure_laws.specs.Ranks.{comes_before}
 use Rattle.measure_laws.specs.Powers.{low_weight, high_weight}
 use Rattle.measure_laws.specs.Shares.{low_share, high_share, low_worth, high_worth, share_sum}
 use Rattle.measure_laws.proofs.BiasedEnds.{Standing, stands, ahead, behind, level}
-use Rattle.measure_laws.proofs.Merge.{absent_below, further}
-use Rattle.measure_laws.proofs.Mirror.{neg_twice}
-use Rattle.measure_laws.proofs.Places.{lt_test, even, neither, same_test, other_test, other_test_up, IsAscending-drop, at_place, stepped}
+use Rattle.topic_counts.proofs.Merge.{absent_below, further}
+use Rattle.small_lemmas.proofs.Numbers.{neg_twice}
+use Rattle.topic_counts.proofs.Places.{even, neither, IsAscending-drop, at_place, stepped}
 use Rattle.measure_laws.proofs.Ranks.{gained_by_documents}
 use Rattle.measure_laws.proofs.Weights.{low_weight-most, high_weight-most}
 use Rattle.rbp.specs.Walk.{share_of, is_in_least, is_in_most, sum_of, correction, correction_sum}
@@ -182,8 +183,8 @@ both_have : (f : Mark → Option ℕ → Option ℕ → ℤ) (marks : List Mark)
 both_have f marks x y xs ys h same within later =
     let gone : f (mark_at marks x.doc) (lookup xs x.doc) (lookup ys x.doc) ≡ pos 0 = ap (λ o. f (mark_at marks x.doc) o (lookup ys x.doc)) (absent_below x.doc xs later) ∙ h.first (mark_at marks x.doc) (lookup ys x.doc) in
     let here : f (mark_at marks x.doc) (lookup (x ∷ xs) x.doc) (lookup (y ∷ ys) x.doc) ≡ f (mark_at marks x.doc) (Some x.rank) (Some y.rank) =
-    ap (λ (b : Bool). f (mark_at marks x.doc) (if b then Some x.rank else lookup xs x.doc) (lookup (y ∷ ys) x.doc)) (same_test x.doc x.doc refl)
-    ∙ ap (λ (b : Bool). f (mark_at marks x.doc) (Some x.rank) (if b then Some y.rank else lookup ys x.doc)) (same_test y.doc x.doc (sym same)) in
+    ap (λ (b : Bool). f (mark_at marks x.doc) (if b then Some x.rank else lookup xs x.doc) (lookup (y ∷ ys) x.doc)) (eq-eqb x.doc x.doc refl)
+    ∙ ap (λ (b : Bool). f (mark_at marks x.doc) (Some x.rank) (if b then Some y.rank else lookup ys x.doc)) (eq-eqb y.doc x.doc (sym same)) in
     apart_once (λ d. f (mark_at marks d) (lookup (x ∷ xs) d) (lookup (y ∷ ys) d)) (λ d. f (mark_at marks d) (lookup xs d) (lookup ys d)) x.doc 0 (length marks) (omega arith) (omega arith)
     (λ d ne. at d ne (nat_eq x.doc d) refl) gone
     ∙ ap (λ z. z +ℤ left f marks xs ys) here
@@ -200,17 +201,17 @@ heads_step : (f : Mark → Option ℕ → Option ℕ → ℤ) (marks : List Mark
 heads_step f marks x y xs ys h within p q true true eb ec =
     let same = even x.doc y.doc eb ec in
     let tested : (if nat_eq x.doc y.doc then f (mark_at marks x.doc) (Some x.rank) (Some y.rank) else pos 0) ≡ f (mark_at marks x.doc) (Some x.rank) (Some y.rank) =
-    ap (λ (b : Bool). if b then f (mark_at marks x.doc) (Some x.rank) (Some y.rank) else pos 0) (same_test x.doc y.doc same) in
+    ap (λ (b : Bool). if b then f (mark_at marks x.doc) (Some x.rank) (Some y.rank) else pos 0) (eq-eqb x.doc y.doc same) in
     both_have f marks x y xs ys h same within p.0 ∙ ap (λ z. z +ℤ left f marks xs ys) (sym tested)
 heads_step f marks x y xs ys h within p q true false eb ec =
-    let before = lt_test x.doc y.doc ec in
+    let before = leb-false y.doc x.doc ec in
     let tested : (if nat_eq x.doc y.doc then f (mark_at marks x.doc) (Some x.rank) (Some y.rank) else pos 0) ≡ pos 0 =
-    ap (λ (b : Bool). if b then f (mark_at marks x.doc) (Some x.rank) (Some y.rank) else pos 0) (other_test x.doc y.doc before) in
+    ap (λ (b : Bool). if b then f (mark_at marks x.doc) (Some x.rank) (Some y.rank) else pos 0) (apart_below x.doc y.doc before) in
     omega (arith, ints, tested, first_alone f marks x xs (y ∷ ys) h (before, further x.doc y.doc ys (omega arith) q.0))
 heads_step f marks x y xs ys h within p q false true eb ec =
-    let before = lt_test y.doc x.doc eb in
+    let before = leb-false x.doc y.doc eb in
     let tested : (if nat_eq x.doc y.doc then f (mark_at marks x.doc) (Some x.rank) (Some y.rank) else pos 0) ≡ pos 0 =
-    ap (λ (b : Bool). if b then f (mark_at marks x.doc) (Some x.rank) (Some y.rank) else pos 0) (other_test_up x.doc y.doc before) in
+    ap (λ (b : Bool). if b then f (mark_at marks x.doc) (Some x.rank) (Some y.rank) else pos 0) (apart_over x.doc y.doc before) in
     omega (arith, ints, tested, second_alone f marks y (x ∷ xs) ys h (before, further y.doc x.doc xs (omega arith) p.0))
 heads_step f marks x y xs ys h within p q false false eb ec = absurd (omega (arith, neither x.doc y.doc eb ec))
 

@@ -13,11 +13,12 @@ ghost use Rattle.desk_model.specs.declared.types.MeasureName.TheVariants.{Biased
 use desk_model::{Mark, MeasureName, Memory, Placed, Ranking};
 use fractions::{Powers, Span};
 use measure_core::{Cell, Measure, Steps};
-use measure_laws::passed;
-use recip_rank::firsts::{is_true, rank_in};
 use std::alloc::Global;
 use std::marker::Model;
 use std::sync::ledger::Ledger;
+use topic_counts::pairs::passed;
+use topic_counts::ranks::rank_in;
+use topic_counts::topic::is_true;
 
 /// How many units make a score of 1.
 const UNIT: i128 = 1_000_000_000_000_000_000;

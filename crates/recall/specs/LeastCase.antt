@@ -1,16 +1,12 @@
 -- The least case of recall in counts of documents.
-use Rattle.std.specs.Prelude.{◌≡◌, ℕ, ◌+◌, ◌-◌, true, false, nat_lt, if◌then◌else◌, List, length, take}
+use Rattle.std.specs.Prelude.{ℕ, ◌+◌, ◌-◌, true, false, nat_lt, if◌then◌else◌, List, length, take}
 use Rattle.desk_model.specs.Classes.{only_count}
 use Rattle.desk_model.specs.Completion.{with_picked}
 use Rattle.desk_model.specs.Ranking.{IsRanking}
 use Rattle.desk_model.specs.Score.{true_count}
 use Rattle.desk_model.specs.declared.types.Mark.{Mark}
-use Rattle.precision.specs.declared.counts.Counts.{Counts}
-
--- the counts of some documents, from how many are true where no unjudged one is and where all are
-pub record AreCountsOf (low high : ℕ) (counts : Counts) : Type 0 where
-  pub least : counts.relevant ≡ low
-  pub most : counts.relevant + counts.unjudged ≡ high
+use Rattle.topic_counts.specs.declared.counts.Counts.{Counts}
+use Rattle.topic_counts.specs.Own.{AreCountsOf}
 
 -- the counts of the documents that each of two rankings alone has among its first k, and of all documents
 pub record AreCounts (k : ℕ) (marks : List Mark) (a b : List ℕ) (own other topic : Counts) : Type 0 where

@@ -3,6 +3,5 @@
 #![tactic(auto)]
 
 pub mod recall;
-pub mod topic;
 
 pub use recall::Recall;

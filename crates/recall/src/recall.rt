@@ -10,14 +10,14 @@ ghost use Rattle.measure_core.specs.Made.{IsMadeFor};
 ghost use Rattle.measure_core.specs.Numbers.{exact_least};
 ghost use Rattle.recall.specs.LeastCase.{AreCounts, least_relevant};
 
-use crate::topic::all_documents;
 use desk_model::{Mark, MeasureName, Memory, Ranking};
 use fractions::{Span, span_of};
 use measure_core::{Cell, Measure, Steps};
-use precision::counts::{Counts, front_documents, is_among_first, own_counts};
 use std::alloc::Global;
 use std::marker::Model;
 use std::sync::ledger::Ledger;
+use topic_counts::counts::{Counts, front_documents, is_among_first, own_counts};
+use topic_counts::topic::all_documents;
 
 /// How many units make a score of 1.
 const UNIT: i128 = 1_000_000_000_000_000_000;

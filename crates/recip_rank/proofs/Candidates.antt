@@ -1,58 +1,28 @@
 -- What one chosen document does to the first true rank of a run, and why the walk may stop at the first relevant document.
-use Rattle.std.proofs.Common.{◌≡◌, ℕ, zero, suc, ◌+◌, ◌<◌, ◌≤◌, min, Bool, true, false, cond, nat_eq, nat_lt, List, [], ◌∷◌, ◌++◌, map, filter, length, take, drop, get_or, Option, Some, None, arith, refl, ap, ◌∙◌, sym, subst}
+use Rattle.std.proofs.Common.{◌≡◌, ℕ, zero, suc, ◌+◌, ◌<◌, ◌≤◌, Bool, true, false, cond, nat_eq, List, [], ◌∷◌, ◌++◌, map, filter, length, take, drop, get_or, Option, Some, None, arith, refl, ap, ◌∙◌, sym, subst}
 use Rattle.std.specs.Prelude.{if◌then◌else◌}
 use Rattle.std.specs.List.{IsDistinct, AllByRecursion, position_from}
-use Rattle.std.proofs.lemmas.Bool.Decides.{nat_tests}
 use Rattle.desk_model.specs.Mark.{is_unjudged, mark_at}
 use Rattle.desk_model.specs.Completion.{picked_value}
 use Rattle.desk_model.specs.Ranking.{IsRanking, rank}
-use Rattle.measure_laws.specs.Ranks.{IsWithin}
+use Rattle.measure_laws.specs.Ranks.{IsWithin, earlier}
 use Rattle.measure_laws.specs.Differences.{Scores, is_smaller, first_least, ArePositive}
 use Rattle.measure_laws.specs.ReciprocalCase.{with_choice, reciprocal_scores, unjudged_of, reciprocal_choice}
-use Rattle.measure_laws.proofs.Picks.{NoGreater, NoGreater-trans, first_least-least}
+use Rattle.measure_laws.proofs.Picks.{NoGreater, NoGreater-trans, first_least-append, first_least-least}
 use Rattle.measure_laws.proofs.RecallEnds.{every}
-use Rattle.measure_laws.proofs.Ranks.{Between, position_between}
-use Rattle.measure_laws.proofs.ReciprocalEnds.{IsAtMostOther, from_parts, more_true, same_order, nat_eq-same}
+use Rattle.measure_laws.proofs.FirstRanks.{choice_first}
+use Rattle.measure_laws.proofs.ReciprocalEnds.{IsAtMostOther, from_parts, more_true, same_order}
 use Rattle.std.proofs.lemmas.List.{take_more}
 use Rattle.std.proofs.lemmas.Grind.{common_steps}
+use Rattle.std.proofs.lemmas.Bool.{eq-eqb, le-ltb}
 use Rattle.desk_model.specs.Score.{first_true, reciprocal}
 use Rattle.desk_model.specs.declared.types.Mark.{Mark}
 use Rattle.desk_model.specs.declared.types.Mark.TheVariants.{Unjudged, Relevant, Other}
-use Rattle.desk_model.proofs.Counts.{nat_eq-true, nat_eq-sym}
+use Rattle.desk_model.proofs.Counts.{nat_eq-sym}
 use Rattle.desk_model.proofs.PrecisionEnds.{weaker}
 use Rattle.desk_model.proofs.Topics.{reciprocal-den}
 use Rattle.recip_rank.specs.declared.firsts.Candidate.{Candidate}
-use Rattle.recip_rank.specs.Firsts.{scores_at, AreFirsts, earlier}
-
--- ---- the first true rank with one document chosen
-earlier_here : (r e : ℕ) (p : Option ℕ) → Between (r + 1) e p → earlier (Some r) p ≡ Some r
-earlier_here r e None h = refl
-earlier_here r e (Some q) h = let less : min r q ≡ r = omega (arith, h) in ap (λ n. Some n) less
-
-earlier_there : (r e : ℕ) (p : Option ℕ) → Between (r + 1) e p → earlier p (Some r) ≡ Some r
-earlier_there r e None h = refl
-earlier_there r e (Some q) h = let less : min q r ≡ r = omega (arith, h) in ap (λ n. Some n) less
-
-choice_step : (m : Mark) (here : Bool) (r e : ℕ) (p q : Option ℕ) → (here ≡ true → m ≡ Unjudged) → Between (r + 1) e p → Between (r + 1) e q →
-    cond (picked_value here m) (Some r) (earlier p q) ≡ earlier (cond (picked_value false m) (Some r) p) (cond here (Some r) q)
-choice_step Relevant true r e p q h bp bq = let no : Relevant ≡ Unjudged = h refl in absurd (cc)
-choice_step Relevant false r e p q h bp bq = sym (earlier_here r e q bq)
-choice_step Other true r e p q h bp bq = let no : Other ≡ Unjudged = h refl in absurd (cc)
-choice_step Other false r e p q h bp bq = refl
-choice_step Unjudged true r e p q h bp bq = sym (earlier_there r e p bp)
-choice_step Unjudged false r e p q h bp bq = refl
-
--- it is the earlier of the first one judged relevant and the rank of the chosen document
-pub choice_first : (marks : List Mark) (doc : ℕ) → mark_at marks doc ≡ Unjudged → (r : ℕ) (xs : List ℕ) →
-    position_from (with_choice marks (Some doc)) r xs ≡ earlier (position_from (with_choice marks None) r xs) (position_from (λ each. nat_eq each doc) r xs)
-choice_first marks doc open' r [] = refl
-choice_first marks doc open' r (x ∷ xs) =
-    let later = position_from (with_choice marks None) (r + 1) xs in
-    let place = position_from (λ each. nat_eq each doc) (r + 1) xs in
-    let known : nat_eq x doc ≡ true → mark_at marks x ≡ Unjudged = λ e. subst (λ (y : ℕ). mark_at marks y ≡ Unjudged) (sym (nat_eq-true x doc e)) open' in
-    ap (λ b. cond (picked_value b (mark_at marks x)) (Some r) (position_from (with_choice marks (Some doc)) (r + 1) xs)) (nat_eq-sym doc x)
-    ∙ ap (λ o. cond (picked_value (nat_eq x doc) (mark_at marks x)) (Some r) o) (choice_first marks doc open' (r + 1) xs)
-    ∙ choice_step (mark_at marks x) (nat_eq x doc) r (r + 1 + length xs) later place known (position_between (with_choice marks None) (r + 1) (r + 1 + length xs) xs refl) (position_between (λ each. nat_eq each doc) (r + 1) (r + 1 + length xs) xs refl)
+use Rattle.recip_rank.specs.Firsts.{scores_at, AreFirsts}
 
 -- what holds of each element holds of that at an index
 at_index : (P : ℕ → Type 0) (xs : List ℕ) (p d : ℕ) → AllByRecursion P xs → p < length xs → d ≡ get_or xs p 0 → P d
@@ -69,7 +39,7 @@ pub chosen_first : (marks : List Mark) (d : ℕ) → mark_at marks d ≡ Unjudge
 unfolding IsDistinct
 chosen_first marks d open' r p [] dx unseen lt e = absurd (omega arith)
 chosen_first marks d open' r zero (x ∷ xs) dx unseen lt e =
-    let here : with_choice marks (Some d) x ≡ true = subst (λ (y : ℕ). with_choice marks (Some d) y ≡ true) e (ap (λ b. picked_value b (mark_at marks d)) (nat_eq-same d) ∙ ap (picked_value true) open') in
+    let here : with_choice marks (Some d) x ≡ true = subst (λ (y : ℕ). with_choice marks (Some d) y ≡ true) e (ap (λ b. picked_value b (mark_at marks d)) (eq-eqb d d refl) ∙ ap (picked_value true) open') in
     let none : r ≡ r + 0 = omega arith in
     ap (λ b. cond b (Some r) (position_from (with_choice marks (Some d)) (r + 1) xs)) here ∙ ap (λ n. Some n) none
 chosen_first marks d open' r (suc p) (x ∷ xs) dx unseen lt e =
@@ -77,11 +47,6 @@ chosen_first marks d open' r (suc p) (x ∷ xs) dx unseen lt e =
     let off : with_choice marks (Some d) x ≡ false = not_chosen marks d x false (nat_eq-sym d x ∙ apart) unseen.0 in
     let more : r + 1 + p ≡ r + suc p = omega arith in
     ap (λ b. cond b (Some r) (position_from (with_choice marks (Some d)) (r + 1) xs)) off ∙ chosen_first marks d open' (r + 1) p xs dx.1 unseen.1 (omega arith) e ∙ ap (λ n. Some n) more
-
--- ---- candidates one by one
-pub first_least-append : {X : Type 0} (scores : X → Scores) (best : X) (xs ys : List X) → first_least scores best (xs ++ ys) ≡ first_least scores (first_least scores best xs) ys
-first_least-append scores best [] ys = refl
-first_least-append scores best (x ∷ xs) ys = first_least-append scores (if is_smaller (scores x) (scores best) then x else best) xs ys
 
 first_least-stays : {X : Type 0} (scores : X → Scores) (best : X) (ys : List X) → AllByRecursion (λ c. is_smaller (scores c) (scores best) ≡ false) ys → first_least scores best ys ≡ best
 first_least-stays scores best [] h = refl
@@ -139,11 +104,8 @@ stays_true Relevant b h = refl
 stays_true Unjudged b h = absurd (cc)
 stays_true Other b h = absurd (cc)
 
-not_less : (m n : ℕ) → n ≤ m → nat_lt m n ≡ false
-not_less m n h = grind (arith, nat_tests)
-
 not_smaller : (s t : Scores) → NoGreater t s → is_smaller s t ≡ false
-not_smaller s t h = not_less _ _ (omega (arith, h))
+not_smaller s t h = le-ltb _ _ (omega (arith, h))
 
 candidates_all : (marks : List Mark) (P : Option ℕ → Type 0) (ys : List ℕ) → AllByRecursion (λ e. P (Some e)) ys → AllByRecursion P (unjudged_of marks ys)
 candidates_all marks P [] h = tt

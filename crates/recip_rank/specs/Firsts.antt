@@ -1,17 +1,11 @@
 -- The first true ranks of two runs under a choice of one unjudged document, or of none.
-use Rattle.std.specs.Prelude.{◌≡◌, ℕ, min, List, Option, Some, None}
+use Rattle.std.specs.Prelude.{◌≡◌, ℕ, List, Option}
 use Rattle.measure_laws.specs.Ranks.{IsWithin}
 use Rattle.measure_laws.specs.Differences.{Scores}
 use Rattle.measure_laws.specs.ReciprocalCase.{with_choice}
 use Rattle.desk_model.specs.Score.{first_true, reciprocal}
 use Rattle.desk_model.specs.declared.types.Mark.{Mark}
 use Rattle.recip_rank.specs.declared.firsts.Candidate.{Candidate}
-
--- the earlier of two ranks, where an absent one comes last
-abbrev pub earlier : Option ℕ → Option ℕ → Option ℕ
-earlier None y = y
-earlier (Some x) None = Some x
-earlier (Some x) (Some y) = Some (min x y)
 
 -- the scores of two runs with these first true ranks
 abbrev pub scores_at : Option ℕ → Option ℕ → Scores

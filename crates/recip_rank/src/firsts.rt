@@ -1,17 +1,18 @@
 ghost use Rattle.std.specs.Prelude.{◌≡◌, ◌^◌, ◌≤◌, ◌<◌, length, All};
-ghost use Rattle.desk_model.specs.Completion.{picked_value, with_picked};
-ghost use Rattle.desk_model.specs.Ranking.{rank};
-ghost use Rattle.measure_laws.specs.Ranks.{IsWithin};
+ghost use Rattle.desk_model.specs.Completion.{with_picked};
+ghost use Rattle.measure_laws.specs.Ranks.{IsWithin, earlier};
 ghost use Rattle.measure_laws.specs.Differences.{is_smaller};
 ghost use Rattle.measure_laws.specs.ReciprocalCase.{reciprocal_choice};
 ghost use Rattle.desk_model.specs.Score.{first_true, reciprocal};
 ghost use Rattle.fractions.specs.Ends.{IsShort};
 ghost use Rattle.fractions.specs.Numbers.{difference_span};
 ghost use Rattle.measure_core.specs.Laws.{AreMet};
-ghost use Rattle.recip_rank.specs.Firsts.{scores_at, AreFirsts, earlier};
+ghost use Rattle.recip_rank.specs.Firsts.{scores_at, AreFirsts};
 
 use desk_model::{Mark, Ranking};
 use fractions::{Span, span_of};
+use topic_counts::ranks::rank_in;
+use topic_counts::topic::is_true;
 
 /// The ranks, from 1, at which two runs show their first relevant document.
 #[derive(Clone, Copy, PartialEq, Eq, Debug)]
@@ -51,15 +52,6 @@ fn part_of(rank: Option<u32>) -> Part
     }
 }
 
-/// The rank of a document in a run, from 1.
-pub fn rank_in(run: &Ranking, doc: u32) -> Option<u32>
-    requires { length run.now ≤ 10000 }
-    ensures rank { result ≡ rank run.now doc }
-    ensures within { IsWithin 10000 result }
-{
-    run.rank_of(doc)
-}
-
 /// The earlier of two ranks, where an absent one comes last.
 fn earlier_of(x: Option<u32>, y: Option<u32>) -> Option<u32>
     ensures { result ≡ earlier x y }
@@ -69,13 +61,6 @@ fn earlier_of(x: Option<u32>, y: Option<u32>) -> Option<u32>
         (Some(x), None) => Some(x),
         (None, y) => y,
     }
-}
-
-/// Whether a document with this mark is relevant, where an unjudged one is if it is picked.
-pub fn is_true(picked: bool, mark: Mark) -> bool
-    ensures { result ≡ picked_value picked mark }
-{
-    mark == Mark::Relevant || (picked && mark == Mark::Unjudged)
 }
 
 /// The rank of the first relevant document, where all the unjudged ones are relevant or none is.

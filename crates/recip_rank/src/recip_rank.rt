@@ -8,12 +8,14 @@ ghost use Rattle.measure_core.specs.Laws.{AreMet, AreValues};
 ghost use Rattle.measure_core.specs.Made.{IsMadeFor};
 ghost use Rattle.measure_core.specs.Numbers.{exact_least};
 
-use crate::firsts::{Firsts, first_rank, is_true, least, rank_in, span};
+use crate::firsts::{Firsts, first_rank, least, span};
 use desk_model::{Mark, MeasureName, Memory, Ranking};
 use fractions::Span;
 use measure_core::{Cell, Measure, Steps};
 use std::alloc::Global;
 use std::sync::ledger::Ledger;
+use topic_counts::ranks::rank_in;
+use topic_counts::topic::is_true;
 
 /// How many units make a score of 1.
 const UNIT: u128 = 1_000_000_000_000_000_000;

@@ -1,15 +1,15 @@
 -- The best of many choices, block by block.
 use Rattle.std.proofs.Common.{◌≡◌, ℕ, ◌+◌, ◌<◌, ◌≤◌, max, Bool, true, false, not, ◌&&◌, ◌||◌, nat_lt, arith, refl, ◌∙◌, sym, subst, inl, inr, ◌⊎◌}
 use Rattle.std.specs.Prelude.{if◌then◌else◌}
-use Rattle.std.proofs.lemmas.Bool.{cases_lt}
+use Rattle.std.proofs.lemmas.Bool.{cases_lt, ltb-false, le-ltb}
 use Rattle.std.proofs.lemmas.Bool.Decides.{nat_tests}
 use Rattle.measure_laws.specs.Differences.{ArePositive, Scores, is_smaller}
-use Rattle.measure_laws.proofs.Picks.{NoGreater, NoGreater-trans}
+use Rattle.measure_laws.proofs.Picks.{NoGreater, NoGreater-trans, no_smaller}
 use Rattle.rprec.specs.declared.greedy.Candidate.{Candidate}
 use Rattle.rprec.specs.Greedy.{beats}
 use Rattle.rprec.specs.Search.{IsChoiceOf, IsBestOf, precedes, preferred}
 use Rattle.rprec.proofs.Choices.{test_step}
-use Rattle.rprec.proofs.Tails.{no_smaller, not_smaller, smaller_no_greater}
+use Rattle.rprec.proofs.Tails.{not_smaller, smaller_no_greater}
 
 -- ---- candidates as scores
 abbrev scores_of : Candidate → Scores
@@ -27,12 +27,6 @@ record IsNoEarlier (c best : Candidate) : Type 0 where
   pub least : NoGreater (scores_of best) (scores_of c)
   pub fewer : (beats best c ≡ true) ⊎ (best.count ≤ c.count)
 
-more_of : (m n : ℕ) → nat_lt m n ≡ false → n ≤ m
-more_of m n h = grind (arith, nat_tests)
-
-no_less : (m n : ℕ) → n ≤ m → nat_lt m n ≡ false
-no_less m n h = grind (arith, nat_tests)
-
 no_earlier : (c best : Candidate) → precedes c best ≡ false → IsNoEarlier c best
 no_earlier c best e = record { least = not_smaller (scores_of best) (scores_of c) (beats_is c best ∙ first (beats c best) refl e); fewer = second (beats c best) (beats best c) (nat_lt c.count best.count) refl refl e }
   where
@@ -42,7 +36,7 @@ no_earlier c best e = record { least = not_smaller (scores_of best) (scores_of c
 
     second : (b d v : Bool) → beats best c ≡ d → nat_lt c.count best.count ≡ v → (b || (not d && v)) ≡ false → (beats best c ≡ true) ⊎ (best.count ≤ c.count)
     second b true v ed ev h = inl ed
-    second b false false ed ev h = inr (more_of c.count best.count ev)
+    second b false false ed ev h = inr (ltb-false c.count best.count ev)
     second true false true ed ev h = absurd (cc)
     second false false true ed ev h = absurd (cc)
 
@@ -53,7 +47,7 @@ is_no_earlier c best h = by_case (beats c best) (beats best c) (nat_lt c.count b
     none = sym (beats_is c best) ∙ no_smaller (scores_of best) (scores_of c) h.least
 
     fewer : beats best c ≡ false → nat_lt c.count best.count ≡ false
-    fewer e = elim h.fewer [ inl less ↦ absurd (cc) | inr few ↦ no_less c.count best.count few ]
+    fewer e = elim h.fewer [ inl less ↦ absurd (cc) | inr few ↦ le-ltb c.count best.count few ]
 
     by_case : (b d v : Bool) → beats c best ≡ b → beats best c ≡ d → nat_lt c.count best.count ≡ v → (b || (not d && v)) ≡ false
     by_case true d v eb ed ev = absurd (let h' = none in cc)

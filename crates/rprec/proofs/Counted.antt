@@ -10,12 +10,13 @@ use Rattle.desk_model.specs.Ranking.{IsRanking, is_in}
 use Rattle.desk_model.specs.declared.placed.Placed.{Placed}
 use Rattle.desk_model.specs.declared.types.Mark.{Mark}
 use Rattle.desk_model.specs.declared.types.Mark.TheVariants.{Unjudged, Relevant, Other}
-use Rattle.precision.specs.declared.counts.Counts.{Counts}
+use Rattle.topic_counts.specs.declared.counts.Counts.{Counts}
 use Rattle.rprec.specs.declared.fronts.Fronts.{Fronts}
 use Rattle.rprec.specs.Greedy.{AreBefore, AreFronts, AreNext, number_if, one_of}
 use Rattle.rprec.specs.Shared.{AreShared, met, entered as counts_entered}
 use Rattle.rprec.specs.Walk.{AreCounted, AreRanksOf, AreWalked, IsWalk, both, flagged_at}
-use Rattle.rprec.proofs.Flags.{AreFlags, and_false, entered, flagged, opened, rank_place}
+use Rattle.std.proofs.Math.Bool.{and-false}
+use Rattle.rprec.proofs.Flags.{AreFlags, entered, flagged, opened, rank_place}
 
 -- 1 or 0
 abbrev one_where : Bool → ℕ
@@ -183,7 +184,7 @@ down_here part elsewhere xs ys x y es fs f s w =
     down xs ys depth es fs flags h place doc r t lt here first second =
         let d = get_or xs place 0 in
         let test = is_in (take (depth place) ys) d && not (elsewhere d) in
-        h.each place lt ∙ ap (λ o. test && not (both o (lookup fs d))) (ap (lookup es) here ∙ first) ∙ ap (λ o. test && not (both (Some r) o)) (ap (lookup fs) here ∙ second) ∙ and_false test
+        h.each place lt ∙ ap (λ o. test && not (both o (lookup fs d))) (ap (lookup es) here ∙ first) ∙ ap (λ o. test && not (both (Some r) o)) (ap (lookup fs) here ∙ second) ∙ and-false test
 
 pub counted_step : (marks : List Mark) (part elsewhere : ℕ → Bool) (xs ys : List ℕ) (es fs : List Placed) (i j : ℕ) (d : Placed) (f s : List Bool) (counts : List ℕ) → i < length es → j < length fs → IsWalk part elsewhere xs ys (drop i es) (drop j fs) f s → AreCounted marks xs ys f s counts →
     AreCounted marks xs ys (entered (λ place. place) (get_or es i d) (get_or fs j d) f) (entered (λ place. place + 1) (get_or fs j d) (get_or es i d) s) (counts_entered marks (get_or es i d) (get_or fs j d) counts)
@@ -221,7 +222,7 @@ counted_start marks xs ys f s counts df ds long known none = record { long = lon
     nothing : (docs : List ℕ) (flags : List Bool) (place : ℕ) → get_or flags place false ≡ false → flagged_at marks docs flags place ≡ 0
     nothing docs flags place down =
         ap (λ (v : Bool). if (nat_lt place (length docs) && v) && is_unjudged (mark_at marks (get_or docs place 0)) then 1 else 0) down
-        ∙ ap (λ (v : Bool). if v && is_unjudged (mark_at marks (get_or docs place 0)) then 1 else 0) (and_false (nat_lt place (length docs)))
+        ∙ ap (λ (v : Bool). if v && is_unjudged (mark_at marks (get_or docs place 0)) then 1 else 0) (and-false (nat_lt place (length docs)))
 
 met_by_flag : (marks : List Mark) (docs others : List ℕ) (depth : ℕ → ℕ) (flags : List Bool) (place : ℕ) → AreFlags docs others depth flags → flagged_at marks docs flags place ≡ met marks docs (take (depth place) others) place
 met_by_flag marks docs others depth flags place h = elim (cases_lt place (length docs)) [

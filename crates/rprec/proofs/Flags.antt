@@ -5,16 +5,17 @@ use Rattle.std.specs.List.{AllByRecursion, IsDistinct, position_from}
 use Rattle.std.proofs.Math.Seq.{drop-cons}
 use Rattle.std.proofs.lemmas.Bool.Decides.{nat_tests}
 use Rattle.std.proofs.lemmas.List.{get_or-set_same, get_or-set_other, length-set}
+use Rattle.std.proofs.Math.Bool.{and-true, and-false}
 use Rattle.desk_model.specs.Placed.{lookup, IsAscending}
 use Rattle.desk_model.specs.Ranking.{is_in, rank}
 use Rattle.desk_model.specs.declared.placed.Placed.{Placed}
-use Rattle.measure_laws.specs.Pairs.{after, Taken}
+use Rattle.topic_counts.specs.Pairs.{after, Taken}
 use Rattle.measure_laws.specs.Ranks.{IsWithin}
-use Rattle.measure_laws.proofs.Merge.{absent_below, further, taken_head, taken_none}
-use Rattle.precision.proofs.Fronts.{is_by, rank_by}
+use Rattle.topic_counts.proofs.Merge.{absent_below, further, taken_head, taken_none}
+use Rattle.topic_counts.proofs.Fronts.{is_by, rank_by}
 use Rattle.desk_model.specs.declared.types.Mark.{Mark}
 use Rattle.desk_model.proofs.Counts.{IsDistinct-take}
-use Rattle.precision.specs.declared.counts.Counts.{Counts}
+use Rattle.topic_counts.specs.declared.counts.Counts.{Counts}
 use Rattle.rprec.specs.declared.fronts.Fronts.{Fronts}
 use Rattle.rprec.specs.Greedy.{AreBefore, AreFronts, exchanged}
 use Rattle.rprec.specs.Walk.{AreRanksOf, AreWalked, IsWalk, both}
@@ -125,14 +126,6 @@ flag_kept depth (Some x) (Some y) flags place f = at (nat_le y (depth (x - 1)))
     at true = get_or-set_other flags (x - 1) place true false (f x refl)
     at false = refl
 
-pub and_false : (b : Bool) → (b && false) ≡ false
-and_false true = refl
-and_false false = refl
-
-and_true : (b : Bool) → (b && true) ≡ b
-and_true true = refl
-and_true false = refl
-
 flag_here : (ys : List ℕ) (depth : ℕ → ℕ) (doc place : ℕ) (x y : Option ℕ) (v : Bool) (flags : List Bool) → place < length flags → ((r : ℕ) → x ≡ Some r → r ≡ place + 1) → ((r : ℕ) → y ≡ Some r → rank ys doc ≡ Some r) → ((r s : ℕ) → x ≡ Some r → y ≡ Some s → v ≡ false) →
     get_or flags place false ≡ ((is_in (take (depth place) ys) doc && not v) && not (both x y)) → get_or (raised depth x y flags) place false ≡ ((is_in (take (depth place) ys) doc && not v) && true)
 flag_here ys depth doc place None y v flags lt fx fy free e = e
@@ -140,12 +133,12 @@ flag_here ys depth doc place (Some x) None v flags lt fx fy free e = e
 flag_here ys depth doc place (Some x) (Some y) v flags lt fx fy free e =
     let here : x - 1 ≡ place = omega (arith, fx x refl) in
     let test = is_in (take (depth place) ys) doc in
-    let by : (test && not v) ≡ nat_le y (depth (x - 1)) = ap (λ u. test && not u) (free x y refl refl) ∙ and_true test ∙ rank_by (depth place) doc ys ∙ ap (is_by (depth place)) (fy y refl) ∙ ap (λ (k : ℕ). nat_le y (depth k)) (sym here) in
+    let by : (test && not v) ≡ nat_le y (depth (x - 1)) = ap (λ u. test && not u) (free x y refl refl) ∙ and-true test ∙ rank_by (depth place) doc ys ∙ ap (is_by (depth place)) (fy y refl) ∙ ap (λ (k : ℕ). nat_le y (depth k)) (sym here) in
     at (nat_le y (depth (x - 1))) by here
   where
     at : (b : Bool) → (is_in (take (depth place) ys) doc && not v) ≡ b → x - 1 ≡ place → get_or (if b then set flags (x - 1) true else flags) place false ≡ ((is_in (take (depth place) ys) doc && not v) && true)
     at true eb here = ap (λ (k : ℕ). get_or (set flags k true) place false) here ∙ get_or-set_same flags place true false lt ∙ sym (ap (λ b. b && true) eb)
-    at false eb here = e ∙ and_false (is_in (take (depth place) ys) doc && not v) ∙ sym (ap (λ b. b && true) eb)
+    at false eb here = e ∙ and-false (is_in (take (depth place) ys) doc && not v) ∙ sym (ap (λ b. b && true) eb)
 
 raised_length : (depth : ℕ → ℕ) (x y : Option ℕ) (flags : List Bool) → length (raised depth x y flags) ≡ length flags
 raised_length depth None y flags = refl
@@ -194,8 +187,8 @@ walked_start elsewhere xs ys depth es fs flags distinct long left down = record 
 }
   where
     none_left : (k d : ℕ) → (elsewhere d ≡ true) ⊎ (both (lookup es d) (lookup fs d) ≡ true) → ((is_in (take k ys) d && not (elsewhere d)) && not (both (lookup es d) (lookup fs d))) ≡ false
-    none_left k d (inl e) = ap (λ v. (is_in (take k ys) d && not v) && not (both (lookup es d) (lookup fs d))) e ∙ ap (λ v. v && not (both (lookup es d) (lookup fs d))) (and_false (is_in (take k ys) d))
-    none_left k d (inr e) = ap (λ v. (is_in (take k ys) d && not (elsewhere d)) && not v) e ∙ and_false (is_in (take k ys) d && not (elsewhere d))
+    none_left k d (inl e) = ap (λ v. (is_in (take k ys) d && not v) && not (both (lookup es d) (lookup fs d))) e ∙ ap (λ v. v && not (both (lookup es d) (lookup fs d))) (and-false (is_in (take k ys) d))
+    none_left k d (inr e) = ap (λ v. (is_in (take k ys) d && not (elsewhere d)) && not v) e ∙ and-false (is_in (take k ys) d && not (elsewhere d))
 
     none : (k d r : ℕ) → rank xs d ≡ Some r → (o : Option ℕ) → rank ys d ≡ o → ((is_in (take k ys) d && not (elsewhere d)) && not (both (lookup es d) (lookup fs d))) ≡ false
     none k d r er None e = ap (λ v. (v && not (elsewhere d)) && not (both (lookup es d) (lookup fs d))) (rank_by k d ys ∙ ap (is_by k) e)
@@ -207,7 +200,7 @@ walked_end elsewhere xs ys depth es fs flags none other w = record {
   each = λ place lt.
       let d = get_or xs place 0 in
       let test = is_in (take (depth place) ys) d in
-      w.each place lt ∙ ap (λ b. (test && not (elsewhere d)) && not b) (none d) ∙ and_true (test && not (elsewhere d)) ∙ ap (λ b. test && not b) (other d) ∙ and_true test;
+      w.each place lt ∙ ap (λ b. (test && not (elsewhere d)) && not b) (none d) ∙ and-true (test && not (elsewhere d)) ∙ ap (λ b. test && not b) (other d) ∙ and-true test;
 }
 
 both_none : (o : Option ℕ) → both o None ≡ false

@@ -14,7 +14,7 @@ use Rattle.desk_model.specs.declared.types.Mark.TheVariants.{Unjudged, Relevant,
 use Rattle.desk_model.proofs.Counts.{one_if, count_by-weaker, IsDistinct-take}
 use Rattle.desk_model.proofs.PrecisionEnds.{difference_outside}
 use Rattle.measure_laws.proofs.RecallEnds.{every}
-use Rattle.precision.specs.declared.counts.Counts.{Counts}
+use Rattle.topic_counts.specs.declared.counts.Counts.{Counts}
 use Rattle.rprec.specs.declared.fronts.Fronts.{Fronts}
 use Rattle.rprec.specs.Greedy.{AreFronts, AreNext, exchanged, number_if, one_of}
 

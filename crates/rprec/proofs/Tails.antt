@@ -2,41 +2,30 @@
 use Rattle.std.proofs.Common.{◌≡◌, ℕ, zero, suc, ◌+◌, ◌-◌, ◌*◌, ◌<◌, ◌≤◌, min, max, Bool, true, false, not, ◌&&◌, ◌||◌, ◌⊎◌, nat_lt, List, [], ◌∷◌, ◌++◌, length, take, arith, refl, ap, ◌∙◌, sym, subst, inl, inr}
 use Rattle.std.specs.Prelude.{if◌then◌else◌}
 use Rattle.std.specs.List.{AllByRecursion, range_with_len}
-use Rattle.std.proofs.lemmas.Bool.{cases_lt}
+use Rattle.std.proofs.lemmas.Bool.{cases_lt, ltb-true, ltb-false, le-ltb}
 use Rattle.std.proofs.lemmas.Bool.Decides.{nat_tests}
 use Rattle.std.proofs.lemmas.List.{take_all, length-take}
+use Rattle.small_lemmas.proofs.Tests.{same_difference}
 use Rattle.desk_model.specs.Ranking.{IsRanking}
 use Rattle.desk_model.specs.declared.types.Mark.{Mark}
 use Rattle.measure_laws.specs.Differences.{ArePositive, Scores, is_smaller, first_least}
 use Rattle.measure_laws.specs.RprecCase.{greedy_scores, rprec_count}
 use Rattle.measure_laws.specs.Classes.{judged_count}
-use Rattle.measure_laws.proofs.Picks.{NoGreater, NoGreater-trans, NoGreater-refl, first_least-all, first_least-least}
-use Rattle.measure_laws.proofs.RprecEnds.{greedy_positive}
-use Rattle.precision.specs.declared.counts.Counts.{Counts}
+use Rattle.measure_laws.proofs.Picks.{NoGreater, NoGreater-trans, NoGreater-refl, first_least-all, first_least-least, no_smaller, first_least-append}
+use Rattle.measure_laws.proofs.RprecEnds.{greedy_positive, range_push}
+use Rattle.topic_counts.specs.declared.counts.Counts.{Counts}
 use Rattle.rprec.specs.declared.fronts.Fronts.{Fronts}
 use Rattle.rprec.specs.declared.greedy.Candidate.{Candidate}
 use Rattle.rprec.specs.Greedy.{AreFronts, AreTopic, AreGains, IsLeast, beats, better_of, candidate, best_beyond}
 use Rattle.rprec.specs.Search.{IsBestOf, precedes}
-use Rattle.rprec.proofs.Choices.{same_test, scaled_test, smaller_is, first_least-append, range_push, gains_are, own_both}
+use Rattle.rprec.proofs.Choices.{scaled_test, smaller_is, gains_are, own_both}
 
 -- ---- tests
-less_of : (m n : ℕ) → nat_lt m n ≡ true → m < n
-less_of m n h = grind (arith, nat_tests)
-
-more_of : (m n : ℕ) → nat_lt m n ≡ false → n ≤ m
-more_of m n h = grind (arith, nat_tests)
-
-no_less : (m n : ℕ) → n ≤ m → nat_lt m n ≡ false
-no_less m n h = grind (arith, nat_tests)
-
 pub smaller_no_greater : (s t : Scores) → is_smaller s t ≡ true → NoGreater s t
-smaller_no_greater s t e = let less = less_of _ _ e in omega (arith, less)
+smaller_no_greater s t e = let less = ltb-true _ _ e in omega (arith, less)
 
 pub not_smaller : (s t : Scores) → is_smaller t s ≡ false → NoGreater s t
-not_smaller s t e = let more = more_of _ _ e in omega (arith, more)
-
-pub no_smaller : (s t : Scores) → NoGreater s t → is_smaller t s ≡ false
-no_smaller s t h = no_less _ _ (omega (arith, h))
+not_smaller s t e = let more = ltb-false _ _ e in omega (arith, more)
 
 -- ---- ranges
 range_all : (P : ℕ → Type 0) (start n : ℕ) → ((d : ℕ) → start ≤ d → d < start + n → P d) → AllByRecursion P (range_with_len start n)
@@ -165,7 +154,7 @@ best_still marks a b j tried n best h f =
 stretch_test : (r f g up down i e : ℕ) → 0 < e →
     nat_lt ((f + up * (i + e)) * (r + i) + (g + down * i) * (r + (i + e))) ((f + up * i) * (r + (i + e)) + (g + down * (i + e)) * (r + i)) ≡ nat_lt (up * r + g) (f + down * r)
 stretch_test r f g up down i e h =
-    same_test ((f + down * r) * e) ((up * r + g) * e) ((f + up * i) * (r + (i + e)) + (g + down * (i + e)) * (r + i)) ((f + up * (i + e)) * (r + i) + (g + down * i) * (r + (i + e))) (omega arith)
+    same_difference ((f + down * r) * e) ((up * r + g) * e) ((f + up * i) * (r + (i + e)) + (g + down * (i + e)) * (r + i)) ((f + up * (i + e)) * (r + i) + (g + down * i) * (r + (i + e))) (omega arith)
     ∙ scaled_test (up * r + g) (f + down * r) e h
 
 -- choices from a number on, along which both counts grow evenly
@@ -272,7 +261,7 @@ beyond_least marks a b all f start best ra rb topic small h k =
     let whole : two + (all.unjudged - two) ≡ all.unjudged = omega arith in
     let rises : (m n : ℕ) → m < n → n ≤ all.unjudged - two → is_smaller (greedy_scores marks a b (all.relevant + two + n)) (greedy_scores marks a b (all.relevant + two + m)) ≡ false =
     λ m n lt le. stretch_falls marks a b (λ i. candidate f all (two + i)) (all.relevant + two) (all.unjudged - two) 1 0 even m n lt le
-    ∙ no_less (1 * (all.relevant + two) + (candidate f all (two + 0)).second) ((candidate f all (two + 0)).first + 0 * (all.relevant + two)) (omega (arith, h.short (omega arith))) in
+    ∙ le-ltb (1 * (all.relevant + two) + (candidate f all (two + 0)).second) ((candidate f all (two + 0)).first + 0 * (all.relevant + two)) (omega (arith, h.short (omega arith))) in
     (best_still marks a b all.relevant two (all.unjudged - two) after second rises ∙ ap (λ (x : ℕ). first_least (greedy_scores marks a b) all.relevant (range_with_len (all.relevant + 1) x)) whole, second.gains)
 
 -- it is the least of all

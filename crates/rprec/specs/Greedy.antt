@@ -9,8 +9,8 @@ use Rattle.desk_model.specs.Score.{true_among}
 use Rattle.desk_model.specs.declared.types.Mark.{Mark}
 use Rattle.measure_laws.specs.Classes.{open_in, size_of, judged_count}
 use Rattle.measure_laws.specs.RprecCase.{greedy_truth, rprec_count}
-use Rattle.precision.specs.declared.counts.Counts.{Counts}
-use Rattle.recall.specs.LeastCase.{AreCountsOf}
+use Rattle.topic_counts.specs.declared.counts.Counts.{Counts}
+use Rattle.topic_counts.specs.Own.{AreCountsOf}
 use Rattle.rprec.specs.declared.fronts.Fronts.{Fronts}
 use Rattle.rprec.specs.declared.greedy.Candidate.{Candidate}
 

@@ -1,6 +1,6 @@
 -- The search for the best of many greedy choices.
 use Rattle.std.specs.Prelude.{◌≡◌, ℕ, ◌+◌, ◌<◌, ◌≤◌, ◌&&◌, ◌||◌, ◌⊎◌, Bool, false, not, nat_lt, if◌then◌else◌, slice_index_or}
-use Rattle.precision.specs.declared.counts.Counts.{Counts}
+use Rattle.topic_counts.specs.declared.counts.Counts.{Counts}
 use Rattle.rprec.specs.declared.depths.Column.{Column}
 use Rattle.rprec.specs.declared.fronts.Fronts.{Fronts}
 use Rattle.rprec.specs.declared.greedy.Candidate.{Candidate}

@@ -7,7 +7,7 @@ ghost use Rattle.rprec.specs.Shared.{AreShared};
 use crate::fronts::{Fronts, counts_at, deepened, next_counts};
 use crate::shared::Shared;
 use desk_model::Mark;
-use precision::counts::Counts;
+use topic_counts::counts::Counts;
 
 /// How many depths are looked at in one go: the length of a column.
 pub const STRETCH: u32 = 1024;

@@ -1,5 +1,6 @@
 ghost use Rattle.std.specs.Prelude.{◌≡◌, ◌+◌, ◌<◌, ◌≤◌, length, take};
 ghost use Rattle.desk_model.specs.Ranking.{IsRanking};
+ghost use Rattle.measure_laws.specs.RprecCase.{IsSmallestAttained};
 ghost use Rattle.rprec.specs.Greedy.{AreFronts, AreFew, AreTopic, IsLeast, IsSmall, candidate, exchanged};
 ghost use Rattle.rprec.specs.Search.{AreChoices, IsBestOf, IsNear, choice};
 ghost use Rattle.rprec.specs.Shared.{AreShared};
@@ -10,7 +11,7 @@ use crate::greedy::{Candidate, best_beyond, greedy_choice};
 use crate::search::Choices;
 use crate::shared::Shared;
 use desk_model::Mark;
-use precision::counts::Counts;
+use topic_counts::counts::Counts;
 
 /// The least candidate of two runs, and that of the runs exchanged, whose difference is the greatest
 /// one negated.
@@ -131,8 +132,9 @@ fn best_extremes(
     }
 }
 
-/// The smallest number of relevant documents with the least difference, and what that gives, for two
-/// runs and for the runs exchanged. No number of relevant documents is left out.
+/// The smallest number of relevant documents at which a completion has the least difference of all
+/// completions, and what that gives, for two runs and for the runs swapped. No number of relevant
+/// documents is left out.
 pub fn find_extremes(a: &[u32], b: &[u32], shared: &Shared, all: Counts, marks: &[Mark]) -> Extremes
     requires a { IsRanking (length marks.now) a.now }
     requires b { IsRanking (length marks.now) b.now }
@@ -141,6 +143,8 @@ pub fn find_extremes(a: &[u32], b: &[u32], shared: &Shared, all: Counts, marks: 
     requires few { all.relevant + all.unjudged ≤ 25000000 }
     ensures least { IsLeast marks.now a.now b.now result.least }
     ensures most { IsLeast marks.now b.now a.now result.most }
+    ensures least_first { IsSmallestAttained marks.now a.now b.now result.least.count }
+    ensures most_first { IsSmallestAttained marks.now b.now a.now result.most.count }
     ensures least_small { IsSmall result.least }
     ensures most_small { IsSmall result.most }
     ensures low { all.relevant ≤ result.least.count }

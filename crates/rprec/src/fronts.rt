@@ -4,7 +4,7 @@ ghost use Rattle.desk_model.specs.declared.types.Mark.{Mark as M};
 ghost use Rattle.rprec.specs.Greedy.{AreBefore, AreFronts, AreNext, exchanged, one_of};
 
 use desk_model::Mark;
-use precision::counts::Counts;
+use topic_counts::counts::Counts;
 
 /// The counts of two runs' first documents: of all relevant ones of each, and of the unjudged ones
 /// that it alone has there.

@@ -2,7 +2,7 @@ ghost use Rattle.std.specs.Prelude.{◌≡◌, ◌≤◌};
 ghost use Rattle.rprec.specs.Greedy.{AreFew, IsSmall, beats, best_beyond as beyond, better_of, candidate};
 
 use crate::fronts::Fronts;
-use precision::counts::Counts;
+use topic_counts::counts::Counts;
 
 /// A number of relevant documents, and how many of them each run has among as many first documents,
 /// where the difference is the least. Documents that both have there may be left out of both counts.

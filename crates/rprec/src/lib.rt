@@ -11,4 +11,4 @@ pub mod search;
 pub mod shared;
 pub mod values;
 
-pub use rprec::RPrecision;
+pub use rprec::Rprec;

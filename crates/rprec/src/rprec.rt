@@ -15,24 +15,24 @@ use crate::values::{values, wanted_for};
 use desk_model::{Mark, MeasureName, Memory, Ranking};
 use fractions::{Span, span_of};
 use measure_core::{Cell, Measure, Steps};
-use precision::counts::{Counts, is_among_first};
-use recall::topic::all_documents;
 use std::alloc::Global;
 use std::sync::ledger::Ledger;
+use topic_counts::counts::{Counts, is_among_first};
+use topic_counts::topic::all_documents;
 
 /// How many units make a score of 1.
 const UNIT: i128 = 1_000_000_000_000_000_000;
 
 /// The measure `Rprec`. Its unit is 10^18.
 #[derive(Debug, Drop)]
-pub struct RPrecision;
+pub struct Rprec;
 
-impl RPrecision {
+impl Rprec {
     /// The measure, whose cells and bounds are the floors and ceilings of the extremes.
-    pub fn new() -> RPrecision
-        ensures { IsMadeFor R (⟦<RPrecision as Measure>⟧.measured result) (⟦<RPrecision as Measure>⟧.cell_of result) (⟦<RPrecision as Measure>⟧.bounds_of result) }
+    pub fn new() -> Rprec
+        ensures { IsMadeFor R (⟦<Rprec as Measure>⟧.measured result) (⟦<Rprec as Measure>⟧.cell_of result) (⟦<Rprec as Measure>⟧.bounds_of result) }
     {
-        RPrecision
+        Rprec
     }
 }
 
@@ -96,7 +96,7 @@ fn least_values(
     )
 }
 
-impl Measure for RPrecision {
+impl Measure for Rprec {
     ghost use Rattle.desk_model.specs.declared.types.MeasureName.TheVariants.{RPrecision as R};
     ghost use Rattle.measure_core.specs.Numbers.{exact_cell, exact_bounds};
     ghost use Rattle.rprec.specs.Laws as laws;

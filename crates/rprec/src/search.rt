@@ -5,7 +5,7 @@ ghost use Rattle.rprec.specs.Search.{IsBestOf, IsChoiceOf, IsNear, are_choices, 
 use crate::depths::Column;
 use crate::fronts::Fronts;
 use crate::greedy::{Candidate, greedy_choice};
-use precision::counts::Counts;
+use topic_counts::counts::Counts;
 
 /// How many choices are compared with the best in one go.
 const BLOCK: u32 = 32;

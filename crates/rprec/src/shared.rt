@@ -5,7 +5,7 @@ ghost use Rattle.rprec.specs.Shared.{AreShared, entered};
 ghost use Rattle.rprec.specs.Walk.{IsCountedWalk, IsWalked};
 
 use desk_model::{Mark, Placed, Ranking};
-use measure_laws::passed;
+use topic_counts::pairs::passed;
 
 /// A document in the middle of some, and 0 for none.
 fn middle_document(places: &[Placed]) -> u32 {

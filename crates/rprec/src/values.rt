@@ -8,8 +8,8 @@ ghost use Rattle.rprec.specs.Greedy.{AreTopic};
 ghost use Rattle.rprec.specs.Picks.{picks};
 
 use desk_model::{Mark, Memory, Ranking};
-use precision::counts::{Counts, is_among_first, own_documents};
 use std::alloc::Global;
+use topic_counts::counts::{Counts, is_among_first, own_documents};
 
 /// How many unjudged documents of each class are to be made relevant: of those that the second run
 /// alone has among its first ones, of those that both or neither have, and of the first run's own.

@@ -6,7 +6,7 @@ use Rattle.std.proofs.lemmas.Int.{ints}
 use borrow.Author.Differences.{up, down}
 use Rattle.desk_model.specs.Fraction.{Fraction, IsAtMost, IsAtLeast}
 use Rattle.desk_model.proofs.Fractions.{at_most_out, at_most_in, at_least_out, at_least_in}
-use Rattle.fractions.proofs.Floors.{is_floor, ceiling_is}
+use Rattle.desk_model.proofs.Floors.{is_floor, ceiling_is}
 use Rattle.fractions.specs.Numbers.{floor_of, ceiling_of}
 
 -- with z = p - n and its floor f = q - m, where u units make a million

@@ -1,7 +1,7 @@
 use Rattle.std.proofs.Common.{◌≡◌, to_z, of_z, arith}
 use Rattle.std.specs.Int.{w128}
 use Rattle.std.proofs.lemmas.Int.{ints}
-use Rattle.fractions.proofs.Floors.{product_within, product_read, floor_read, ceiling_read}
+use Rattle.desk_model.proofs.Floors.{product_within, product_read, floor_read, ceiling_read}
 use Rattle.fractions.proofs.span.span_of.Goals as goal
 
 pub ceiling-requires-clause-low : goal.ceiling-requires-clause-low

@@ -1,4 +1,4 @@
-use Rattle.recall.proofs.Ends.{leads_is}
+use Rattle.measure_laws.proofs.LeastDifferences.{leads_is}
 use Rattle.recall.proofs.recall.leads.Goals as goal
 
 pub returns : goal.returns

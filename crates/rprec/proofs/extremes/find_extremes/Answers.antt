@@ -1,7 +1,9 @@
 use Rattle.std.proofs.Common.{◌≡◌, ℕ, ◌+◌, ◌-◌, ◌<◌, ◌≤◌, min, List, length, take, arith, refl, ap, sym, subst}
 use Rattle.desk_model.specs.Ranking.{IsRanking}
 use Rattle.desk_model.specs.declared.types.Mark.{Mark}
-use Rattle.precision.specs.declared.counts.Counts.{Counts}
+use Rattle.measure_laws.specs.RprecCase.{IsSmallestAttained}
+use Rattle.measure_laws.proofs.RprecFirst.{rprec_smallest}
+use Rattle.topic_counts.specs.declared.counts.Counts.{Counts}
 use Rattle.rprec.specs.declared.depths.Column.{Column}
 use Rattle.rprec.specs.declared.greedy.Candidate.{Candidate}
 use Rattle.rprec.specs.Greedy.{AreFronts, AreGains, AreTopic, IsSmall, exchanged}
@@ -150,6 +152,16 @@ returns-clause-most c =
     let still = settled marks b a all c.exchanged.result start c.longest.result c.requires.b c.requires.a c.requires.topic c.longest.ensures.second c.longest.ensures.first c.longest.ensures.positive steps turned in
     let best = subst (λ s. IsBest marks b a all.relevant s c.loop-chosen.best.most) ended c.loop-chosen.invariant.most in
     beyond_is_least marks b a all c.exchanged.result start c.loop-chosen.best.most c.best_beyond-2.result c.requires.b c.requires.a c.requires.topic (omega arith) still best c.best_beyond-2.ensures.value
+
+pub returns-clause-least_first : goal.returns-clause-least_first
+returns-clause-least_first c =
+    let least = returns-clause-least c in
+    subst (IsSmallestAttained c.args.marks.now c.args.a.now c.args.b.now) (sym least.chosen) (rprec_smallest c.args.marks.now c.args.a.now c.args.b.now c.requires.a c.requires.b)
+
+pub returns-clause-most_first : goal.returns-clause-most_first
+returns-clause-most_first c =
+    let most = returns-clause-most c in
+    subst (IsSmallestAttained c.args.marks.now c.args.b.now c.args.a.now) (sym most.chosen) (rprec_smallest c.args.marks.now c.args.b.now c.args.a.now c.requires.b c.requires.a)
 
 pub returns-clause-low : goal.returns-clause-low
 returns-clause-low c = let least = returns-clause-least c in omega (arith, least.low, c.requires.topic.relevant)

@@ -2,7 +2,7 @@ use Rattle.std.proofs.Common.{◌≡◌, ◌+◌, ◌<◌, nat_le, length, slice
 use Rattle.desk_model.proofs.Counts.{one_if}
 use Rattle.measure_laws.specs.Ranks.{IsWithin}
 use Rattle.measure_laws.specs.Shares.{low_share, high_share}
-use Rattle.measure_laws.proofs.Places.{at_place, list_within, list_ranks, goes_on, one_at_most}
+use Rattle.topic_counts.proofs.Places.{at_place, list_within, list_ranks, goes_on, one_at_most}
 use Rattle.rbp.specs.Persistence.{Persistence}
 use Rattle.rbp.specs.Walk.{correction, is_in_least, is_in_most}
 use Rattle.rbp.proofs.Walk.{IsCommon, is_low, is_high, is_common, so_far_small, left_step, one_less, ended_first, ended_second}

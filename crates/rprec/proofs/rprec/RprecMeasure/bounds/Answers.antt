@@ -1,0 +1,9 @@
+use Rattle.std.proofs.Common.{ℕ, List, length, sym, subst}
+use Rattle.desk_model.specs.Ranking.{IsRanking}
+use Rattle.rprec.proofs.Ends.{nothing_ranked}
+use Rattle.rprec.proofs.rprec.RprecMeasure.bounds.Goals as goal
+
+pub cell_of-cell-requires-clause-met : goal.cell_of-cell-requires-clause-met
+cell_of-cell-requires-clause-met c =
+    let n = length c.args.marks.now in
+    record { first = subst (λ (docs : List ℕ). IsRanking n docs) (sym c.docs.ensures.docs) c.requires.ranking; second = nothing_ranked n; small = c.requires.small }

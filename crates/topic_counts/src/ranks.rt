@@ -1,0 +1,14 @@
+ghost use Rattle.std.specs.Prelude.{◌≡◌, ◌≤◌, length};
+ghost use Rattle.desk_model.specs.Ranking.{rank};
+ghost use Rattle.measure_laws.specs.Ranks.{IsWithin};
+
+use desk_model::Ranking;
+
+/// The rank of a document in a run, from 1.
+pub fn rank_in(run: &Ranking, doc: u32) -> Option<u32>
+    requires { length run.now ≤ 10000 }
+    ensures rank { result ≡ rank run.now doc }
+    ensures within { IsWithin 10000 result }
+{
+    run.rank_of(doc)
+}
