@@ -1,4 +1,3 @@
-pub mod Floors
 pub mod Agreement
 pub mod Splitting
 pub mod Listed

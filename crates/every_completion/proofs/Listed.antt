@@ -1,14 +1,11 @@
 -- A list of documents is a ranking where each is in the universe and not among those that follow.
-use Rattle.std.proofs.Common.{◌≡◌, ℕ, ◌<◌, ◌≤◌, Bool, true, false, ◌||◌, nat_eq, List, [], ◌∷◌, length, get_or, take, drop, ◌-◌, arith, refl, ◌∙◌, subst}
+use Rattle.std.proofs.Common.{◌≡◌, ℕ, ◌<◌, ◌≤◌, false, nat_eq, List, [], ◌∷◌, length, get_or, take, drop, ◌-◌, arith, ◌∙◌, subst}
 use Rattle.std.specs.List.{IsDistinct, AllByRecursion}
 use Rattle.std.proofs.lemmas.List.Elements.{recursion_from_All, All-from_recursion}
 use Rattle.std.proofs.lemmas.List.{take_all}
+use Rattle.small_lemmas.proofs.Tests.{neither}
 use Rattle.desk_model.specs.Ranking.{IsRanking, is_in}
 use Rattle.desk_model.proofs.Counts.{nat_eq-sym}
-
-neither : (b c : Bool) → (b || c) ≡ false → (b ≡ false) × (c ≡ false)
-neither true c h = absurd (cc)
-neither false c h = (refl, h)
 
 absent : (x : ℕ) (ys : List ℕ) → is_in ys x ≡ false → AllByRecursion (λ y. nat_eq x y ≡ false) ys
 absent x [] h = tt

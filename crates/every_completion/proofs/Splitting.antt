@@ -14,6 +14,7 @@ use Rattle.desk_model.specs.Extremes.{IsGreatest, IsSmallest, InEvery, InSome, E
 use Rattle.desk_model.specs.declared.types.Mark.{Mark}
 use Rattle.desk_model.specs.declared.types.Mark.TheVariants.{Unjudged, Relevant, Other}
 use Rattle.desk_model.specs.declared.types.MeasureName.{MeasureName}
+use Rattle.desk_model.proofs.MarkTests.{unjudged_is}
 use Rattle.desk_model.proofs.Fractions.{at_most_out, at_most_in, at_least_out, at_least_in}
 use Rattle.every_completion.specs.Walk.{joined}
 
@@ -164,16 +165,11 @@ split_extremes m u marks yes_marks no_marks a b d x y j k h l = record {
     below_either : {p q r : ℤ} → p ≤ℤ q → q ≤ℤ r → p ≤ℤ r
     below_either {p} {q} {r} h k = omega (arith, ints)
 
-is_open : (mark : Mark) → is_unjudged mark ≡ true → mark ≡ Unjudged
-is_open Unjudged h = refl
-is_open Relevant h = absurd (cc)
-is_open Other h = absurd (cc)
-
 -- a document that was made relevant, then other, then unjudged again
 pub restored : (marks first second : List Mark) (d : ℕ) → is_unjudged (mark_at marks d) ≡ true → first ≡ set marks d Relevant → second ≡ set first d Other → set second d Unjudged ≡ marks
 restored marks first second d h e f =
     ap (λ (ms : List Mark). set ms d Unjudged) f ∙ set-set first d Other Unjudged ∙ ap (λ (ms : List Mark). set ms d Unjudged) e ∙ set-set marks d Relevant Unjudged
-    ∙ ap (set marks d) (sym (is_open (mark_at marks d) h)) ∙ set-get_or marks d Unjudged
+    ∙ ap (set marks d) (sym (unjudged_is (mark_at marks d) h)) ∙ set-get_or marks d Unjudged
 
 -- one unjudged document made relevant, then other
 pub walked : (m : MeasureName) (u : ℕ) (marks first : List Mark) (a b : List ℕ) (d : ℕ) (x y z : Ends) → d < length marks → is_unjudged (mark_at marks d) ≡ true → first ≡ set marks d Relevant →

@@ -3,14 +3,11 @@
 #![tactic(auto)]
 
 pub mod ends;
+pub mod rankings;
 pub mod rounding;
 pub mod scores;
 pub mod walk;
 
 pub use ends::{Ends, EndsFault};
+pub use rankings::is_ranking;
 pub use walk::extremes;
-
-#[cfg(test)]
-mod tail_tests;
-#[cfg(test)]
-mod tests;

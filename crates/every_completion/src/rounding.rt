@@ -1,5 +1,5 @@
 ghost use Rattle.std.specs.Prelude.{◌^◌, ◌≤ℤ◌, ◌<ℤ◌, pos, neg_ℤ};
-ghost use Rattle.fractions.specs.Ends.{IsFloor, IsCeiling};
+ghost use Rattle.desk_model.specs.Floors.{IsFloor, IsCeiling};
 
 /// The floor of n over d.
 pub fn floor(n: i128, d: i128) -> i128

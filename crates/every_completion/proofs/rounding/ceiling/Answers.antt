@@ -1,7 +1,7 @@
 use Rattle.std.proofs.Common.{◌≡◌, to_z, of_z, arith, neg_ℤ, pos, ◌-ℤ◌, refl}
 use Rattle.std.specs.Int.{w128}
 use Rattle.std.proofs.lemmas.Int.{ints}
-use Rattle.every_completion.proofs.Floors.{ceiling_is, floor_read}
+use Rattle.desk_model.proofs.Floors.{ceiling_is, floor_read}
 use Rattle.every_completion.proofs.rounding.ceiling.Goals as goal
 
 pub returns : goal.returns

@@ -1,7 +1,7 @@
 use Rattle.std.proofs.Common.{◌∙◌, ◌≡◌, to_z, of_z, arith, ap}
 use Rattle.std.specs.Int.{w128, int_div_euclid}
 use Rattle.std.proofs.lemmas.Int.{ints}
-use Rattle.every_completion.proofs.Floors.{floor_is}
+use Rattle.desk_model.proofs.Floors.{floor_is}
 use Rattle.every_completion.proofs.rounding.floor.Goals as goal
 
 pub returns-clause-floor : goal.returns-clause-floor

@@ -2,7 +2,7 @@ use Rattle.std.proofs.Common.{◌≡◌, ◌≤◌, ◌*◌, pos, ◌-ℤ◌, �
 use Rattle.std.specs.Int.{w128}
 use Rattle.std.proofs.lemmas.Int.{ints, to_z_pos}
 use Rattle.std.proofs.Math.Nat.{mul-le-mul}
-use Rattle.every_completion.proofs.Floors.{floor_read, ceiling_read}
+use Rattle.desk_model.proofs.Floors.{floor_read, ceiling_read}
 use Rattle.every_completion.proofs.walk.rounded.Goals as goal
 
 pub returns-clause-low : goal.returns-clause-low

@@ -1,4 +1,4 @@
-use Rattle.every_completion.proofs.tail_tests.cell_by_hand.Given as goal
+use Rattle.measure_trials.proofs.tests.compare.Given as goal
 
 abbrev pub ghosts-cell_once : goal.ghosts-cell_once
 ghosts-cell_once g a = record { name = a.blank.name; parts = a.blank.parts }

@@ -1,6 +1,6 @@
 use Rattle.std.proofs.Common.{arith, sym, ◌∙◌}
 use Rattle.every_completion.proofs.Listed.{none_from, ranked_from}
-use Rattle.every_completion.proofs.tests.+is_ranking.Goals as goal
+use Rattle.every_completion.proofs.rankings.+is_ranking.Goals as goal
 
 pub returns-in-empty : goal.returns-in-empty
 returns-in-empty t c _ = none_from c.args.universe c.args.docs.now c.in-empty.len_below

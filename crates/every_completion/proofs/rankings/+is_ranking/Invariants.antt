@@ -1,5 +1,5 @@
 use Rattle.std.proofs.Common.{length}
-use Rattle.every_completion.proofs.tests.+is_ranking.Given as goal
+use Rattle.every_completion.proofs.rankings.+is_ranking.Given as goal
 
 abbrev pub decreases-is_ranking : goal.decreases-is_ranking
 decreases-is_ranking l = length l.docs.now

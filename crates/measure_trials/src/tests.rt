@@ -1,13 +1,13 @@
-ghost use Rattle.std.specs.Prelude.{◌≡◌, ◌^◌, ◌<◌, ◌≤◌, length, IsTrue, IfOk};
+ghost use Rattle.std.specs.Prelude.{◌≡◌, ◌^◌, ◌<◌, ◌≤◌, length, IfOk};
 ghost use Rattle.desk_model.specs.Ranking.{IsRanking};
 ghost use Rattle.desk_model.specs.MeasureText.{IsMeasure};
 ghost use Rattle.measure_core.specs.Laws.{AreMet};
 ghost use Rattle.any_measure.specs.Built.{IsBuilt};
 ghost use Rattle.every_completion.specs.Walk.{LooksAtNoTail};
 
-use crate::{Ends, EndsFault, extremes};
 use any_measure::AnyMeasure;
 use desk_model::{Mark, MeasureName, Ranking};
+use every_completion::{Ends, EndsFault, extremes, is_ranking};
 use fractions::Span;
 use measure_core::{Cell, Measure, Steps};
 use std::alloc::{AllocError, Global};
@@ -47,22 +47,6 @@ pub const MARKS: [[Mark; 4]; 6] = [
     [R, R, O, O],
     [O, U, O, U],
 ];
-
-/// Whether a list has different documents of a universe.
-fn is_ranking(docs: &[u32], universe: u32) -> bool
-    requires { length docs.now ≤ 10000 }
-    ensures { IsTrue result → IsRanking universe docs.now }
-{
-    match docs {
-        [] => true,
-        [first, rest @ ..] => {
-            if *first >= universe || rest.contains(first) {
-                return false;
-            }
-            is_ranking(rest, universe)
-        }
-    }
-}
 
 pub fn ranking(rt: &impl Abort, alloc: Global, docs: &[u32], universe: u32) -> Result<Ranking, Fail>
     ensures { IfOk result (λ ranking. IsRanking universe ranking) }
