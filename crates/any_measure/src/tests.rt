@@ -1,6 +1,8 @@
 ghost use Rattle.std.specs.Prelude.{◌≡◌, ◌≢◌, ◌<◌, length, IfOk};
 ghost use Rattle.desk_model.specs.Ranking.{IsRanking};
+ghost use Rattle.desk_model.specs.MeasureText.{IsMeasure};
 ghost use Rattle.measure_core.specs.Laws.{AreMet};
+ghost use Rattle.any_measure.specs.Built.{IsBuilt};
 
 use crate::{AnyMeasure, Common};
 use desk_model::{Mark, MeasureName, Ranking};
@@ -33,6 +35,20 @@ fn two(alloc: Global, first: u32, second: u32, universe: u32) -> Result<Ranking,
     Ok(Ranking::new(alloc, [first, second].to_vec(alloc)?, universe)?)
 }
 
+/// Two runs of two documents each on a topic, and what a measure says of them.
+#[derive(Clone, Copy)]
+struct Row<'r> {
+    first: [u32; 2],
+    second: [u32; 2],
+    marks: &'r [Mark],
+    unit: i128,
+    cell: Cell,
+    bounds: Span,
+    weight: u128,
+    least_case: &'r [bool],
+    most_case: &'r [bool],
+}
+
 fn span(lo: i128, hi: i128) -> Span {
     Span { lo, hi }
 }
@@ -53,161 +69,105 @@ fn cell_once<L: Ledger>(
     measure.cell(a, b, marks, &mut steps)
 }
 
-fn cases(
-    rt: &impl Abort,
-    alloc: Global,
-    measure: &AnyMeasure,
-    runs: (&Ranking, &Ranking),
-    marks: &[Mark],
-    want: (&[bool], &[bool]),
-) -> Result<(), Fail>
-    requires { AreMet marks.now runs.0.now runs.1.now }
+/// Compares a measure with a row; the weight is that of the first run's first document.
+fn expect(rt: &impl Abort, alloc: Global, name: MeasureName, row: &Row<'_>) -> Result<(), Fail>
+    requires measure { IsMeasure name }
+    requires built { IsBuilt name }
 {
-    let least = measure.least_case(alloc, runs.0, runs.1, marks)?;
-    let most = measure.most_case(alloc, runs.0, runs.1, marks)?;
-    assert_eq!(rt; least.as_slice(), want.0);
-    assert_eq!(rt; most.as_slice(), want.1);
+    let [one, other] = row.first;
+    let [three, four] = row.second;
+    assert!(rt; row.marks.len() <= 100);
+    let universe = row.marks.len() as u32;
+    assert!(rt; one < universe && other < universe && one != other);
+    assert!(rt; three < universe && four < universe && three != four);
+    let a = two(alloc, one, other, universe)?;
+    let b = two(alloc, three, four, universe)?;
+    let measure = Common.make(alloc, name)?;
+    assert_eq!(rt; measure.unit(), row.unit);
+    let cell = cell_once::<Brand>(&measure, &a, &b, row.marks, Blank::new(1));
+    assert_eq!(rt; cell, row.cell);
+    assert_eq!(rt; measure.bounds(&a, row.marks), row.bounds);
+    assert_eq!(rt; measure.weight(&a, &b, row.marks, one), row.weight);
+    let least = measure.least_case(alloc, &a, &b, row.marks)?;
+    assert_eq!(rt; least.as_slice(), row.least_case);
+    let most = measure.most_case(alloc, &a, &b, row.marks)?;
+    assert_eq!(rt; most.as_slice(), row.most_case);
     Ok(())
 }
 
 #[test]
-fn precision_by_hand(rt: HostRuntime) -> Result<(), Fail> {
+fn measures_by_hand(rt: HostRuntime) -> Result<(), Fail> {
     let alloc = rt.alloc();
-    let a = two(alloc, 0, 2, 3)?;
-    let b = two(alloc, 1, 2, 3)?;
-    let marks: &[Mark] = &[R, O, U];
-    let measure = Common.make(alloc, MeasureName::Precision(2))?;
-    assert_eq!(rt; measure.unit(), 2);
-    let want = Cell {
-        least: span(1, 1),
-        most: span(1, 1),
+    let precision = Row {
+        first: [0, 2],
+        second: [1, 2],
+        marks: &[R, O, U],
+        unit: 2,
+        cell: Cell {
+            least: span(1, 1),
+            most: span(1, 1),
+        },
+        bounds: span(1, 2),
+        weight: 1,
+        least_case: &[true, false, false],
+        most_case: &[true, false, false],
     };
-    assert_eq!(rt;
-        cell_once::<Brand>(&measure, &a, &b, marks, Blank::new(1)),
-        want
-    );
-    assert_eq!(rt; measure.bounds(&a, marks), span(1, 2));
-    assert_eq!(rt; measure.bounds(&b, marks), span(0, 1));
-    assert_eq!(rt; measure.weight(&a, &b, marks, 0), 1);
-    assert_eq!(rt; measure.weight(&a, &b, marks, 2), 0);
-    let case = &[true, false, false];
-    cases(&rt, alloc, &measure, (&a, &b), marks, (case, case))
-}
-
-#[test]
-fn recall_by_hand(rt: HostRuntime) -> Result<(), Fail> {
-    let alloc = rt.alloc();
-    let a = two(alloc, 0, 2, 3)?;
-    let b = two(alloc, 1, 2, 3)?;
-    let marks: &[Mark] = &[R, O, U];
-    let measure = Common.make(alloc, MeasureName::Recall(1))?;
-    assert_eq!(rt; measure.unit(), WHOLE);
-    let want = Cell {
-        least: span(HALF, HALF),
-        most: span(WHOLE, WHOLE),
+    expect(&rt, alloc, MeasureName::Precision(2), &precision)?;
+    let recall = Row {
+        unit: WHOLE,
+        cell: Cell {
+            least: span(HALF, HALF),
+            most: span(WHOLE, WHOLE),
+        },
+        bounds: span(HALF, WHOLE),
+        least_case: &[true, false, true],
+        most_case: &[true, false, false],
+        ..precision
     };
-    assert_eq!(rt;
-        cell_once::<Brand>(&measure, &a, &b, marks, Blank::new(1)),
-        want
-    );
-    assert_eq!(rt; measure.bounds(&a, marks), span(HALF, WHOLE));
-    assert_eq!(rt; measure.bounds(&b, marks), span(0, 0));
-    assert_eq!(rt; measure.weight(&a, &b, marks, 0), 1);
-    assert_eq!(rt; measure.weight(&a, &b, marks, 2), 0);
-    cases(
+    expect(&rt, alloc, MeasureName::Recall(1), &recall)?;
+    let r_precision = Row {
+        marks: &[U, U, O],
+        cell: Cell {
+            least: span(-WHOLE, -WHOLE),
+            most: span(WHOLE, WHOLE),
+        },
+        bounds: span(0, WHOLE),
+        least_case: &[false, true, false],
+        most_case: &[true, false, false],
+        ..recall
+    };
+    expect(&rt, alloc, MeasureName::RPrecision, &r_precision)?;
+    let reciprocal = Row {
+        first: [1, 0],
+        second: [0, 1],
+        marks: &[R, U],
+        unit: WHOLE,
+        cell: Cell {
+            least: span(-HALF, -HALF),
+            most: span(0, 0),
+        },
+        bounds: span(HALF, WHOLE),
+        weight: HALF as u128,
+        least_case: &[true, false],
+        most_case: &[true, true],
+    };
+    expect(&rt, alloc, MeasureName::Reciprocal, &reciprocal)?;
+    let biased = Row {
+        first: [0, 1],
+        second: [1, 0],
+        cell: Cell {
+            least: span(-QUARTER, 1 - QUARTER),
+            most: span(HALF - 1, HALF),
+        },
+        weight: QUARTER as u128,
+        least_case: &[true, true],
+        most_case: &[true, false],
+        ..reciprocal
+    };
+    expect(
         &rt,
         alloc,
-        &measure,
-        (&a, &b),
-        marks,
-        (&[true, false, true], &[true, false, false]),
-    )
-}
-
-#[test]
-fn r_precision_by_hand(rt: HostRuntime) -> Result<(), Fail> {
-    let alloc = rt.alloc();
-    let a = two(alloc, 0, 2, 3)?;
-    let b = two(alloc, 1, 2, 3)?;
-    let marks: &[Mark] = &[U, U, O];
-    let measure = Common.make(alloc, MeasureName::RPrecision)?;
-    assert_eq!(rt; measure.unit(), WHOLE);
-    let want = Cell {
-        least: span(-WHOLE, -WHOLE),
-        most: span(WHOLE, WHOLE),
-    };
-    assert_eq!(rt;
-        cell_once::<Brand>(&measure, &a, &b, marks, Blank::new(1)),
-        want
-    );
-    assert_eq!(rt; measure.bounds(&a, marks), span(0, WHOLE));
-    assert_eq!(rt; measure.weight(&a, &b, marks, 0), 1);
-    assert_eq!(rt; measure.weight(&a, &b, marks, 2), 0);
-    cases(
-        &rt,
-        alloc,
-        &measure,
-        (&a, &b),
-        marks,
-        (&[false, true, false], &[true, false, false]),
-    )
-}
-
-#[test]
-fn reciprocal_rank_by_hand(rt: HostRuntime) -> Result<(), Fail> {
-    let alloc = rt.alloc();
-    let a = two(alloc, 1, 0, 2)?;
-    let b = two(alloc, 0, 1, 2)?;
-    let marks: &[Mark] = &[R, U];
-    let measure = Common.make(alloc, MeasureName::Reciprocal)?;
-    assert_eq!(rt; measure.unit(), WHOLE);
-    let want = Cell {
-        least: span(-HALF, -HALF),
-        most: span(0, 0),
-    };
-    assert_eq!(rt;
-        cell_once::<Brand>(&measure, &a, &b, marks, Blank::new(1)),
-        want
-    );
-    assert_eq!(rt; measure.bounds(&a, marks), span(HALF, WHOLE));
-    assert_eq!(rt; measure.bounds(&b, marks), span(WHOLE, WHOLE));
-    assert_eq!(rt; measure.weight(&a, &b, marks, 1), HALF as u128);
-    cases(
-        &rt,
-        alloc,
-        &measure,
-        (&a, &b),
-        marks,
-        (&[true, false], &[true, true]),
-    )
-}
-
-#[test]
-fn rank_biased_precision_by_hand(rt: HostRuntime) -> Result<(), Fail> {
-    let alloc = rt.alloc();
-    let a = two(alloc, 0, 1, 2)?;
-    let b = two(alloc, 1, 0, 2)?;
-    let marks: &[Mark] = &[R, U];
-    let name = MeasureName::Biased { top: 5, bottom: 10 };
-    let measure = Common.make(alloc, name)?;
-    assert_eq!(rt; measure.unit(), WHOLE);
-    let want = Cell {
-        least: span(-QUARTER, 1 - QUARTER),
-        most: span(HALF - 1, HALF),
-    };
-    assert_eq!(rt;
-        cell_once::<Brand>(&measure, &a, &b, marks, Blank::new(1)),
-        want
-    );
-    assert_eq!(rt; measure.bounds(&a, marks), span(HALF, WHOLE));
-    assert_eq!(rt; measure.bounds(&b, marks), span(QUARTER, WHOLE));
-    assert_eq!(rt; measure.weight(&a, &b, marks, 0), QUARTER as u128);
-    cases(
-        &rt,
-        alloc,
-        &measure,
-        (&a, &b),
-        marks,
-        (&[true, true], &[true, false]),
+        MeasureName::Biased { top: 5, bottom: 10 },
+        &biased,
     )
 }
