@@ -1,0 +1,12 @@
+pub mod Cuts
+pub mod Forms
+pub mod Rows
+pub mod Shown
+pub mod RowKinds
+pub mod Whole
+pub mod Joins
+pub mod Failing
+pub mod Parts
+pub mod Sequel
+pub mod Chain
+pub mod Numbering

@@ -1,0 +1,4 @@
+pub mod Form
+pub mod Certificate
+pub mod Places
+pub mod Reading

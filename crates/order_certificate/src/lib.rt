@@ -1,0 +1,13 @@
+//! Certificates: what is claimed of the order of two runs, and the evidence for it, as a text.
+#![tactic(auto)]
+
+pub mod certificate;
+pub mod laws;
+pub mod lines;
+pub mod places;
+pub mod reading;
+mod writing;
+
+pub use certificate::{Bounds, Certificate, Evidence, Names, TopicBound, TopicWitness, Witnesses};
+pub use reading::{CertFault, read_certificate};
+pub use writing::write_certificate;

@@ -1,0 +1,263 @@
+// The text of a certificate.
+ghost use Rattle.std.specs.Prelude.{◌≡◌, ◌++◌, ◌∷◌, [], ◌+◌, All, length, drop, codes, decimal, map, flat_map, pos, IfOk, OnOk};
+ghost use Rattle.std.specs.Fmt.{signed_decimal};
+ghost use Rattle.desk_model.specs.MeasureText.{measure_text, persistence_digits};
+ghost use Rattle.order_certificate.specs.Form.{ended, text_of};
+ghost use Rattle.order_certificate.specs.Certificate.{IsCertificate, IsNumber, IsWritable, certificate_text, certificate_lines, opening_lines, low_line, low_high_line, count_line, document_line, witness_lines, topics_line, evidence_lines};
+ghost use Rattle.order_certificate.specs.Places.{IsText};
+ghost use Rattle.order_certificate.specs.declared.certificate.TopicBound.{TopicBound};
+
+use crate::certificate::{Certificate, Evidence, TopicBound, TopicWitness};
+use desk_model::{MeasureName, Memory, Name};
+use itoa::Buffer;
+use std::alloc::{AllocError, Global};
+
+fn push_number(out: &mut Vec<u8>, number: usize) -> Result<(), AllocError>
+    ensures { OnOk result (out.new.items ≡ out.old.items ++ decimal number) }
+{
+    out.extend_from_slice(Buffer::new().format(number).as_bytes())
+}
+
+fn push_signed(out: &mut Vec<u8>, number: i128) -> Result<(), AllocError>
+    requires { IsNumber number }
+    ensures { OnOk result (out.new.items ≡ out.old.items ++ signed_decimal number) }
+{
+    out.extend_from_slice(Buffer::new().format(number).as_bytes())
+}
+
+// The text without its first byte.
+fn rest(text: &[u8]) -> &[u8]
+    ensures { result.now ≡ drop 1 text.now }
+{
+    match text {
+        [_, rest @ ..] => rest,
+        [] => text,
+    }
+}
+
+fn push_digits_after_first(out: &mut Vec<u8>, number: u64) -> Result<(), AllocError>
+    ensures { OnOk result (out.new.items ≡ out.old.items ++ drop 1 (decimal number)) }
+{
+    let mut buffer = Buffer::new();
+    let text = buffer.format(number).as_bytes();
+    out.extend_from_slice(rest(text))
+}
+
+pub(crate) fn push_measure(out: &mut Vec<u8>, measure: &MeasureName) -> Result<(), AllocError>
+    ensures { OnOk result (out.new.items ≡ out.old.items ++ measure_text measure.now) }
+{
+    match measure {
+        MeasureName::Precision(k) => {
+            out.extend_from_slice(b"P_")?;
+            push_number(out, *k as usize)
+        }
+        MeasureName::Recall(k) => {
+            out.extend_from_slice(b"recall_")?;
+            push_number(out, *k as usize)
+        }
+        MeasureName::RPrecision => out.extend_from_slice(b"Rprec"),
+        MeasureName::Reciprocal => out.extend_from_slice(b"recip_rank"),
+        MeasureName::Biased { top, bottom } => {
+            out.extend_from_slice(b"rbp_0.")?;
+            push_digits_after_first(out, *bottom as u64 + *top as u64)
+        }
+    }
+}
+
+fn push_line(out: &mut Vec<u8>, word: &[u8], rest: &[u8]) -> Result<(), AllocError>
+    ensures { OnOk result (out.new.items ≡ out.old.items ++ ended (word.now ++ rest.now)) }
+{
+    out.extend_from_slice(word)?;
+    out.extend_from_slice(rest)?;
+    out.extend_from_slice(b"\n")
+}
+
+fn push_number_line(out: &mut Vec<u8>, word: &[u8], number: usize) -> Result<(), AllocError>
+    ensures { OnOk result (out.new.items ≡ out.old.items ++ ended (word.now ++ decimal number)) }
+{
+    out.extend_from_slice(word)?;
+    push_number(out, number)?;
+    out.extend_from_slice(b"\n")
+}
+
+fn push_measure_line(out: &mut Vec<u8>, measure: &MeasureName) -> Result<(), AllocError>
+    ensures { OnOk result (out.new.items ≡ out.old.items ++ ended (codes "measure " ++ measure_text measure.now)) }
+{
+    out.extend_from_slice(b"measure ")?;
+    push_measure(out, measure)?;
+    out.extend_from_slice(b"\n")
+}
+
+fn push_low(out: &mut Vec<u8>, bound: &TopicBound) -> Result<(), AllocError>
+    requires { IsNumber bound.now.low }
+    ensures { OnOk result (out.new.items ≡ out.old.items ++ low_line bound.now) }
+{
+    out.extend_from_slice(b"topic ")?;
+    out.extend_from_slice(bound.topic.as_bytes())?;
+    out.extend_from_slice(b" ")?;
+    push_signed(out, bound.low)
+}
+
+fn push_low_line(out: &mut Vec<u8>, bound: &TopicBound) -> Result<(), AllocError>
+    requires { IsNumber bound.now.low }
+    ensures { OnOk result (out.new.items ≡ out.old.items ++ ended (low_line bound.now)) }
+{
+    push_low(out, bound)?;
+    out.extend_from_slice(b"\n")
+}
+
+fn push_low_high_line(out: &mut Vec<u8>, bound: &TopicBound) -> Result<(), AllocError>
+    requires low { IsNumber bound.now.low }
+    requires high { IsNumber bound.now.high }
+    ensures { OnOk result (out.new.items ≡ out.old.items ++ ended (low_high_line bound.now)) }
+{
+    push_low(out, bound)?;
+    out.extend_from_slice(b" ")?;
+    push_signed(out, bound.high)?;
+    out.extend_from_slice(b"\n")
+}
+
+fn push_lows(out: &mut Vec<u8>, bounds: &[TopicBound]) -> Result<(), AllocError>
+    requires { All (λ (b : TopicBound). IsNumber b.low × (b.high ≡ pos 0)) bounds.now }
+    ensures { OnOk result (out.new.items ≡ out.old.items ++ text_of (map low_line bounds.now)) }
+{
+    for bound in bounds {
+        push_low_line(out, bound)?;
+    }
+    Ok(())
+}
+
+fn push_lows_and_highs(out: &mut Vec<u8>, bounds: &[TopicBound]) -> Result<(), AllocError>
+    requires { All (λ (b : TopicBound). IsNumber b.low × IsNumber b.high) bounds.now }
+    ensures { OnOk result (out.new.items ≡ out.old.items ++ text_of (map low_high_line bounds.now)) }
+{
+    for bound in bounds {
+        push_low_high_line(out, bound)?;
+    }
+    Ok(())
+}
+
+fn push_documents(out: &mut Vec<u8>, names: &[Name]) -> Result<(), AllocError>
+    ensures { OnOk result (out.new.items ≡ out.old.items ++ text_of (map document_line names.now)) }
+{
+    for name in names {
+        push_line(out, b"doc ", name.as_bytes())?;
+    }
+    Ok(())
+}
+
+fn push_count_line(
+    out: &mut Vec<u8>,
+    word: &[u8],
+    topic: &[u8],
+    count: usize,
+) -> Result<(), AllocError>
+    ensures { OnOk result (out.new.items ≡ out.old.items ++ ended (count_line word.now topic.now count)) }
+{
+    out.extend_from_slice(word)?;
+    out.extend_from_slice(topic)?;
+    out.extend_from_slice(b" ")?;
+    push_number(out, count)?;
+    out.extend_from_slice(b"\n")
+}
+
+fn push_list(out: &mut Vec<u8>, word: &[u8], topic: &[u8], names: &[Name]) -> Result<(), AllocError>
+    ensures { OnOk result (out.new.items ≡ out.old.items ++ text_of (count_line word.now topic.now (length names.now) ∷ map document_line names.now)) }
+{
+    push_count_line(out, word, topic, names.len())?;
+    push_documents(out, names)
+}
+
+fn push_witness(out: &mut Vec<u8>, witness: &TopicWitness) -> Result<(), AllocError>
+    ensures { OnOk result (out.new.items ≡ out.old.items ++ text_of (witness_lines witness.now)) }
+{
+    push_list(
+        out,
+        b"low ",
+        witness.topic.as_bytes(),
+        witness.low.as_slice(),
+    )?;
+    push_list(
+        out,
+        b"high ",
+        witness.topic.as_bytes(),
+        witness.high.as_slice(),
+    )
+}
+
+fn push_witnesses(out: &mut Vec<u8>, witnesses: &[TopicWitness]) -> Result<(), AllocError>
+    ensures { OnOk result (out.new.items ≡ out.old.items ++ text_of (flat_map witness_lines witnesses.now)) }
+{
+    for witness in witnesses {
+        push_witness(out, witness)?;
+    }
+    Ok(())
+}
+
+fn push_claim(out: &mut Vec<u8>, claim: &[u8], topics: usize) -> Result<(), AllocError>
+    ensures { OnOk result (out.new.items ≡ out.old.items ++ text_of ((codes "claim " ++ claim.now) ∷ topics_line topics ∷ [])) }
+{
+    push_line(out, b"claim ", claim)?;
+    push_number_line(out, b"topics ", topics)
+}
+
+fn push_evidence(out: &mut Vec<u8>, evidence: &Evidence) -> Result<(), AllocError>
+    requires { IsWritable evidence.now }
+    ensures { OnOk result (out.new.items ≡ out.old.items ++ text_of (evidence_lines evidence.now)) }
+{
+    match evidence {
+        Evidence::Above(bounds) => {
+            push_claim(out, b"above", bounds.as_slice().len())?;
+            push_lows(out, bounds.as_slice())
+        }
+        Evidence::Equal(bounds) => {
+            push_claim(out, b"equal", bounds.as_slice().len())?;
+            push_lows_and_highs(out, bounds.as_slice())
+        }
+        Evidence::Open(witnesses) => {
+            push_claim(out, b"open", witnesses.as_slice().len())?;
+            push_witnesses(out, witnesses.as_slice())
+        }
+    }
+}
+
+fn push_opening(out: &mut Vec<u8>, measure: &MeasureName, level: u32) -> Result<(), AllocError>
+    ensures { OnOk result (out.new.items ≡ out.old.items ++ text_of (opening_lines measure.now level)) }
+{
+    push_line(out, b"desk-certificate 1", b"")?;
+    push_measure_line(out, measure)?;
+    push_number_line(out, b"level ", level as usize)
+}
+
+fn push_runs(out: &mut Vec<u8>, first: &[u8], second: &[u8]) -> Result<(), AllocError>
+    ensures { OnOk result (out.new.items ≡ out.old.items ++ text_of ((codes "first " ++ first.now) ∷ (codes "second " ++ second.now) ∷ [])) }
+{
+    push_line(out, b"first ", first)?;
+    push_line(out, b"second ", second)
+}
+
+fn push_certificate(out: &mut Vec<u8>, certificate: &Certificate) -> Result<(), AllocError>
+    requires { IsCertificate certificate.now }
+    ensures { OnOk result (out.new.items ≡ out.old.items ++ certificate_text certificate.now) }
+{
+    push_opening(out, &certificate.measure, certificate.level)?;
+    push_runs(
+        out,
+        certificate.first.as_bytes(),
+        certificate.second.as_bytes(),
+    )?;
+    push_evidence(out, &certificate.evidence)?;
+    push_line(out, b"end", b"")
+}
+
+/// The text of a certificate, which has to be within the limits of the form. The only error is out of memory.
+pub fn write_certificate(alloc: Global, certificate: &Certificate) -> Result<Vec<u8>, Memory>
+    requires { IsCertificate certificate.now }
+    ensures { IfOk result (λ text. IsText text.items certificate.now) }
+{
+    let mut out = Vec::new(alloc);
+    match push_certificate(&mut out, certificate) {
+        Ok(()) => Ok(out),
+        Err(_) => Err(Memory),
+    }
+}
