@@ -37,11 +37,12 @@ abbrev pub held_in : List (List ℕ × List ℕ) → Files
 held_in [] name = None
 held_in (e ∷ es) name = if pointwise nat_eq e.0 name then Some e.1 else held_in es name
 
--- a shelf in memory: its files, what is left of the open one, and its calls
+-- a shelf in memory: its files, what is left of the open one, its calls, and the names that were opened
 pub record ShelfState : Type 0 where
   pub entries : List (List ℕ × List ℕ)
   pub rest : Option (List ℕ)
   pub calls : CallState
+  pub opened : List (List ℕ)
 
 -- a source in memory: what is left, the most bytes that a call gives, and its calls
 pub record SourceState : Type 0 where

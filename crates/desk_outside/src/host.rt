@@ -1,6 +1,9 @@
 // The real files and streams. They tell nothing of what they hold.
-ghost use Rattle.std.specs.Prelude.{◌≡◌, ◌≤◌, ◌+◌, ◌-◌, ◌^◌, min, None, false, is_some};
+ghost use Rattle.std.specs.Prelude.{◌≡◌, ◌≤◌, ◌+◌, ◌-◌, ◌^◌, [], min, None, false, is_some};
+ghost use Rattle.desk_outside.specs.Names.{names_in};
 
+use crate::names::Names;
+use crate::opened::add;
 use crate::{Failed, Shelf, Sink, Source};
 use std::fs;
 use std::io::{Read, Write};
@@ -21,6 +24,7 @@ pub struct HostShelf<'r, R: Files> {
     rt: &'r R,
     file: Option<R::File>,
     faults: u64,
+    opened: Names,
 }
 
 impl<'r, R: Files> HostShelf<'r, R> {
@@ -30,11 +34,13 @@ impl<'r, R: Files> HostShelf<'r, R> {
         ensures rest { ⟦<HostShelf<'r, R> as Shelf>⟧.rest result ≡ None }
         ensures closed { ⟦<HostShelf<'r, R> as Shelf>⟧.is_open result ≡ false }
         ensures faults { ⟦<HostShelf<'r, R> as Shelf>⟧.faults result ≡ 0 }
+        ensures opened { ⟦<HostShelf<'r, R> as Shelf>⟧.opened result ≡ [] }
     {
         HostShelf {
             rt,
             file: None,
             faults: 0,
+            opened: Names::Nobody,
         }
     }
 }
@@ -48,7 +54,10 @@ impl<R: Files> Shelf for HostShelf<'_, R> {
 
     ghost faults = { λ s. s.faults };
 
+    ghost opened = { λ s. names_in s.opened };
+
     fn open(&mut self, name: &str) -> Result<(), Failed> {
+        add(&mut self.opened, name);
         match fs::open(self.rt, name) {
             Ok(file) => {
                 self.file = Some(file);

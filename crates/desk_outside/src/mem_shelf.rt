@@ -1,5 +1,5 @@
 // A shelf in memory.
-ghost use Rattle.std.specs.Prelude.{◌≡◌, ◌⊎◌, ◌<◌, ◌≤◌, ◌+◌, ◌^◌, ◌↔◌, Some, None, true, drop, take, min, length, is_some, IsTrue, IsErr, IfOk, IfSome, OnOk, OnErr, MatchOption, option_map, slice_get};
+ghost use Rattle.std.specs.Prelude.{◌≡◌, ◌⊎◌, ◌<◌, ◌≤◌, ◌+◌, ◌^◌, ◌↔◌, ◌++◌, ◌∷◌, [], Some, None, true, drop, take, min, length, is_some, IsTrue, IsErr, IfOk, IfSome, OnOk, OnErr, MatchOption, option_map, slice_get};
 ghost use Rattle.std.specs.Io.{ReadsAtMost};
 ghost use Rattle.std.specs.Io.KnownBytes.{prepend_known, IsAtEnd};
 ghost use Rattle.desk_outside.specs.Outside.{Rose, HasCause};
@@ -7,6 +7,8 @@ ghost use Rattle.desk_outside.specs.InMemory.{no_calls, is_listed, after_call, e
 
 use crate::calls::Calls;
 use crate::give::give;
+use crate::names::Names;
+use crate::opened::add;
 use crate::{Failed, Shelf};
 use std::marker::Model;
 
@@ -23,11 +25,13 @@ pub struct MemShelf {
     files: Vec<(String, Vec<u8>)>,
     reading: Option<Reading>,
     calls: Calls,
+    opened: Names,
 }
 
 impl Model for MemShelf {
     ghost use Rattle.std.specs.Prelude.{drop, option_map, option_and_then, slice_get};
     ghost use Rattle.desk_outside.specs.InMemory.{ShelfState, entries_of};
+    ghost use Rattle.desk_outside.specs.Names.{names_in};
 
     ghost Value = { ShelfState };
 
@@ -35,6 +39,7 @@ impl Model for MemShelf {
       entries = entries_of s.files.items;
       rest = option_and_then (λ r. option_map (λ e. drop r.at e.1) (slice_get (entries_of s.files.items) r.file)) s.reading;
       calls = s.calls;
+      opened = names_in s.opened;
     } };
 }
 
@@ -45,11 +50,13 @@ impl MemShelf {
         ensures entries { result.entries ≡ entries_of files.items }
         ensures closed { result.rest ≡ None }
         ensures calls { result.calls ≡ no_calls failing.items }
+        ensures opened { result.opened ≡ [] }
     {
         MemShelf {
             files,
             reading: None,
             calls: Calls::new(failing),
+            opened: Names::Nobody,
         }
     }
 }
@@ -88,6 +95,8 @@ impl Shelf for MemShelf {
 
     ghost faults = { λ s. s.calls.faults };
 
+    ghost opened = { λ s. s.opened };
+
     /// Fails exactly at a listed call, which is counted, and at a name that is not held, which alone is not.
     fn open(&mut self, name: &str) -> Result<(), Failed>
         ensures open { OnOk result (is_some self.new.rest ≡ true) }
@@ -98,8 +107,10 @@ impl Shelf for MemShelf {
             ⊎ (held_in self.old.entries name.now ≡ None)) }
         ensures rest { OnOk result (self.new.rest ≡ held_in self.old.entries name.now) }
         ensures entries { self.new.entries ≡ self.old.entries }
+        ensures opened { self.new.opened ≡ self.old.opened ++ name.now ∷ [] }
         ensures calls { self.new.calls ≡ after_call self.old.calls (is_listed self.old.calls) }
     {
+        add(&mut self.opened, name);
         let fails = self.calls.is_listed();
         self.calls.make(fails);
         if fails {
@@ -126,6 +137,7 @@ impl Shelf for MemShelf {
         ensures fails { IsErr result ↔ IsTrue (is_listed self.old.calls) }
         ensures count { IfOk result (λ n. IfSome self.old.rest (λ rest. n ≡ min (length rest) (length room.old))) }
         ensures entries { self.new.entries ≡ self.old.entries }
+        ensures opened { self.new.opened ≡ self.old.opened }
         ensures calls { self.new.calls ≡ after_call self.old.calls (is_listed self.old.calls) }
     {
         let fails = self.calls.is_listed();
