@@ -1,7 +1,6 @@
-ghost use Rattle.std.specs.Prelude.{◌≡◌, true, false, IfOk};
+ghost use Rattle.std.specs.Prelude.{IfOk};
 ghost use Rattle.desk_model.specs.MeasureText.{IsMeasure};
 ghost use Rattle.measure_core.specs.Made.{IsMadeFor};
-ghost use Rattle.any_measure.specs.Built.{IsBuilt};
 ghost use Rattle.any_measure.specs.Any.{measured_by, cell_by, bounds_by};
 
 use desk_model::{MeasureName, Memory};
@@ -12,7 +11,7 @@ use recip_rank::RecipRank;
 use rprec::Rprec;
 use std::alloc::Global;
 
-/// One of the measures that are built.
+/// A measure of the desk.
 #[derive(Drop)]
 pub enum AnyMeasure {
     /// `P_k`.
@@ -27,25 +26,10 @@ pub enum AnyMeasure {
     Biased(Rbp),
 }
 
-/// Whether a measure is built.
-pub fn is_built(name: &MeasureName) -> bool
-    ensures yes { result ≡ true → IsBuilt name.now }
-    ensures no { result ≡ false → IsBuilt name.now → ⊥ }
-{
-    match name {
-        MeasureName::Precision(_)
-        | MeasureName::Recall(_)
-        | MeasureName::RPrecision
-        | MeasureName::Reciprocal
-        | MeasureName::Biased { .. } => true,
-    }
-}
-
 impl AnyMeasure {
     /// The measure of this name.
     pub fn new(alloc: Global, name: MeasureName) -> Result<AnyMeasure, Memory>
         requires measure { IsMeasure name }
-        requires built { IsBuilt name }
         ensures { IfOk result (λ made. IsMadeFor name (measured_by made) (cell_by made) (bounds_by made)) }
     {
         match name {

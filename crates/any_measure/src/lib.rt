@@ -1,4 +1,4 @@
-//! Every measure that is built, by its name.
+//! Every measure of the desk, by its name.
 #![tactic(auto)]
 
 pub mod any;
@@ -7,5 +7,5 @@ pub mod members;
 #[cfg(test)]
 mod tests;
 
-pub use any::{AnyMeasure, is_built};
+pub use any::AnyMeasure;
 pub use common::Common;

@@ -1,6 +1,5 @@
 ghost use Rattle.std.specs.Prelude.{IfOk};
 ghost use Rattle.desk_model.specs.MeasureText.{IsMeasure};
-ghost use Rattle.desk_model.specs.declared.types.MeasureName.{MeasureName as N};
 ghost use Rattle.measure_core.specs.Made.{IsMadeFor};
 
 use crate::measure::Measure;
@@ -12,13 +11,9 @@ pub trait Maker {
     /// The measures that it makes.
     type Made: Measure;
 
-    /// The names that it can make a measure of: all, where nothing else is said.
-    ghost can_make: { Self → N → Type 0 } = { λ _ _. Unit {0} };
-
     /// The measure of this name: its cells and bounds are the floors and ceilings of the extremes
     /// over all completions, and for rank-biased precision the sums of shares and of weights.
     fn make(&self, alloc: Global, name: MeasureName) -> Result<Self::Made, Memory>
         requires measure { IsMeasure name }
-        requires built { can_make self.now name }
         ensures { IfOk result (λ made. IsMadeFor name (Self.Made.measured made) (Self.Made.cell_of made) (Self.Made.bounds_of made)) };
 }

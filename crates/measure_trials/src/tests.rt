@@ -2,7 +2,6 @@ ghost use Rattle.std.specs.Prelude.{◌≡◌, ◌^◌, ◌<◌, ◌≤◌, leng
 ghost use Rattle.desk_model.specs.Ranking.{IsRanking};
 ghost use Rattle.desk_model.specs.MeasureText.{IsMeasure};
 ghost use Rattle.measure_core.specs.Laws.{AreMet};
-ghost use Rattle.any_measure.specs.Built.{IsBuilt};
 ghost use Rattle.every_completion.specs.Walk.{LooksAtNoTail};
 
 use any_measure::AnyMeasure;
@@ -203,7 +202,6 @@ fn compare(
 ) -> Result<(), Fail>
     requires tail { LooksAtNoTail name }
     requires measure { IsMeasure name }
-    requires built { IsBuilt name }
     requires unit { unit ≤ 10 ^ 18 }
 {
     assert!(rt; marks.len() <= 100);
