@@ -1,11 +1,11 @@
 //! The desk over the real files and streams.
 #![tactic(auto)]
 
-ghost use Rattle.std.specs.Prelude.{◌≡◌, ◌⊎◌, ◌<◌, ◌≤◌, map, string_bytes, Err, IfOk};
+ghost use Rattle.std.specs.Prelude.{◌≡◌, ◌<◌, ◌≤◌, map, string_bytes, None, Err, IfOk};
 ghost use Rattle.std.specs.Process.{exit_status};
-ghost use Rattle.desk_words.specs.declared.command.Job.{Job as J};
 ghost use Rattle.desk_top.specs.Told.{Writes, status_line};
-ghost use Rattle.desk_top.specs.Top.{IsTableJob};
+ghost use Rattle.desk_top.specs.Meaning.{words_meaning};
+ghost use Rattle.desk_top.specs.Meets.{CanEnd};
 
 use any_measure::Common;
 use desk_outside::{HostShelf, HostSink, HostSource, Sink};
@@ -22,7 +22,7 @@ use std::sync::ledger::{Blank, Ledger};
 enum NoWords {
     // The system did not give them.
     Outside,
-    // Memory for them is wanting.
+    // Memory for them ran out.
     Memory,
 }
 
@@ -30,9 +30,8 @@ fn run<L: Ledger>(rt: &HostRuntime, words: &[String], blank: Blank) -> u8
     requires name { blank.name ≡ L.name }
     requires parts { blank.parts ≡ L.parts }
     requires some { 0 < blank.parts }
-    ensures known { result ≤ 4 }
-    ensures usage { result ≡ 2 → (job : J) → IsTableJob (map string_bytes words.now) job → ⊥ }
-    ensures no_job { ((job : J) → IsTableJob (map string_bytes words.now) job → ⊥) → (result ≡ 2) ⊎ (result ≡ 4) }
+    ensures known { result ≤ 6 }
+    ensures ends { CanEnd (words_meaning (map string_bytes words.now)) None result }
 {
     let mut files = HostShelf::new(rt);
     let mut input = HostSource::new(rt.reader());
@@ -78,11 +77,10 @@ fn end_without_words<K: Sink>(err: &mut K, fault: NoWords) -> u8
 
 // Runs the command of the words, if there are any, and answers its status.
 fn status(rt: &HostRuntime, words: Result<Vec<String>, NoWords>) -> u8
-    ensures known { result ≤ 4 }
+    ensures known { result ≤ 6 }
     ensures outside { words ≡ Err NoWords.Outside → result ≡ 3 }
     ensures memory { words ≡ Err NoWords.Memory → result ≡ 4 }
-    ensures usage { IfOk words (λ words. result ≡ 2 → (job : J) → IsTableJob (map string_bytes words.items) job → ⊥) }
-    ensures no_job { IfOk words (λ words. ((job : J) → IsTableJob (map string_bytes words.items) job → ⊥) → (result ≡ 2) ⊎ (result ≡ 4)) }
+    ensures ends { IfOk words (λ words. CanEnd (words_meaning (map string_bytes words.items)) None result) }
 {
     match words {
         Ok(words) => run::<Brand>(rt, &words, Blank::new(1)),

@@ -3,15 +3,13 @@ use Rattle.std.proofs.Common.{◌≡◌, ℕ, List, refl, ap, sym, subst, ◌∙
 use Rattle.std.specs.Prelude.{Option, Some, None, Result, Ok, Err, IfSome, ◌⊎◌}
 use Rattle.desk_outside.specs.Outside.{Files}
 use Rattle.qrels_reader.specs.declared.fault.FileFault.{FileFault}
-use Rattle.qrels_reader.specs.declared.fault.FileFault.TheVariants.{Line, NoTopics, NoTag, Memory}
+use Rattle.qrels_reader.specs.declared.fault.FileFault.TheVariants.{Memory}
 use Rattle.desk_top.specs.declared.stop.Stop.{Stop}
 use Rattle.desk_top.specs.declared.stop.Stop.TheVariants as stops
-use Rattle.desk_top.specs.declared.stop.Refusal.TheVariants as refusals
-use Rattle.desk_top.specs.Files.{Halt, Refused, Faulty, whole_file, or_faulty, file_as, ◌>>=◌}
+use Rattle.desk_top.specs.Files.{Halt, Refusal, Refused, NoMemory, whole_file, halt_at, or_faulty, file_as, ◌>>=◌}
 use Rattle.desk_top.specs.Outcome.{Stops}
-use Rattle.desk_top.specs.Stopped.{IsRefusedFor, IsStopOf}
+use Rattle.desk_top.specs.Stopped.{IsStopOf}
 use Rattle.desk_top.specs.Views.{refusal_of}
-use Rattle.desk_top.specs.declared.stop.Refusal.{Refusal as Kept}
 use Rattle.qrels_reader.specs.Reading.{IsUnlessMemory}
 
 -- what a whole file says to a reader
@@ -26,31 +24,16 @@ owed : {X : Type 0} (fault : FileFault) (r : Result X FileFault) → (fault ≡ 
 owed fault r apart (inl same) = absurd (apart (cc))
 owed fault r apart (inr is) = is
 
+-- a fault that refuses its file is no lack of memory
+not_memory : (path : List ℕ) (fault : FileFault) (refusal : Refusal) → halt_at path fault ≡ Refused refusal → fault ≡ Memory → ⊥
+not_memory path fault refusal is m = let bad : NoMemory ≡ Refused refusal = ap (halt_at path) (sym m) ∙ is in absurd (cc)
+
 module _ {X : Type 0} (read : List ℕ → Result X FileFault) (path bytes : List ℕ) where
-  told_refused : (told : Option Files) (fault : FileFault) → (fault ≡ Memory → ⊥) → IfSome told (λ files. whole_file path (files path) ≡ Ok bytes) → IsUnlessMemory (faulted fault) (read bytes) →
-      IfSome told (λ files. file_as read files path ≡ Err (Refused (Faulty path fault)))
-  told_refused None fault apart whole answer = tt
-  told_refused (Some files) fault apart whole answer = said read files path bytes (faulted fault) whole (owed fault (read bytes) apart answer)
-
-  faulty_stops : (told : Option Files) (before now : ℕ) (fault : FileFault) (refusal : Kept) → refusal_of refusal ≡ Faulty path fault → IfSome told (λ files. file_as read files path ≡ Err (Refused (Faulty path fault))) →
-      Stops told before now (stops.Refused refusal) (λ held. file_as read held path)
-  faulty_stops None before now fault refusal e h = tt
-  faulty_stops (Some files) before now fault refusal e h = h ∙ ap (λ r. Err (Refused r)) (sym e)
-
-  at_refusal : (told : Option Files) (before now : ℕ) (fault : FileFault) → (fault ≡ Memory → ⊥) → IfSome told (λ files. whole_file path (files path) ≡ Ok bytes) → IsUnlessMemory (faulted fault) (read bytes) →
-      (stop : Stop) → IsRefusedFor path fault stop → Stops told before now stop (λ held. file_as read held path)
-  at_refusal told before now fault apart whole answer (stops.Refused (refusals.Faulty at same)) is =
-      faulty_stops told before now fault (refusals.Faulty at same) (ap (λ p. Faulty p same) is.0 ∙ ap (Faulty path) is.1) (told_refused told fault apart whole answer)
-  at_refusal told before now fault apart whole answer (stops.Refused (refusals.TooLong at)) is = absurd is
-  at_refusal told before now fault apart whole answer (stops.Refused (refusals.Repeated name)) is = absurd is
-  at_refusal told before now fault apart whole answer (stops.Refused (refusals.Excessive cells)) is = absurd is
-  at_refusal told before now fault apart whole answer stops.Outside is = absurd is
-  at_refusal told before now fault apart whole answer stops.Memory is = absurd is
-
   -- what a reader's fault makes of its file
-  pub stops_at_file : (told : Option Files) (before now : ℕ) (fault : FileFault) (stop : Stop) → IfSome told (λ files. whole_file path (files path) ≡ Ok bytes) → IsUnlessMemory (faulted fault) (read bytes) → IsStopOf path fault stop →
+  pub stops_at_file : (told : Option Files) (before now : ℕ) (fault : FileFault) (stop : Stop) → IfSome told (λ files. whole_file path (files path) ≡ Ok bytes) → IsUnlessMemory (faulted fault) (read bytes) → IsStopOf (halt_at path fault) stop →
       Stops told before now stop (λ held. file_as read held path)
-  stops_at_file told before now Memory stop whole answer is = let P : Stop → Type 0 = λ s. Stops told before now s (λ held. file_as read held path) in subst P (sym is) tt
-  stops_at_file told before now (Line l f) stop whole answer is = at_refusal told before now (Line l f) (λ e. cc) whole answer stop is
-  stops_at_file told before now NoTopics stop whole answer is = at_refusal told before now NoTopics (λ e. cc) whole answer stop is
-  stops_at_file told before now NoTag stop whole answer is = at_refusal told before now NoTag (λ e. cc) whole answer stop is
+  stops_at_file told before now fault stops.Memory whole answer is = tt
+  stops_at_file told before now fault stops.Outside whole answer is = absurd is
+  stops_at_file None before now fault (stops.Refused refusal) whole answer is = tt
+  stops_at_file (Some files) before now fault (stops.Refused refusal) whole answer is =
+      said read files path bytes (faulted fault) whole (owed fault (read bytes) (not_memory path fault (refusal_of refusal) is) answer) ∙ ap (λ halt. Err halt) is

@@ -2,7 +2,12 @@ pub mod Reading
 pub mod Stopping
 pub mod Faults
 pub mod Runs
+pub mod Opening
 pub mod Joining
 pub mod Tables
 pub mod Telling
-pub mod Headline
+pub mod Nonempty
+pub mod Meeting
+pub mod Printed
+pub mod Truth
+pub mod Statuses

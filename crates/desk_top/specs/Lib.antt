@@ -3,8 +3,12 @@ pub mod Load
 pub mod Views
 pub mod Outcome
 pub mod Stopped
-pub mod Joined
 pub mod Table
-pub mod Ends
+pub mod Joined
 pub mod Told
-pub mod Top
+pub mod Seen
+pub mod Answer
+pub mod Meaning
+pub mod Meets
+pub mod Ends
+pub mod Laws

@@ -1,5 +1,5 @@
 -- What the files of a job say.
-use Rattle.std.specs.Prelude.{ℕ, nat_lt, List, [], ◌∷◌, if◌then◌else◌, Option, Some, None, slice_index_or, Result, Ok, Err}
+use Rattle.std.specs.Prelude.{◌≡◌, ℕ, nat_lt, List, [], ◌∷◌, ◌++◌, map, if◌then◌else◌, Option, Some, None, slice_index_or, Result, Ok, Err}
 use Rattle.desk_outside.specs.Outside.{Files}
 use Rattle.desk_words.specs.declared.command.Job.{Job}
 use Rattle.desk_words.specs.declared.command.RunWord.{RunWord}
@@ -31,7 +31,50 @@ within qrels runs (Some r) = Err (Refused (Repeated (slice_index_or (run_names r
 within qrels runs None =
     if nat_lt MOST_CELLS (cells_of qrels runs) then Err (Refused (Excessive (cells_of qrels runs))) else Ok (record { qrels = qrels; runs = runs })
 
--- what the files of a job say, or the first refusal: the qrels first, then the runs in order, then all together
-unfoldable pub loaded : Files → Job → Result Loaded Halt
-loaded files job =
-    file_as qrels_of files job.qrels >>= (λ qrels. runs_of files qrels (used_by qrels) job.runs >>= (λ runs. within qrels runs (first_repeated (run_names runs))))
+-- what these files say, or the first refusal: the qrels first, then the runs in order, then all together
+unfoldable pub loaded_from : Files → List ℕ → List RunWord → Result Loaded Halt
+loaded_from files path words =
+    file_as qrels_of files path >>= (λ qrels. runs_of files qrels (used_by qrels) words >>= (λ runs. within qrels runs (first_repeated (run_names runs))))
+
+-- one list begins with another
+abbrev pub StartsWith : List (List ℕ) → List (List ℕ) → Type 0
+StartsWith names first = (rest : List (List ℕ)) × (names ≡ first ++ rest)
+
+-- the names after a file: none, where the file is missing or refused
+abbrev pub if_read : {X : Type 0} → Result X Halt → (X → List (List ℕ)) → List (List ℕ)
+if_read (Ok x) next = next x
+if_read (Err halt) next = []
+
+-- the paths of RUN words, up to the first whose file is missing or refused
+abbrev pub runs_to_open : Files → List Topic → Used → List RunWord → List (List ℕ)
+runs_to_open files qrels used [] = []
+runs_to_open files qrels used (word ∷ words) =
+    word.path ∷ if_read (file_as (run_of word.name qrels used) files word.path) (λ run. runs_to_open files qrels run.used words)
+
+-- the path of the qrels and those of the runs, up to the first whose file is missing or refused
+abbrev pub paths_to_open : Files → List ℕ → List RunWord → List (List ℕ)
+paths_to_open files path words = path ∷ if_read (file_as qrels_of files path) (λ qrels. runs_to_open files qrels (used_by qrels) words)
+
+-- the paths of RUN words
+abbrev pub paths_of : List RunWord → List (List ℕ)
+paths_of words = map (λ (word : RunWord). word.path) words
+
+-- the names that may be opened one after the other: the paths in order, and where the files are known none after the first
+-- that is missing or refused
+abbrev pub MayOpen : Option Files → (Files → List (List ℕ)) → List (List ℕ) → List (List ℕ) → Type 0
+MayOpen None readable paths names = StartsWith paths names
+MayOpen (Some files) readable paths names = StartsWith (readable files) names
+
+-- the names that a job may open
+abbrev pub JobMayOpen : Option Files → Job → List (List ℕ) → Type 0
+JobMayOpen known job names = MayOpen known (λ files. paths_to_open files job.qrels job.runs) (job.qrels ∷ paths_of job.runs) names
+
+-- the names that were opened in a call
+pub record Opens (may : List (List ℕ) → Type 0) (had has : List (List ℕ)) : Type 0 where
+  pub names : List (List ℕ)
+  pub allowed : may names
+  pub added : has ≡ had ++ names
+
+-- what the files of a job say, or the first refusal
+abbrev pub loaded : Files → Job → Result Loaded Halt
+loaded files job = loaded_from files job.qrels job.runs

@@ -3,6 +3,7 @@ ghost use Rattle.std.specs.Prelude.{◌≡◌, ◌<◌, ◌≤◌, map, length, 
 ghost use Rattle.run_reader.specs.declared.limits.TheConstants.{MOST_RUN_ROWS};
 ghost use Rattle.topics_pool.specs.Rows.{rows_of, run_names};
 ghost use Rattle.desk_top.specs.Joined.{Joins, Makes};
+ghost use Rattle.desk_top.specs.Load.{JobMayOpen, Opens};
 
 use crate::load::{load_qrels, load_runs};
 use crate::stop::{Refusal, Stop};
@@ -49,6 +50,7 @@ pub fn load_desk<'a, F: Shelf>(alloc: Global, files: &mut F, job: &'a Job) -> Re
     requires few { length job.now.runs ≤ 256 }
     ensures makes { Makes (F.files files.old) (F.faults files.old) (F.faults files.new) job.now result }
     ensures files { F.files files.new ≡ F.files files.old }
+    ensures opened { Opens (JobMayOpen (F.files files.old) job.now) (F.opened files.old) (F.opened files.new) }
     ensures later { F.faults files.old ≤ F.faults files.new }
 {
     let qrels = load_qrels(alloc, files, job.qrels.as_str())?;

@@ -1,5 +1,5 @@
 // Files that are read whole.
-ghost use Rattle.std.specs.Prelude.{◌≡◌, ◌≤◌};
+ghost use Rattle.std.specs.Prelude.{◌≡◌, ◌≤◌, ◌++◌, ◌∷◌, []};
 ghost use Rattle.desk_top.specs.Files.{whole_file};
 ghost use Rattle.desk_top.specs.Outcome.{Gives};
 
@@ -18,6 +18,7 @@ pub fn read_file<'a, F: Shelf>(
 ) -> Result<Vec<u8>, Stop<'a>>
     ensures gives { Gives (F.files files.old) (F.faults files.old) (F.faults files.new) (λ v. v.items) result (λ held. whole_file path.now (held path.now)) }
     ensures files { F.files files.new ≡ F.files files.old }
+    ensures opened { F.opened files.new ≡ F.opened files.old ++ path.now ∷ [] }
     ensures later { F.faults files.old ≤ F.faults files.new }
 {
     let Ok(()) = files.open(path) else {

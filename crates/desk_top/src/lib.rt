@@ -3,6 +3,7 @@
 
 mod desk;
 mod files;
+pub mod laws;
 mod limits;
 mod load;
 mod stop;

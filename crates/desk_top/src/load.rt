@@ -6,8 +6,8 @@ ghost use Rattle.run_reader.specs.Run.{run_of, row_count, IsWithin};
 ghost use Rattle.qrels_reader.specs.Grouped.{qrels_of};
 ghost use Rattle.run_reader.specs.declared.limits.TheConstants.{MOST_RUN_ROWS};
 ghost use Rattle.topics_pool.specs.Rows.{rows_of};
-ghost use Rattle.desk_top.specs.Files.{file_as};
-ghost use Rattle.desk_top.specs.Load.{runs_of, used_by};
+ghost use Rattle.desk_top.specs.Files.{file_as, halt_at};
+ghost use Rattle.desk_top.specs.Load.{runs_of, used_by, runs_to_open, paths_of, MayOpen, Opens};
 ghost use Rattle.desk_top.specs.Outcome.{Gives};
 ghost use Rattle.desk_top.specs.Stopped.{IsStopOf};
 
@@ -21,11 +21,13 @@ use std::alloc::{AllocError, Global};
 
 // Why a command stops at a file whose reading ended so.
 fn stop_of<'a>(path: &'a str, fault: FileFault) -> Stop<'a>
-    ensures { IsStopOf path.entry.now fault result }
+    ensures { IsStopOf (halt_at path.entry.now fault) result }
 {
     match fault {
+        FileFault::Line { line, fault } => Stop::Refused(Refusal::BadLine(path, line, fault)),
+        FileFault::NoTopics => Stop::Refused(Refusal::LacksTopics(path)),
+        FileFault::NoTag => Stop::Refused(Refusal::LacksTag(path)),
         FileFault::Memory => Stop::Memory,
-        fault => Stop::Refused(Refusal::Faulty(path, fault)),
     }
 }
 
@@ -37,6 +39,7 @@ pub fn load_qrels<'a, F: Shelf>(
 ) -> Result<Qrels, Stop<'a>>
     ensures gives { Gives (F.files files.old) (F.faults files.old) (F.faults files.new) (λ qrels. qrels) result (λ held. file_as qrels_of held path.now) }
     ensures files { F.files files.new ≡ F.files files.old }
+    ensures opened { F.opened files.new ≡ F.opened files.old ++ path.now ∷ [] }
     ensures later { F.faults files.old ≤ F.faults files.new }
 {
     let bytes = read_file(alloc, files, path)?;
@@ -69,6 +72,7 @@ pub fn load_run<'a, F: Shelf>(
     ensures gives { Gives (F.files files.old) (F.faults files.old) (F.faults files.new) (λ run. run) result (λ held. file_as (run_of word.now.name qrels.now used) held word.now.path) }
     ensures rows { IfOk result (λ run. run.used.rows ≡ used.rows + row_count run.topics) }
     ensures files { F.files files.new ≡ F.files files.old }
+    ensures opened { F.opened files.new ≡ F.opened files.old ++ word.now.path ∷ [] }
     ensures later { F.faults files.old ≤ F.faults files.new }
 {
     let path = word.path.as_str();
@@ -90,6 +94,7 @@ pub fn load_runs<'a, F: Shelf>(
     ensures count { IfOk result (λ runs. vec_len runs ≡ length words.now) }
     ensures rows { IfOk result (λ runs. rows_of runs.items ≤ MOST_RUN_ROWS) }
     ensures files { F.files files.new ≡ F.files files.old }
+    ensures opened { Opens (MayOpen (F.files files.old) (λ held. runs_to_open held qrels.now (used_by qrels.now) words.now) (paths_of words.now)) (F.opened files.old) (F.opened files.new) }
     ensures later { F.faults files.old ≤ F.faults files.new }
 {
     let mut runs = Vec::new(alloc);

@@ -3,7 +3,7 @@ ghost use Rattle.std.specs.Prelude.{◌≡◌};
 ghost use Rattle.desk_top.specs.declared.stop.Stop.TheVariants.{Memory};
 
 use desk_model::Memory as NoMemory;
-use qrels_reader::FileFault;
+use qrels_reader::LineFault;
 use std::alloc::AllocError;
 
 /// Why files are refused.
@@ -11,8 +11,12 @@ use std::alloc::AllocError;
 pub enum Refusal<'a> {
     /// The file of this path has more bytes than it may.
     TooLong(&'a str),
-    /// The file of this path has a fault.
-    Faulty(&'a str, FileFault),
+    /// This line of the file of this path, from 1, has a fault.
+    BadLine(&'a str, u64, LineFault),
+    /// The file of this path has no topic.
+    LacksTopics(&'a str),
+    /// The file of this path has no name for its run.
+    LacksTag(&'a str),
     /// A run has this name, and an earlier one too.
     Repeated(Vec<u8>),
     /// Pairs times topics are this many, and too many.
@@ -26,7 +30,7 @@ pub enum Stop<'a> {
     Refused(Refusal<'a>),
     /// A file is missing, or the outside failed.
     Outside,
-    /// Memory is wanting.
+    /// Memory ran out.
     Memory,
 }
 

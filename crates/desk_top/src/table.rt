@@ -2,7 +2,9 @@
 ghost use Rattle.std.specs.Prelude.{◌≡◌, ◌<◌, ◌≤◌, ◌+◌, length, IfOk};
 ghost use Rattle.desk_model.specs.MeasureText.{IsMeasure};
 ghost use Rattle.desk_top.specs.Table.{IsTextOf, CountsSteps, cells_in};
-ghost use Rattle.desk_top.specs.Ends.{Ends, ReceivesFront};
+ghost use Rattle.desk_top.specs.Ends.{Ends};
+ghost use Rattle.desk_top.specs.Load.{JobMayOpen, Opens};
+ghost use Rattle.desk_top.specs.Seen.{shelf, sink};
 
 use crate::desk::load_desk;
 use crate::stop::Stop;
@@ -24,7 +26,6 @@ fn text_of<P: Maker, L: Ledger>(
     steps: &mut Steps<L>,
 ) -> Result<Vec<u8>, Memory>
     requires measure { IsMeasure job.now.measure }
-    requires built { P.can_make maker.now job.now.measure }
     ensures text { IfOk result (λ text. IsTextOf job.now desk.now text.items) }
     ensures steps { steps.new ≤ steps.old + cells_in desk.now }
 {
@@ -57,9 +58,8 @@ pub fn print_table<'a, F: Shelf, K: Sink, P: Maker, L: Ledger>(
     requires some { 0 < length job.now.runs }
     requires few { length job.now.runs ≤ 256 }
     requires measure { IsMeasure job.now.measure }
-    requires built { P.can_make maker.now job.now.measure }
-    ensures ends { Ends (F.files files.old) job.now (F.faults files.old) (F.faults files.new) (K.received out.old) (K.received out.new) (K.faults out.old) (K.faults out.new) result }
-    ensures front { ReceivesFront (F.files files.old) job.now (K.received out.old) (K.received out.new) }
+    ensures ends { Ends (shelf (F.files files.old) (F.opened files.old) (F.opened files.new) (F.faults files.old) (F.faults files.new)) job.now (sink (K.received out.old) (K.received out.new) (K.faults out.old) (K.faults out.new)) result }
+    ensures opened { Opens (JobMayOpen (F.files files.old) job.now) (F.opened files.old) (F.opened files.new) }
     ensures steps { CountsSteps (F.files files.old) job.now steps.old steps.new }
     ensures files { F.files files.new ≡ F.files files.old }
 {

@@ -6,7 +6,7 @@ ghost use Rattle.desk_top.specs.Views.{refusal_of};
 use crate::stop::Refusal;
 use desk_outside::{Sink, put_all};
 use itoa::Buffer;
-use qrels_reader::{FileFault, LineFault};
+use qrels_reader::LineFault;
 use std::alloc::{AllocError, Global};
 
 const REFUSED: u8 = 1;
@@ -44,7 +44,7 @@ pub fn tell_outside<E: Sink>(err: &mut E) -> u8
     OUTSIDE
 }
 
-/// Memory is wanting, and the status is 4.
+/// Memory ran out, and the status is 4.
 pub fn tell_memory<E: Sink>(err: &mut E) -> u8
     ensures status { result ≡ 4 }
     ensures line { Writes (E.received err.old) (E.received err.new) (E.faults err.old) (E.faults err.new) (status_line 4) }
@@ -79,23 +79,13 @@ fn push_number(line: &mut Vec<u8>, number: u64) -> Result<(), AllocError>
     line.extend_from_slice(Buffer::new().format(number).as_bytes())
 }
 
-fn push_fault(line: &mut Vec<u8>, fault: FileFault) -> Result<(), AllocError>
-    ensures { OnOk result (line.new.items ≡ line.old.items ++ fault_text fault) }
+fn push_fault(line: &mut Vec<u8>, number: u64, fault: LineFault) -> Result<(), AllocError>
+    ensures { OnOk result (line.new.items ≡ line.old.items ++ fault_text number fault) }
 {
-    match fault {
-        FileFault::Line {
-            line: number,
-            fault,
-        } => {
-            line.extend_from_slice(b" line ")?;
-            push_number(line, number)?;
-            line.extend_from_slice(b": ")?;
-            line.extend_from_slice(word_of(fault).as_bytes())
-        }
-        FileFault::NoTopics => line.extend_from_slice(b": NoTopics"),
-        FileFault::NoTag => line.extend_from_slice(b": NoTag"),
-        FileFault::Memory => line.extend_from_slice(b": Memory"),
-    }
+    line.extend_from_slice(b" line ")?;
+    push_number(line, number)?;
+    line.extend_from_slice(b": ")?;
+    line.extend_from_slice(word_of(fault).as_bytes())
 }
 
 fn push_refusal(line: &mut Vec<u8>, refusal: &Refusal) -> Result<(), AllocError>
@@ -106,9 +96,17 @@ fn push_refusal(line: &mut Vec<u8>, refusal: &Refusal) -> Result<(), AllocError>
             line.extend_from_slice(path.as_bytes())?;
             line.extend_from_slice(b": FileTooLong")
         }
-        Refusal::Faulty(path, fault) => {
+        Refusal::BadLine(path, number, fault) => {
             line.extend_from_slice(path.as_bytes())?;
-            push_fault(line, *fault)
+            push_fault(line, *number, *fault)
+        }
+        Refusal::LacksTopics(path) => {
+            line.extend_from_slice(path.as_bytes())?;
+            line.extend_from_slice(b": NoTopics")
+        }
+        Refusal::LacksTag(path) => {
+            line.extend_from_slice(path.as_bytes())?;
+            line.extend_from_slice(b": NoTag")
         }
         Refusal::Repeated(name) => {
             line.extend_from_slice(name)?;
@@ -130,7 +128,7 @@ fn refusal_line(alloc: Global, refusal: &Refusal) -> Result<Vec<u8>, AllocError>
     Ok(line)
 }
 
-/// The files are refused, and the status is 1; or memory for the line is wanting, and it is 4.
+/// The files are refused, and the status is 1; or memory for the line ran out, and it is 4.
 pub fn tell_refused<E: Sink>(alloc: Global, err: &mut E, refusal: &Refusal) -> u8
     ensures status { (result ≡ 1) ⊎ (result ≡ 4) }
     ensures refused { result ≡ 1 → Writes (E.received err.old) (E.received err.new) (E.faults err.old) (E.faults err.new) (refusal_line (refusal_of refusal.now)) }

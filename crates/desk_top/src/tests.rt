@@ -1,6 +1,4 @@
-// The top call over files in memory.
-mod cases;
-
+// The top call over files in memory. The expected texts are worked out by hand.
 ghost use Rattle.std.specs.Prelude.{◌≡◌, ◌<◌};
 
 use crate::run_desk;
@@ -12,40 +10,36 @@ use std::marker::Brand;
 use std::sync::ledger::{Blank, Ledger};
 use std::test::Fail;
 
-const ROW: [&str; 7] = ["table", "--qrels", "q", "--measure", "P_2", "a", "b"];
+const FILES: [(&str, &str); 10] = [
+    ("q", "401 0 d1 1\n401 0 d2 0\n"),
+    ("p", "401 0 d9 0\n401 0 d1 1\n"),
+    ("o", "401 0 d1 1\n"),
+    ("a", "401 Q0 d1 1 9 A\n401 Q0 d3 2 8 A\n"),
+    ("b", "401 Q0 d2 1 9 B\n401 Q0 d3 2 8 B\n"),
+    ("c", "401 Q0 z1 1 2 C\n401 Q0 z2 2 1 C\n"),
+    ("e", "401 Q0 d1 1 1 A\n"),
+    ("f", "401 Q0 d2 1 1 B\n"),
+    ("g", "401 Q0 d1 1 2 A\n401 Q0 u 2 1 A\n"),
+    ("h", "401 Q0 u 1 2 B\n401 Q0 d1 2 1 B\n"),
+];
 
-const USAGE: &[u8] = b"usage: desk COMMAND --qrels FILE --measure NAME [--level N] RUN...\n";
-
-fn words(alloc: Global, list: &[&str]) -> Result<Vec<String>, AllocError> {
-    let mut all = Vec::new(alloc);
-    for word in list {
-        all.push(String::from_str(alloc, word)?)?;
+fn words_of(alloc: Global, line: &str) -> Result<Vec<String>, AllocError> {
+    let mut words = Vec::new(alloc);
+    for word in line.split(' ') {
+        words.push(String::from_str(alloc, word)?)?;
     }
-    Ok(all)
-}
-
-fn shelf_of(
-    alloc: Global,
-    held: &[(&str, &[u8])],
-    failing: &[u64],
-) -> Result<MemShelf, AllocError> {
-    let mut files = Vec::new(alloc);
-    for (name, bytes) in held {
-        files.push((
-            String::from_str(alloc, name)?,
-            Vec::from_slice(alloc, bytes)?,
-        ))?;
-    }
-    Ok(MemShelf::new(files, failing.to_vec(alloc)?))
+    Ok(words)
 }
 
 fn shelf(alloc: Global, failing: &[u64]) -> Result<MemShelf, AllocError> {
-    let held: [(&str, &[u8]); 3] = [
-        ("q", b"401 0 d1 1\n401 0 d2 0\n"),
-        ("a", b"401 Q0 d1 1 9 A\n401 Q0 d3 2 8 A\n"),
-        ("b", b"401 Q0 d2 1 9 B\n401 Q0 d3 2 8 B\n"),
-    ];
-    shelf_of(alloc, &held, failing)
+    let mut files = Vec::new(alloc);
+    for (name, text) in FILES {
+        files.push((
+            String::from_str(alloc, name)?,
+            text.as_bytes().to_vec(alloc)?,
+        ))?;
+    }
+    Ok(MemShelf::new(files, failing.to_vec(alloc)?))
 }
 
 fn status_of<L: Ledger>(
@@ -67,76 +61,101 @@ fn status_of<L: Ledger>(
     )
 }
 
-#[test]
-fn a_table_is_printed_and_no_other_file_is_opened(rt: HostRuntime) -> Result<(), Fail> {
-    let alloc = rt.alloc();
-    let mut files = shelf(alloc, &[9])?;
-    let mut out = MemSink::new(alloc, 1000, 3, Vec::new(alloc)).map_err(|_| AllocError)?;
+// The status of the words, what an output of this room received, and what the error output was told.
+fn answer(
+    alloc: Global,
+    words: &[String],
+    files: &mut MemShelf,
+    room: usize,
+) -> Result<(u8, Vec<u8>, Vec<u8>), AllocError> {
+    let mut out = MemSink::new(alloc, room, 4096, Vec::new(alloc)).map_err(|_| AllocError)?;
     let mut err = MemSink::new(alloc, 1000, 3, Vec::new(alloc)).map_err(|_| AllocError)?;
-    let words = words(alloc, &ROW)?;
-    let status = status_of::<Brand>(alloc, &words, &mut files, &mut out, &mut err, Blank::new(1));
+    let status = status_of::<Brand>(alloc, words, files, &mut out, &mut err, Blank::new(1));
+    Ok((
+        status,
+        out.received().to_vec(alloc)?,
+        err.received().to_vec(alloc)?,
+    ))
+}
+
+#[test]
+fn each_line_has_its_answer(rt: HostRuntime) -> Result<(), Fail> {
+    let alloc = rt.alloc();
+    let cases = [
+        ("table --qrels q --measure P_2 a b", 0, "measure P_2\nlevel 1\ntopics 1\nruns 2\nrun A 0.500000 1.000000\nrun B 0.000000 0.500000\npair A above B 0.500000 0.500000\n"),
+        ("table --level=2 a --measure P_1 --qrels q", 0, "level 2\ntopics 1\nruns 1\nrun A 0.000000 0.000000\n"),
+        ("table --qrels q --measure recall_1 e f c", 0, "pair A above B 0.333333 1.000000\npair A open C 0.000000 1.000000\npair B open C -0.500000 0.000000\n"),
+        ("table --qrels p --measure Rprec e f", 0, "run A 0.500000 1.000000\nrun B 0.000000 0.500000\npair A open B 0.000000 1.000000\n"),
+        ("table --qrels o --measure recip_rank g h", 0, "pair A open B 0.000000 0.500000\n"),
+        ("table --qrels o --measure rbp_0.5 X=e Y=e", 0, "run X 0.500000 1.000000\nrun Y 0.500000 1.000000\npair X open Y -0.500000 0.500000\n"),
+        ("table --qrels o --measure rbp_0.95 X=e Y=e", 0, "pair X open Y -0.950000 0.950000\n"),
+        ("table --qrels o --measure rbp_0.000001 X=e Y=e", 0, "pair X open Y -0.000001 0.000001\n"),
+        ("table --qrels q --measure P_2 a a", 1, "refused: A: SameName\n"),
+        ("table --qrels a --measure P_2 a", 1, "refused: a line 1: BadFieldCount\n"),
+        ("session --qrels q --measure P_2 a", 2, "usage: desk COMMAND --qrels FILE --measure NAME [--level N] RUN...\n"),
+        ("table --qrels q --measure P_2 a x", 3, "fault: outside\n"),
+    ];
+    for (line, status, ending) in cases {
+        let words = words_of(alloc, line)?;
+        let (ended, out, err) = answer(alloc, &words, &mut shelf(alloc, &[])?, 1000)?;
+        let said = if status == 0 { &out } else { &err };
+        assert_eq!(rt; ended, status, "{line}");
+        assert!(rt; said.ends_with(ending.as_bytes()), "{line}");
+        assert!(rt; out.is_empty() || err.is_empty(), "{line}");
+    }
+    Ok(())
+}
+
+#[test]
+fn nothing_is_read_after_the_end_of_a_file(rt: HostRuntime) -> Result<(), Fail> {
+    let alloc = rt.alloc();
+    let words = words_of(alloc, "table --qrels q --measure P_2 a b")?;
+    let mut files = shelf(alloc, &[9])?;
+    let (status, _, _) = answer(alloc, &words, &mut files, 1000)?;
     assert_eq!(rt; status, 0);
-    assert_eq!(rt;
-        out.received(),
-        b"measure P_2\nlevel 1\ntopics 1\nruns 2\nrun A 0.500000 1.000000\nrun B 0.000000 0.500000\npair A above B 0.500000 0.500000\n".as_slice()
-    );
-    assert_eq!(rt; err.received(), b"".as_slice());
     // Each of the three files took three calls, from 0: one to open it, one for its bytes, one for its end.
     assert!(rt; files.open("q").is_err());
+    assert!(rt; files.open("q").is_ok());
     Ok(())
 }
 
 #[test]
-fn an_output_that_fails_has_a_front(rt: HostRuntime) -> Result<(), Fail> {
+fn an_output_that_fails_has_a_prefix(rt: HostRuntime) -> Result<(), Fail> {
     let alloc = rt.alloc();
-    let mut files = shelf(alloc, &[])?;
-    let failing = [16u64].to_vec(alloc)?;
-    let mut out = MemSink::new(alloc, 1000, 1, failing).map_err(|_| AllocError)?;
-    let mut err = MemSink::new(alloc, 1000, 3, Vec::new(alloc)).map_err(|_| AllocError)?;
-    let words = words(alloc, &ROW)?;
-    let status = status_of::<Brand>(alloc, &words, &mut files, &mut out, &mut err, Blank::new(1));
+    let words = words_of(alloc, "table --qrels q --measure P_2 a b")?;
+    let (status, out, err) = answer(alloc, &words, &mut shelf(alloc, &[])?, 16)?;
     assert_eq!(rt; status, 3);
-    assert_eq!(rt; out.received(), b"measure P_2\nleve".as_slice());
-    assert_eq!(rt; err.received(), b"fault: outside\n".as_slice());
+    assert_eq!(rt; out.as_slice(), b"measure P_2\nleve".as_slice());
+    assert_eq!(rt; err.as_slice(), b"fault: outside\n".as_slice());
     Ok(())
 }
 
+// No clause keeps a body from answering 'out of memory' for large inputs alone.
 #[test]
-fn wrong_words_are_usage(rt: HostRuntime) -> Result<(), Fail> {
+fn large_inputs_are_answered(rt: HostRuntime) -> Result<(), Fail> {
     let alloc = rt.alloc();
-    let lists: [&[&str]; 6] = [
-        &[],
-        &["table", "--qrels", "q", "a"],
-        &["table", "--qrels", "q", "--measure", "P_0", "a", "b"],
-        &["table", "--qrels", "q", "--measure", "P_10001", "a", "b"],
-        &[
-            "table",
-            "--qrels",
-            "q",
-            "--measure",
-            "P_1",
-            "--level",
-            "0",
-            "a",
-        ],
-        &["session", "--qrels", "q", "--measure", "P_2", "a", "b"],
-    ];
-    for list in lists {
-        let mut files = shelf(alloc, &[0])?;
-        let mut out = MemSink::new(alloc, 1000, 3, Vec::new(alloc)).map_err(|_| AllocError)?;
-        let mut err = MemSink::new(alloc, 1000, 3, Vec::new(alloc)).map_err(|_| AllocError)?;
-        let words = words(alloc, list)?;
-        let status = status_of::<Brand>(
-            alloc,
-            &words,
-            &mut files,
-            &mut out,
-            &mut err,
-            Blank::new(1),
-        );
-        assert_eq!(rt; status, 2);
-        assert_eq!(rt; out.received(), b"".as_slice());
-        assert_eq!(rt; err.received(), USAGE);
+    // A judgements file of several pieces.
+    let mut judged = Vec::new(alloc);
+    for _ in 0..140_000u32 {
+        judged.push(b'\n')?;
     }
+    judged.extend_from_slice(b"401 0 d1 1\n401 0 d2 0\n")?;
+    let held = vec![in alloc;
+        (String::from_str(alloc, "q")?, judged),
+        (String::from_str(alloc, "e")?, b"401 Q0 d1 1 1 A\n".to_vec(alloc)?),
+        (String::from_str(alloc, "f")?, b"401 Q0 d2 1 1 B\n".to_vec(alloc)?)
+    ]?;
+    let mut files = MemShelf::new(held, Vec::new(alloc));
+    // 256 runs, the first and the last of which have names of 255 bytes.
+    let mut words = words_of(alloc, "table --qrels q --measure P_1")?;
+    words.push(format!(in alloc; "{:a>255}=e", "")?)?;
+    for run in 1..255u32 {
+        words.push(format!(in alloc; "r{run}=e")?)?;
+    }
+    words.push(format!(in alloc; "{:b>255}=f", "")?)?;
+    let (status, out, _) = answer(alloc, &words, &mut files, 4_000_000)?;
+    assert_eq!(rt; status, 0);
+    assert!(rt; out.starts_with(b"measure P_1\nlevel 1\ntopics 1\nruns 256\nrun aaaa"));
+    assert!(rt; out.ends_with(b"bbbb 1.000000 1.000000\n"));
     Ok(())
 }

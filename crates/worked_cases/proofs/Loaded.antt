@@ -7,10 +7,9 @@ use Rattle.desk_model.specs.declared.types.MeasureName.TheVariants.{Precision}
 use Rattle.desk_outside.specs.Outside.{Files}
 use Rattle.desk_words.specs.declared.command.Job.{Job}
 use Rattle.qrels_reader.specs.declared.fault.LineFault.TheVariants.{RepeatedDocument}
-use Rattle.qrels_reader.specs.declared.fault.FileFault.TheVariants.{Line, NoTopics, NoTag}
 use Rattle.run_reader.specs.declared.used.Used.{Used}
-use Rattle.desk_top.specs.Files.{Missing, Refused, Faulty, Repeated}
-use Rattle.desk_top.specs.Load.{loaded}
+use Rattle.desk_top.specs.Files.{Missing, Refused, BadLine, LacksTopics, LacksTag, Repeated}
+use Rattle.desk_top.specs.Load.{loaded, loaded_from}
 
 abbrev job : Job
 job = record {
@@ -46,36 +45,36 @@ pub files_without_a_fault : loaded (holding judgements run_A run_B) job ≡ Ok (
     used = record { rows = 2; name_bytes = 6 };
   } ∷ [];
 })
-unfolding loaded score_of zeros_of
+unfolding loaded_from score_of zeros_of
 files_without_a_fault = refl
 
 pub nothing_is_held : loaded (holding None None None) job ≡ Err Missing
-unfolding loaded
+unfolding loaded_from
 nothing_is_held = refl
 
 pub second_run_is_not_held : loaded (holding judgements run_A None) job ≡ Err Missing
-unfolding loaded score_of zeros_of
+unfolding loaded_from score_of zeros_of
 second_run_is_not_held = refl
 
 -- what comes first is told: a fault of the first run, where the second is not held
-pub fault_before_a_path_that_is_not_held : loaded (holding judgements (Some (codes "401 Q0 d1 1 2 A" ++ 10 ∷ codes "401 Q0 d1 2 1 A")) None) job ≡ Err (Refused (Faulty (codes "a") (Line 2 RepeatedDocument)))
-unfolding loaded score_of zeros_of
+pub fault_before_a_path_that_is_not_held : loaded (holding judgements (Some (codes "401 Q0 d1 1 2 A" ++ 10 ∷ codes "401 Q0 d1 2 1 A")) None) job ≡ Err (Refused (BadLine (codes "a") 2 RepeatedDocument))
+unfolding loaded_from score_of zeros_of
 fault_before_a_path_that_is_not_held = refl
 
 -- and a first run that is not held, where the second has a fault
 pub path_that_is_not_held_before_a_fault : loaded (holding judgements None (Some [])) job ≡ Err Missing
-unfolding loaded score_of zeros_of
+unfolding loaded_from score_of zeros_of
 path_that_is_not_held_before_a_fault = refl
 
-pub judgements_without_a_row : loaded (holding (Some []) None None) job ≡ Err (Refused (Faulty (codes "q") NoTopics))
-unfolding loaded
+pub judgements_without_a_row : loaded (holding (Some []) None None) job ≡ Err (Refused (LacksTopics (codes "q")))
+unfolding loaded_from
 judgements_without_a_row = refl
 
-pub empty_second_run : loaded (holding judgements run_A (Some [])) job ≡ Err (Refused (Faulty (codes "b") NoTag))
-unfolding loaded score_of zeros_of
+pub empty_second_run : loaded (holding judgements run_A (Some [])) job ≡ Err (Refused (LacksTag (codes "b")))
+unfolding loaded_from score_of zeros_of
 empty_second_run = refl
 
 -- names are compared when all files were read
 pub two_runs_of_one_name : loaded (holding judgements run_A run_A) job ≡ Err (Refused (Repeated (codes "A")))
-unfolding loaded score_of zeros_of
+unfolding loaded_from score_of zeros_of
 two_runs_of_one_name = refl

@@ -7,6 +7,7 @@ use Rattle.desk_top.specs.Files.{file_as}
 use Rattle.desk_top.specs.Load.{runs_of, used_by}
 use Rattle.desk_top.proofs.Stopping.{if_some_at}
 use Rattle.desk_top.proofs.Joining.{makes_joined, makes_err, stops_at_qrels, stops_at_runs}
+use Rattle.desk_top.proofs.Opening.{opens_qrels, opens_job}
 use Rattle.desk_top.proofs.desk.load_desk.Goals as goal
 
 pub returns-in_err-qrels-clause-makes : goal.returns-in_err-qrels-clause-makes
@@ -36,3 +37,22 @@ returns-clause-makes g c =
     let read : IfSome told (λ held. file_as qrels_of held job.qrels ≡ Ok qrels) = rw c.as_str.ensures at c.in_ok-qrels.ensures.gives in
     let loaded = rw (c.load_qrels.ensures.files, c.as_slice.ensures) at c.in_ok-runs.ensures.gives in
     makes_joined job qrels runs.items told _ _ c.join.result read loaded c.join.ensures
+
+pub returns-in_err-qrels-clause-opened : goal.returns-in_err-qrels-clause-opened
+returns-in_err-qrels-clause-opened g c = opens_qrels _ c.args.job.now _ _ (rw c.as_str.ensures at c.load_qrels.ensures.opened)
+
+pub returns-in_err-runs-clause-opened : goal.returns-in_err-runs-clause-opened
+returns-in_err-runs-clause-opened g c =
+    let job = c.args.job.now in
+    let told = g.F.Shelf.files c.args.files.now in
+    let qrels = c.in_ok-qrels.qrels in
+    let read : IfSome told (λ held. file_as qrels_of held job.qrels ≡ Ok qrels) = rw c.as_str.ensures at c.in_ok-qrels.ensures.gives in
+    opens_job told job qrels _ _ _ (rw c.as_str.ensures at c.load_qrels.ensures.opened) read (rw (c.load_qrels.ensures.files, c.as_slice.ensures) at c.load_runs.ensures.opened)
+
+pub returns-clause-opened : goal.returns-clause-opened
+returns-clause-opened g c =
+    let job = c.args.job.now in
+    let told = g.F.Shelf.files c.args.files.now in
+    let qrels = c.in_ok-qrels.qrels in
+    let read : IfSome told (λ held. file_as qrels_of held job.qrels ≡ Ok qrels) = rw c.as_str.ensures at c.in_ok-qrels.ensures.gives in
+    opens_job told job qrels _ _ _ (rw c.as_str.ensures at c.load_qrels.ensures.opened) read (rw (c.load_qrels.ensures.files, c.as_slice.ensures) at c.load_runs.ensures.opened)

@@ -1,6 +1,6 @@
 use Rattle.std.proofs.Common.{◌≡◌, ◌+◌, [], ◌∷◌, ◌++◌, ℕ, length, drop, ap, sym, ◌∙◌, arith, length-append}
 use Rattle.std.specs.Prelude.{Err}
-use Rattle.std.proofs.lemmas.List.{drop_more}
+use Rattle.std.proofs.lemmas.List.{drop_more, drop_all}
 use Rattle.std.proofs.lemmas.Result.{err_from_is_err_and}
 use Rattle.run_reader.specs.Run.{Run, run_of, row_count}
 use Rattle.run_reader.specs.declared.used.Used.{Used}
@@ -8,6 +8,7 @@ use Rattle.topics_pool.specs.Rows.{rows_of}
 use Rattle.desk_top.specs.Files.{file_as}
 use Rattle.desk_top.specs.Load.{runs_of, used_by}
 use Rattle.desk_top.proofs.Runs.{Reaches, reaches_first, reaches_more, reaches_all, stops_all, rows_of-push}
+use Rattle.desk_top.proofs.Opening.{opens_none, opens_more, opens_last, opens_all}
 use Rattle.desk_top.proofs.Stopping.{gives_err}
 use Rattle.desk_top.proofs.load.load_runs.Goals as goal
 
@@ -29,5 +30,27 @@ loop-word-preserved g c =
       within = c.used-used.ensures.within;
       count = omega (arith, ap length pushed, length-append c.loop-word.runs.items (c.in_ok-run.run' ∷ []), kept.count);
       rows = rw pushed (ap (λ (u : Used). u.rows) c.used-used.ensures.value ∙ c.in_ok-run.ensures.rows ∙ ap (λ n. n + row_count c.in_ok-run.run'.topics) kept.rows ∙ sym (rows_of-push c.loop-word.runs.items c.in_ok-run.run'));
+      opened = rw c.used-used.ensures.value (opens_more c.args.qrels.now (used_by c.args.qrels.now) words c.loop-word.used word (drop (i + 1) words) _ _ _ told c.in_ok-run.run' (rw split at kept.opened) c.in_ok-run.ensures.opened gives);
       left = rw (c.used-used.ensures.value, pushed) more;
     }
+
+pub returns-in_err-run-clause-opened : goal.returns-in_err-run-clause-opened
+returns-in_err-run-clause-opened g c =
+    let words = c.args.words.now in
+    let i = c.loop-word.word-index in
+    let word = c.word-item.result in
+    let split : drop i words ≡ word ∷ drop (i + 1) words = drop_more words i word (omega arith) ∙ ap (λ w. w ∷ drop (i + 1) words) (sym c.word-item.is) in
+    opens_last c.args.qrels.now (used_by c.args.qrels.now) words c.loop-word.used word (drop (i + 1) words) _ _ _ (g.F.Shelf.files c.args.files.now) (rw split at c.loop-word.invariant.opened) c.load_run.ensures.opened
+
+pub returns-in_err-push_run-clause-opened : goal.returns-in_err-push_run-clause-opened
+returns-in_err-push_run-clause-opened g c =
+    let words = c.args.words.now in
+    let i = c.loop-word.word-index in
+    let word = c.word-item.result in
+    let split : drop i words ≡ word ∷ drop (i + 1) words = drop_more words i word (omega arith) ∙ ap (λ w. w ∷ drop (i + 1) words) (sym c.word-item.is) in
+    opens_last c.args.qrels.now (used_by c.args.qrels.now) words c.loop-word.used word (drop (i + 1) words) _ _ _ (g.F.Shelf.files c.args.files.now) (rw split at c.loop-word.invariant.opened) c.load_run.ensures.opened
+
+pub returns-clause-opened : goal.returns-clause-opened
+returns-clause-opened g c =
+    let words = c.args.words.now in
+    opens_all (g.F.Shelf.files c.args.files.now) c.args.qrels.now (used_by c.args.qrels.now) words c.loop-word.used _ _ (rw (drop_all c.loop-word.word-index words (omega arith)) at c.loop-word.invariant.opened)

@@ -2,6 +2,7 @@ use Rattle.std.proofs.Common.{◌≡◌, ◌≤◌, drop, vec_len}
 use Rattle.run_reader.specs.Run.{IsWithin}
 use Rattle.topics_pool.specs.Rows.{rows_of}
 use Rattle.desk_top.specs.Load.{used_by}
+use Rattle.desk_top.proofs.Opening.{OpensSoFar}
 use Rattle.desk_top.proofs.Runs.{Reaches}
 use Rattle.desk_top.proofs.load.load_runs.Given as goal
 
@@ -12,5 +13,6 @@ invariant-loop-word g l = record {
   within : IsWithin l.used;
   count : vec_len l.runs ≡ l.word-index;
   rows : l.used.rows ≡ rows_of l.runs.items;
+  opened : OpensSoFar (g.F.Shelf.files l.fn.files) l.qrels (used_by l.qrels) l.words l.used (drop l.word-index l.words) (g.F.Shelf.opened l.fn.files) (g.F.Shelf.opened l.files);
   left : Reaches (g.F.Shelf.files l.fn.files) l.qrels (used_by l.qrels) l.words l.used l.runs.items (drop l.word-index l.words);
 }
