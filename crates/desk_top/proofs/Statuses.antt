@@ -140,8 +140,7 @@ refusal_told unique words job files shelf input out err before after status call
 
     at : Ways (words_meaning words) shelf input out err before after status call.meets → (((status ≡ 1) × Writes err.had err.has err.before err.after (refusal_line refusal)) ⊎ (status ≡ 4)) × ReceivedNothing out
     at (inl gives) =
-        let is = halts unique words job files shelf input out err before after status call (Refused refusal) read gives.input gives.answer gives.is in
-        (
+        let is = halts unique words job files shelf input out err before after status call (Refused refusal) read gives.input gives.answer gives.is in (
           inl (gives.holds.ended ∙ ap (λ (a : Answer). a.status) is, subst (λ (a : Answer). Writes err.had err.has err.before err.after a.told) is gives.holds.line),
           given_nothing unique words job files shelf input out err before after status call (Refused refusal) read refl gives,
         )

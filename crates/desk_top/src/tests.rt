@@ -82,17 +82,61 @@ fn answer(
 fn each_line_has_its_answer(rt: HostRuntime) -> Result<(), Fail> {
     let alloc = rt.alloc();
     let cases = [
-        ("table --qrels q --measure P_2 a b", 0, "measure P_2\nlevel 1\ntopics 1\nruns 2\nrun A 0.500000 1.000000\nrun B 0.000000 0.500000\npair A above B 0.500000 0.500000\n"),
-        ("table --level=2 a --measure P_1 --qrels q", 0, "level 2\ntopics 1\nruns 1\nrun A 0.000000 0.000000\n"),
-        ("table --qrels q --measure recall_1 e f c", 0, "pair A above B 0.333333 1.000000\npair A open C 0.000000 1.000000\npair B open C -0.500000 0.000000\n"),
-        ("table --qrels p --measure Rprec e f", 0, "run A 0.500000 1.000000\nrun B 0.000000 0.500000\npair A open B 0.000000 1.000000\n"),
-        ("table --qrels o --measure recip_rank g h", 0, "pair A open B 0.000000 0.500000\n"),
-        ("table --qrels o --measure rbp_0.5 X=e Y=e", 0, "run X 0.500000 1.000000\nrun Y 0.500000 1.000000\npair X open Y -0.500000 0.500000\n"),
-        ("table --qrels o --measure rbp_0.95 X=e Y=e", 0, "pair X open Y -0.950000 0.950000\n"),
-        ("table --qrels o --measure rbp_0.000001 X=e Y=e", 0, "pair X open Y -0.000001 0.000001\n"),
-        ("table --qrels q --measure P_2 a a", 1, "refused: A: SameName\n"),
-        ("table --qrels a --measure P_2 a", 1, "refused: a line 1: BadFieldCount\n"),
-        ("session --qrels q --measure P_2 a", 2, "usage: desk COMMAND --qrels FILE --measure NAME [--level N] RUN...\n"),
+        (
+            "table --qrels q --measure P_2 a b",
+            0,
+            "measure P_2\nlevel 1\ntopics 1\nruns 2\nrun A 0.500000 1.000000\nrun B 0.000000 0.500000\npair A above B 0.500000 0.500000\n",
+        ),
+        (
+            "table --level=2 a --measure P_1 --qrels q",
+            0,
+            "level 2\ntopics 1\nruns 1\nrun A 0.000000 0.000000\n",
+        ),
+        (
+            "table --qrels q --measure recall_1 e f c",
+            0,
+            "pair A above B 0.333333 1.000000\npair A open C 0.000000 1.000000\npair B open C -0.500000 0.000000\n",
+        ),
+        (
+            "table --qrels p --measure Rprec e f",
+            0,
+            "run A 0.500000 1.000000\nrun B 0.000000 0.500000\npair A open B 0.000000 1.000000\n",
+        ),
+        (
+            "table --qrels o --measure recip_rank g h",
+            0,
+            "pair A open B 0.000000 0.500000\n",
+        ),
+        (
+            "table --qrels o --measure rbp_0.5 X=e Y=e",
+            0,
+            "run X 0.500000 1.000000\nrun Y 0.500000 1.000000\npair X open Y -0.500000 0.500000\n",
+        ),
+        (
+            "table --qrels o --measure rbp_0.95 X=e Y=e",
+            0,
+            "pair X open Y -0.950000 0.950000\n",
+        ),
+        (
+            "table --qrels o --measure rbp_0.000001 X=e Y=e",
+            0,
+            "pair X open Y -0.000001 0.000001\n",
+        ),
+        (
+            "table --qrels q --measure P_2 a a",
+            1,
+            "refused: A: SameName\n",
+        ),
+        (
+            "table --qrels a --measure P_2 a",
+            1,
+            "refused: a line 1: BadFieldCount\n",
+        ),
+        (
+            "session --qrels q --measure P_2 a",
+            2,
+            "usage: desk COMMAND --qrels FILE --measure NAME [--level N] RUN...\n",
+        ),
         ("table --qrels q --measure P_2 a x", 3, "fault: outside\n"),
     ];
     for (line, status, ending) in cases {
@@ -142,8 +186,14 @@ fn large_inputs_are_answered(rt: HostRuntime) -> Result<(), Fail> {
     judged.extend_from_slice(b"401 0 d1 1\n401 0 d2 0\n")?;
     let held = vec![in alloc;
         (String::from_str(alloc, "q")?, judged),
-        (String::from_str(alloc, "e")?, b"401 Q0 d1 1 1 A\n".to_vec(alloc)?),
-        (String::from_str(alloc, "f")?, b"401 Q0 d2 1 1 B\n".to_vec(alloc)?)
+        (
+            String::from_str(alloc, "e")?,
+            b"401 Q0 d1 1 1 A\n".to_vec(alloc)?
+        ),
+        (
+            String::from_str(alloc, "f")?,
+            b"401 Q0 d2 1 1 B\n".to_vec(alloc)?
+        ),
     ]?;
     let mut files = MemShelf::new(held, Vec::new(alloc));
     // 256 runs, the first and the last of which have names of 255 bytes.
