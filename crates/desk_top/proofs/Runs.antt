@@ -55,24 +55,5 @@ pub reaches_all : (told : Option Files) (qrels : List Topic) (first : Used) (all
 reaches_all None qrels first all used done h = tt
 reaches_all (Some held) qrels first all used done h = h ∙ ap (λ rs. Ok rs) (append-nil done)
 
--- what a run used is what was used before, and its rows
-pub used_rows : (given : Option (List ℕ)) (qrels : List Topic) (used : Used) (bytes : List ℕ) (run : Run) → run_of given qrels used bytes ≡ Ok run → run.used.rows ≡ used.rows + row_count run.topics
-used_rows given qrels used bytes run e = by_rows (rows_read (read_row qrels used) bytes) e
-  where
-    by_name : (name : Option (List ℕ)) (rows : List RunRow) → named name used rows ≡ Ok run → run.used.rows ≡ used.rows + row_count run.topics
-    by_name None rows e = absurd (cc)
-    by_name (Some name) rows e =
-        let is : record { name = name; topics = grouped rows; used = used_with used rows } ≡ run = cc in
-        let P : Run → Type 0 = λ r. r.used.rows ≡ used.rows + row_count r.topics in
-        subst P is (ap (λ n. used.rows + n) (sym (row_count-grouped rows)))
-
-    by_rows : (r : Result (List RunRow) FileFault) → and_then r (named (name_of given (lines bytes)) used) ≡ Ok run → run.used.rows ≡ used.rows + row_count run.topics
-    by_rows (Ok rows) e = by_name (name_of given (lines bytes)) rows e
-    by_rows (Err fault) e = absurd (cc)
-
-pub read_run_of : (run : Run) (wanted : Result Run FileFault) → IsUnlessMemory (Ok run) wanted → wanted ≡ Ok run
-read_run_of run wanted (inl bad) = absurd (cc)
-read_run_of run wanted (inr is) = sym is
-
 pub rows_of-push : (runs : List Run) (run : Run) → rows_of (runs ++ run ∷ []) ≡ rows_of runs + row_count run.topics
 rows_of-push runs run = sum_by-append (λ (r : Run). row_count r.topics) runs (run ∷ []) ∙ ap (λ n. rows_of runs + n) (zero-add (row_count run.topics))

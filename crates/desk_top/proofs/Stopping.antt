@@ -10,10 +10,6 @@ use Rattle.desk_top.specs.Outcome.{Stops, Gives}
 pub if_some_at : {X : Type 0} (o : Option X) (P : X → Type 0) (x : X) → IfSome o P → o ≡ Some x → P x
 if_some_at o P x h e = let Q : Option _ → Type 0 = λ o. IfSome o P in subst Q e h
 
-pub if_some : {X : Type 0} (o : Option X) (P : X → Type 0) → ((x : X) → o ≡ Some x → P x) → IfSome o P
-if_some None P f = tt
-if_some (Some x) P f = f x refl
-
 pub after_ok : {A B : Type 0} (r : Result A Halt) (f : A → Result B Halt) (x : A) (y : Result B Halt) → r ≡ Ok x → f x ≡ y → (r >>= f) ≡ y
 after_ok r f x y e h = ap (λ r. r >>= f) e ∙ h
 

@@ -2,6 +2,7 @@
 use Rattle.std.proofs.Common.{◌≡◌, ℕ, ◌^◌, List, length, ℤ, ◌≤ℤ◌, refl, ap, sym, ◌∙◌, arith}
 use Rattle.std.specs.List.{AllByRecursion}
 use Rattle.std.proofs.lemmas.Int.{ints}
+use Rattle.small_lemmas.proofs.Numbers.{both_ways}
 use Rattle.desk_model.specs.Desk.{Desk, IsDesk, AreMarksOf, topics_under}
 use Rattle.desk_model.specs.Extremes.{Ends, AreBounds}
 use Rattle.desk_model.specs.Order.{Topic}
@@ -59,9 +60,6 @@ table_named name cell bounds desk marks numbers valid known =
     }
 
 -- ---- numbers of a name are determined
-between : (z w : ℤ) → z ≤ℤ w → w ≤ℤ z → z ≡ w
-between z w h k = omega (arith, ints)
-
 ends_unique : (name : MeasureName) (marks : List Mark) (a b : List ℕ) (e f : Ends) → HasEnds name marks a b e → HasEnds name marks a b f → e ≡ f
 ends_unique (Precision k) marks a b e f h g = extremes_unique (Precision k) k marks a b e f h g
 ends_unique (Recall k) marks a b e f h g = extremes_unique (Recall k) (10 ^ 18) marks a b e f h g
@@ -71,7 +69,7 @@ ends_unique (Biased top bottom) marks a b e f h g = h ∙ sym g
 
 exact_bounds_unique : (m : MeasureName) (u : ℕ) (marks : List Mark) (a : List ℕ) (s r : Span) → AreBounds m u marks a s.lo s.hi → AreBounds m u marks a r.lo r.hi → s ≡ r
 exact_bounds_unique m u marks a s r h g =
-    span_same s.lo r.lo s.hi r.hi (between s.lo r.lo (g.low.others s.lo h.low.so) (h.low.others r.lo g.low.so)) (between s.hi r.hi (h.high.others r.hi g.high.so) (g.high.others s.hi h.high.so))
+    span_same s.lo r.lo s.hi r.hi (both_ways s.lo r.lo (g.low.others s.lo h.low.so) (h.low.others r.lo g.low.so)) (both_ways s.hi r.hi (h.high.others r.hi g.high.so) (g.high.others s.hi h.high.so))
 
 bounds_unique : (name : MeasureName) (marks : List Mark) (a : List ℕ) (s r : Span) → HasBounds name marks a s → HasBounds name marks a r → s ≡ r
 bounds_unique (Precision k) marks a s r h g = exact_bounds_unique (Precision k) k marks a s r h g

@@ -2,6 +2,7 @@
 use Rattle.std.proofs.Common.{◌≡◌, ℕ, List, [], ◌∷◌, map, length, ℤ, neg_ℤ, ◌+ℤ◌, inl, inr, refl, ap, sym, ◌∙◌, arith}
 use Rattle.std.specs.List.{AllByRecursion}
 use Rattle.std.proofs.lemmas.Int.{ints}
+use Rattle.small_lemmas.proofs.Numbers.{neg_twice}
 use Rattle.desk_model.specs.Desk.{Desk, IsDesk, AreMarksOf, topics_under}
 use Rattle.desk_model.specs.Extremes.{Ends}
 use Rattle.desk_model.specs.Order.{Topic}
@@ -23,9 +24,6 @@ use Rattle.pair_table.proofs.Zips.{all_then, made_beside, IsPairBelow, pairs_bel
 
 neg_adds : (z w v u : ℤ) → z ≡ neg_ℤ w → v ≡ neg_ℤ u → z +ℤ v ≡ neg_ℤ (w +ℤ u)
 neg_adds z w v u h k = omega (arith, ints, h, k)
-
-neg_twice : (z : ℤ) → neg_ℤ (neg_ℤ z) ≡ z
-neg_twice z = omega (arith, ints)
 
 pub turned_twice : (t : Totals) → turned (turned t) ≡ t
 turned_twice t = totals_same _ _ _ _ t.least_lo t.least_hi t.most_lo t.most_hi (neg_twice t.least_lo) (neg_twice t.least_hi) (neg_twice t.most_lo) (neg_twice t.most_hi)

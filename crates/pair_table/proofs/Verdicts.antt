@@ -4,27 +4,12 @@ use Rattle.std.specs.Prelude.{int_lt, int_le, ◌&&◌, ◌||◌, if◌then◌el
 use Rattle.std.specs.Ordering.{int_eq}
 use Rattle.std.proofs.lemmas.Int.{ints}
 use Rattle.std.proofs.lemmas.Bool.Decides.{nat_tests}
+use Rattle.small_lemmas.proofs.Tests.{positive, not_positive, negative, not_negative}
 use Rattle.desk_model.specs.Verdict.{verdict, differs}
 use Rattle.desk_model.specs.declared.types.Totals.{Totals}
 use Rattle.desk_model.specs.declared.types.Verdict.{Verdict}
 use Rattle.desk_model.specs.declared.types.Verdict.TheVariants.{Above, Below, Equal, Open, Close}
 use Rattle.pair_table.specs.Orders.{IsNearZero}
-
-positive : (z : ℤ) → int_lt (pos 0) z ≡ true → pos 0 <ℤ z
-positive (pos n) h = let k : 0 < n = grind (arith, nat_tests, h) in omega (arith, ints)
-positive (negsuc n) h = absurd (cc)
-
-not_positive : (z : ℤ) → int_lt (pos 0) z ≡ false → z ≤ℤ pos 0
-not_positive (pos n) h = let k : n ≤ 0 = grind (arith, nat_tests, h) in omega (arith, ints)
-not_positive (negsuc n) h = omega (arith, ints)
-
-negative : (z : ℤ) → int_lt z (pos 0) ≡ true → z <ℤ pos 0
-negative (pos n) h = absurd (grind (arith, nat_tests, h))
-negative (negsuc n) h = omega (arith, ints)
-
-not_negative : (z : ℤ) → int_lt z (pos 0) ≡ false → pos 0 ≤ℤ z
-not_negative (pos n) h = omega (arith, ints)
-not_negative (negsuc n) h = absurd (cc)
 
 below_zero : (z : ℤ) → int_le (pos 0) z ≡ false → z <ℤ pos 0
 below_zero (pos n) h = absurd (grind (arith, nat_tests, h))

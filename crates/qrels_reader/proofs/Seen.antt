@@ -6,6 +6,7 @@ use Rattle.std.specs.Str.{bytes_eq}
 use Rattle.std.specs.Cmp.{IsEquivalence}
 use Rattle.std.specs.Cmp.Lexicographic.{same_text}
 use Rattle.std.proofs.lemmas.Cmp.{nat_list_eq_equiv}
+use Rattle.small_lemmas.proofs.Tests.{neither}
 use Rattle.qrels_reader.specs.Rows.{first_seen}
 
 pub laws : IsEquivalence bytes_eq
@@ -90,14 +91,10 @@ none-others y (z ∷ zs) = by (none-others y zs) (bytes_eq y z) refl
         ap (λ b. list_any (bytes_eq y) (cond (not b) (z ∷ filter (others y) zs) (filter (others y) zs))) e
         ∙ ap (λ b. b || list_any (bytes_eq y) (filter (others y) zs)) e ∙ rest
 
-pub or-false : (a b : Bool) → (a || b) ≡ false → (a ≡ false) × (b ≡ false)
-or-false true b e = (e, absurd (true≢false e))
-or-false false b e = (refl, e)
-
 none-filter : (n : List ℕ) (p : List ℕ → Bool) (zs : List (List ℕ)) → list_any (bytes_eq n) zs ≡ false → list_any (bytes_eq n) (filter p zs) ≡ false
 none-filter n p [] e = refl
 none-filter n p (z ∷ zs) e =
-    let parts = or-false (bytes_eq n z) (list_any (bytes_eq n) zs) e in
+    let parts = neither (bytes_eq n z) (list_any (bytes_eq n) zs) e in
     by parts.0 (none-filter n p zs parts.1) (p z)
   where
     by : bytes_eq n z ≡ false → list_any (bytes_eq n) (filter p zs) ≡ false → (b : Bool) → list_any (bytes_eq n) (cond b (z ∷ filter p zs) (filter p zs)) ≡ false
@@ -119,7 +116,7 @@ IsDistinct-first_seen (x ∷ xs) = (none-others x (first_seen xs), IsDistinct-fi
 none_equal : (x : List ℕ) (xs : List (List ℕ)) → list_any (bytes_eq x) xs ≡ false → AllByRecursion (λ y. bytes_eq x y ≡ false) xs
 none_equal x [] e = tt
 none_equal x (y ∷ ys) e =
-    let parts = or-false (bytes_eq x y) (list_any (bytes_eq x) ys) e in
+    let parts = neither (bytes_eq x y) (list_any (bytes_eq x) ys) e in
     (parts.0, none_equal x ys parts.1)
 
 -- the same, in the words of the library
@@ -131,12 +128,12 @@ all_differ (x ∷ xs) d = (none_equal x xs d.0, all_differ xs d.1)
 any-push : (x n : List ℕ) (xs : List (List ℕ)) → list_any (bytes_eq x) xs ≡ false → bytes_eq x n ≡ false → list_any (bytes_eq x) (xs ++ n ∷ []) ≡ false
 any-push x n [] e f = ap (λ b. b || false) f
 any-push x n (y ∷ ys) e f =
-    let parts = or-false (bytes_eq x y) (list_any (bytes_eq x) ys) e in
+    let parts = neither (bytes_eq x y) (list_any (bytes_eq x) ys) e in
     ap (λ b. b || list_any (bytes_eq x) (ys ++ n ∷ [])) parts.0 ∙ any-push x n ys parts.1 f
 
 -- one more name that is not there yet
 pub IsDistinct-push : (xs : List (List ℕ)) (n : List ℕ) → IsDistinct xs → list_any (bytes_eq n) xs ≡ false → IsDistinct (xs ++ n ∷ [])
 IsDistinct-push [] n d e = (refl, tt)
 IsDistinct-push (x ∷ xs) n d e =
-    let parts = or-false (bytes_eq n x) (list_any (bytes_eq n) xs) e in
+    let parts = neither (bytes_eq n x) (list_any (bytes_eq n) xs) e in
     (any-push x n xs d.0 (laws.symm x n ∙ parts.0), IsDistinct-push xs n d.1 parts.1)

@@ -15,7 +15,8 @@ use Rattle.qrels_reader.specs.declared.fault.FileFault.TheVariants.{Line}
 use Rattle.qrels_reader.specs.Reading.{unless, checked, field, is_long, read_line, with_row}
 use Rattle.qrels_reader.specs.Grouped as qrels_grouped
 use Rattle.qrels_reader.proofs.Right.{Made, mapped, parted, last}
-use Rattle.qrels_reader.proofs.Seen.{same, or-false, IsDistinct}
+use Rattle.small_lemmas.proofs.Tests.{neither}
+use Rattle.qrels_reader.proofs.Seen.{same, IsDistinct}
 use Rattle.qrels_reader.proofs.FieldNames.{is_name-field}
 use Rattle.qrels_reader.proofs.Chains.{none_holds}
 use Rattle.run_reader.specs.declared.limits.TheConstants.{MOST_RANKS}
@@ -55,8 +56,8 @@ named_form line row e =
     let made = parted (checked (form_faults line)) (λ done. row_of line) row e in
     let fine = none_holds (form_faults line) (tt {0}) made.value made.found in
     let count : length (fields_of line) ≡ 6 = eqb-true (length (fields_of line)) 6 (not-false (length (fields_of line) == 6) fine.1.1.0) in
-    let short = or-false (is_long (field line 0)) (is_long (field line 2) || is_long (tag_of line)) fine.1.1.1.0 in
-    let rest = or-false (is_long (field line 2)) (is_long (tag_of line)) short.1 in
+    let short = neither (is_long (field line 0)) (is_long (field line 2) || is_long (tag_of line)) fine.1.1.1.0 in
+    let rest = neither (is_long (field line 2)) (is_long (tag_of line)) short.1 in
     let parts = scored_row line row (score_of (field line 4)) made.made in
     record {
       named = (ap is_name parts.0 ∙ is_name-field line 0 fine.1.0 (omega arith) short.0, ap is_name parts.1 ∙ is_name-field line 2 fine.1.0 (omega arith) rest.0);

@@ -10,7 +10,7 @@ use Rattle.std.proofs.lemmas.List.Sorted.{IsPermutation-sym, IsPermutation-trans
 use Rattle.std.proofs.lemmas.Map.Keys.{sorted_head, sorted_tail}
 use Rattle.std.proofs.lemmas.Map.Lookups.{exact_bytes, exact_signed}
 use Rattle.desk_model.specs.Name.{name_cmp}
-use Rattle.qrels_reader.proofs.Seen.{or-false}
+use Rattle.small_lemmas.proofs.Tests.{neither}
 use Rattle.run_reader.specs.Run.{Scored}
 use Rattle.trec_order.specs.Order.{trec_cmp, IsTrecOrder}
 use Rattle.trec_order.proofs.Ranks.{trec_total, then_equal}
@@ -66,8 +66,8 @@ one_list [] [] s t h = refl
 one_list [] (y ∷ ys) s t h = absurd (true≢false (sym (h (λ _. true))))
 one_list (x ∷ xs) [] s t h = absurd (true≢false (h (λ _. true)))
 one_list (x ∷ xs) (y ∷ ys) s t h =
-    let left = or-false (is_lt (trec_cmp x y)) (list_any (λ z. is_lt (trec_cmp z y)) xs) (h (λ z. is_lt (trec_cmp z y)) ∙ first_before y ys t) in
-    let right = or-false (is_lt (trec_cmp y x)) (list_any (λ z. is_lt (trec_cmp z x)) ys) (sym (h (λ z. is_lt (trec_cmp z x))) ∙ first_before x xs s) in
+    let left = neither (is_lt (trec_cmp x y)) (list_any (λ z. is_lt (trec_cmp z y)) xs) (h (λ z. is_lt (trec_cmp z y)) ∙ first_before y ys t) in
+    let right = neither (is_lt (trec_cmp y x)) (list_any (λ z. is_lt (trec_cmp z x)) ys) (sym (h (λ z. is_lt (trec_cmp z x))) ∙ first_before x xs s) in
     let first : x ≡ y = same_row x y left.0 right.0 in
     let same : (p : Scored → Bool) → list_any p xs ≡ list_any p ys = λ p.
     sym (tested p x xs s) ∙ h (λ z. is_lt (trec_cmp x z) && p z) ∙ ap (λ w. list_any (λ z. is_lt (trec_cmp w z) && p z) (y ∷ ys)) first ∙ tested p y ys t in

@@ -2,11 +2,11 @@ use Rattle.std.proofs.Common.{◌≡◌, rules}
 use Rattle.qrels_reader.specs.Reading.{IsUnlessMemory}
 use Rattle.run_reader.specs.Run.{run_of}
 use Rattle.desk_top.proofs.Faults.{stops_at_file, faulted}
-use Rattle.desk_top.proofs.Runs.{used_rows, read_run_of}
+use Rattle.topics_pool.proofs.AddedUp.{added_up, answered}
 use Rattle.desk_top.proofs.load.load_run.Goals as goal
 
 pub returns-in-Ok-clause-rows : goal.returns-in-Ok-clause-rows
-returns-in-Ok-clause-rows g c = used_rows _ c.args.qrels.now c.args.used c.deref.result.now c.in-Ok.run' (read_run_of c.in-Ok.run' _ c.in-Ok.ensures.run)
+returns-in-Ok-clause-rows g c = added_up _ c.args.qrels.now c.args.used c.deref.result.now c.in-Ok.run' (answered c.in-Ok.run' _ c.in-Ok.ensures.run)
 
 pub returns-clause-gives : goal.returns-clause-gives
 returns-clause-gives g c =

@@ -5,12 +5,8 @@ use Rattle.qrels_reader.specs.declared.fault.FileFault.{FileFault}
 use Rattle.run_reader.specs.Run.{Run, run_of, row_count}
 use Rattle.run_reader.specs.declared.used.Used.{Used}
 use Rattle.topics_pool.specs.Rows.{rows_of}
-use Rattle.topics_pool.proofs.AddedUp.{added_up}
+use Rattle.topics_pool.proofs.AddedUp.{added_up, answered}
 use Rattle.topics_pool.proofs.tests.read_runs.Goals as goal
-
-answered : (run : Run) (wanted : Result Run FileFault) → IsUnlessMemory (Ok run) wanted → wanted ≡ Ok run
-answered run wanted (inl bad) = absurd (cc)
-answered run wanted (inr is) = sym is
 
 pub returns-clause-rows : goal.returns-clause-rows
 returns-clause-rows c =
