@@ -9,7 +9,7 @@ use Rattle.std.proofs.lemmas.Bool.{cases_lt}
 use Rattle.std.proofs.lemmas.Int.{ints}
 use Rattle.std.proofs.Math.Nat.{pow-succ', mul_assoc, zero-mul}
 use Rattle.std.proofs.Math.Pow.{pow-add}
-use Rattle.decimal_score.specs.Significand.{IsKept, EndsInDigit, AreKept, HasLastZeros, IsLongNumber, IsSignificand}
+use Rattle.decimal_score.specs.Significand.{AreSignificant, EndsInDigit, AreKept, HasLastZeros, IsLongNumber, IsSignificand}
 
 -- the digits that are left, at one of them
 pub digits_left : (n : ℕ) (ds : List ℕ) (i : ℕ) → AllDigits 10 ds → i < length ds → digits_value_after 10 n (drop i ds) ≡ digits_value_after 10 (n * 10 + (get_or ds i 0 - 48)) (drop (i + 1) ds)
@@ -27,13 +27,13 @@ pub digits_value_after-append : (n : ℕ) (xs ys : List ℕ) → digits_value_af
 digits_value_after-append n [] ys = refl
 digits_value_after-append n (c ∷ xs) ys = digits_value_after-append (n * 10 + digit_value c) xs ys
 
-pub AllDigits-front : (xs ys : List ℕ) → AllDigits 10 (xs ++ ys) → AllDigits 10 xs
-AllDigits-front [] ys h = tt
-AllDigits-front (c ∷ xs) ys h = (h.0, AllDigits-front xs ys h.1)
+pub AllDigits-prefix : (xs ys : List ℕ) → AllDigits 10 (xs ++ ys) → AllDigits 10 xs
+AllDigits-prefix [] ys h = tt
+AllDigits-prefix (c ∷ xs) ys h = (h.0, AllDigits-prefix xs ys h.1)
 
 -- digits that are kept are digits
-pub kept_digits : (digits kept : List ℕ) → IsKept digits kept → AllDigits 10 digits → AllDigits 10 kept
-kept_digits digits kept h all = AllDigits-front kept (replicate (length digits - length kept) 48) (subst (AllDigits 10) h.zeros all)
+pub kept_digits : (digits kept : List ℕ) → AreSignificant digits kept → AllDigits 10 digits → AllDigits 10 kept
+kept_digits digits kept h all = AllDigits-prefix kept (replicate (length digits - length kept) 48) (subst (AllDigits 10) h.zeros all)
 
 -- zeros at the end multiply by ten
 zeros_behind : (n k : ℕ) → digits_value_after 10 n (replicate k 48) ≡ n * 10 ^ k
@@ -54,7 +54,7 @@ last_digit n (c ∷ (d ∷ ds)) all some end e =
     last_digit (n * 10 + digit_value c) (d ∷ ds) all.1 (omega arith) (λ _ bad. end (omega arith) (rw q (rw p at bad))) e
 
 -- what stands before zeros
-kept_value : (n : ℕ) (digits kept : List ℕ) → IsKept digits kept → digits_value_after 10 n digits ≡ digits_value_after 10 n kept * 10 ^ (length digits - length kept)
+kept_value : (n : ℕ) (digits kept : List ℕ) → AreSignificant digits kept → digits_value_after 10 n digits ≡ digits_value_after 10 n kept * 10 ^ (length digits - length kept)
 kept_value n digits kept h =
     ap (digits_value_after 10 n) h.zeros ∙ digits_value_after-append n kept (replicate (length digits - length kept) 48)
     ∙ zeros_behind (digits_value_after 10 n kept) (length digits - length kept)
@@ -80,10 +80,10 @@ kept_number whole fraction kept_whole kept_fraction h =
           rw (kept, none, zero-add) (rw same value)
       | inr none ↦
           let nil = empty kept_fraction none in
-          let front = kept_value 0 whole kept_whole h.whole_kept in
+          let prefix = kept_value 0 whole kept_whole h.whole_kept in
           let all : digits_value_after 10 (digits_value 10 whole) kept_fraction ≡ digits_value 10 whole = ap (digits_value_after 10 (digits_value 10 whole)) nil in
           let rest : digits_value_after 10 before kept_fraction ≡ before = ap (digits_value_after 10 before) nil in
-          value ∙ ap (λ v. v * 10 ^ j) (all ∙ front) ∙ mul_assoc before (10 ^ k) (10 ^ j) ∙ ap (λ p. before * p) (sym (pow-add 10 k j)) ∙ ap (λ v. v * 10 ^ (k + j)) (sym rest ∙ sym kept)
+          value ∙ ap (λ v. v * 10 ^ j) (all ∙ prefix) ∙ mul_assoc before (10 ^ k) (10 ^ j) ∙ ap (λ p. before * p) (sym (pow-add 10 k j)) ∙ ap (λ v. v * 10 ^ (k + j)) (sym rest ∙ sym kept)
     ]
 
 -- the last digit that is kept is not 0
@@ -109,8 +109,8 @@ kept_end whole fraction kept_whole kept_fraction all_whole all_fraction h some e
 
 -- what is read of the kept digits
 pub kept_read : (kept_whole kept_fraction : List ℕ) (n digits : ℕ) → n ≡ digits_value_after 10 0 kept_whole → digits ≡ digits_value_after 10 n kept_fraction → digits ≡ digits_value 10 (kept_whole ++ kept_fraction)
-kept_read kept_whole kept_fraction n digits front all =
-    all ∙ ap (λ v. digits_value_after 10 v kept_fraction) front ∙ sym (digits_value_after-append 0 kept_whole kept_fraction)
+kept_read kept_whole kept_fraction n digits prefix all =
+    all ∙ ap (λ v. digits_value_after 10 v kept_fraction) prefix ∙ sym (digits_value_after-append 0 kept_whole kept_fraction)
 
 -- the zeros at the end of a number whose kept digits are not all 0
 pub kept_zeros : (whole fraction kept_whole kept_fraction : List ℕ) → AllDigits 10 whole → AllDigits 10 fraction → AreKept whole fraction kept_whole kept_fraction → (digits : ℕ) → digits ≡ digits_value 10 (kept_whole ++ kept_fraction) → 0 < digits →
@@ -123,15 +123,15 @@ kept_zeros whole fraction kept_whole kept_fraction all_whole all_fraction h digi
 
 -- more than 30 kept digits
 pub kept_long : (whole fraction kept_whole kept_fraction : List ℕ) → AllDigits 10 whole → AllDigits 10 fraction → AreKept whole fraction kept_whole kept_fraction → (n : ℕ) → n ≡ digits_value_after 10 0 kept_whole → 10 ^ 30 ≤ digits_value_after 10 n kept_fraction → IsLongNumber (digits_value 10 (whole ++ fraction))
-kept_long whole fraction kept_whole kept_fraction all_whole all_fraction h n front long =
+kept_long whole fraction kept_whole kept_fraction all_whole all_fraction h n prefix long =
     let digits = digits_value_after 10 n kept_fraction in
-    (digits, (_, (kept_zeros whole fraction kept_whole kept_fraction all_whole all_fraction h digits (kept_read kept_whole kept_fraction n digits front refl) (omega arith), long)))
+    (digits, (_, (kept_zeros whole fraction kept_whole kept_fraction all_whole all_fraction h digits (kept_read kept_whole kept_fraction n digits prefix refl) (omega arith), long)))
 
 -- the kept digits and their place
 pub kept_significand : (whole fraction kept_whole kept_fraction : List ℕ) → AllDigits 10 whole → AllDigits 10 fraction → AreKept whole fraction kept_whole kept_fraction → (n digits : ℕ) (place : ℤ) → n ≡ digits_value_after 10 0 kept_whole → digits ≡ digits_value_after 10 n kept_fraction →
     place ≡ pos (length whole - length kept_whole) -ℤ pos (length kept_fraction) → IsSignificand whole fraction digits place
-kept_significand whole fraction kept_whole kept_fraction all_whole all_fraction h n digits place front all is =
-    let read = kept_read kept_whole kept_fraction n digits front all in
+kept_significand whole fraction kept_whole kept_fraction all_whole all_fraction h n digits place prefix all is =
+    let read = kept_read kept_whole kept_fraction n digits prefix all in
     elim (cases_lt 0 digits) [
       | inl some ↦ inr (
         length whole - length kept_whole + (length fraction - length kept_fraction),

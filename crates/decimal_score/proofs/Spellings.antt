@@ -69,8 +69,8 @@ first_cut p text =
     ]
 
 -- where the first mark stands fixes both parts
-pub cut_here : (p : ℕ → Bool) (front rest : List ℕ) → position_or_len p (front ++ rest) ≡ length front → (before_first p (front ++ rest) ≡ front) × (after_first p (front ++ rest) ≡ drop 1 rest)
-cut_here p front rest e = rw e (grind (arith, common_steps), drop-append-add front rest 1)
+pub cut_here : (p : ℕ → Bool) (prefix rest : List ℕ) → position_or_len p (prefix ++ rest) ≡ length prefix → (before_first p (prefix ++ rest) ≡ prefix) × (after_first p (prefix ++ rest) ≡ drop 1 rest)
+cut_here p prefix rest e = rw e (grind (arith, common_steps), drop-append-add prefix rest 1)
 
 -- no digit is a letter of an exponent or a point
 no_letter : (c : ℕ) → IsAsciiDigit c → is_mark 101 69 c ≡ false
@@ -94,7 +94,7 @@ power_cut : (text : List ℕ) → let power = after_first (is_mark 101 69) text 
     AllDigits 10 (without_leading_sign power) → (length (before_first (is_mark 101 69) text) < length text → 0 < length (without_leading_sign power)) →
     (written : List ℕ) × (IsExponent (signed (starts_with_minus power) (digits_value 10 (without_leading_sign power))) written × (text ≡ before_first (is_mark 101 69) text ++ written))
 power_cut text all some =
-    let front = before_first (is_mark 101 69) text in
+    let prefix = before_first (is_mark 101 69) text in
     let power = after_first (is_mark 101 69) text in
     elim (first_cut (is_mark 101 69) text) [
       | inl cut ↦
@@ -116,7 +116,7 @@ power_cut text all some =
               cut.1.1,
             ),
           )
-      | inr whole ↦ ([], (inr (refl, rw whole.1 refl), whole.0 ∙ sym (append-nil front)))
+      | inr whole ↦ ([], (inr (refl, rw whole.1 refl), whole.0 ∙ sym (append-nil prefix)))
     ]
 
 -- what a score's text has

@@ -18,7 +18,7 @@ IsSignificand whole fraction digits place =
     (((digits ≡ 0) × (number ≡ 0)) ⊎ ((zeros : ℕ) × (HasLastZeros number digits zeros × (place +ℤ pos (length fraction) ≡ pos zeros))))
 
 -- these are digits without the zeros at their end
-pub record IsKept (digits kept : List ℕ) : Type 0 where
+pub record AreSignificant (digits kept : List ℕ) : Type 0 where
   pub zeros : digits ≡ kept ++ replicate (length digits - length kept) 48
   pub within : length kept ≤ length digits
 
@@ -28,8 +28,8 @@ EndsInDigit kept = 0 < length kept → slice_index kept (length kept - 1) ≢ 48
 
 -- the parts without the zeros at the end of both
 pub record AreKept (whole fraction kept_whole kept_fraction : List ℕ) : Type 0 where
-  pub whole_kept : IsKept whole kept_whole
-  pub fraction_kept : IsKept fraction kept_fraction
+  pub whole_kept : AreSignificant whole kept_whole
+  pub fraction_kept : AreSignificant fraction kept_fraction
   pub whole_end : length kept_fraction ≡ 0 → EndsInDigit kept_whole
   pub fraction_end : EndsInDigit kept_fraction
   pub whole_stays : 0 < length kept_fraction → kept_whole ≡ whole

@@ -2,7 +2,7 @@ ghost use Rattle.std.specs.Prelude.{◌≡◌, ◌^◌, ◌<◌, ◌≤◌, ◌+
 ghost use Rattle.std.specs.Int.RustNames.{unsigned_abs};
 ghost use Rattle.std.specs.Str.Parse.{AllDigits, digits_value, digits_value_after};
 ghost use Rattle.decimal_score.specs.Text.{signed};
-ghost use Rattle.decimal_score.specs.Significand.{IsSignificand, IsLongNumber, IsKept, EndsInDigit, AreKept};
+ghost use Rattle.decimal_score.specs.Significand.{IsSignificand, IsLongNumber, AreSignificant, EndsInDigit, AreKept};
 
 use crate::key::{LIMIT, with_sign};
 
@@ -20,7 +20,7 @@ pub struct Significand {
 
 /// The digits without the zeros at their end.
 fn without_last_zeros(digits: &[u8]) -> &[u8]
-    ensures kept { IsKept digits.now result.now }
+    ensures kept { AreSignificant digits.now result.now }
     ensures last { EndsInDigit result.now }
 {
     let mut kept = digits;

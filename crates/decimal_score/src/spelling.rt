@@ -29,7 +29,7 @@ fn cut_sign(text: &[u8]) -> (bool, &[u8])
 
 /// What stands before the first mark, and what stands after it.
 fn cut_at(text: &[u8], mark: u8, other: u8) -> (&[u8], &[u8])
-    ensures front { result.0.now ≡ before_first (is_mark mark other) text.now }
+    ensures prefix { result.0.now ≡ before_first (is_mark mark other) text.now }
     ensures rest { result.1.now ≡ after_first (is_mark mark other) text.now }
 {
     match first_mark(text, mark, other) {

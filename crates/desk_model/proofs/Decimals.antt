@@ -28,13 +28,13 @@ step : (n c p r : ℕ) → (10 * n + c) * p + r ≡ n * (p * 10) + (c * p + r)
 step n c p r = omega (arith, add-mul (10 * n) c p, mul_assoc 10 n p, mul_assoc n p 10)
 
 -- a number before more digits
-read_on-front : (n : ℕ) (ds : List ℕ) → read_on n ds ≡ n * 10 ^ length ds + read_on 0 ds
-read_on-front n [] = omega (arith, mul-one n)
-read_on-front n (c ∷ cs) =
+read_on-prefix : (n : ℕ) (ds : List ℕ) → read_on n ds ≡ n * 10 ^ length ds + read_on 0 ds
+read_on-prefix n [] = omega (arith, mul-one n)
+read_on-prefix n (c ∷ cs) =
     let z : 10 * 0 + (c - 48) ≡ c - 48 = omega arith in
-    read_on-front (10 * n + (c - 48)) cs
+    read_on-prefix (10 * n + (c - 48)) cs
     ∙ step n (c - 48) (10 ^ length cs) (read_on 0 cs)
-    ∙ ap₂ (λ p r. n * p + r) (sym (pow-suc 10 (length cs))) (sym (ap (λ k. read_on k cs) z ∙ read_on-front (c - 48) cs))
+    ∙ ap₂ (λ p r. n * p + r) (sym (pow-suc 10 (length cs))) (sym (ap (λ k. read_on k cs) z ∙ read_on-prefix (c - 48) cs))
 
 digit_bound : (c : ℕ) → is_ascii_digit c ≡ true → (48 ≤ c) × (c ≤ 57)
 digit_bound c h = grind arith
@@ -47,7 +47,7 @@ below_power (c ∷ cs) h =
     let digit = digit_bound c parts.0 in
     let rest : read_on 0 cs < 10 ^ length cs = below_power cs parts.1 in
     let z : 10 * 0 + (c - 48) ≡ c - 48 = omega arith in
-    let value : read_on (10 * 0 + (c - 48)) cs ≡ (c - 48) * 10 ^ length cs + read_on 0 cs = ap (λ k. read_on k cs) z ∙ read_on-front (c - 48) cs in
+    let value : read_on (10 * 0 + (c - 48)) cs ≡ (c - 48) * 10 ^ length cs + read_on 0 cs = ap (λ k. read_on k cs) z ∙ read_on-prefix (c - 48) cs in
     let nine : (c - 48) * 10 ^ length cs ≤ 9 * 10 ^ length cs = mul-le-mul_right (10 ^ length cs) (omega arith) in
     omega (arith, pow_ten (length cs))
 
@@ -87,10 +87,10 @@ one_and_decimals (suc d) t below few =
     let ten = pow_ten d in
     let up = one_and_decimals d (t / 10) (omega arith) (omega arith) in
     let n : ℕ = 10 ^ suc d + t in
-    let front : n / 10 ≡ 10 ^ d + t / 10 = omega arith in
+    let leading : n / 10 ≡ 10 ^ d + t / 10 = omega arith in
     record {
       decimals = up.decimals ++ (48 + n % 10) ∷ [];
-      are = decimal_step n (omega arith) (omega arith) ∙ ap (λ m. decimal m ++ (48 + n % 10) ∷ []) front ∙ ap (λ ds. ds ++ (48 + n % 10) ∷ []) up.are;
+      are = decimal_step n (omega arith) (omega arith) ∙ ap (λ m. decimal m ++ (48 + n % 10) ∷ []) leading ∙ ap (λ ds. ds ++ (48 + n % 10) ∷ []) up.are;
       number = omega (arith, length-append up.decimals ((48 + n % 10) ∷ []), up.number);
     }
 
@@ -99,7 +99,7 @@ pub from_digits : (ds : List ℕ) → all_ascii_digits ds ≡ true → length ds
 from_digits ds h few =
     let small = pow_small (length ds) few in
     let less = below_power ds h in
-    let value : read_on 1 ds ≡ 10 ^ length ds + read_on 0 ds = omega (arith, read_on-front 1 ds) in
+    let value : read_on 1 ds ≡ 10 ^ length ds + read_on 0 ds = omega (arith, read_on-prefix 1 ds) in
     let there : is_plain (49 ∷ ds) ≡ true = and_from _ _ (and_from (all_ascii_digits ds) (nat_lt 0 (length (49 ∷ ds))) h (lt-ltb 0 (length (49 ∷ ds)) (omega arith))) refl in
     sym (ap decimal value) ∙ plain_is_decimal (49 ∷ ds) there (omega arith)
 
@@ -109,7 +109,7 @@ to_digits ds t less few e =
     let small = pow_small (length ds) few in
     let all : all_ascii_digits (49 ∷ ds) ≡ true = subst (λ xs. all_ascii_digits xs ≡ true) e (digits_decimal own (10 ^ length ds + t) (omega arith)) in
     let is : read_on 1 ds ≡ 10 ^ length ds + t = ap (read_on 0) (sym e) ∙ digits_value-decimal own (10 ^ length ds + t) (omega arith) in
-    (all, omega (arith, read_on-front 1 ds))
+    (all, omega (arith, read_on-prefix 1 ds))
 
 -- a zero at the end of the decimals goes to the zeros after them
 pub zero_taken : (d t k : ℕ) → t % 10 ≡ 0 → 10 ^ suc d + t < 2 ^ 64 → decimal (10 ^ suc d + t) ++ replicate k 48 ≡ decimal (10 ^ d + t / 10) ++ replicate (suc k) 48
@@ -217,9 +217,9 @@ with_zeros top bottom zeros ds p is few =
     let power : bottom + top ≡ n = omega (arith, p.power) in
     let less : top < 10 ^ d = omega (arith, p.power, p.below_one) in
     let one = one_and_decimals d top less p.few in
-    let front : drop 1 (decimal (bottom + top)) ≡ one.decimals = ap (λ m. drop 1 (decimal m)) power ∙ ap (drop 1) one.are in
-    let long : length (drop 1 (decimal (bottom + top))) ≡ d = ap length front ∙ one.number in
-    let whole : ds ≡ one.decimals ++ replicate zeros 48 = is ∙ ap (λ xs. xs ++ replicate zeros 48) front in
+    let leading : drop 1 (decimal (bottom + top)) ≡ one.decimals = ap (λ m. drop 1 (decimal m)) power ∙ ap (drop 1) one.are in
+    let long : length (drop 1 (decimal (bottom + top))) ≡ d = ap length leading ∙ one.number in
+    let whole : ds ≡ one.decimals ++ replicate zeros 48 = is ∙ ap (λ xs. xs ++ replicate zeros 48) leading in
     let size : length ds ≡ d + zeros = omega (arith, ap length whole ∙ length-append one.decimals (replicate zeros 48), length-replicate {A = ℕ} zeros 48, one.number) in
     let shift : 10 ^ (d + zeros) ≡ 10 ^ d * 10 ^ zeros = pow-add 10 d zeros in
     let scale : (10 ^ d + top) * 10 ^ zeros ≡ 10 ^ d * 10 ^ zeros + top * 10 ^ zeros = add-mul (10 ^ d) top (10 ^ zeros) in

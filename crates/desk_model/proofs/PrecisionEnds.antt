@@ -9,7 +9,7 @@ use Rattle.std.proofs.Math.Bool.{or-true}
 use Rattle.std.proofs.lemmas.Bool.{eq-eqb}
 use Rattle.desk_model.specs.Mark.{mark_at}
 use Rattle.desk_model.specs.Completion.{Completes, picked_value, with_picked}
-use Rattle.desk_model.specs.Classes.{only_count, precision_least, precision_most, precision_ends, front_count}
+use Rattle.desk_model.specs.Classes.{only_count, precision_least, precision_most, precision_ends, prefix_count}
 use Rattle.desk_model.specs.Ranking.{IsRanking, is_in}
 use Rattle.desk_model.specs.Fraction.{over, IsAtMost, IsAtLeast}
 use Rattle.desk_model.specs.Extremes.{AreExtremes, AreBounds}
@@ -105,8 +105,8 @@ pub count_at_least : (z : ℤ) (k m n : ℕ) → 0 < k → m + down z ≤ up z +
 count_at_least z k m n h le =
     rw (over-pos m k h, over-pos n k h) (at_least_in z k (record { num = m; den = k }) (record { num = n; den = k }) (omega (arith, mul-le-mul_right (k * k) le)))
 
-pub front_within : (k n : ℕ) (a : List ℕ) → IsRanking n a → AllByRecursion (λ d. d < n) (take k a)
-front_within k n a r = recursion_from_All (λ d. d < n) (take k a) (All-take (λ d. d < n) k a r.within)
+pub prefix_within : (k n : ℕ) (a : List ℕ) → IsRanking n a → AllByRecursion (λ d. d < n) (take k a)
+prefix_within k n a r = recursion_from_All (λ d. d < n) (take k a) (All-take (λ d. d < n) k a r.within)
 
 pub precision_extremes : (k : ℕ) (marks : List Mark) (a b : List ℕ) → 0 < k → IsRanking (length marks) a → IsRanking (length marks) b →
     AreExtremes (Precision k) k marks a b (precision_ends k marks a b)
@@ -115,8 +115,8 @@ precision_extremes k marks a b h ra rb =
     let ys = take k b in
     let dx = IsDistinct-take k a ra.distinct in
     let dy = IsDistinct-take k b rb.distinct in
-    let wx = front_within k (length marks) a ra in
-    let wy = front_within k (length marks) b rb in
+    let wx = prefix_within k (length marks) a ra in
+    let wy = prefix_within k (length marks) b rb in
     exact_extremes (Precision k) k marks a b (precision_least k marks a b) (precision_most k marks a b)
     (λ truth _ _ c. count_at_most (precision_least k marks a b) k (count_by truth xs) (count_by truth ys) h (omega (arith, ints, least_bound marks truth xs ys dx dy wx wy c)))
     (with_picked marks (in_second_only xs ys), [], [], with_picked-Completes marks (in_second_only xs ys), count_at_least (precision_least k marks a b) k _ _ h (omega (arith, ints, least_attained marks xs ys dx dy)))
@@ -124,12 +124,12 @@ precision_extremes k marks a b h ra rb =
     (with_picked marks (in_second_only ys xs), [], [], with_picked-Completes marks (in_second_only ys xs), count_at_most (precision_most k marks a b) k _ _ h (omega (arith, ints, least_attained marks ys xs dy dx)))
 
 -- ---- the bounds of one run
-front_least : (marks : List Mark) (truth : ℕ → Bool) (xs : List ℕ) → AllByRecursion (λ d. d < length marks) xs → Completes marks truth → count_by (with_picked marks (λ _. false)) xs ≤ count_by truth xs
-front_least marks truth xs within c =
+prefix_least : (marks : List Mark) (truth : ℕ → Bool) (xs : List ℕ) → AllByRecursion (λ d. d < length marks) xs → Completes marks truth → count_by (with_picked marks (λ _. false)) xs ≤ count_by truth xs
+prefix_least marks truth xs within c =
     count_by-weaker _ _ xs (weaker (λ d. d < length marks) (λ d. with_picked marks (λ _. false) d ≡ true → truth d ≡ true) (λ d h. allowed_least (mark_at marks d) (truth d) (c d h)) xs within)
 
-front_most : (marks : List Mark) (truth : ℕ → Bool) (xs : List ℕ) → AllByRecursion (λ d. d < length marks) xs → Completes marks truth → count_by truth xs ≤ count_by (with_picked marks (λ _. true)) xs
-front_most marks truth xs within c =
+prefix_most : (marks : List Mark) (truth : ℕ → Bool) (xs : List ℕ) → AllByRecursion (λ d. d < length marks) xs → Completes marks truth → count_by truth xs ≤ count_by (with_picked marks (λ _. true)) xs
+prefix_most marks truth xs within c =
     count_by-weaker _ _ xs (weaker (λ d. d < length marks) (λ d. truth d ≡ true → with_picked marks (λ _. true) d ≡ true) (λ d h. allowed_most (mark_at marks d) (truth d) (c d h)) xs within)
 
 pub score_at_most : (z : ℤ) (k m : ℕ) → 0 < k → up z ≤ m + down z → IsAtMost z k (over m k) (over 0 1)
@@ -141,19 +141,19 @@ score_at_least z k m h le =
     rw (over-pos m k h) (at_least_in z k (record { num = m; den = k }) (record { num = 0; den = 1 }) (omega (arith, mul-le-mul_right k le)))
 
 pub precision_bounds : (k : ℕ) (marks : List Mark) (a : List ℕ) → 0 < k → IsRanking (length marks) a →
-    AreBounds (Precision k) k marks a (pos (front_count false k marks a)) (pos (front_count true k marks a))
+    AreBounds (Precision k) k marks a (pos (prefix_count false k marks a)) (pos (prefix_count true k marks a))
 precision_bounds k marks a h r =
-    let low = front_count false k marks a in
-    let high = front_count true k marks a in
-    let w = front_within k (length marks) a r in
+    let low = prefix_count false k marks a in
+    let high = prefix_count true k marks a in
+    let w = prefix_within k (length marks) a r in
     record {
       low = record {
-        so = λ truth _ c. score_at_most (pos low) k (count_by truth (take k a)) h (omega (arith, ints, front_least marks truth (take k a) w c));
+        so = λ truth _ c. score_at_most (pos low) k (count_by truth (take k a)) h (omega (arith, ints, prefix_least marks truth (take k a) w c));
         others = λ w f. at_most_least w (pos low) k (over low k) (over 0 1) (over-den low k) (over-den 0 1) (f (with_picked marks (λ _. false)) [] (with_picked-Completes marks (λ _. false)))
             (score_at_least (pos low) k low h (omega (arith, ints)));
       };
       high = record {
-        so = λ truth _ c. score_at_least (pos high) k (count_by truth (take k a)) h (omega (arith, ints, front_most marks truth (take k a) w c));
+        so = λ truth _ c. score_at_least (pos high) k (count_by truth (take k a)) h (omega (arith, ints, prefix_most marks truth (take k a) w c));
         others = λ w f. at_most_least (pos high) w k (over high k) (over 0 1) (over-den high k) (over-den 0 1) (score_at_most (pos high) k high h (omega (arith, ints)))
             (f (with_picked marks (λ _. true)) [] (with_picked-Completes marks (λ _. true)));
       };

@@ -29,5 +29,5 @@ precision_ends k marks a b = record {
 }
 
 -- how many of a ranking's first k are true, where the unjudged ones are all true or all false
-abbrev pub front_count : Bool → ℕ → List Mark → List ℕ → ℕ
-front_count taken k marks a = count_by (with_picked marks (λ _. taken)) (take k a)
+abbrev pub prefix_count : Bool → ℕ → List Mark → List ℕ → ℕ
+prefix_count taken k marks a = count_by (with_picked marks (λ _. taken)) (take k a)

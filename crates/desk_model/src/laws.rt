@@ -8,7 +8,7 @@ ghost use Rattle.desk_model.specs.Order.{Topic, IsCompletion, run_mean, IsAlways
 ghost use Rattle.desk_model.specs.Extremes.{IsAtMostScore, IsAtLeastScore, AreExtremes, AreBounds};
 ghost use Rattle.desk_model.specs.Enclosure.{AreLowEnds, AreHighEnds, AreLowBounds, AreHighBounds};
 ghost use Rattle.desk_model.specs.Verdict.{whole_sum, verdict, ForExactEnds, IsExactVerdict};
-ghost use Rattle.desk_model.specs.Classes.{precision_ends, front_count};
+ghost use Rattle.desk_model.specs.Classes.{precision_ends, prefix_count};
 ghost use Rattle.desk_model.specs.declared.types.Mark.{Mark};
 ghost use Rattle.desk_model.specs.declared.types.MeasureName.{MeasureName};
 ghost use Rattle.desk_model.specs.declared.types.MeasureName.TheVariants.{Precision};
@@ -77,7 +77,7 @@ pub fn precision_is_counted()
         IsRanking (length marks) a → IsRanking (length marks) b →
         AreExtremes (Precision k) k marks a b (precision_ends k marks a b) }
     ensures bounds { (k : ℕ) (marks : List Mark) (a : List ℕ) → 0 < k → IsRanking (length marks) a →
-        AreBounds (Precision k) k marks a (pos (front_count false k marks a)) (pos (front_count true k marks a)) }
+        AreBounds (Precision k) k marks a (pos (prefix_count false k marks a)) (pos (prefix_count true k marks a)) }
 {}
 
 /// There are as many topics under marks as topics of the desk, each has a universe of at most

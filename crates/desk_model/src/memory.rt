@@ -1,3 +1,3 @@
-/// Memory was wanting.
+/// Memory ran out.
 #[derive(Clone, Copy, PartialEq, Eq, Debug)]
 pub struct Memory;

@@ -11,7 +11,7 @@ use std::marker::Model;
 pub enum NameFault {
     /// The bytes are no name.
     BadName,
-    /// Memory was wanting.
+    /// Memory ran out.
     Memory,
 }
 

@@ -94,8 +94,8 @@ fn ceiling(parts: u128, sum: i128) -> i128
     requires high { sum ≤ℤ pos (10 ^ 30) }
     ensures { result ≡ ceiling_of (sum *ℤ pos 1000000) parts }
 {
-    let turned = -sum;
-    -floor(parts, turned)
+    let negated = -sum;
+    -floor(parts, negated)
 }
 
 fn push_low(out: &mut Vec<u8>, parts: u128, sum: i128) -> Result<(), AllocError>

@@ -1,4 +1,4 @@
--- Bytes put back onto the front of the first line.
+-- Bytes put back onto the start of the first line.
 use Rattle.std.proofs.Common.{◌≡◌, ◌≢◌, ℕ, zero, suc, Some, None, ◌+◌, ◌-◌, ◌<◌, ◌≤◌, List, [], ◌∷◌, ◌++◌, take, drop, length, get_or, cond, true, false, refl, ap, sym, subst, ◌∙◌, arith, add-one, length-drop}
 use Rattle.std.proofs.Math.Seq.{drop-cons}
 use Rattle.std.proofs.lemmas.List.{take_all, drop_all, take_more, get_or-drop, length-take}
@@ -8,7 +8,7 @@ use Rattle.std.specs.List.{slice_range, list_any, position_or_len}
 use Rattle.memchr.specs.Find.{IsFirstByte, is_byte}
 use Rattle.desk_text.specs.Lines.{onto_first, lines}
 
--- bytes at the front of the first line
+-- bytes at the start of the first line
 abbrev pub onto : List ℕ → List (List ℕ) → List (List ℕ)
 onto [] ls = ls
 onto (x ∷ xs) ls = onto_first x (onto xs ls)

@@ -3,7 +3,7 @@ use Rattle.std.specs.Prelude.{◌≡◌, ℕ, ◌<◌, ◌≤◌, Bool, ◌||◌
 use Rattle.std.specs.List.{list_all}
 use Rattle.desk_text.specs.declared.line.TheConstants.{LONGEST_LINE}
 
--- a byte at the front of the first of the pieces
+-- a byte at the start of the first of the pieces
 abbrev pub onto_first : ℕ → List (List ℕ) → List (List ℕ)
 onto_first b [] = (b ∷ []) ∷ []
 onto_first b (p ∷ ps) = (b ∷ p) ∷ ps

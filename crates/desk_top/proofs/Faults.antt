@@ -19,7 +19,7 @@ said read files path bytes r e h = ap (λ w. w >>= (λ b. or_faulty path (read b
 abbrev pub faulted : {X : Type 0} → FileFault → Result X FileFault
 faulted fault = Err fault
 
--- an answer that the reader owes, where it is no want of memory
+-- an answer that the reader owes, where it is no running out of memory
 owed : {X : Type 0} (fault : FileFault) (r : Result X FileFault) → (fault ≡ Memory → ⊥) → IsUnlessMemory (faulted fault) r → faulted fault ≡ r
 owed fault r apart (inl same) = absurd (apart (cc))
 owed fault r apart (inr is) = is

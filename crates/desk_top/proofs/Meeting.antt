@@ -35,7 +35,7 @@ pub no_text : (out : Sink) → ReceivedNothing out → ReceivedAll out []
 no_text out same = same ∙ sym (append_known-nil out.had)
 
 pub writes_nothing : (old : Option (List ℕ)) (before : ℕ) → Writes old old before before []
-writes_nothing old before = record { front = (0, sym (append_known-nil old)); whole = λ calm. sym (append_known-nil old); later = omega arith }
+writes_nothing old before = record { prefix = (0, sym (append_known-nil old)); whole = λ calm. sym (append_known-nil old); later = omega arith }
 
 module _ (meaning : Meaning) (shelf : Shelf) (input : Source) (out err : Sink) where
   -- an answer that does not hang on the input was given

@@ -4,7 +4,7 @@ use Rattle.std.proofs.Math.Seq.{take-append-add, take-append_seam, drop-append_s
 use Rattle.std.proofs.lemmas.List.{take_all, drop_all, take-append-le}
 use Rattle.std.proofs.lemmas.Bool.{cases_lt}
 use Rattle.std.specs.Prelude.{Ok, Err, ◌⊎◌}
-use Rattle.desk_outside.proofs.Told.{append_known-nil, front_whole}
+use Rattle.desk_outside.proofs.Told.{append_known-nil, prefix_whole}
 use Rattle.desk_words.specs.Words.{IsCommandOf}
 use Rattle.desk_words.specs.declared.command.Job.{Job}
 use Rattle.desk_words.specs.declared.command.Command.{Command}
@@ -53,7 +53,7 @@ module _ (meaning : Meaning) (shelf : Shelf) (input : Source) (out err : Sink) (
   part_of_input (Cut bytes) is = (input.left, is.0)
 
   given_part : Gives meaning shelf input out err status → ReceivesPart meaning shelf input out
-  given_part gives = inr (record { input = gives.input; met = part_of_input gives.input gives.met; answer = gives.answer; is = gives.is; holds = front_whole out.had out.has (text_of gives.answer) gives.holds.text })
+  given_part gives = inr (record { input = gives.input; met = part_of_input gives.input gives.met; answer = gives.answer; is = gives.is; holds = prefix_whole out.had out.has (text_of gives.answer) gives.holds.text })
 
   -- a call received nothing, or a prefix of an answer
   pub receives_part : Meets meaning shelf input out err before after status → ReceivesPart meaning shelf input out
@@ -66,7 +66,7 @@ module _ (meaning : Meaning) (shelf : Shelf) (input : Source) (out err : Sink) (
 
       stopped : Stopped meaning shelf input out → ReceivesPart meaning shelf input out
       stopped (inl nothing) = inl nothing
-      stopped (inr part) = let has = part.1 in inr (record { input = has.input; met = has.met; answer = has.answer; is = has.is; holds = front_whole out.had out.has (text_of has.answer) has.holds })
+      stopped (inr part) = let has = part.1 in inr (record { input = has.input; met = has.met; answer = has.answer; is = has.is; holds = prefix_whole out.had out.has (text_of has.answer) has.holds })
 
       at : Gives meaning shelf input out err status ⊎ (status ≡ 3) ⊎ (status ≡ 4) → ReceivesPart meaning shelf input out
       at (inl gives) = given_part gives

@@ -3,7 +3,7 @@ use Rattle.std.specs.Prelude.{◌≡◌, ℕ, nat_lt, List, [], ◌∷◌, ◌++
 use Rattle.desk_outside.specs.Outside.{Files}
 use Rattle.desk_words.specs.declared.command.Job.{Job}
 use Rattle.desk_words.specs.declared.command.RunWord.{RunWord}
-use Rattle.qrels_reader.specs.Grouped.{Topic, qrels_of, name_bytes_in}
+use Rattle.qrels_reader.specs.Grouped.{JudgedTopic, qrels_of, name_bytes_in}
 use Rattle.run_reader.specs.Run.{Run, run_of}
 use Rattle.run_reader.specs.declared.used.Used.{Used}
 use Rattle.topics_pool.specs.Rows.{first_repeated, run_names, cells_of}
@@ -12,21 +12,21 @@ use Rattle.desk_top.specs.Files.{Halt, Refused, Repeated, Excessive, ◌>>=◌, 
 
 -- what the files of a job say
 pub record Loaded : Type 0 where
-  pub qrels : List Topic
+  pub qrels : List JudgedTopic
   pub runs : List Run
 
 -- the runs of RUN words in order, beside the qrels and what the files before them used
-abbrev pub runs_of : Files → List Topic → Used → List RunWord → Result (List Run) Halt
+abbrev pub runs_of : Files → List JudgedTopic → Used → List RunWord → Result (List Run) Halt
 runs_of files qrels used [] = Ok []
 runs_of files qrels used (word ∷ words) =
     file_as (run_of word.name qrels used) files word.path >>= (λ run. runs_of files qrels run.used words >>= (λ runs. Ok (run ∷ runs)))
 
 -- nothing but the qrels was read
-abbrev pub used_by : List Topic → Used
+abbrev pub used_by : List JudgedTopic → Used
 used_by qrels = record { rows = 0; name_bytes = name_bytes_in qrels }
 
 -- the rows, unless a name comes twice, or there are too many pairs and topics
-abbrev pub within : List Topic → List Run → Option ℕ → Result Loaded Halt
+abbrev pub within : List JudgedTopic → List Run → Option ℕ → Result Loaded Halt
 within qrels runs (Some r) = Err (Refused (Repeated (slice_index_or (run_names runs) r [])))
 within qrels runs None =
     if nat_lt MOST_CELLS (cells_of qrels runs) then Err (Refused (Excessive (cells_of qrels runs))) else Ok (record { qrels = qrels; runs = runs })
@@ -46,7 +46,7 @@ if_read (Ok x) next = next x
 if_read (Err halt) next = []
 
 -- the paths of RUN words, up to the first whose file is missing or refused
-abbrev pub runs_to_open : Files → List Topic → Used → List RunWord → List (List ℕ)
+abbrev pub runs_to_open : Files → List JudgedTopic → Used → List RunWord → List (List ℕ)
 runs_to_open files qrels used [] = []
 runs_to_open files qrels used (word ∷ words) =
     word.path ∷ if_read (file_as (run_of word.name qrels used) files word.path) (λ run. runs_to_open files qrels run.used words)

@@ -1,7 +1,7 @@
 -- What is seen of the objects outside, before a call and after it.
 use Rattle.std.specs.Prelude.{◌≡◌, ℕ, List, Option}
 use Rattle.std.specs.Io.KnownBytes.{append_known}
-use Rattle.desk_outside.specs.Outside.{Files, AppendsFront}
+use Rattle.desk_outside.specs.Outside.{Files, AppendsPrefix}
 
 -- a shelf: its files, where they are known, the names that had been opened and those that have, and its two counts of failures
 pub record Shelf : Type 0 where
@@ -44,4 +44,4 @@ ReceivedAll out text = out.has ≡ append_known out.had text
 
 -- an output received a prefix of the text
 abbrev pub ReceivedPrefix : Sink → List ℕ → Type 0
-ReceivedPrefix out text = AppendsFront out.had out.has text
+ReceivedPrefix out text = AppendsPrefix out.had out.has text

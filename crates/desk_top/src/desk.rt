@@ -1,7 +1,7 @@
 // The desk of the files of a job.
 ghost use Rattle.std.specs.Prelude.{◌≡◌, ◌<◌, ◌≤◌, map, length, vec_len, IfOk};
 ghost use Rattle.run_reader.specs.declared.limits.TheConstants.{MOST_RUN_ROWS};
-ghost use Rattle.topics_pool.specs.Rows.{rows_of, run_names};
+ghost use Rattle.topics_pool.specs.Rows.{total_rows, run_names};
 ghost use Rattle.desk_top.specs.Joined.{Joins, Makes};
 ghost use Rattle.desk_top.specs.Load.{JobMayOpen, Opens};
 
@@ -29,7 +29,7 @@ fn copy_names(alloc: Global, runs: &[RunRows]) -> Result<Vec<Vec<u8>>, AllocErro
 fn join<'a>(alloc: Global, qrels: Qrels, runs: Vec<RunRows>) -> Result<Desk, Stop<'a>>
     requires some { 0 < vec_len runs }
     requires few { vec_len runs ≤ 256 }
-    requires rows { rows_of runs.items ≤ MOST_RUN_ROWS }
+    requires rows { total_rows runs.items ≤ MOST_RUN_ROWS }
     ensures { Joins qrels runs.items result }
 {
     let mut names = copy_names(alloc, &runs)?;

@@ -2,10 +2,10 @@
 ghost use Rattle.std.specs.Prelude.{◌≡◌, ◌≤◌, ◌++◌, ◌∷◌, [], ◌+◌, true, length, vec_len, IfSome, IfOk, OnOk};
 ghost use Rattle.std.specs.Option.{option_copied};
 ghost use Rattle.desk_model.specs.Name.{is_name};
-ghost use Rattle.run_reader.specs.Run.{run_of, row_count, IsWithin};
+ghost use Rattle.run_reader.specs.Run.{run_of, row_count, IsWithinLimits};
 ghost use Rattle.qrels_reader.specs.Grouped.{qrels_of};
 ghost use Rattle.run_reader.specs.declared.limits.TheConstants.{MOST_RUN_ROWS};
-ghost use Rattle.topics_pool.specs.Rows.{rows_of};
+ghost use Rattle.topics_pool.specs.Rows.{total_rows};
 ghost use Rattle.desk_top.specs.Files.{file_as, halt_at};
 ghost use Rattle.desk_top.specs.Load.{runs_of, used_by, runs_to_open, paths_of, MayOpen, Opens};
 ghost use Rattle.desk_top.specs.Outcome.{Gives};
@@ -68,7 +68,7 @@ pub fn load_run<'a, F: Shelf>(
     qrels: &Qrels,
     used: Used,
 ) -> Result<RunRows, Stop<'a>>
-    requires { IsWithin used }
+    requires { IsWithinLimits used }
     ensures gives { Gives (F.files files.old) (F.faults files.old) (F.faults files.new) (λ run. run) result (λ held. file_as (run_of word.now.name qrels.now used) held word.now.path) }
     ensures rows { IfOk result (λ run. run.used.rows ≡ used.rows + row_count run.topics) }
     ensures files { F.files files.new ≡ F.files files.old }
@@ -92,7 +92,7 @@ pub fn load_runs<'a, F: Shelf>(
 ) -> Result<Vec<RunRows>, Stop<'a>>
     ensures gives { Gives (F.files files.old) (F.faults files.old) (F.faults files.new) (λ runs. runs.items) result (λ held. runs_of held qrels.now (used_by qrels.now) words.now) }
     ensures count { IfOk result (λ runs. vec_len runs ≡ length words.now) }
-    ensures rows { IfOk result (λ runs. rows_of runs.items ≤ MOST_RUN_ROWS) }
+    ensures rows { IfOk result (λ runs. total_rows runs.items ≤ MOST_RUN_ROWS) }
     ensures files { F.files files.new ≡ F.files files.old }
     ensures opened { Opens (MayOpen (F.files files.old) (λ held. runs_to_open held qrels.now (used_by qrels.now) words.now) (paths_of words.now)) (F.opened files.old) (F.opened files.new) }
     ensures later { F.faults files.old ≤ F.faults files.new }

@@ -8,7 +8,7 @@ use Rattle.clap.specs.Words.{App, Text, all_of, matched_of, fault_of, matches_of
 use Rattle.clap.specs.declared.parser.matches.Found.{Found}
 use Rattle.clap.proofs.WalkLemmas.{raw_values-rows}
 use Rattle.desk_words.specs.Parser.{given, seed_app}
-use Rattle.desk_words.specs.Words.{run_of, is_equals, IsSeedOf}
+use Rattle.desk_words.specs.Words.{run_word_of, is_equals, IsSeedOf}
 use Rattle.desk_words.specs.declared.command.RunWord.{RunWord}
 use Rattle.desk_words.specs.declared.command.WordsFault.{WordsFault}
 use Rattle.desk_words.specs.declared.command.WordsFault.TheVariants.{Usage}
@@ -24,7 +24,7 @@ none_passes p (x ∷ xs) h = by_head (p x) refl (none_passes p xs)
         let rest : 1 + position_or_len p xs ≡ suc (length xs) = ap (λ b. cond (not b) (1 + position_or_len p xs) 0) (sym e) ∙ h in
         rw e (more (omega arith))
 
-pub run_unnamed : (word path : List ℕ) → list_any is_equals word ≡ false → path ≡ word → 0 < length path → run_of word ≡ Some (record { name = None; path = path })
+pub run_unnamed : (word path : List ℕ) → list_any is_equals word ≡ false → path ≡ word → 0 < length path → run_word_of word ≡ Some (record { name = None; path = path })
 run_unnamed word path none e some = rw (none, ← e) (search rules)
 
 -- the values that clap hands out are those of the entry
@@ -39,7 +39,7 @@ entry_values found id words app r s d is none values rows =
     by_entry (Some x) = refl
 
 -- a value that is no run
-pub no_run : (vs : List (Bor Text)) (i : ℕ) (d : Bor Text) (runs : List RunWord) → i < length vs → run_of (get_or vs i d).now ≡ None → map run_of (map (λ v. v.now) vs) ≡ map Some runs → ⊥
+pub no_run : (vs : List (Bor Text)) (i : ℕ) (d : Bor Text) (runs : List RunWord) → i < length vs → run_word_of (get_or vs i d).now ≡ None → map run_word_of (map (λ v. v.now) vs) ≡ map Some runs → ⊥
 no_run [] i d runs lt e is = absurd (omega arith)
 no_run (x ∷ xs) zero d [] lt e is = cc
 no_run (x ∷ xs) zero d (r ∷ rs) lt e is = cc

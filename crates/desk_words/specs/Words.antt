@@ -25,8 +25,8 @@ abbrev pub named : Text → Text → Option RunWord
 named name path = if is_name name && nat_lt 0 (length path) then Some (record { name = Some name; path = path }) else None
 
 -- the run of a RUN word, which is PATH, or NAME=PATH cut at the first `=`
-abbrev pub run_of : Text → Option RunWord
-run_of word = if list_any is_equals word then named (before_first is_equals word) (after_first is_equals word) else unnamed word
+abbrev pub run_word_of : Text → Option RunWord
+run_word_of word = if list_any is_equals word then named (before_first is_equals word) (after_first is_equals word) else unnamed word
 
 -- one value, a path that is not empty
 abbrev pub IsPathOf : List Text → Text → Type 0
@@ -42,7 +42,7 @@ IsLevelOf values level = ((values ≡ []) × (level ≡ 1)) ⊎ ((values ≡ dec
 
 -- the runs of RUN words, as many as the least number or more, and 256 at most
 pub record AreRunsOf (least : ℕ) (values : List Text) (runs : List RunWord) : Type 0 where
-  pub each : map run_of values ≡ map Some runs
+  pub each : map run_word_of values ≡ map Some runs
   pub enough : least ≤ length runs
   pub few : length runs ≤ 256
 

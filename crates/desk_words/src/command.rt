@@ -9,7 +9,7 @@ use std::marker::Model;
 pub enum WordsFault {
     /// The words are of no command.
     Usage,
-    /// Memory was wanting.
+    /// Memory ran out.
     Memory,
 }
 

@@ -53,7 +53,7 @@ pub fn seed_words<'a>(alloc: Global, words: &'a [String]) -> Result<ArgMatches<'
     }
 }
 
-// Want of memory where clap tells it, and else usage.
+// Running out of memory where clap tells it, and else usage.
 fn fault_from(error: &Error) -> WordsFault
     ensures usage { result ≡ WordsFault.Usage → kind_of error.now ≢ ErrorKind.OutOfMemory }
     ensures memory { result ≡ WordsFault.Memory → kind_of error.now ≡ ErrorKind.OutOfMemory }

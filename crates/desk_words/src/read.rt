@@ -11,7 +11,7 @@ use crate::value::{level, measure, path, runs, seed};
 use std::alloc::Global;
 
 /// The command that the words say, which are those after the program's name. `Usage` comes exactly where the words are
-/// of no command, unless memory is wanting; `Memory` may come at any words.
+/// of no command, unless memory runs out; `Memory` may come at any words.
 pub fn read_words(alloc: Global, words: &[String]) -> Result<Command, WordsFault>
     ensures ok { IfOk result (λ command. IsCommandOf (map string_bytes words.now) command) }
     ensures usage { result ≡ Err WordsFault.Usage → (command : Command) → IsCommandOf (map string_bytes words.now) command → ⊥ }

@@ -2,7 +2,7 @@
 ghost use Rattle.std.specs.Prelude.{◌≡◌, ◌≢◌, ℕ, IfOk, Err, Some, None, map, List, decimal, [], ◌∷◌, ◌<◌, ◌≤◌, ◌^◌, length, IfSome, IfNone};
 ghost use Rattle.clap.specs.Words.{Text};
 ghost use Rattle.desk_model.specs.declared.types.MeasureName.{MeasureName};
-ghost use Rattle.desk_words.specs.Words.{IsPathOf, IsMeasureOf, IsLevelOf, AreRunsOf, named, run_of};
+ghost use Rattle.desk_words.specs.Words.{IsPathOf, IsMeasureOf, IsLevelOf, AreRunsOf, named, run_word_of};
 ghost use Rattle.desk_words.specs.declared.command.RunWord.{RunWord};
 
 use crate::command::{Path, RunWord, RunWords, WordsFault};
@@ -95,8 +95,8 @@ pub fn runs(alloc: Global, values: &[&str], least: usize) -> Result<RunWords, Wo
 
 // Each RUN word, in order.
 fn run_words(alloc: Global, values: &[&str]) -> Result<Vec<RunWord>, WordsFault>
-    ensures ok { IfOk result (λ runs. map run_of (map (λ v. v.now) values.now) ≡ map Some runs.items) }
-    ensures usage { result ≡ Err WordsFault.Usage → (runs : List RunWord) → map run_of (map (λ v. v.now) values.now) ≢ map Some runs }
+    ensures ok { IfOk result (λ runs. map run_word_of (map (λ v. v.now) values.now) ≡ map Some runs.items) }
+    ensures usage { result ≡ Err WordsFault.Usage → (runs : List RunWord) → map run_word_of (map (λ v. v.now) values.now) ≢ map Some runs }
 {
     let mut words = Vec::new(alloc);
     for value in values {
@@ -110,8 +110,8 @@ fn run_words(alloc: Global, values: &[&str]) -> Result<Vec<RunWord>, WordsFault>
 
 // The run of a RUN word.
 fn run_word(alloc: Global, word: &str) -> Result<RunWord, WordsFault>
-    ensures ok { IfOk result (λ run. run_of word.now ≡ Some run) }
-    ensures usage { result ≡ Err WordsFault.Usage → run_of word.now ≡ None }
+    ensures ok { IfOk result (λ run. run_word_of word.now ≡ Some run) }
+    ensures usage { result ≡ Err WordsFault.Usage → run_word_of word.now ≡ None }
 {
     match word.split_once('=') {
         Some((name, path)) => named(alloc, name, path),

@@ -14,7 +14,7 @@ use Rattle.desk_model.specs.declared.types.MeasureName.{MeasureName}
 use Rattle.desk_model.specs.declared.types.MeasureName.TheVariants.{Precision, Recall, RPrecision, Reciprocal, Biased}
 use Rattle.desk_model.proofs.Completions.{with_picked-Completes}
 use Rattle.desk_model.proofs.Counts.{one_if, count_by-cons, count_by-agree}
-use Rattle.desk_model.proofs.PrecisionEnds.{weaker, front_within}
+use Rattle.desk_model.proofs.PrecisionEnds.{weaker, prefix_within}
 use Rattle.every_completion.specs.Walk.{LooksAtNoTail}
 
 -- one more document of a universe
@@ -43,7 +43,7 @@ abbrev pub Agree : ℕ → (ℕ → Bool) → (ℕ → Bool) → Type 0
 Agree n s t = (doc : ℕ) → doc < n → s doc ≡ t doc
 
 among_agree : (k n : ℕ) (s t : ℕ → Bool) (docs : List ℕ) → IsRanking n docs → Agree n s t → true_among s k docs ≡ true_among t k docs
-among_agree k n s t docs r h = count_by-agree s t (take k docs) (weaker (λ d. d < n) (λ d. s d ≡ t d) h (take k docs) (front_within k n docs r))
+among_agree k n s t docs r h = count_by-agree s t (take k docs) (weaker (λ d. d < n) (λ d. s d ≡ t d) h (take k docs) (prefix_within k n docs r))
 
 range_agree : (s t : ℕ → Bool) (a n : ℕ) → ((doc : ℕ) → doc < a + n → s doc ≡ t doc) → count_by s (range_with_len a n) ≡ count_by t (range_with_len a n)
 range_agree s t a zero h = refl

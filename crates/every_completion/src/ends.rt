@@ -32,6 +32,6 @@ impl Ends {
 pub enum EndsFault {
     /// More than 16 documents are unjudged.
     TooManyUnjudged,
-    /// Memory was wanting.
+    /// Memory ran out.
     Memory,
 }

@@ -20,6 +20,6 @@ pub fn ceiling(n: i128, d: i128) -> i128
     requires high { n ≤ℤ pos (10 ^ 30) }
     ensures { IsCeiling n d result }
 {
-    let turned = -n;
-    -floor(turned, d)
+    let swapped = -n;
+    -floor(swapped, d)
 }

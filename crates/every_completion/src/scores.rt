@@ -40,9 +40,9 @@ fn relevant_among(k: usize, docs: &[u32], marks: &[Mark]) -> u64
     ensures value { result ≡ true_among (with_picked marks.now (λ _. false)) k docs.now }
     ensures few { result ≤ length docs.now }
 {
-    let front = &docs[..docs.len().min(k)];
+    let prefix = &docs[..docs.len().min(k)];
     let mut n: u64 = 0;
-    for doc in front {
+    for doc in prefix {
         if is_relevant(marks[*doc as usize]) {
             n += 1;
         }

@@ -135,7 +135,7 @@ fn walk(
 
 /// The ends of two runs on a topic in units, over every completion of its marks: 2 to the power of
 /// the number of unjudged documents. The unit is at most 10^18. `EndsFault::TooManyUnjudged` comes
-/// exactly where more than 16 documents are unjudged, and `EndsFault::Memory` where memory is wanting.
+/// exactly where more than 16 documents are unjudged, and `EndsFault::Memory` where memory runs out.
 pub fn extremes(
     alloc: Global,
     measure: MeasureName,

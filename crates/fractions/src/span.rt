@@ -22,7 +22,7 @@ impl Span {
         }
     }
 
-    /// The span of the negated number: both ends negated and exchanged.
+    /// The span of the negated number: both ends negated, and in each other's place.
     pub fn negate(self) -> Span
         requires { IsShort self }
         ensures lo { result.lo ≡ neg_ℤ self.hi }
@@ -54,8 +54,8 @@ fn ceiling(n: i128, d: i128) -> i128
     requires high { n ≤ℤ pos (10 ^ 28) }
     ensures { IsCeiling n d result }
 {
-    let turned = -n;
-    -floor(turned, d)
+    let swapped = -n;
+    -floor(swapped, d)
 }
 
 /// The floor and the ceiling of `unit * num / den`.

@@ -13,7 +13,7 @@ use Rattle.desk_model.specs.Extremes.{InEvery, InSome, IsGreatest, IsSmallest, E
 use Rattle.desk_model.proofs.Fractions.{at_most_in, at_most_out, at_least_in, at_least_out}
 use Rattle.desk_model.proofs.Topics.{score-den}
 use Rattle.desk_model.proofs.Counts.{IsDistinct-take}
-use Rattle.desk_model.proofs.PrecisionEnds.{front_within}
+use Rattle.desk_model.proofs.PrecisionEnds.{prefix_within}
 use Rattle.desk_model.proofs.Exact.{at_most_least}
 use Rattle.measure_laws.specs.Cases.{least_truth, HasLeastTails}
 use Rattle.desk_model.specs.MeasureText.{IsMeasure}
@@ -22,7 +22,7 @@ use Rattle.measure_laws.specs.Shares.{IsModest}
 use Rattle.measure_laws.proofs.RecallEnds.{count_le_universe}
 use Rattle.measure_laws.proofs.LeastEnds.{least_ends}
 use Rattle.measure_laws.proofs.LeastCases.{least_case_is_least}
-use Rattle.measure_laws.proofs.Mirror.{most_ends}
+use Rattle.measure_laws.proofs.Swapping.{most_ends}
 use Rattle.measure_laws.proofs.Weights.{unit-size}
 use Rattle.fractions.specs.Ends.{IsShort}
 use Rattle.fractions.specs.Numbers.{difference_span, negated}
@@ -33,11 +33,11 @@ use Rattle.desk_model.specs.declared.types.MeasureName.TheVariants.{Precision, R
 use Rattle.fractions.specs.declared.span.Span.{Span}
 use Rattle.measure_laws.proofs.Unique.{greatest_unique, smallest_unique, extremes_unique}
 use Rattle.measure_core.specs.declared.cell.Cell.{Cell}
-use Rattle.measure_core.specs.Laws.{IsMet, Bounds, mirrored, SpanIsModest, MeetsLaws}
+use Rattle.measure_core.specs.Laws.{IsMet, Bounds, swapped_cell, SpanIsModest, MeetsLaws}
 use Rattle.measure_laws.specs.Ends.{HasEnds}
-use Rattle.measure_core.specs.Made.{ends_of, HasBounds, AreNumbersOf}
+use Rattle.measure_core.specs.Made.{ends_of, HasBounds, AreNumbersOfName}
 use Rattle.measure_core.specs.Numbers.{exact_least, exact_cell, exact_bounds}
-use Rattle.measure_core.proofs.Turned.{negated_twice, turned_modest, meets_laws}
+use Rattle.measure_core.proofs.Swapped.{negated_twice, swapped_modest, meets_laws}
 
 -- ---- the least case
 -- its two ends are the floor and the ceiling over all completions
@@ -78,8 +78,8 @@ case_high m marks a b tail_a tail_b exact tails =
     let none = no_tails m tail_a tail_b exact tails in
     rw (none.0, none.1) (case_within m marks a b).1
 
-pub mirrors : (m : MeasureName) (marks : List Mark) (a b : List ℕ) → exact_cell m marks b a ≡ mirrored (exact_cell m marks a b)
-mirrors m marks a b = ap (λ (s : Span). cell s (negated (exact_least m marks a b))) (sym (negated_twice (exact_least m marks b a)))
+pub swaps : (m : MeasureName) (marks : List Mark) (a b : List ℕ) → exact_cell m marks b a ≡ swapped_cell (exact_cell m marks a b)
+swaps m marks a b = ap (λ (s : Span). cell s (negated (exact_least m marks a b))) (sym (negated_twice (exact_least m marks b a)))
   where
     cell : Span → Span → Cell
     cell s t = record { least = s; most = t }
@@ -107,7 +107,7 @@ among_few : (truth : ℕ → Bool) (k : ℕ) (docs : List ℕ) → true_among tr
 among_few truth k docs = omega (arith, count_by-le-length truth (take k docs), length-take k docs)
 
 among_count : (truth : ℕ → Bool) (k n : ℕ) (docs : List ℕ) → IsRanking n docs → true_among truth k docs ≤ true_count truth n
-among_count truth k n docs r = count_le_universe truth n (take k docs) (IsDistinct-take k docs r.distinct) (front_within k n docs r)
+among_count truth k n docs r = count_le_universe truth n (take k docs) (IsDistinct-take k docs r.distinct) (prefix_within k n docs r)
 
 -- a score is at most 1
 pub score-most : (m : MeasureName) (n : ℕ) (truth : ℕ → Bool) (docs : List ℕ) (tail : List Bool) → IsExactMeasure m → IsRanking n docs → (score m n truth docs tail).num ≤ (score m n truth docs tail).den
@@ -159,7 +159,7 @@ IsRanking-empty n = record { distinct = tt; within = search rules; short = omega
 pub bounds_modest : (m : MeasureName) (marks : List Mark) (a : List ℕ) → IsMeasure m → IsExactMeasure m → IsMet marks a → SpanIsModest (exact_bounds m marks a)
 bounds_modest m marks a valid exact met =
     let low = exact_modest m marks a [] valid exact met.ranking (IsRanking-empty (length marks)) in
-    let high = turned_modest (exact_least m marks [] a) (exact_modest m marks [] a valid exact (IsRanking-empty (length marks)) met.ranking) in (low.0, high.1)
+    let high = swapped_modest (exact_least m marks [] a) (exact_modest m marks [] a valid exact (IsRanking-empty (length marks)) met.ranking) in (low.0, high.1)
 
 over-zero : (n d : ℕ) → n ≡ 0 → (over n d).num ≡ 0
 over-zero n zero h = refl
@@ -241,7 +241,7 @@ exact_laws m valid exact = meets_laws m (exact_cell m) (exact_bounds m) valid (r
   low = λ marks a b met. (exact_least_ends m marks a b valid exact met.first met.second).0.so;
   case = λ marks a b tail_a tail_b met tails. case_high m marks a b tail_a tail_b exact tails;
   modest = λ marks a b met. exact_modest m marks a b valid exact met.first met.second;
-  mirrors = λ marks a b met. mirrors m marks a b;
+  swaps = λ marks a b met. swaps m marks a b;
   bounds_enclose = λ marks a met. bounds_enclose m marks a valid exact met;
   bounds_modest = λ marks a met. bounds_modest m marks a valid exact met;
 })
@@ -253,7 +253,7 @@ exact_laws_with m bounds valid exact known = meets_laws m (exact_cell m) bounds 
   low = λ marks a b met. (exact_least_ends m marks a b valid exact met.first met.second).0.so;
   case = λ marks a b tail_a tail_b met tails. case_high m marks a b tail_a tail_b exact tails;
   modest = λ marks a b met. exact_modest m marks a b valid exact met.first met.second;
-  mirrors = λ marks a b met. mirrors m marks a b;
+  swaps = λ marks a b met. swaps m marks a b;
   bounds_enclose = λ marks a met. let h = known marks a met in record { low = h.low.so; high = h.high.so };
   bounds_modest = λ marks a met. bounds_known_modest m marks a (bounds marks a) valid exact met (known marks a met);
 })
@@ -273,7 +273,7 @@ has_bounds RPrecision marks a valid exact ra = ranges RPrecision marks a valid e
 has_bounds Reciprocal marks a valid exact ra = ranges Reciprocal marks a valid exact ra
 has_bounds (Biased top bottom) marks a valid exact ra = absurd exact
 
-pub exact_numbers : (m : MeasureName) → IsMeasure m → IsExactMeasure m → AreNumbersOf m (exact_cell m) (exact_bounds m)
+pub exact_numbers : (m : MeasureName) → IsMeasure m → IsExactMeasure m → AreNumbersOfName m (exact_cell m) (exact_bounds m)
 exact_numbers m valid exact = record {
   cells = λ marks a b met. has_ends m marks a b valid exact met.first met.second;
   ranges = λ marks a met. has_bounds m marks a valid exact met.ranking;

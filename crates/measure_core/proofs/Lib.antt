@@ -1,4 +1,4 @@
-pub mod Turned
+pub mod Swapped
 pub mod Exact
 pub mod RunBounds
 pub mod Narrow

@@ -50,8 +50,8 @@ exact_near m marks a b =
     let n = length marks in
     difference_near (unit_of m) (score m n truth a []) (score m n truth b []) (score-den m n truth a []) (score-den m n truth b [])
 
-turned_near : (n : ℕ) (lo hi : ℤ) → hi ≤ℤ (lo +ℤ pos n) → neg_ℤ lo ≤ℤ (neg_ℤ hi +ℤ pos n)
-turned_near n lo hi h = omega (arith, ints)
+swapped_near : (n : ℕ) (lo hi : ℤ) → hi ≤ℤ (lo +ℤ pos n) → neg_ℤ lo ≤ℤ (neg_ℤ hi +ℤ pos n)
+swapped_near n lo hi h = omega (arith, ints)
 
 -- the ends of every exact measure
 exact_narrow : (m : MeasureName) (marks : List Mark) (a b : List ℕ) (e : Ends) → IsMeasure m → IsExactMeasure m → AreMet marks a b → AreExtremes m (unit_of m) marks a b e →
@@ -60,7 +60,7 @@ exact_narrow m marks a b e valid exact met h =
     let same = extremes_unique m (unit_of m) marks a b (ends_of (exact_cell m marks a b)) e (extremes m marks a b valid exact met.first met.second) h in
     let other = exact_least m marks b a in
     subst (λ (f : Ends). (f.least_hi ≤ℤ (f.least_lo +ℤ pos 1)) × (f.most_hi ≤ℤ (f.most_lo +ℤ pos 1))) same
-    (exact_near m marks a b, turned_near 1 other.lo other.hi (exact_near m marks b a))
+    (exact_near m marks a b, swapped_near 1 other.lo other.hi (exact_near m marks b a))
 
 swapped : (a b : List ℕ) (lo hi : ℤ) → AreNear b a lo hi → AreNear a b lo hi
 swapped a b lo hi h =
@@ -70,7 +70,7 @@ swapped a b lo hi h =
 biased_narrow : (top bottom : ℕ) (marks : List Mark) (a b : List ℕ) → IsMeasure (Biased top bottom) → AreMet marks a b → AreNarrow (Biased top bottom) a b (biased_ends top bottom marks a b)
 biased_narrow top bottom marks a b valid met = record {
   least = ends_near top bottom marks a b valid met.first met.second;
-  most = turned_near (8 * ((length a + length b + 1) * (length a + length b + 1))) (biased_least_lo top bottom marks b a) (biased_least_hi top bottom marks b a)
+  most = swapped_near (8 * ((length a + length b + 1) * (length a + length b + 1))) (biased_least_lo top bottom marks b a) (biased_least_hi top bottom marks b a)
       (swapped a b (biased_least_lo top bottom marks b a) (biased_least_hi top bottom marks b a) (ends_near top bottom marks b a valid met.second met.first));
 }
 

@@ -51,14 +51,14 @@ pub record LeastCaseLiesIn (measure : MeasureName) (marks : List Mark) (a b : Li
   pub completes : Completes marks (least_truth measure marks a b)
   pub lies : (tail_a tail_b : List Bool) → HasLeastTails measure tail_a tail_b → LiesIn measure marks a b (least_truth measure marks a b) tail_a tail_b span
 
--- the same of the most case, which is the least case of the runs exchanged
+-- the same of the most case, which is the least case of the swapped runs
 pub record MostCaseLiesIn (measure : MeasureName) (marks : List Mark) (a b : List ℕ) (span : Span) : Type 0 where
   pub completes : Completes marks (least_truth measure marks b a)
   pub lies : (tail_a tail_b : List Bool) → HasLeastTails measure tail_b tail_a → LiesIn measure marks a b (least_truth measure marks b a) tail_a tail_b span
 
--- the cell of the runs exchanged: least and most exchanged, and the ends of each negated and exchanged
-abbrev pub mirrored : Cell → Cell
-mirrored c = record { least = negated c.most; most = negated c.least }
+-- the cell of the swapped runs: least and most change places, and the ends of each are negated and change places
+abbrev pub swapped_cell : Cell → Cell
+swapped_cell c = record { least = negated c.most; most = negated c.least }
 
 -- both ends are from -2*10^18 to 2*10^18
 abbrev pub SpanIsModest : Span → Type 0
@@ -75,7 +75,7 @@ pub record MeetsLaws (measure : MeasureName) (cell : List Mark → List ℕ → 
   pub bounds_enclose : (marks : List Mark) (a : List ℕ) → IsMet marks a → Bounds measure marks a (bounds marks a)
   pub least_case : (marks : List Mark) (a b : List ℕ) → AreMet marks a b → LeastCaseLiesIn measure marks a b (cell marks a b).least
   pub most_case : (marks : List Mark) (a b : List ℕ) → AreMet marks a b → MostCaseLiesIn measure marks a b (cell marks a b).most
-  pub mirrors : (marks : List Mark) (a b : List ℕ) → AreMet marks a b → cell marks b a ≡ mirrored (cell marks a b)
+  pub swaps : (marks : List Mark) (a b : List ℕ) → AreMet marks a b → cell marks b a ≡ swapped_cell (cell marks a b)
   pub cell_modest : (marks : List Mark) (a b : List ℕ) → AreMet marks a b → CellIsModest (cell marks a b)
   pub bounds_modest : (marks : List Mark) (a : List ℕ) → IsMet marks a → SpanIsModest (bounds marks a)
   pub unit_size : (1 ≤ unit_of measure) × (unit_of measure ≤ 10 ^ 18)
@@ -88,6 +88,6 @@ pub record OwesLaws (measure : MeasureName) (cell : List Mark → List ℕ → L
   pub case : (marks : List Mark) (a b : List ℕ) (tail_a tail_b : List Bool) → AreMet marks a b → HasLeastTails measure tail_a tail_b →
       IsAtLeast (cell marks a b).least.hi (unit_of measure) (score measure (length marks) (least_truth measure marks a b) a tail_a) (score measure (length marks) (least_truth measure marks a b) b tail_b)
   pub modest : (marks : List Mark) (a b : List ℕ) → AreMet marks a b → SpanIsModest (cell marks a b).least
-  pub mirrors : (marks : List Mark) (a b : List ℕ) → AreMet marks a b → cell marks b a ≡ mirrored (cell marks a b)
+  pub swaps : (marks : List Mark) (a b : List ℕ) → AreMet marks a b → cell marks b a ≡ swapped_cell (cell marks a b)
   pub bounds_enclose : (marks : List Mark) (a : List ℕ) → IsMet marks a → Bounds measure marks a (bounds marks a)
   pub bounds_modest : (marks : List Mark) (a : List ℕ) → IsMet marks a → SpanIsModest (bounds marks a)

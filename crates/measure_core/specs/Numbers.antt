@@ -15,7 +15,7 @@ exact_least m marks a b =
     let truth = least_truth m marks a b in
     difference_span (unit_of m) (score m (length marks) truth a []) (score m (length marks) truth b [])
 
--- the greatest difference is the mirror image of the least one of the runs exchanged
+-- the greatest difference is the least one of the swapped runs, negated
 abbrev pub exact_cell : MeasureName → List Mark → List ℕ → List ℕ → Cell
 exact_cell m marks a b = record { least = exact_least m marks a b; most = negated (exact_least m marks b a) }
 

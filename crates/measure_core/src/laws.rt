@@ -10,7 +10,7 @@ ghost use Rattle.fractions.specs.declared.span.Span.{Span};
 ghost use Rattle.measure_core.specs.declared.cell.Cell.{Cell};
 ghost use Rattle.measure_core.specs.Laws.{AreMet, MeetsLaws, OwesLaws};
 ghost use Rattle.measure_laws.specs.Ends.{HasEnds};
-ghost use Rattle.measure_core.specs.Made.{AreNumbersOf, AreNarrow};
+ghost use Rattle.measure_core.specs.Made.{AreNumbersOfName, AreNarrow};
 ghost use Rattle.measure_core.specs.Numbers.{exact_cell, exact_bounds};
 
 /// A few laws of a measure give all of them.
@@ -26,7 +26,7 @@ pub fn exact_numbers_meet_laws()
     ensures laws { (measure : MeasureName) → IsMeasure measure → IsExactMeasure measure →
         MeetsLaws measure (exact_cell measure) (exact_bounds measure) }
     ensures numbers { (measure : MeasureName) → IsMeasure measure → IsExactMeasure measure →
-        AreNumbersOf measure (exact_cell measure) (exact_bounds measure) }
+        AreNumbersOfName measure (exact_cell measure) (exact_bounds measure) }
 {}
 
 /// The two ends of a least or of a greatest difference are at most one unit apart, under

@@ -84,7 +84,7 @@ pub trait Measure: Drop {
         ensures { result ≡ weight_of (measured self.now) marks.now a.now b.now doc };
 
     /// The laws: cells enclose the difference and bounds the score in every completion; the least and
-    /// the most case are completions whose differences lie in their spans; exchanged runs have the
-    /// mirror image; and all numbers have stated sizes.
+    /// the most case are completions whose differences lie in their spans; swapped runs have the
+    /// swapped cell; and all numbers have stated sizes.
     ghost laws: { (m : Self) → IsMeasure (measured m) → MeetsLaws (measured m) (cell_of m) (bounds_of m) };
 }

@@ -73,32 +73,32 @@ gained_all a c m s k (g ∷ gains) all ek em =
     let whole : a ^ s * (a + c) ^ k ≡ a ^ s * ((a + c) ^ j * (a + c)) = ap (λ n. a ^ s * n) (ap (λ n. (a + c) ^ n) ek ∙ pow-suc (a + c) j) in
     omega (arith, later, ap (λ n. c * n) first, ap (λ n. c * n) here, next, whole)
 
--- the gains of a front and of what follows it
-pub gained-append : (w : ℕ → ℕ) (r : ℕ) (front rest : List Bool) → gained w r (front ++ rest) ≡ gained w r front + gained w (r + length front) rest
+-- the gains of a prefix and of what follows it
+pub gained-append : (w : ℕ → ℕ) (r : ℕ) (prefix rest : List Bool) → gained w r (prefix ++ rest) ≡ gained w r prefix + gained w (r + length prefix) rest
 gained-append w r [] rest = let none : r ≡ r + 0 = omega arith in omega (arith, ap (λ n. gained w n rest) none)
-gained-append w r (g ∷ front) rest =
-    omega (arith, gained-append w (r + 1) front rest, ap (λ n. gained w n rest) (shift r (length front)))
+gained-append w r (g ∷ prefix) rest =
+    omega (arith, gained-append w (r + 1) prefix rest, ap (λ n. gained w n rest) (shift r (length prefix)))
   where
     shift : (x n : ℕ) → x + 1 + n ≡ x + suc n
     shift x n = omega arith
 
--- a tail adds nothing below 0, and at most what is left after the front
-pub tail_adds : (a c n k m : ℕ) (front tail : List Bool) → n ≡ length front → k ≡ length tail → m ≡ n + k →
-    (c * gained (worth a (a + c) m) 1 front ≤ c * gained (worth a (a + c) m) 1 (front ++ tail)) ×
-    (c * gained (worth a (a + c) m) 1 (front ++ tail) + a ^ m ≤ c * gained (worth a (a + c) m) 1 front + a ^ n * (a + c) ^ k)
-tail_adds a c n k m front tail en ek em =
-    let split = gained-append (worth a (a + c) m) 1 front tail in
-    let place : gained (worth a (a + c) m) (1 + length front) tail ≡ gained (worth a (a + c) m) (n + 1) tail = ap (λ r. gained (worth a (a + c) m) r tail) (omega arith) in
+-- a tail adds nothing below 0, and at most what is left after the prefix
+pub tail_adds : (a c n k m : ℕ) (prefix tail : List Bool) → n ≡ length prefix → k ≡ length tail → m ≡ n + k →
+    (c * gained (worth a (a + c) m) 1 prefix ≤ c * gained (worth a (a + c) m) 1 (prefix ++ tail)) ×
+    (c * gained (worth a (a + c) m) 1 (prefix ++ tail) + a ^ m ≤ c * gained (worth a (a + c) m) 1 prefix + a ^ n * (a + c) ^ k)
+tail_adds a c n k m prefix tail en ek em =
+    let split = gained-append (worth a (a + c) m) 1 prefix tail in
+    let place : gained (worth a (a + c) m) (1 + length prefix) tail ≡ gained (worth a (a + c) m) (n + 1) tail = ap (λ r. gained (worth a (a + c) m) r tail) (omega arith) in
     let scaled = ap (λ s. c * s) split in
     let moved = ap (λ s. c * s) place in
     (omega (arith, scaled), omega (arith, scaled, moved, gained_most a c m n k tail ek em))
 
 -- a tail of relevant places adds exactly that
-pub full_tail_adds : (a c n k m : ℕ) (front tail : List Bool) → All (λ gain. gain ≡ true) tail → n ≡ length front → k ≡ length tail → m ≡ n + k →
-    c * gained (worth a (a + c) m) 1 (front ++ tail) + a ^ m ≡ c * gained (worth a (a + c) m) 1 front + a ^ n * (a + c) ^ k
-full_tail_adds a c n k m front tail all en ek em =
-    let split = gained-append (worth a (a + c) m) 1 front tail in
-    let place : gained (worth a (a + c) m) (1 + length front) tail ≡ gained (worth a (a + c) m) (n + 1) tail = ap (λ r. gained (worth a (a + c) m) r tail) (omega arith) in
+pub full_tail_adds : (a c n k m : ℕ) (prefix tail : List Bool) → All (λ gain. gain ≡ true) tail → n ≡ length prefix → k ≡ length tail → m ≡ n + k →
+    c * gained (worth a (a + c) m) 1 (prefix ++ tail) + a ^ m ≡ c * gained (worth a (a + c) m) 1 prefix + a ^ n * (a + c) ^ k
+full_tail_adds a c n k m prefix tail all en ek em =
+    let split = gained-append (worth a (a + c) m) 1 prefix tail in
+    let place : gained (worth a (a + c) m) (1 + length prefix) tail ≡ gained (worth a (a + c) m) (n + 1) tail = ap (λ r. gained (worth a (a + c) m) r tail) (omega arith) in
     omega (arith, ap (λ s. c * s) split, ap (λ s. c * s) place, gained_all a c m n k tail all ek em)
 
 -- there is a list of n true values, for every n
@@ -146,15 +146,15 @@ least_tails RPrecision = ([], [], (refl, refl))
 least_tails Reciprocal = ([], [], (refl, refl))
 least_tails (MeasureBiased top bottom) = let long = long_tail in ([], long.0, (refl, long.1))
 
--- S times what a tail of 10^24 relevant places leaves out is below 1: what it adds after a front is at least the kept power less 1
+-- S times what a tail of 10^24 relevant places leaves out is below 1: what it adds after a prefix is at least the kept power less 1
 pub long_tail_adds : (a c n k : ℕ) → k ≡ 10 ^ 24 → 0 < a → 0 < c → a + c ≤ 1000000 →
     low_power a (a + c) n * ((a + c) ^ n * (a + c) ^ k) ≤ 10 ^ 18 * (a ^ n * (a + c) ^ k - a ^ (n + k)) + (a + c) ^ n * (a + c) ^ k
 long_tail_adds a c n k e pa pc le =
     let b = a + c in
     let power = mul-le-mul_right (b ^ k) (low_power-le a b n) in
     let little = little_left a c k e pa pc le in
-    let front : a ^ n ≤ b ^ n = pow-le-pow_left (omega arith) n in
-    let rest : 10 ^ 18 * (a ^ n * a ^ k) ≤ b ^ n * b ^ k = omega (arith, mul-le-mul front (le_of_lt' little)) in
+    let prefix : a ^ n ≤ b ^ n = pow-le-pow_left (omega arith) n in
+    let rest : 10 ^ 18 * (a ^ n * a ^ k) ≤ b ^ n * b ^ k = omega (arith, mul-le-mul prefix (le_of_lt' little)) in
     let cut : a ^ n * a ^ k ≤ a ^ n * b ^ k = mul-le-mul_left (a ^ n) (pow-le-pow_left (omega arith) k) in
     let joined : a ^ (n + k) ≡ a ^ n * a ^ k = pow-add a n k in
     omega (arith, power, rest, cut, joined)

@@ -20,7 +20,7 @@ use Rattle.desk_model.specs.Verdict.{whole_sum}
 use Rattle.desk_model.proofs.Completions.{allowed_least, allowed_most}
 use Rattle.desk_model.proofs.Fractions.{at_most_in}
 use Rattle.desk_model.proofs.PrecisionEnds.{weaker, over-pos}
-use Rattle.measure_laws.specs.Ranks.{comes_before, IsWithin}
+use Rattle.measure_laws.specs.Ranks.{comes_before, IsRankWithin}
 use Rattle.measure_laws.specs.Powers.{ceil_div, low_power, high_power, low_weight, high_weight}
 use Rattle.measure_laws.specs.Shares.{low_share, biased_least_lo}
 use Rattle.measure_laws.proofs.Biased.{worth, tail_adds, low_power-le, high_power-le, ceil_div-le, div-mul-le}
@@ -47,7 +47,7 @@ worth_of a b m None = 0
 worth_of a b m (Some r) = worth a b m r
 
 -- S times the worth of a rank lies between its two weights
-pub weight_low : (a c m : ℕ) (x : Option ℕ) → IsWithin m x → low_weight a (a + c) x * (a + c) ^ m ≤ 10 ^ 18 * (c * worth_of a (a + c) m x)
+pub weight_low : (a c m : ℕ) (x : Option ℕ) → IsRankWithin m x → low_weight a (a + c) x * (a + c) ^ m ≤ 10 ^ 18 * (c * worth_of a (a + c) m x)
 weight_low a c m None h = omega arith
 weight_low a c m (Some r) h =
     let b = a + c in
@@ -66,7 +66,7 @@ weight_low a c m (Some r) h =
     weigh w p bi bj b c ai bm h k e =
         omega (arith, mul-le-mul_right (bi * bj) h, mul-le-mul_right (c * bj) k, ap (λ s. w * s) e)
 
-pub weight_high : (a c m : ℕ) (x : Option ℕ) → 0 < a + c → IsWithin m x → 10 ^ 18 * (c * worth_of a (a + c) m x) ≤ high_weight a (a + c) x * (a + c) ^ m
+pub weight_high : (a c m : ℕ) (x : Option ℕ) → 0 < a + c → IsRankWithin m x → 10 ^ 18 * (c * worth_of a (a + c) m x) ≤ high_weight a (a + c) x * (a + c) ^ m
 weight_high a c m None p h = omega arith
 weight_high a c m (Some r) p h =
     let b = a + c in
@@ -125,7 +125,7 @@ stands (Some x) (Some y) = elim (cases_lt x y) [
     not_less : (m n : ℕ) → n ≤ m → nat_lt m n ≡ false
     not_less m n h = grind (arith, nat_tests)
 
-pub before_worth : (a c m n : ℕ) (x y : Option ℕ) → IsWithin m x → IsWithin n y → comes_before x y ≡ true → worth_of a (a + c) n y * (a + c) ^ m ≤ worth_of a (a + c) m x * (a + c) ^ n
+pub before_worth : (a c m n : ℕ) (x y : Option ℕ) → IsRankWithin m x → IsRankWithin n y → comes_before x y ≡ true → worth_of a (a + c) n y * (a + c) ^ m ≤ worth_of a (a + c) m x * (a + c) ^ n
 before_worth a c m n None y h k e = absurd (cc)
 before_worth a c m n (Some x) None h k e = omega arith
 before_worth a c m n (Some x) (Some y) h k e =
@@ -136,7 +136,7 @@ before_worth a c m n (Some x) (Some y) h k e =
     is_lt : (i j : ℕ) → nat_lt i j ≡ true → i < j
     is_lt i j e = grind (arith, nat_tests)
 
-pub level_worth : (a c m n : ℕ) (x : Option ℕ) → IsWithin m x → IsWithin n x → worth_of a (a + c) n x * (a + c) ^ m ≤ worth_of a (a + c) m x * (a + c) ^ n
+pub level_worth : (a c m n : ℕ) (x : Option ℕ) → IsRankWithin m x → IsRankWithin n x → worth_of a (a + c) n x * (a + c) ^ m ≤ worth_of a (a + c) m x * (a + c) ^ n
 level_worth a c m n None h k = omega arith
 level_worth a c m n (Some x) h k =
     let same : x + 0 ≡ x = omega arith in
@@ -175,7 +175,7 @@ share_level whole v w false true h = omega arith
 share_level whole v w false false h = omega arith
 
 -- the fact of one document, in any standing of its ranks
-document_bound : (a c m n : ℕ) (x y : Option ℕ) (mark : Mark) (t : Bool) → 0 < a + c → IsWithin m x → IsWithin n y → Allows mark t →
+document_bound : (a c m n : ℕ) (x y : Option ℕ) (mark : Mark) (t : Bool) → 0 < a + c → IsRankWithin m x → IsRankWithin n y → Allows mark t →
     let b = a + c in
     let whole = b ^ m * b ^ n in
     let v = 10 ^ 18 * (c * worth_of a b m x) * b ^ n in
@@ -207,7 +207,7 @@ document_bound a c m n x y mark t p h k allowed = at (stands x y)
         (if t then 10 ^ 18 * (c * worth_of a (a + c) m x) * (a + c) ^ n else 0) + down (if picked_value (comes_before y x) mark then z else pos 0) * ((a + c) ^ m * (a + c) ^ n)
 
     level_same : x ≡ y → worth_of a (a + c) n y * (a + c) ^ m ≤ worth_of a (a + c) m x * (a + c) ^ n
-    level_same g = subst (λ (z : Option ℕ). worth_of a (a + c) n z * (a + c) ^ m ≤ worth_of a (a + c) m x * (a + c) ^ n) g (level_worth a c m n x h (subst (IsWithin n) (sym g) k))
+    level_same g = subst (λ (z : Option ℕ). worth_of a (a + c) n z * (a + c) ^ m ≤ worth_of a (a + c) m x * (a + c) ^ n) g (level_worth a c m n x h (subst (IsRankWithin n) (sym g) k))
 
     at : Standing x y → up (if picked_value (comes_before y x) mark then low_share a (a + c) x y else pos 0) * ((a + c) ^ m * (a + c) ^ n) + (if t then 10 ^ 18 * (c * worth_of a (a + c) n y) * (a + c) ^ m else 0) ≤
         (if t then 10 ^ 18 * (c * worth_of a (a + c) m x) * (a + c) ^ n else 0) + down (if picked_value (comes_before y x) mark then low_share a (a + c) x y else pos 0) * ((a + c) ^ m * (a + c) ^ n)
@@ -232,18 +232,18 @@ pub scaled_term : (s w : ℕ) (t : Bool) → (if t then s * w else 0) ≡ s * (i
 scaled_term s w true = refl
 scaled_term s w false = omega arith
 
--- what the front of a run adds, out of the whole, as a sum over documents
-pub front_sum : (a b c m scale n : ℕ) (truth : ℕ → Bool) (docs : List ℕ) → IsDistinct nat_eq docs → AllByRecursion (λ d. d < n) docs →
+-- what the prefix of a run adds, out of the whole, as a sum over documents
+pub prefix_sum : (a b c m scale n : ℕ) (truth : ℕ → Bool) (docs : List ℕ) → IsDistinct nat_eq docs → AllByRecursion (λ d. d < n) docs →
     sum_by (λ d. if truth d then 10 ^ 18 * (c * worth_of a b m (rank docs d)) * scale else 0) (range_with_len 0 n) ≡ 10 ^ 18 * c * scale * gained (worth a b m) 1 (map truth docs)
-front_sum a b c m scale n truth docs dx wx =
+prefix_sum a b c m scale n truth docs dx wx =
     let s = 10 ^ 18 * c * scale in
     sum_by-agree _ (λ d. s * (if truth d then worth_of a b m (rank docs d) else 0)) (range_with_len 0 n)
-    (every _ (λ d. ap (λ (v : ℕ). if truth d then v else 0) (turned c (worth_of a b m (rank docs d)) scale) ∙ scaled_term s (worth_of a b m (rank docs d)) (truth d)) (range_with_len 0 n))
+    (every _ (λ d. ap (λ (v : ℕ). if truth d then v else 0) (reordered c (worth_of a b m (rank docs d)) scale) ∙ scaled_term s (worth_of a b m (rank docs d)) (truth d)) (range_with_len 0 n))
     ∙ sum_by-scale s (λ d. if truth d then worth_of a b m (rank docs d) else 0) (range_with_len 0 n)
     ∙ ap (λ v. s * v) (sym (gained_by_documents (worth_of a b m) refl truth 1 n docs dx wx))
   where
-    turned : (x y z : ℕ) → 10 ^ 18 * (x * y) * z ≡ 10 ^ 18 * x * z * y
-    turned x y z = omega arith
+    reordered : (x y z : ℕ) → 10 ^ 18 * (x * y) * z ≡ 10 ^ 18 * x * z * y
+    reordered x y z = omega arith
 
 -- the numbers of the whole topic. h is what the second run's tail may hold at most
 biased_total : (s t uz dz u d h c da db ga gb na nb ak an bn bk sa sb : ℕ) →
@@ -284,8 +284,8 @@ biased_low a c marks first second pa pc ra rb truth tail_a tail_b done =
     let each : AllByRecursion (λ d. up (share d) * (b ^ m * b ^ k) + (if truth d then 10 ^ 18 * (c * worth_of a b k (rank second d)) * b ^ m else 0) ≤ (if truth d then 10 ^ 18 * (c * worth_of a b m (rank first d)) * b ^ k else 0) + down (share d) * (b ^ m * b ^ k)) zs =
     weaker (λ d. d < n) _ (λ d h. document_bound a c m k (rank first d) (rank second d) (mark_at marks d) (truth d) positive (rank_within first m d (omega (arith, em))) (rank_within second k d (omega (arith, ek))) (done d h)) zs (range_below n) in
     let sums = sum_bounds share (λ d. if truth d then 10 ^ 18 * (c * worth_of a b m (rank first d)) * b ^ k else 0) (λ d. if truth d then 10 ^ 18 * (c * worth_of a b k (rank second d)) * b ^ m else 0) (b ^ m * b ^ k) zs each in
-    let fa = front_sum a b c m (b ^ k) n truth first ra.distinct (recursion_from_All (λ d. d < n) first ra.within) in
-    let fb = front_sum a b c k (b ^ m) n truth second rb.distinct (recursion_from_All (λ d. d < n) second rb.within) in
+    let fa = prefix_sum a b c m (b ^ k) n truth first ra.distinct (recursion_from_All (λ d. d < n) first ra.within) in
+    let fb = prefix_sum a b c k (b ^ m) n truth second rb.distinct (recursion_from_All (λ d. d < n) second rb.within) in
     let la : na ≡ length (map truth first) = simp length-map refl in
     let lb : nb ≡ length (map truth second) = simp length-map refl in
     let ta = (tail_adds a c na (length tail_a) m (map truth first) tail_a la refl em).0 in

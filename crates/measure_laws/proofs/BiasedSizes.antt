@@ -10,7 +10,7 @@ use Rattle.std.proofs.lemmas.List.Sums.{sum_by-cons}
 use Rattle.desk_model.specs.Ranking.{IsRanking, rank}
 use Rattle.desk_model.specs.Score.{gained}
 use Rattle.desk_model.specs.Verdict.{whole_sum}
-use Rattle.measure_laws.specs.Ranks.{comes_before, IsWithin}
+use Rattle.measure_laws.specs.Ranks.{comes_before, IsRankWithin}
 use Rattle.measure_laws.specs.Powers.{ceil_div, low_power, high_power, low_weight, high_weight}
 use Rattle.measure_laws.specs.Shares.{low_share, high_share}
 use Rattle.measure_laws.proofs.BiasedEnds.{Standing, stands, ahead, behind, level}
@@ -50,7 +50,7 @@ abbrev pub rank_size : Option ℕ → ℕ
 rank_size None = 0
 rank_size (Some r) = r
 
-pub weights_apart : (a b m : ℕ) (x : Option ℕ) → 0 < b → a ≤ b → IsWithin m x → high_weight a b x ≤ low_weight a b x + 2 * rank_size x
+pub weights_apart : (a b m : ℕ) (x : Option ℕ) → 0 < b → a ≤ b → IsRankWithin m x → high_weight a b x ≤ low_weight a b x + 2 * rank_size x
 weights_apart a b m None h k l = omega arith
 weights_apart a b m (Some r) h k l =
     omega (arith, l.0, round_apart (low_power a b (r - 1)) (high_power a b (r - 1)) (2 * (r - 1)) (b - a) b h (omega arith) (powers_apart a b (r - 1) h k))
@@ -141,7 +141,7 @@ pub weights_order : (a b : ℕ) (x : Option ℕ) → 0 < b → low_weight a b x 
 weights_order a b None h = omega arith
 weights_order a b (Some r) h = round_order (low_power a b (r - 1)) (high_power a b (r - 1)) (b - a) b h (powers_order a b (r - 1) h)
 
-pub share_sizes : (a b m n : ℕ) (x y : Option ℕ) → 0 < b → a ≤ b → IsWithin m x → IsWithin n y → ShareSizes a b x y (low_share a b x y) (high_share a b x y)
+pub share_sizes : (a b m n : ℕ) (x y : Option ℕ) → 0 < b → a ≤ b → IsRankWithin m x → IsRankWithin n y → ShareSizes a b x y (low_share a b x y) (high_share a b x y)
 share_sizes a b m n x y h k wx wy = at (stands x y)
   where
     ends : Bool → Bool → ℤ × ℤ

@@ -143,12 +143,12 @@ run_low a c marks docs pa pc r truth tail done =
     let judged = with_picked marks (λ _. false) in
     let positive : 0 < a + c = omega arith in
     let more = weaker (λ d. d < length marks) (λ d. judged d ≡ true → truth d ≡ true) (λ d h. allowed_least (mark_at marks d) (truth d) (done d h)) docs (recursion_from_All (λ d. d < length marks) docs r.within) in
-    let front = gained_below (λ rank. low_weight a b (Some rank)) (λ rank. 10 ^ 18 * c * worth a b m rank) (b ^ m) judged truth 1 (1 + m) docs (λ rank h k. omega (arith, weight_low a c m (Some rank) (h, omega arith))) more (omega arith) (omega (arith, em)) in
+    let prefix = gained_below (λ rank. low_weight a b (Some rank)) (λ rank. 10 ^ 18 * c * worth a b m rank) (b ^ m) judged truth 1 (1 + m) docs (λ rank h k. omega (arith, weight_low a c m (Some rank) (h, omega arith))) more (omega arith) (omega (arith, em)) in
     let scaled = gained-scale (10 ^ 18 * c) (worth a b m) 1 (map truth docs) in
     let la : length docs ≡ length (map truth docs) = simp length-map refl in
     let tails = mul-le-mul_left (10 ^ 18) (tail_adds a c (length docs) (length tail) m (map truth docs) tail la refl em).0 in
     rw (biased-over a c gains positive)
-    (at_most_in (pos (biased_bound_lo a b marks docs)) (10 ^ 18) (record { num = c * gained (worth a b m) 1 gains; den = b ^ m }) (over 0 1) (omega (arith, front, scaled, tails)))
+    (at_most_in (pos (biased_bound_lo a b marks docs)) (10 ^ 18) (record { num = c * gained (worth a b m) 1 gains; den = b ^ m }) (over 0 1) (omega (arith, prefix, scaled, tails)))
 
 smaller_of : (p q v whole : ℕ) → v ≤ p * whole → v ≤ q * whole → v ≤ min p q * whole
 smaller_of p q v whole h k = elim (cases_lt p q) [
@@ -157,8 +157,8 @@ smaller_of p q v whole h k = elim (cases_lt p q) [
 ]
 
 run_total : (s n g f h w an am bn bk bm p : ℕ) → n + am ≤ g + an * bk → s * g ≤ f → f ≤ w * bm → s * an ≤ h * bn → bm ≡ bn * bk → s * n ≤ (w + h) * bm
-run_total s n g f h w an am bn bk bm p tails scaled front kept parts =
-    let whole : h * bm ≡ h * (bn * bk) = ap (λ v. h * v) parts in omega (arith, mul-le-mul_left s tails, mul-le-mul_right bk kept, whole, scaled, front)
+run_total s n g f h w an am bn bk bm p tails scaled prefix kept parts =
+    let whole : h * bm ≡ h * (bn * bk) = ap (λ v. h * v) parts in omega (arith, mul-le-mul_left s tails, mul-le-mul_right bk kept, whole, scaled, prefix)
 
 pub run_high : (a c : ℕ) (marks : List Mark) (docs : List ℕ) → 0 < a → 0 < c → IsRanking (length marks) docs → (truth : ℕ → Bool) (tail : List Bool) → Completes marks truth →
     IsAtLeast (pos (biased_bound_hi a (a + c) marks docs)) (10 ^ 18) (biased a (a + c) (map truth docs ++ tail)) (over 0 1)
@@ -170,7 +170,7 @@ run_high a c marks docs pa pc r truth tail done =
     let possible = with_picked marks (λ _. true) in
     let positive : 0 < a + c = omega arith in
     let more = weaker (λ d. d < length marks) (λ d. truth d ≡ true → possible d ≡ true) (λ d h. allowed_most (mark_at marks d) (truth d) (done d h)) docs (recursion_from_All (λ d. d < length marks) docs r.within) in
-    let front = gained_above (λ rank. high_weight a b (Some rank)) (λ rank. 10 ^ 18 * c * worth a b m rank) (b ^ m) truth possible 1 (1 + m) docs (λ rank h k. omega (arith, weight_high a c m (Some rank) positive (h, omega arith))) more (omega arith) (omega (arith, em)) in
+    let prefix = gained_above (λ rank. high_weight a b (Some rank)) (λ rank. 10 ^ 18 * c * worth a b m rank) (b ^ m) truth possible 1 (1 + m) docs (λ rank h k. omega (arith, weight_high a c m (Some rank) positive (h, omega arith))) more (omega arith) (omega (arith, em)) in
     let scaled = gained-scale (10 ^ 18 * c) (worth a b m) 1 (map truth docs) in
     let la : length docs ≡ length (map truth docs) = simp length-map refl in
     let tails = (tail_adds a c (length docs) (length tail) m (map truth docs) tail la refl em).1 in
@@ -180,7 +180,7 @@ run_high a c marks docs pa pc r truth tail done =
     let at_most_one : 10 ^ 18 * (c * gained (worth a b m) 1 gains) ≤ 10 ^ 18 * b ^ m = mul-le-mul_left (10 ^ 18) (omega (arith, one, ap (λ v. v * b ^ m) (pow-zero a))) in
     let weights = gained (λ rank. high_weight a b (Some rank)) 1 (map possible docs) in
     let summed = run_total (10 ^ 18) (c * gained (worth a b m) 1 gains) (c * gained (worth a b m) 1 (map truth docs)) (gained (λ rank. 10 ^ 18 * c * worth a b m rank) 1 (map truth docs)) (high_power a b (length docs)) weights
-    (a ^ length docs) (a ^ m) (b ^ length docs) (b ^ length tail) (b ^ m) 0 tails (omega (arith, scaled)) front (high_power-le a b (length docs) positive) parts in
+    (a ^ length docs) (a ^ m) (b ^ length docs) (b ^ length tail) (b ^ m) 0 tails (omega (arith, scaled)) prefix (high_power-le a b (length docs) positive) parts in
     let both = smaller_of (10 ^ 18) (weights + high_power a b (length docs)) (10 ^ 18 * (c * gained (worth a b m) 1 gains)) (b ^ m) at_most_one summed in
     rw (biased-over a c gains positive)
     (at_least_in (pos (biased_bound_hi a b marks docs)) (10 ^ 18) (record { num = c * gained (worth a b m) 1 gains; den = b ^ m }) (over 0 1) (omega (arith, both)))

@@ -8,8 +8,8 @@ use Rattle.desk_model.specs.Fraction.{over}
 use Rattle.desk_model.specs.Score.{true_among}
 use Rattle.desk_model.proofs.Counts.{IsDistinct-take}
 use Rattle.desk_model.proofs.Completions.{with_picked-Completes}
-use Rattle.desk_model.proofs.PrecisionEnds.{least_bound, least_attained, front_within, over-pos}
-use Rattle.measure_laws.specs.Fronts.{only_second}
+use Rattle.desk_model.proofs.PrecisionEnds.{least_bound, least_attained, prefix_within, over-pos}
+use Rattle.measure_laws.specs.Prefixes.{only_second}
 use Rattle.measure_laws.specs.Differences.{IsNoGreater, IsLeastCase}
 use Rattle.measure_laws.specs.Ranks.{comes_before}
 use Rattle.measure_laws.specs.Cases.{recall_pick, least_truth}
@@ -37,7 +37,7 @@ precision_least_case k marks a b h ra rb =
       completes = with_picked-Completes marks (only_second k a b);
       least = λ truth _ _ c.
           same_denominator (true_among truth k a) (true_among truth k b) (true_among best k a) (true_among best k b) k h
-          (omega (arith, least_attained marks (take k a) (take k b) dx dy, least_bound marks truth (take k a) (take k b) dx dy (front_within k (length marks) a ra) (front_within k (length marks) b rb) c));
+          (omega (arith, least_attained marks (take k a) (take k b) dx dy, least_bound marks truth (take k a) (take k b) dx dy (prefix_within k (length marks) a ra) (prefix_within k (length marks) b rb) c));
     }
 
 pub recall_case : (k : ℕ) (marks : List Mark) (a b : List ℕ) → IsRanking (length marks) a → IsRanking (length marks) b → IsLeastCase (Recall k) marks a b (least_truth (Recall k) marks a b)

@@ -18,12 +18,12 @@ use Rattle.desk_model.specs.declared.types.MeasureName.{MeasureName}
 use Rattle.desk_model.specs.declared.types.MeasureName.TheVariants.{Precision, Recall, RPrecision}
 use Rattle.desk_model.proofs.Counts.{IsDistinct-take, count_by-agree, count_by-weaker}
 use Rattle.desk_model.proofs.Completions.{with_picked-Completes}
-use Rattle.desk_model.proofs.PrecisionEnds.{difference_outside, front_within, is_in_members, least_attained, over-pos, weaker}
+use Rattle.desk_model.proofs.PrecisionEnds.{difference_outside, prefix_within, is_in_members, least_attained, over-pos, weaker}
 use Rattle.desk_model.proofs.Topics.{over-den, score-den}
 use Rattle.measure_laws.specs.Cases.{recall_pick}
 use Rattle.measure_laws.specs.Classes.{judged_count, open_in, size_of}
 use Rattle.measure_laws.specs.Differences.{IsLeastCase, IsNoGreater}
-use Rattle.measure_laws.specs.Fronts.{neutral, only_second}
+use Rattle.measure_laws.specs.Prefixes.{neutral, only_second}
 use Rattle.measure_laws.specs.LeastDifference.{IsLeastDifference, IsPossible, IsSmallestOf, own_relevant, own_unjudged, possible_count, recall_relevant, rprec_lead, unjudged_count}
 use Rattle.measure_laws.specs.RprecCase.{greedy_pick, greedy_truth}
 use Rattle.measure_laws.proofs.LeastCases.{precision_least_case, recall_case}
@@ -110,8 +110,8 @@ chosen_is v k marks a b ra rb =
     let zs = range_with_len 0 n in
     let dx = IsDistinct-take k a ra.distinct in
     let dy = IsDistinct-take k b rb.distinct in
-    let wx = front_within k n a ra in
-    let wy = front_within k n b rb in
+    let wx = prefix_within k n a ra in
+    let wy = prefix_within k n b rb in
     let best = with_picked marks (recall_choice v xs ys) in
     let none = with_picked marks (λ _. false) in
     let every_one = with_picked marks (λ _. true) in
@@ -157,9 +157,9 @@ recall_difference k marks a b ra rb =
     recall_by v k marks a b (true_count truth n) led (chosen.total (own_unjudged k marks a b) (own_unjudged k marks b a) (omega (arith, own)) (omega (arith, other))) in
     let den : max 1 (true_count truth n) ≡ max 1 (recall_relevant k marks a b) = ap (max 1) total in
     let x : over (true_among truth k a) (true_count truth n) ≡ out_of (true_among truth k a) (max 1 (recall_relevant k marks a b)) =
-    over-max (true_among truth k a) (true_count truth n) (count_le_universe truth n (take k a) (IsDistinct-take k a ra.distinct) (front_within k n a ra)) ∙ ap (out_of (true_among truth k a)) den in
+    over-max (true_among truth k a) (true_count truth n) (count_le_universe truth n (take k a) (IsDistinct-take k a ra.distinct) (prefix_within k n a ra)) ∙ ap (out_of (true_among truth k a)) den in
     let y : over (true_among truth k b) (true_count truth n) ≡ out_of (true_among truth k b) (max 1 (recall_relevant k marks a b)) =
-    over-max (true_among truth k b) (true_count truth n) (count_le_universe truth n (take k b) (IsDistinct-take k b rb.distinct) (front_within k n b rb)) ∙ ap (out_of (true_among truth k b)) den in
+    over-max (true_among truth k b) (true_count truth n) (count_le_universe truth n (take k b) (IsDistinct-take k b rb.distinct) (prefix_within k n b rb)) ∙ ap (out_of (true_among truth k b)) den in
     ratio_case (Recall k) marks a b truth (recall_case k marks a b ra rb) (true_among truth k a) (true_among truth k b) (max 1 (recall_relevant k marks a b)) (only_count false marks (take k a) (take k b)) (only_count true marks (take k b) (take k a))
     (one_more (recall_relevant k marks a b)) x y chosen.lead
 
@@ -172,7 +172,7 @@ open_size marks a b r relevant unjudged ra er eu =
     let zs = range_with_len 0 n in
     let e = only_second r b a in
     let dx = IsDistinct-take r a ra.distinct in
-    let wx = front_within r n a ra in
+    let wx = prefix_within r n a ra in
     let all : count_by (λ d. open_in marks e d && true) zs ≡ size_of n (open_in marks e) = count_by-agree _ _ zs (every _ (λ d. and-true (open_in marks e d)) zs) in
     omega (
       arith,
@@ -198,8 +198,8 @@ greedy_lead marks a b r ra rb possible =
     let both = neutral r a b in
     let dx = IsDistinct-take r a ra.distinct in
     let dy = IsDistinct-take r b rb.distinct in
-    let wx = front_within r n a ra in
-    let wy = front_within r n b rb in
+    let wx = prefix_within r n a ra in
+    let wy = prefix_within r n b rb in
     let chosen = r - judged_count marks in
     let own = own_relevant r marks a b in
     let other = own_relevant r marks b a in

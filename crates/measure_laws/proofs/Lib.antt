@@ -1,7 +1,7 @@
 pub mod LeastEnds
 pub mod Ranks
 pub mod Picks
-pub mod Mirror
+pub mod Swapping
 pub mod Weights
 pub mod RecallEnds
 pub mod ReciprocalEnds

@@ -13,7 +13,7 @@ use Rattle.measure_laws.specs.Shares.{biased_upper_end}
 use Rattle.measure_laws.specs.Cases.{HasLeastTails}
 use Rattle.measure_laws.specs.Ends.{HasEnds, IsUpperEnd, IsLowerEnd}
 use Rattle.small_lemmas.proofs.Numbers.{neg_twice}
-use Rattle.measure_laws.proofs.Mirror.{at_least_turned}
+use Rattle.measure_laws.proofs.Swapping.{at_least_swapped}
 use Rattle.measure_laws.proofs.Weights.{persistence-small}
 use Rattle.measure_laws.proofs.BiasedUpper.{biased_high}
 use Rattle.measure_laws.proofs.Persistence.{least_encloses, most_encloses}
@@ -51,9 +51,9 @@ upper_holds (Biased top bottom) n truth a b z tail_a tail_b valid ra rb h tails 
     subst (λ (w : ℤ). IsAtLeast w (10 ^ 18) (biased top bottom (map truth a ++ tail_a)) (biased top bottom (map truth b ++ tail_b))) (sym h)
     (subst (λ (t : List Bool). IsAtLeast (biased_upper_end top bottom truth n a b) (10 ^ 18) (biased top bottom (map truth a ++ t)) (biased top bottom (map truth b ++ tail_b))) (sym tails.0) high)
 
--- the lower end, with the tails exchanged
+-- the lower end, with the tails swapped
 pub lower_holds : (m : MeasureName) (n : ℕ) (truth : ℕ → Bool) (a b : List ℕ) (z : ℤ) (tail_a tail_b : List Bool) → IsMeasure m → IsRanking n a → IsRanking n b → IsLowerEnd m n truth a b z → HasLeastTails m tail_b tail_a →
     IsAtMost z (unit_of m) (score m n truth a tail_a) (score m n truth b tail_b)
 lower_holds m n truth a b z tail_a tail_b valid ra rb h tails =
     subst (λ (w : ℤ). IsAtMost w (unit_of m) (score m n truth a tail_a) (score m n truth b tail_b)) (neg_twice z)
-    (at_least_turned (neg_ℤ z) (unit_of m) _ _ (upper_holds m n truth b a (neg_ℤ z) tail_b tail_a valid rb ra h tails))
+    (at_least_swapped (neg_ℤ z) (unit_of m) _ _ (upper_holds m n truth b a (neg_ℤ z) tail_b tail_a valid rb ra h tails))

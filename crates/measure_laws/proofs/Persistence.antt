@@ -18,7 +18,7 @@ use Rattle.measure_laws.specs.Powers.{low_weight, high_weight}
 use Rattle.measure_laws.specs.Shares.{ForPersistence, ForRun, AreNear, IsModest, biased_truth, biased_least_lo, biased_least_hi, biased_ends, biased_bound_lo, biased_bound_hi}
 use Rattle.measure_laws.specs.Cases.{HasLeastTails}
 use Rattle.small_lemmas.proofs.Numbers.{neg_twice}
-use Rattle.measure_laws.proofs.Mirror.{every_turned}
+use Rattle.measure_laws.proofs.Swapping.{every_swapped}
 use Rattle.measure_laws.proofs.Weights.{persistence-small}
 use Rattle.measure_laws.proofs.Biased.{least_tails, little_left}
 use Rattle.measure_laws.proofs.BiasedEnds.{weight_low, weight_high, biased_low}
@@ -35,7 +35,7 @@ least_encloses top bottom marks a b p ra rb truth tail_a tail_b c =
     (biased_low top (bottom - top) marks a b p.positive (omega (arith, p.below_one)) ra rb truth tail_a tail_b c)
 
 pub most_encloses : ForPersistence (λ top bottom marks a b. InEvery (Biased top bottom) marks a b (IsAtLeast (neg_ℤ (biased_least_lo top bottom marks b a)) (10 ^ 18)))
-most_encloses top bottom marks a b p ra rb = every_turned (Biased top bottom) (10 ^ 18) marks a b (biased_least_lo top bottom marks b a) (least_encloses top bottom marks b a p rb ra)
+most_encloses top bottom marks a b p ra rb = every_swapped (Biased top bottom) (10 ^ 18) marks a b (biased_least_lo top bottom marks b a) (least_encloses top bottom marks b a p rb ra)
 
 -- the difference of the least case, with its tails, is at most the upper end
 pub least_case_below : ForPersistence (λ top bottom marks a b. (tail_a tail_b : List Bool) → HasLeastTails (Biased top bottom) tail_a tail_b →
@@ -82,16 +82,16 @@ ends_in_order top bottom marks a b p ra rb =
     (least_encloses top bottom marks a b p ra rb truth tails.0 tails.1 (biased-Completes marks a b))
     (least_case_below top bottom marks a b p ra rb tails.0 tails.1 tails.2)
 
-pub turned_in_order : ForPersistence (λ top bottom marks a b. neg_ℤ (biased_least_hi top bottom marks b a) ≤ℤ neg_ℤ (biased_least_lo top bottom marks b a))
-turned_in_order top bottom marks a b p ra rb = turned (biased_least_lo top bottom marks b a) (biased_least_hi top bottom marks b a) (ends_in_order top bottom marks b a p rb ra)
+pub swapped_in_order : ForPersistence (λ top bottom marks a b. neg_ℤ (biased_least_hi top bottom marks b a) ≤ℤ neg_ℤ (biased_least_lo top bottom marks b a))
+swapped_in_order top bottom marks a b p ra rb = negation_swaps (biased_least_lo top bottom marks b a) (biased_least_hi top bottom marks b a) (ends_in_order top bottom marks b a p rb ra)
   where
-    turned : (z w : ℤ) → z ≤ℤ w → neg_ℤ w ≤ℤ neg_ℤ z
-    turned z w h = omega (arith, ints)
+    negation_swaps : (z w : ℤ) → z ≤ℤ w → neg_ℤ w ≤ℤ neg_ℤ z
+    negation_swaps z w h = omega (arith, ints)
 
--- the ends of the runs exchanged are the mirror image
-pub ends_mirrored : ForPersistence (λ top bottom marks a b. let ends = biased_ends top bottom marks a b in
+-- the ends of the swapped runs: least and greatest change places, and the ends of each are negated and change places
+pub ends_swapped : ForPersistence (λ top bottom marks a b. let ends = biased_ends top bottom marks a b in
     biased_ends top bottom marks b a ≡ record { least_lo = neg_ℤ ends.most_hi; least_hi = neg_ℤ ends.most_lo; most_lo = neg_ℤ ends.least_hi; most_hi = neg_ℤ ends.least_lo })
-ends_mirrored top bottom marks a b p ra rb =
+ends_swapped top bottom marks a b p ra rb =
     let ends : ℤ → ℤ → Ends = λ lo hi. record { least_lo = lo; least_hi = hi; most_lo = neg_ℤ (biased_least_hi top bottom marks a b); most_hi = neg_ℤ (biased_least_lo top bottom marks a b) } in
     sym (ap (λ z. ends z (neg_ℤ (neg_ℤ (biased_least_hi top bottom marks b a)))) (neg_twice (biased_least_lo top bottom marks b a))
     ∙ ap (ends (biased_least_lo top bottom marks b a)) (neg_twice (biased_least_hi top bottom marks b a)))

@@ -10,7 +10,7 @@ use Rattle.small_lemmas.proofs.Tests.{apart_below, apart_over}
 use Rattle.desk_model.specs.Ranking.{rank}
 use Rattle.desk_model.specs.Score.{gained}
 use Rattle.desk_model.proofs.Counts.{nat_eq-sym, nat_eq-true}
-use Rattle.measure_laws.specs.Ranks.{IsWithin}
+use Rattle.measure_laws.specs.Ranks.{IsRankWithin}
 use Rattle.measure_laws.proofs.RecallEnds.{every}
 
 shifted : (b : Bool) (i : ℕ) (p q : Option ℕ) → p ≡ option_map (λ n. n + 1) q → cond b (Some (i + 1)) p ≡ option_map (λ n. n + 1) (cond b (Some i) q)
@@ -105,9 +105,9 @@ pub position_between : (t : ℕ → Bool) (s e : ℕ) (xs : List ℕ) → s + le
 position_between t s e [] h = tt
 position_between t s e (x ∷ xs) h = between_step (t x) s e (position_from t (s + 1) xs) (omega arith) (position_between t (s + 1) e xs (omega arith))
 
-within_from : (n m : ℕ) (o : Option ℕ) → n ≤ m → Between 1 (1 + n) o → IsWithin m o
+within_from : (n m : ℕ) (o : Option ℕ) → n ≤ m → Between 1 (1 + n) o → IsRankWithin m o
 within_from n m None h k = tt
 within_from n m (Some r) h k = (k.0, omega (arith, k.1))
 
-pub rank_within : (docs : List ℕ) (m d : ℕ) → length docs ≤ m → IsWithin m (rank docs d)
+pub rank_within : (docs : List ℕ) (m d : ℕ) → length docs ≤ m → IsRankWithin m (rank docs d)
 rank_within docs m d h = within_from (length docs) m (rank docs d) h (position_between (λ each. nat_eq each d) 1 (1 + length docs) docs refl)

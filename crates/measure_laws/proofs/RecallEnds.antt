@@ -13,7 +13,7 @@ use Rattle.desk_model.specs.Score.{true_count}
 use Rattle.desk_model.specs.Classes.{only_count}
 use Rattle.desk_model.proofs.Counts.{one_if, count_by-cons, count_by-swap, count_by-weaker, count_by-agree, IsDistinct-take}
 use Rattle.desk_model.proofs.Completions.{allowed_least, allowed_most, with_picked-Completes}
-use Rattle.desk_model.proofs.PrecisionEnds.{weaker, front_within, is_in_members, difference_outside, outside_least, outside_most, and_weaker}
+use Rattle.desk_model.proofs.PrecisionEnds.{weaker, prefix_within, is_in_members, difference_outside, outside_least, outside_most, and_weaker}
 use Rattle.measure_laws.specs.Differences.{IsNoGreater, IsLeastCase}
 use Rattle.desk_model.specs.declared.types.Mark.{Mark}
 use Rattle.desk_model.specs.declared.types.MeasureName.TheVariants.{Recall}
@@ -191,11 +191,11 @@ pub count_le_universe : (p : ℕ → Bool) (n : ℕ) (xs : List ℕ) → IsDisti
 count_le_universe p n xs dx wx =
     let inside : count_by (λ d. p d && is_in (range_with_len 0 n) d) xs ≡ count_by p xs =
     count_by-agree (λ d. p d && is_in (range_with_len 0 n) d) p xs (weaker (λ d. d < n) _ (λ d h. and_true_is (p d) (is_in (range_with_len 0 n) d) (in_range 0 n d (omega arith) (omega (arith, h)))) xs wx) in
-    let turned : count_by (λ d. p d && is_in (range_with_len 0 n) d) xs ≡ count_by (λ d. p d && is_in xs d) (range_with_len 0 n) =
+    let swapped : count_by (λ d. p d && is_in (range_with_len 0 n) d) xs ≡ count_by (λ d. p d && is_in xs d) (range_with_len 0 n) =
     count_by-swap p xs (range_with_len 0 n) dx (IsDistinct-range 0 n) in
     let fewer : count_by (λ d. p d && is_in xs d) (range_with_len 0 n) ≤ count_by p (range_with_len 0 n) =
     count_by-weaker (λ d. p d && is_in xs d) p (range_with_len 0 n) (every _ (λ d. and_first (p d) (is_in xs d)) (range_with_len 0 n)) in
-    omega (arith, inside, turned, fewer)
+    omega (arith, inside, swapped, fewer)
 
 -- the inequality of the three classes, for either choice of the neutral ones
 chosen : (v : Bool) (p q w p' q' w' : ℕ) → p' ≤ p → q ≤ q' → (v ≡ true → (q' ≤ p') × (w ≤ w')) → (v ≡ false → (p' ≤ q') × (w' ≤ w)) →
@@ -239,8 +239,8 @@ recall_least_case k marks a b ra rb v led trails =
     let ys = take k b in
     let dx = IsDistinct-take k a ra.distinct in
     let dy = IsDistinct-take k b rb.distinct in
-    let wx = front_within k n a ra in
-    let wy = front_within k n b rb in
+    let wx = prefix_within k n a ra in
+    let wy = prefix_within k n b rb in
     let best = with_picked marks (recall_choice v xs ys) in
     let p' : count_by (λ d. best d && not (is_in ys d)) xs ≡ only_count false marks xs ys =
     count_by-agree _ _ xs (weaker (λ d. is_in xs d ≡ true) _ (λ d h. choice_first v (is_in xs d) (is_in ys d) (mark_at marks d) h) xs (is_in_members xs)) in

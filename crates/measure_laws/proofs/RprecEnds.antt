@@ -13,9 +13,9 @@ use Rattle.desk_model.specs.Fraction.{over}
 use Rattle.desk_model.specs.Score.{true_among, true_count}
 use Rattle.desk_model.proofs.Counts.{one_if, count_by-cons, count_by-agree, IsDistinct-take}
 use Rattle.desk_model.proofs.Completions.{with_picked-Completes}
-use Rattle.desk_model.proofs.PrecisionEnds.{difference_outside, front_within}
+use Rattle.desk_model.proofs.PrecisionEnds.{difference_outside, prefix_within}
 use Rattle.desk_model.proofs.Topics.{over-den}
-use Rattle.measure_laws.specs.Fronts.{only_second, neutral}
+use Rattle.measure_laws.specs.Prefixes.{only_second, neutral}
 use Rattle.measure_laws.specs.Differences.{ArePositive, IsNoGreater, Scores, IsLeastCase}
 use Rattle.measure_laws.specs.Classes.{is_among_first, open_in, size_of, judged_count}
 use Rattle.measure_laws.specs.RprecCase.{greedy_pick, greedy_truth, greedy_scores, rprec_count, rprec_truth}
@@ -190,12 +190,12 @@ greedy_is marks a b r h k =
     }
 
 -- ---- over every number of relevant documents
--- counts of two fronts differ as those of the classes do
+-- counts of two prefixes differ as those of the classes do
 classes_differ : (p : ℕ → Bool) (n r : ℕ) (a b : List ℕ) → IsRanking n a → IsRanking n b → true_among p r a + true_in p (only_second r a b) n ≡ true_among p r b + true_in p (only_second r b a) n
 classes_differ p n r a b ra rb =
     let dx = IsDistinct-take r a ra.distinct in
     let dy = IsDistinct-take r b rb.distinct in
-    omega (arith, difference_outside p (take r a) (take r b) dx dy, class_count p n (take r a) (take r b) dx (front_within r n a ra), class_count p n (take r b) (take r a) dy (front_within r n b rb))
+    omega (arith, difference_outside p (take r a) (take r b) dx dy, class_count p n (take r a) (take r b) dx (prefix_within r n a ra), class_count p n (take r b) (take r a) dy (prefix_within r n b rb))
 
 all_at : (P : ℕ → Type 0) (start n d : ℕ) → AllByRecursion P (range_with_len start n) → start ≤ d → d < start + n → P d
 all_at P start zero d h k l = absurd (omega arith)
@@ -231,8 +231,8 @@ greedy_no_greater marks a b ra rb truth c r e g =
     let best = greedy_truth marks a b r in
     let dx = IsDistinct-take r a ra.distinct in
     let dy = IsDistinct-take r b rb.distinct in
-    let wx = front_within r n a ra in
-    let wy = front_within r n b rb in
+    let wx = prefix_within r n a ra in
+    let wy = prefix_within r n b rb in
     let le : true_among best r a + true_among truth r b ≤ true_among truth r a + true_among best r b =
     omega (arith, classes_differ best n r a b ra rb, classes_differ truth n r a b ra rb, g.least truth c e) in
     no_greater_of (true_among truth r a) (true_among truth r b) r (true_among best r a) (true_among best r b) r

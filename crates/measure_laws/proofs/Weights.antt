@@ -4,7 +4,7 @@ use Rattle.std.proofs.Math.Nat.{mul-le-mul_left, pow-le-pow_right}
 use Rattle.std.proofs.lemmas.Nat.{div_below}
 use Rattle.std.specs.Int.{abs_diff}
 use Rattle.desk_model.specs.Ranking.{rank}
-use Rattle.measure_laws.specs.Fronts.{only_second}
+use Rattle.measure_laws.specs.Prefixes.{only_second}
 use Rattle.measure_laws.specs.Classes.{judged_count}
 use Rattle.desk_model.specs.MeasureText.{IsMeasure, IsPersistence}
 use Rattle.measure_laws.specs.Measures.{unit_of}

@@ -5,7 +5,7 @@ use Rattle.desk_model.specs.Score.{true_among}
 use Rattle.desk_model.specs.declared.types.Mark.{Mark}
 use Rattle.desk_model.specs.declared.types.MeasureName.{MeasureName}
 use Rattle.desk_model.specs.declared.types.MeasureName.TheVariants.{Precision, Recall, RPrecision, Reciprocal, Biased}
-use Rattle.measure_laws.specs.Fronts.{only_second, neutral}
+use Rattle.measure_laws.specs.Prefixes.{only_second, neutral}
 use Rattle.measure_laws.specs.ReciprocalCase.{with_choice, reciprocal_choice}
 use Rattle.measure_laws.specs.RprecCase.{rprec_truth}
 use Rattle.measure_laws.specs.Shares.{biased_truth}

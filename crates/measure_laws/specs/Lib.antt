@@ -1,4 +1,4 @@
-pub mod Fronts
+pub mod Prefixes
 pub mod Ranks
 pub mod Differences
 pub mod Classes

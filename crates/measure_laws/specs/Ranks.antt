@@ -8,9 +8,9 @@ comes_before (Some x) None = true
 comes_before (Some x) (Some y) = nat_lt x y
 
 -- a rank from 1 to n, or none
-abbrev pub IsWithin : ℕ → Option ℕ → Type 0
-IsWithin n None = Unit {0}
-IsWithin n (Some r) = (1 ≤ r) × (r ≤ n)
+abbrev pub IsRankWithin : ℕ → Option ℕ → Type 0
+IsRankWithin n None = Unit {0}
+IsRankWithin n (Some r) = (1 ≤ r) × (r ≤ n)
 
 -- the earlier of two ranks, where an absent one comes last
 abbrev pub earlier : Option ℕ → Option ℕ → Option ℕ

@@ -6,7 +6,7 @@ use Rattle.desk_model.specs.Fraction.{over}
 use Rattle.desk_model.specs.Score.{true_among, true_count}
 use Rattle.desk_model.specs.declared.types.Mark.{Mark}
 use Rattle.desk_model.specs.declared.types.MeasureName.TheVariants.{RPrecision}
-use Rattle.measure_laws.specs.Fronts.{only_second, neutral}
+use Rattle.measure_laws.specs.Prefixes.{only_second, neutral}
 use Rattle.measure_laws.specs.Classes.{open_in, size_of, judged_count, is_among_first}
 use Rattle.measure_laws.specs.Differences.{IsLeastCase, Scores, first_least}
 

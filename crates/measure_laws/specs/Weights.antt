@@ -5,7 +5,7 @@ use Rattle.desk_model.specs.Ranking.{rank}
 use Rattle.desk_model.specs.declared.types.Mark.{Mark}
 use Rattle.desk_model.specs.declared.types.MeasureName.{MeasureName}
 use Rattle.desk_model.specs.declared.types.MeasureName.TheVariants.{Precision, Recall, RPrecision, Reciprocal, Biased}
-use Rattle.measure_laws.specs.Fronts.{only_second}
+use Rattle.measure_laws.specs.Prefixes.{only_second}
 use Rattle.measure_laws.specs.Classes.{judged_count}
 use Rattle.measure_laws.specs.Powers.{low_weight}
 

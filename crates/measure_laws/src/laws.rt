@@ -89,8 +89,8 @@ pub fn shares_enclose()
 {}
 
 /// The two ends of a least and of a greatest difference under rank-biased precision are in order.
-/// Exchanged runs have the mirror image: least and greatest exchanged, and the ends of each negated
-/// and exchanged.
+/// Swapped runs have the swapped ends: least and greatest change places, and the ends of each are negated
+/// and change places.
 pub fn biased_ends_are_in_order()
     ensures least { ForPersistence (λ top bottom marks a b.
         (biased_ends top bottom marks a b).least_lo ≤ℤ (biased_ends top bottom marks a b).least_hi) }

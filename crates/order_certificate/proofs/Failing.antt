@@ -15,23 +15,23 @@ abbrev rest_of_list : {X : Type 0} → List X → List X
 rest_of_list [] = []
 rest_of_list (y ∷ ys) = ys
 
--- one more at the end of a list: the front is all of it, or is a front of the list
-last_or_front : {X : Type 0} (before front rest : List X) (x : X) → before ++ x ∷ [] ≡ front ++ rest → (rest ≡ []) ⊎ ((more : List X) × (before ≡ front ++ more))
-last_or_front before [] rest x e = inr (before, refl)
-last_or_front [] (f ∷ fs) [] x e = inl refl
-last_or_front [] (f ∷ fs) (r ∷ rs) x e =
+-- one more at the end of a list: the prefix is all of it, or is a prefix of the list
+last_or_prefix : {X : Type 0} (before prefix rest : List X) (x : X) → before ++ x ∷ [] ≡ prefix ++ rest → (rest ≡ []) ⊎ ((more : List X) × (before ≡ prefix ++ more))
+last_or_prefix before [] rest x e = inr (before, refl)
+last_or_prefix [] (f ∷ fs) [] x e = inl refl
+last_or_prefix [] (f ∷ fs) (r ∷ rs) x e =
     let n : suc zero ≡ suc (length (fs ++ r ∷ rs)) = ap length e in
     absurd (omega (arith, n, length-append fs (r ∷ rs)))
-last_or_front {X} (b ∷ bs) (f ∷ fs) rest x e =
+last_or_prefix {X} (b ∷ bs) (f ∷ fs) rest x e =
     let head : b ≡ f = ap (first_of_list b) e in
     let tail : bs ++ x ∷ [] ≡ fs ++ rest = ap rest_of_list e in
-    elim (last_or_front bs fs rest x tail) [
+    elim (last_or_prefix bs fs rest x tail) [
       | inl none ↦ inl none
       | inr h ↦ inr (h.0, ap (λ z. z ∷ bs) head ∙ ap (λ zs. f ∷ zs) h.1)
     ]
 
 -- after a value the second form is read
-says_later : {V X : Type 0} (form : Form V) (then : V → Form X) (front rest : List (List ℕ)) (v : V) (x : X) → IsPlain form → Says form front v → Says (bind form then) (front ++ rest) x → Says (then v) rest x
+says_later : {V X : Type 0} (form : Form V) (then : V → Form X) (prefix rest : List (List ℕ)) (v : V) (x : X) → IsPlain form → Says form prefix v → Says (bind form then) (prefix ++ rest) x → Says (then v) rest x
 says_later (Whole w) then [] rest v x h s t = subst (λ z. Says (then z) rest x) s t
 says_later (Whole w) then (l ∷ ls) rest v x h s t = absurd s
 says_later (Line show Fits next) then [] rest v x h s t = absurd s
@@ -50,16 +50,16 @@ fail_first {V} {X} form then bytes last plain h = record {
 }
   where
     -- lines that can stand and begin with a value say it
-    over : (v : V) (front rest : List (List ℕ)) → h.before ≡ front ++ rest → Says form front v → ⊥
-    over v front rest e s =
-        let none : rest ≡ [] = nothing_after form front rest v plain s (subst (CanStand form) e h.stand) in
-        h.unfinished v (subst (λ zs. Says form zs v) (sym (e ∙ ap (λ zs. front ++ zs) none ∙ append-nil front)) s)
+    over : (v : V) (prefix rest : List (List ℕ)) → h.before ≡ prefix ++ rest → Says form prefix v → ⊥
+    over v prefix rest e s =
+        let none : rest ≡ [] = nothing_after form prefix rest v plain s (subst (CanStand form) e h.stand) in
+        h.unfinished v (subst (λ zs. Says form zs v) (sym (e ∙ ap (λ zs. prefix ++ zs) none ∙ append-nil prefix)) s)
 
-    stopped : (line more : List ℕ) → last ≡ ended line ++ more → CanStand form (h.before ++ line ∷ []) ⊎ ((v : V) × (front : List (List ℕ)) × (rest : List (List ℕ)) × (h.before ++ line ∷ [] ≡ front ++ rest) × Says form front v) → ⊥
+    stopped : (line more : List ℕ) → last ≡ ended line ++ more → CanStand form (h.before ++ line ∷ []) ⊎ ((v : V) × (prefix : List (List ℕ)) × (rest : List (List ℕ)) × (h.before ++ line ∷ [] ≡ prefix ++ rest) × Says form prefix v) → ⊥
     stopped line more e (inl s) = h.fails line more e s
-    stopped line more e (inr (v, front, rest, is, s)) = elim (last_or_front h.before front rest line is) [
-      | inl none ↦ h.fails line more e (says_stands form (h.before ++ line ∷ []) v (subst (λ zs. Says form zs v) (sym (is ∙ ap (λ zs. front ++ zs) none ∙ append-nil front)) s))
-      | inr k ↦ over v front k.0 k.1 s
+    stopped line more e (inr (v, prefix, rest, is, s)) = elim (last_or_prefix h.before prefix rest line is) [
+      | inl none ↦ h.fails line more e (says_stands form (h.before ++ line ∷ []) v (subst (λ zs. Says form zs v) (sym (is ∙ ap (λ zs. prefix ++ zs) none ∙ append-nil prefix)) s))
+      | inr k ↦ over v prefix k.0 k.1 s
     ]
 
 -- where the second fails after a value of the first, both fail

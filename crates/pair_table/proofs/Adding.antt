@@ -22,14 +22,14 @@ use Rattle.fractions.proofs.Spans.{span_same}
 use Rattle.measure_core.specs.Laws.{SpanIsModest, CellIsModest}
 use Rattle.measure_core.specs.Made.{ends_of}
 use Rattle.measure_core.specs.declared.cell.Cell.{Cell}
-use Rattle.pair_table.specs.Kept.{AreNear, AreSumsTo, AreWithin, IsWithin}
+use Rattle.pair_table.specs.Kept.{AreModestTotals, AreSumsTo, AreWithin, IsAtMostInSize}
 use Rattle.pair_table.specs.Sums.{added, cell_ends, pair_sums, run_numbers, span_sum}
 use Rattle.std.proofs.lemmas.List.{length-map}
 
-within_step : (n : ℕ) (z w : ℤ) → IsWithin n z → IsModest w → IsWithin (n + 1) (z +ℤ w)
+within_step : (n : ℕ) (z w : ℤ) → IsAtMostInSize n z → IsModest w → IsAtMostInSize (n + 1) (z +ℤ w)
 within_step n z w h k = omega (arith, ints)
 
-pub within_near : (n : ℕ) (z : ℤ) → n ≤ 10000 → IsWithin n z → IsNear z
+pub within_near : (n : ℕ) (z : ℤ) → n ≤ 10000 → IsAtMostInSize n z → IsNear z
 within_near n z few h = omega (arith, ints)
 
 modest_near : (z : ℤ) → IsModest z → IsNear z
@@ -45,7 +45,7 @@ whole_sum-push (y ∷ zs) z = let rest = whole_sum-push zs z in omega (arith, in
 -- the sum of a number of each element before a place, and its size
 pub record IsSumTo {X : Type 0} (f : X → ℤ) (xs : List X) (t : ℕ) (z : ℤ) : Type 0 where
   pub summed : z ≡ whole_sum (map f (take t xs))
-  pub within : IsWithin t z
+  pub within : IsAtMostInSize t z
 
 no_sum : {X : Type 0} (f : X → ℤ) (xs : List X) → IsSumTo f xs 0 (pos 0)
 no_sum f xs = record { summed = refl; within = omega (arith, ints) }
@@ -54,7 +54,7 @@ sum_more : {X : Type 0} (f : X → ℤ) (xs : List X) (t : ℕ) (x : X) (z w r :
 sum_more f xs t x z w r h there is modest e = record {
   summed = e ∙ ap (λ (v : ℤ). v +ℤ w) h.summed ∙ ap (λ (v : ℤ). whole_sum (map f (take t xs)) +ℤ v) is ∙ sym (whole_sum-push (map f (take t xs)) (f x))
       ∙ ap whole_sum (sym (map-append f (take t xs) (x ∷ [])) ∙ ap (map f) (sym (take-there xs t x there)));
-  within = subst (IsWithin (t + 1)) (sym e) (within_step t z w h.within modest);
+  within = subst (IsAtMostInSize (t + 1)) (sym e) (within_step t z w h.within modest);
 }
 
 sum_whole : {X : Type 0} (f : X → ℤ) (xs : List X) (t : ℕ) (z : ℤ) → length xs ≤ t → IsSumTo f xs t z → z ≡ whole_sum (map f xs)
@@ -94,7 +94,7 @@ pub sums_within : (n : ℕ) (t : Totals) (cell : Cell) → AreWithin n t → Cel
 sums_within n t cell h modest =
     (within_step n t.least_lo cell.least.lo h.0 modest.least.0, within_step n t.least_hi cell.least.hi h.1 modest.least.1, within_step n t.most_lo cell.most.lo h.2 modest.most.0, within_step n t.most_hi cell.most.hi h.3 modest.most.1)
 
-pub sums_near : (n : ℕ) (t : Totals) → n ≤ 10000 → AreWithin n t → AreNear t
+pub sums_near : (n : ℕ) (t : Totals) → n ≤ 10000 → AreWithin n t → AreModestTotals t
 sums_near n t few h = (within_near n t.least_lo few h.0, within_near n t.least_hi few h.1, within_near n t.most_lo few h.2, within_near n t.most_hi few h.3)
 
 no_cells : (cell : List Mark → List ℕ → List ℕ → Cell) (a b : ℕ) → pair_sums cell [] a b ≡ totals_of []
@@ -110,7 +110,7 @@ constant f y (x ∷ xs) (z ∷ ys) same e h = ap (λ v. v ∷ ys) (h.0 ∙ sym (
 pub sums_start : (cell : List Mark → List ℕ → List ℕ → Cell) (topics : List Topic) (runs : ℕ) (totals : List Totals) → length totals ≡ length (pairs_of (run_numbers runs)) → All (λ sums. sums ≡ totals_of []) totals →
     AreSumsTo cell topics runs 0 totals
 sums_start cell topics runs totals count none =
-    let zero_within : IsWithin 0 (pos 0) = omega (arith, ints) in
+    let zero_within : IsAtMostInSize 0 (pos 0) = omega (arith, ints) in
     record {
       sums = constant (λ pair. pair_sums cell [] pair.0 pair.1) (totals_of []) (pairs_of (run_numbers runs)) totals (λ pair. no_cells cell pair.0 pair.1) count (recursion_from_All _ totals none);
       within = λ k d lt. subst (AreWithin 0) (sym (none k d lt)) (zero_within, zero_within, zero_within, zero_within);

@@ -4,6 +4,6 @@ pub mod Zips
 pub mod Verdicts
 pub mod Orders
 pub mod Named
-pub mod Turned
+pub mod Swapped
 pub mod Filling
 pub mod PairNumbers

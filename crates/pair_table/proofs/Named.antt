@@ -16,7 +16,7 @@ use Rattle.measure_laws.proofs.Unique.{extremes_unique}
 use Rattle.fractions.specs.declared.span.Span.{Span}
 use Rattle.fractions.proofs.Spans.{span_same}
 use Rattle.measure_core.specs.Laws.{IsMet}
-use Rattle.measure_core.specs.Made.{ends_of, HasEnds, HasBounds, AreNumbersOf}
+use Rattle.measure_core.specs.Made.{ends_of, HasEnds, HasBounds, AreNumbersOfName}
 use Rattle.measure_core.specs.declared.cell.Cell.{Cell}
 use Rattle.pair_table.specs.Sums.{run_numbers, cell_ends, pair_sums, run_spans, run_sums, span_sum, all_pair_sums, all_run_sums}
 use Rattle.pair_table.specs.Numbers.{ArePairNumbers, AreRunNumbers, AreNumbersIn}
@@ -25,7 +25,7 @@ use Rattle.pair_table.proofs.Zips.{zip_made, zip_making, zip_unique, zip_unique_
 use Rattle.pair_table.proofs.Orders.{MetBy}
 
 -- ---- a table of a measure with a name's numbers
-module _ (name : MeasureName) (cell : List Mark → List ℕ → List ℕ → Cell) (bounds : List Mark → List ℕ → Span) (numbers : AreNumbersOf name cell bounds) where
+module _ (name : MeasureName) (cell : List Mark → List ℕ → List ℕ → Cell) (bounds : List Mark → List ℕ → Span) (numbers : AreNumbersOfName name cell bounds) where
   pair_named : (topics : List Topic) (a b : ℕ) → AllByRecursion (MetBy a b) topics → ArePairNumbers name topics a b (pair_sums cell topics a b)
   unfolding pair_sums
   pair_named topics a b met = record {
@@ -46,7 +46,7 @@ module _ (name : MeasureName) (cell : List Mark → List ℕ → List ℕ → Ce
     summed = refl;
   }
 
-pub table_named : (name : MeasureName) (cell : List Mark → List ℕ → List ℕ → Cell) (bounds : List Mark → List ℕ → Span) (desk : Desk) (marks : List (List Mark)) → AreNumbersOf name cell bounds → IsDesk desk → AreMarksOf desk marks →
+pub table_named : (name : MeasureName) (cell : List Mark → List ℕ → List ℕ → Cell) (bounds : List Mark → List ℕ → Span) (desk : Desk) (marks : List (List Mark)) → AreNumbersOfName name cell bounds → IsDesk desk → AreMarksOf desk marks →
     AreNumbersIn name desk marks (all_run_sums bounds (topics_under desk marks) (length desk.runs)) (all_pair_sums cell (topics_under desk marks) (length desk.runs))
 table_named name cell bounds desk marks numbers valid known =
     let topics = topics_under desk marks in

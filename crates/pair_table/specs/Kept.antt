@@ -10,7 +10,7 @@ use Rattle.desk_model.specs.declared.types.Verdict.{Verdict}
 use Rattle.fractions.specs.Ends.{IsNear, IsShort}
 use Rattle.fractions.specs.declared.span.Span.{Span}
 use Rattle.measure_core.specs.declared.cell.Cell.{Cell}
-use Rattle.pair_table.specs.Sums.{all_pair_sums, run_numbers, turned}
+use Rattle.pair_table.specs.Sums.{all_pair_sums, run_numbers, swapped_totals}
 
 -- a measure, how many runs there are, the sums of each pair in pair order, and the sums of each run's bounds
 pub record Kept (M : Type 0) : Type 0 where
@@ -19,22 +19,22 @@ pub record Kept (M : Type 0) : Type 0 where
   pub totals : List Totals
   pub bounds : List Span
 
--- the sums of two runs in either order: those beside their pair, or the same turned where the second run comes first
+-- the sums of two runs in either order: those beside their pair, or the same swapped_totals where the second run comes first
 abbrev pub AreSumsOf : ℕ → List Totals → ℕ → ℕ → Totals → Type 0
 AreSumsOf runs totals i j sums =
-    Contains (zip (pairs_of (run_numbers runs)) totals) ((i, j), sums) ⊎ Contains (zip (pairs_of (run_numbers runs)) totals) ((j, i), turned sums)
+    Contains (zip (pairs_of (run_numbers runs)) totals) ((i, j), sums) ⊎ Contains (zip (pairs_of (run_numbers runs)) totals) ((j, i), swapped_totals sums)
 
 -- all four sums are from -10^30 to 10^30
-abbrev pub AreNear : Totals → Type 0
-AreNear t = IsNear t.least_lo × IsNear t.least_hi × IsNear t.most_lo × IsNear t.most_hi
+abbrev pub AreModestTotals : Totals → Type 0
+AreModestTotals t = IsNear t.least_lo × IsNear t.least_hi × IsNear t.most_lo × IsNear t.most_hi
 
 -- within so many times 2*10^18 of 0
-abbrev pub IsWithin : ℕ → ℤ → Type 0
-IsWithin n z = (neg_ℤ (pos (n * (2 * 10 ^ 18))) ≤ℤ z) × (z ≤ℤ pos (n * (2 * 10 ^ 18)))
+abbrev pub IsAtMostInSize : ℕ → ℤ → Type 0
+IsAtMostInSize n z = (neg_ℤ (pos (n * (2 * 10 ^ 18))) ≤ℤ z) × (z ≤ℤ pos (n * (2 * 10 ^ 18)))
 
 -- all four sums are within so many times 2*10^18 of 0
 abbrev pub AreWithin : ℕ → Totals → Type 0
-AreWithin n t = IsWithin n t.least_lo × IsWithin n t.least_hi × IsWithin n t.most_lo × IsWithin n t.most_hi
+AreWithin n t = IsAtMostInSize n t.least_lo × IsAtMostInSize n t.least_hi × IsAtMostInSize n t.most_lo × IsAtMostInSize n t.most_hi
 
 -- the sums of each pair over the topics before one, with no more in them than so many cells have
 pub record AreSumsTo (cell : List Mark → List ℕ → List ℕ → Cell) (topics : List Topic) (runs t : ℕ) (totals : List Totals) : Type 0 where
@@ -42,10 +42,10 @@ pub record AreSumsTo (cell : List Mark → List ℕ → List ℕ → Cell) (topi
   pub within : All (AreWithin t) totals
 
 -- sums for each pair, a verdict for each sums, and bounds for each run
-pub record IsKept (runs : ℕ) (totals : List Totals) (verdicts : List Verdict) (bounds : List Span) : Type 0 where
+pub record IsKeptTable (runs : ℕ) (totals : List Totals) (verdicts : List Verdict) (bounds : List Span) : Type 0 where
   pub few : runs ≤ 256
   pub each_pair : length totals ≡ length (pairs_of (run_numbers runs))
   pub each_run : length bounds ≡ runs
   pub each_verdict : verdicts ≡ map verdict totals
-  pub near_sums : All AreNear totals
+  pub near_sums : All AreModestTotals totals
   pub near_bounds : All IsShort bounds

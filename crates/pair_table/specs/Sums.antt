@@ -52,6 +52,6 @@ all_pair_sums cell topics runs = map (λ pair. pair_sums cell topics pair.0 pair
 abbrev pub all_run_sums : (List Mark → List ℕ → Span) → List Topic → ℕ → List Span
 all_run_sums bounds topics runs = map (run_sums bounds topics) (run_numbers runs)
 
--- the sums of two runs exchanged: least and greatest exchanged, and each end negated
-abbrev pub turned : Totals → Totals
-turned t = record { least_lo = neg_ℤ t.most_hi; least_hi = neg_ℤ t.most_lo; most_lo = neg_ℤ t.least_hi; most_hi = neg_ℤ t.least_lo }
+-- the sums of two swapped runs: least and greatest change places, and each end is negated
+abbrev pub swapped_totals : Totals → Totals
+swapped_totals t = record { least_lo = neg_ℤ t.most_hi; least_hi = neg_ℤ t.most_lo; most_lo = neg_ℤ t.least_hi; most_hi = neg_ℤ t.least_lo }

@@ -13,7 +13,7 @@ ghost use Rattle.fractions.specs.declared.span.Span.{Span};
 ghost use Rattle.desk_model.specs.MeasureText.{IsMeasure};
 ghost use Rattle.measure_laws.specs.Measures.{IsExactMeasure};
 ghost use Rattle.measure_core.specs.Laws.{MeetsLaws};
-ghost use Rattle.measure_core.specs.Made.{AreNumbersOf};
+ghost use Rattle.measure_core.specs.Made.{AreNumbersOfName};
 ghost use Rattle.measure_core.specs.declared.cell.Cell.{Cell};
 ghost use Rattle.pair_table.specs.Sums.{cell_ends, pair_sums, run_sums, all_pair_sums, all_run_sums};
 ghost use Rattle.pair_table.specs.Kept.{AreSumsOf};
@@ -23,7 +23,7 @@ ghost use Rattle.pair_table.specs.Orders.{HoldsOfPair, HoldsOfRun, total_width, 
 /// A table of a measure whose cells and bounds are a name's has the numbers of that name.
 pub fn tables_have_named_numbers()
     ensures { (name : MeasureName) (cell : List Mark → List ℕ → List ℕ → Cell) (bounds : List Mark → List ℕ → Span)
-        (desk : Desk) (marks : List (List Mark)) → AreNumbersOf name cell bounds → IsDesk desk → AreMarksOf desk marks →
+        (desk : Desk) (marks : List (List Mark)) → AreNumbersOfName name cell bounds → IsDesk desk → AreMarksOf desk marks →
         AreNumbersIn name desk marks (all_run_sums bounds (topics_under desk marks) (length desk.runs))
         (all_pair_sums cell (topics_under desk marks) (length desk.runs)) }
 {}

@@ -6,7 +6,7 @@ ghost use Rattle.fractions.specs.Ends.{IsShort};
 ghost use Rattle.measure_core.specs.Laws.{SpanIsModest, CellIsModest};
 ghost use Rattle.measure_core.specs.Made.{ends_of};
 ghost use Rattle.pair_table.specs.Sums.{added, cell_ends, run_spans, run_sums};
-ghost use Rattle.pair_table.specs.Kept.{AreNear, AreSumsTo};
+ghost use Rattle.pair_table.specs.Kept.{AreModestTotals, AreSumsTo};
 
 use desk_model::{Desk, Marks, PairPlaces, Totals};
 use fractions::Span;
@@ -55,7 +55,7 @@ fn bounds_at<M: Measure>(measure: &M, desk: &Desk, marks: &Marks, run: u32, topi
 
 /// Some sums with the ends of a cell.
 fn plus(totals: &Totals, cell: Cell) -> Totals
-    requires totals { AreNear totals.now }
+    requires totals { AreModestTotals totals.now }
     requires cell { CellIsModest cell }
     ensures { result ≡ added totals.now (ends_of cell) }
 {

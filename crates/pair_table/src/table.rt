@@ -5,8 +5,8 @@ ghost use Rattle.desk_model.specs.Verdict.{totals_of, verdict};
 ghost use Rattle.desk_model.specs.declared.types.Totals.{Totals as Sums};
 ghost use Rattle.desk_model.specs.MeasureText.{IsMeasure};
 ghost use Rattle.fractions.specs.Ends.{IsShort};
-ghost use Rattle.pair_table.specs.Sums.{run_numbers, all_pair_sums, all_run_sums, turned};
-ghost use Rattle.pair_table.specs.Kept.{AreSumsOf, AreNear};
+ghost use Rattle.pair_table.specs.Sums.{run_numbers, all_pair_sums, all_run_sums, swapped_totals};
+ghost use Rattle.pair_table.specs.Kept.{AreSumsOf, AreModestTotals};
 
 use crate::sums::{add_cells, sum_bounds};
 use desk_model::{Desk, Marks, Memory, Totals, Verdict, verdict_of};
@@ -30,13 +30,13 @@ pub struct Table<M: Measure> {
 }
 
 impl<M: Measure> Model for Table<M> {
-    ghost use Rattle.pair_table.specs.Kept.{Kept, IsKept};
+    ghost use Rattle.pair_table.specs.Kept.{Kept, IsKeptTable};
 
     ghost Value = { Kept M };
 
     ghost view = { λ t. record { measure = t.measure; runs = t.runs; totals = t.totals.items; bounds = t.bounds.items } };
 
-    ghost invariant = { λ t. IsKept t.runs t.totals.items t.verdicts.items t.bounds.items };
+    ghost invariant = { λ t. IsKeptTable t.runs t.totals.items t.verdicts.items t.bounds.items };
 }
 
 const NO_SUMS: Totals = Totals {
@@ -58,10 +58,10 @@ fn pair_number(runs: u32, first: u32, second: u32) -> u32
     first * (2 * runs - first - 1) / 2 + (second - first - 1)
 }
 
-/// The sums of two runs exchanged.
+/// The sums of two swapped runs.
 fn turn(totals: &Totals) -> Totals
-    requires { AreNear totals.now }
-    ensures { result ≡ turned totals.now }
+    requires { AreModestTotals totals.now }
+    ensures { result ≡ swapped_totals totals.now }
 {
     Totals {
         least_lo: -totals.most_hi,
@@ -99,7 +99,7 @@ fn fill_totals<M: Measure, L: Ledger>(
     requires count { length totals.old ≡ length (pairs_of (run_numbers (length desk.now.runs))) }
     requires none { All (λ sums. sums ≡ totals_of []) totals.old }
     ensures totals { totals.new ≡ all_pair_sums (M.cell_of measure.now) (topics_under desk.now marks.now) (length desk.now.runs) }
-    ensures near { All AreNear totals.new }
+    ensures near { All AreModestTotals totals.new }
     ensures steps { steps.new ≡ steps.old + length totals.old * length desk.now.topics }
 {
     for topic in 0..desk.topic_count() {
@@ -130,7 +130,7 @@ fn fill_verdicts(verdicts: &mut [Verdict], totals: &[Totals])
 
 impl<M: Measure> Table<M> {
     /// The table of a measure over a desk and its marks. It is one step for each pair and topic, and
-    /// where memory is wanting it is none.
+    /// where memory runs out it is none.
     pub fn new<L: Ledger>(
         alloc: Global,
         desk: &Desk,
@@ -177,7 +177,7 @@ impl<M: Measure> Table<M> {
         verdict_of(&self.totals(i, j))
     }
 
-    /// The sums of two different runs. Those of (j, i) are the mirror image of those of (i, j).
+    /// The sums of two different runs. Those of (j, i) are those of (i, j) swapped: least and greatest change places, and each end is negated.
     pub fn totals(&self, i: u32, j: u32) -> Totals
         requires different { i ≢ j }
         requires first { i < self.now.runs }
@@ -202,7 +202,7 @@ impl<M: Measure> Table<M> {
     pub fn all_totals(&self) -> &[Totals]
         ensures totals { result.now ≡ self.now.totals }
         ensures count { length result.now ≡ length (pairs_of (run_numbers self.now.runs)) }
-        ensures near { All AreNear result.now }
+        ensures near { All AreModestTotals result.now }
     {
         &self.totals
     }

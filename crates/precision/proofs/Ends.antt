@@ -3,7 +3,7 @@ use Rattle.std.proofs.Common.{◌≡◌, ℕ, ◌<◌, true, false, List, take, 
 use Rattle.desk_model.specs.Ranking.{IsRanking}
 use Rattle.desk_model.specs.Extremes.{Ends, AreExtremes, AreBounds}
 use Rattle.desk_model.specs.MeasureText.{IsMeasure}
-use Rattle.desk_model.specs.Classes.{only_count, front_count, precision_least, precision_most}
+use Rattle.desk_model.specs.Classes.{only_count, prefix_count, precision_least, precision_most}
 use Rattle.desk_model.specs.declared.types.Mark.{Mark}
 use Rattle.desk_model.specs.declared.types.MeasureName.TheVariants.{Precision}
 use Rattle.desk_model.proofs.PrecisionEnds.{precision_extremes, precision_bounds}
@@ -28,10 +28,10 @@ extremes_read k marks a b low high a_least a_most b_least b_most h ra rb el eh e
     rw (low_is, high_is) (precision_extremes k marks a b h ra rb)
 
 pub bounds_read : (k : ℕ) (marks : List Mark) (a : List ℕ) (low high : ℤ) (least most : ℕ) → 0 < k → IsRanking (length marks) a → low ≡ pos least → high ≡ pos most →
-    least ≡ front_count false k marks a → most ≡ front_count true k marks a → AreBounds (Precision k) k marks a low high
+    least ≡ prefix_count false k marks a → most ≡ prefix_count true k marks a → AreBounds (Precision k) k marks a low high
 bounds_read k marks a low high least most h r el eh fl fh =
-    let low_is : low ≡ pos (front_count false k marks a) = el ∙ ap (λ x. pos x) fl in
-    let high_is : high ≡ pos (front_count true k marks a) = eh ∙ ap (λ x. pos x) fh in
+    let low_is : low ≡ pos (prefix_count false k marks a) = el ∙ ap (λ x. pos x) fl in
+    let high_is : high ≡ pos (prefix_count true k marks a) = eh ∙ ap (λ x. pos x) fh in
     rw (low_is, high_is) (precision_bounds k marks a h r)
 
 -- ---- the numbers that the extremes determine

@@ -4,7 +4,7 @@ ghost use Rattle.desk_model.specs.Ranking.{IsRanking};
 ghost use Rattle.desk_model.specs.Extremes.{AreExtremes, AreBounds};
 ghost use Rattle.desk_model.specs.MeasureText.{IsMeasure};
 ghost use Rattle.desk_model.specs.declared.types.MeasureName.TheVariants.{Precision as P};
-ghost use Rattle.measure_laws.specs.Fronts.{only_second};
+ghost use Rattle.measure_laws.specs.Prefixes.{only_second};
 ghost use Rattle.measure_core.specs.Laws.{AreValues};
 ghost use Rattle.measure_core.specs.Made.{IsMadeFor};
 
@@ -14,7 +14,7 @@ use measure_core::{Cell, Measure, Steps};
 use std::alloc::Global;
 use std::marker::Model;
 use std::sync::ledger::Ledger;
-use topic_counts::counts::{front_documents, is_among_first, own_counts};
+use topic_counts::counts::{is_among_first, own_counts, prefix_documents};
 
 /// The measure `P_k`, for a k from 1 to 10,000. Its unit is k: what it answers are numbers of
 /// documents.
@@ -66,8 +66,8 @@ impl Precision {
         ensures bounds { AreBounds (P self.now) self.now marks.now run.now result.0 result.1 }
         ensures depth { IsMeasure (P self.now) }
     {
-        let front = front_documents(self.k, run, marks);
-        (front.least(), front.most())
+        let prefix = prefix_documents(self.k, run, marks);
+        (prefix.least(), prefix.most())
     }
 }
 

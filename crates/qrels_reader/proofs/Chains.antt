@@ -13,7 +13,7 @@ use Rattle.qrels_reader.specs.declared.fault.FileFault.TheVariants.{Line, Memory
 use Rattle.qrels_reader.specs.declared.limits.TheConstants.{MOST_TOPICS, MOST_QRELS_ROWS, MOST_NAME_BYTES}
 use Rattle.qrels_reader.specs.Reading.{unless, checked, and_then, field, is_long, read_line}
 use Rattle.qrels_reader.specs.Rows.{Row, row_of, grade_of, form_faults, row_faults, read_row}
-use Rattle.qrels_reader.specs.Grouped.{Topic, grouped, faults_after, with_row_on, documents_on, is_topic, row_count, name_bytes_in}
+use Rattle.qrels_reader.specs.Grouped.{JudgedTopic, grouped, faults_after, with_row_on, documents_on, is_topic, row_count, name_bytes_in}
 use Rattle.qrels_reader.specs.Reader.{ReadsLine}
 use Rattle.qrels_reader.proofs.RowFiles.{judgements}
 use Rattle.qrels_reader.proofs.Grouping.{grouped-append, repeated, is_topic-grouped, length-grouped, row_count-grouped, name_bytes_in-grouped}
@@ -24,7 +24,7 @@ pub form_is : (line : List ℕ) (a b c d e : Bool) → nat_lt LONGEST_LINE (leng
 form_is line a b c d e p q r s t = λ i. unless ((p i, LineTooLong) ∷ (q i, BadByte) ∷ (r i, BadFieldCount) ∷ (s i, NameTooLong) ∷ (t i, BadGrade) ∷ []) (row_of line)
 
 -- and those of a row
-pub row_is : (ts : List Topic) (row : Row) (a b c d : Bool) → list_any (λ judged. bytes_eq row.document judged.document) (documents_on row.topic ts) ≡ a → (not (is_topic row.topic ts) && nat_le MOST_TOPICS (length ts)) ≡ b
+pub row_is : (ts : List JudgedTopic) (row : Row) (a b c d : Bool) → list_any (λ judged. bytes_eq row.document judged.document) (documents_on row.topic ts) ≡ a → (not (is_topic row.topic ts) && nat_le MOST_TOPICS (length ts)) ≡ b
     → nat_le MOST_QRELS_ROWS (row_count ts) ≡ c → nat_lt MOST_NAME_BYTES (name_bytes_in ts + length row.document) ≡ d
     → checked (faults_after ts row) ≡ unless ((a, RepeatedDocument) ∷ (b, TooManyTopics) ∷ (c, TooManyRows) ∷ (d, TooManyNameBytes) ∷ []) (tt {0})
 row_is ts row a b c d p q r s = λ i. unless ((p i, RepeatedDocument) ∷ (q i, TooManyTopics) ∷ (r i, TooManyRows) ∷ (s i, TooManyNameBytes) ∷ []) (tt {0})
@@ -78,7 +78,7 @@ module _ {R : Type 0} (number : ℕ) (row : R) (tests : List (Bool × LineFault)
   read_refused e (inr w) = inr (is ∙ ap (result_map_both (λ row. row) (Line number)) (unless-err tests (tt {0}) (Some row) w.0 w.1) ∙ ap Err (sym w.2))
 
 -- the faults of a row are those after the topics of the rows before it
-faults_are : (ts : List Topic) (rows : List Row) (row : Row) → ts ≡ grouped rows → row_faults rows row ≡ faults_after ts row
+faults_are : (ts : List JudgedTopic) (rows : List Row) (row : Row) → ts ≡ grouped rows → row_faults rows row ≡ faults_after ts row
 faults_are ts rows row e =
     let a = repeated judgements row.topic row.document rows in
     let b = is_topic-grouped judgements row.topic rows in
@@ -89,7 +89,7 @@ faults_are ts rows row e =
     ∙ ap (λ ts. faults_after ts row) (sym e)
 
 -- what is read of a line of the right form
-read_is : (number : ℕ) (rows : List Row) (line : List ℕ) (row : Row) (ts : List Topic) → is_blank line ≡ false → ts ≡ grouped rows → unless (form_faults line) (row_of line) ≡ Ok row
+read_is : (number : ℕ) (rows : List Row) (line : List ℕ) (row : Row) (ts : List JudgedTopic) → is_blank line ≡ false → ts ≡ grouped rows → unless (form_faults line) (row_of line) ≡ Ok row
     → read_line read_row number rows line ≡ result_map_both (λ row. row) (Line number) (unless (faults_after ts row) (Some row))
 read_is number rows line row ts b e f =
     ap (λ b. cond b (Ok None) (result_map_both (λ row. row) (Line number) (read_row rows line))) b
@@ -97,7 +97,7 @@ read_is number rows line row ts b e f =
     ∙ ap (λ tests. result_map_both (λ row. row) (Line number) (unless tests (Some row))) (faults_are ts rows row e)
 
 -- a line of the right form
-pub read_formed : (number : ℕ) (rows : List Row) (line : List ℕ) (row : Row) (ts ts' : List Topic) (answer : Result (Unit {0}) FileFault) → is_blank line ≡ false → ts ≡ grouped rows → unless (form_faults line) (row_of line) ≡ Ok row
+pub read_formed : (number : ℕ) (rows : List Row) (line : List ℕ) (row : Row) (ts ts' : List JudgedTopic) (answer : Result (Unit {0}) FileFault) → is_blank line ≡ false → ts ≡ grouped rows → unless (form_faults line) (row_of line) ≡ Ok row
     → OnOk answer (checked (faults_after ts row) ≡ Ok (tt {0})) → OnOk answer (ts' ≡ with_row_on ts row)
     → IfErr answer (λ e. (e ≡ Memory) ⊎ ((fault : LineFault) × (checked (faults_after ts row) ≡ Err fault) × (e ≡ Line number fault))) → ReadsLine number rows line answer ts'
 read_formed number rows line row ts ts' (Ok done) b e f right added wrong =

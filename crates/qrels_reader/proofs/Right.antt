@@ -14,7 +14,7 @@ use Rattle.qrels_reader.specs.declared.fault.FileFault.TheVariants.{Line}
 use Rattle.qrels_reader.specs.declared.limits.TheConstants.{MOST_TOPICS, MOST_QRELS_ROWS, MOST_NAME_BYTES}
 use Rattle.qrels_reader.specs.Reading.{unless, and_then, field, is_long, read_line, with_row}
 use Rattle.qrels_reader.specs.Rows.{Row, first_seen, topics_of, rows_on, has_topic, name_bytes_of, row_of, form_faults, row_faults, read_row}
-use Rattle.qrels_reader.specs.Grouped.{Topic, grouped, row_count, IsQrels}
+use Rattle.qrels_reader.specs.Grouped.{JudgedTopic, grouped, row_count, IsQrels}
 use Rattle.qrels_reader.proofs.Seen.{add_name, first_seen-append, or-false, IsDistinct}
 use Rattle.qrels_reader.proofs.RowFiles.{judgements}
 use Rattle.qrels_reader.proofs.NamedRows.{IsNamed, documents_more, names_right, names_differ, documents_right, documents_differ}
@@ -121,6 +121,6 @@ is_qrels rows right some = record {
   name_bytes = omega (arith, name_bytes_in-grouped judgements rows, right.bytes);
 }
   where
-    at_least : (ts : List Topic) → 0 < row_count ts → 0 < length ts
+    at_least : (ts : List JudgedTopic) → 0 < row_count ts → 0 < length ts
     at_least [] h = absurd (omega arith)
     at_least (t ∷ ts) h = omega arith

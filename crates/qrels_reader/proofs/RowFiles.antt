@@ -7,10 +7,10 @@ use Rattle.std.specs.Str.{bytes_eq}
 use Rattle.qrels_reader.specs.Rows.{Row, first_seen}
 use Rattle.qrels_reader.specs.Names as kept
 use Rattle.qrels_reader.specs.Names.{IsCounted}
-use Rattle.qrels_reader.specs.Grouped.{Judged, Topic, judged_of, documents_on, row_count, name_bytes_in, with_document, with_row_on}
+use Rattle.qrels_reader.specs.Grouped.{Judged, JudgedTopic, judged_of, documents_on, row_count, name_bytes_in, with_document, with_row_on}
 
 -- a kind of files: judgements, or runs
-pub record Kind (Row Member Topic : Type 0) : Type 0 where
+pub record Kind (Row Member JudgedTopic : Type 0) : Type 0 where
   -- a row: its topic, and the member that it makes
   pub topic : Row → List ℕ
   pub member : Row → Member
@@ -21,27 +21,27 @@ pub record Kind (Row Member Topic : Type 0) : Type 0 where
   pub document-valued : (d : List ℕ) (v : ℤ) → document (valued d v) ≡ d
   pub value-valued : (d : List ℕ) (v : ℤ) → value (valued d v) ≡ v
   -- a topic: a name and members
-  pub name : Topic → List ℕ
-  pub members : Topic → List Member
-  pub made : List ℕ → List Member → Topic
+  pub name : JudgedTopic → List ℕ
+  pub members : JudgedTopic → List Member
+  pub made : List ℕ → List Member → JudgedTopic
   pub name-made : (n : List ℕ) (ms : List Member) → name (made n ms) ≡ n
   pub members-made : (n : List ℕ) (ms : List Member) → members (made n ms) ≡ ms
   -- the members of a topic, by its name
-  pub members_on : List ℕ → List Topic → List Member
+  pub members_on : List ℕ → List JudgedTopic → List Member
   pub on_none : (n : List ℕ) → members_on n [] ≡ []
-  pub on_some : (n : List ℕ) (x : Topic) (xs : List Topic) → members_on n (x ∷ xs) ≡ cond (bytes_eq n (name x)) (members x) (members_on n xs)
+  pub on_some : (n : List ℕ) (x : JudgedTopic) (xs : List JudgedTopic) → members_on n (x ∷ xs) ≡ cond (bytes_eq n (name x)) (members x) (members_on n xs)
   -- topics of which one, by its number from 0, has one more member at its end
-  pub with_member : List Topic → ℕ → Member → List Topic
+  pub with_member : List JudgedTopic → ℕ → Member → List JudgedTopic
   pub put_none : (t : ℕ) (m : Member) → with_member [] t m ≡ []
-  pub put_first : (x : Topic) (xs : List Topic) (m : Member) → with_member (x ∷ xs) zero m ≡ made (name x) (members x ++ m ∷ []) ∷ xs
-  pub put_later : (x : Topic) (xs : List Topic) (t : ℕ) (m : Member) → with_member (x ∷ xs) (suc t) m ≡ x ∷ with_member xs t m
+  pub put_first : (x : JudgedTopic) (xs : List JudgedTopic) (m : Member) → with_member (x ∷ xs) zero m ≡ made (name x) (members x ++ m ∷ []) ∷ xs
+  pub put_later : (x : JudgedTopic) (xs : List JudgedTopic) (t : ℕ) (m : Member) → with_member (x ∷ xs) (suc t) m ≡ x ∷ with_member xs t m
   -- topics with a row added: to its topic, or as a new topic at the end
-  pub with_row : List Topic → Row → List Topic
+  pub with_row : List JudgedTopic → Row → List JudgedTopic
   pub row_none : (row : Row) → with_row [] row ≡ made (topic row) (member row ∷ []) ∷ []
-  pub row_some : (x : Topic) (xs : List Topic) (row : Row)
+  pub row_some : (x : JudgedTopic) (xs : List JudgedTopic) (row : Row)
       → with_row (x ∷ xs) row ≡ cond (bytes_eq (topic row) (name x)) (made (name x) (members x ++ member row ∷ []) ∷ xs) (x ∷ with_row xs row)
 
-module _ {Row Member Topic : Type 0} (kind : Kind Row Member Topic) where
+module _ {Row Member JudgedTopic : Type 0} (kind : Kind Row Member JudgedTopic) where
   -- the document of a row
   abbrev pub document_of : Row → List ℕ
   document_of row = kind.document (kind.member row)
@@ -67,30 +67,30 @@ module _ {Row Member Topic : Type 0} (kind : Kind Row Member Topic) where
   topics_of rows = first_seen (map kind.topic rows)
 
   -- a topic with the members of its rows
-  abbrev pub topic_of : List Row → List ℕ → Topic
+  abbrev pub topic_of : List Row → List ℕ → JudgedTopic
   topic_of rows name = kind.made name (map kind.member (rows_on name rows))
 
   -- the rows, grouped by their topics
-  abbrev pub grouped : List Row → List Topic
+  abbrev pub grouped : List Row → List JudgedTopic
   grouped rows = map (topic_of rows) (topics_of rows)
 
-  abbrev pub names_of : List Topic → List (List ℕ)
+  abbrev pub names_of : List JudgedTopic → List (List ℕ)
   names_of topics = map kind.name topics
 
   -- whether a topic has this name
-  abbrev pub is_topic : List ℕ → List Topic → Bool
+  abbrev pub is_topic : List ℕ → List JudgedTopic → Bool
   is_topic name topics = list_any (bytes_eq name) (names_of topics)
 
   -- the number of a topic, by its name
-  abbrev pub place_of : List ℕ → List Topic → Option ℕ
+  abbrev pub place_of : List ℕ → List JudgedTopic → Option ℕ
   place_of name topics = position (bytes_eq name) (names_of topics)
 
   -- the members of a topic, by its number from 0
-  abbrev pub members_at : List Topic → ℕ → List Member
+  abbrev pub members_at : List JudgedTopic → ℕ → List Member
   members_at topics t = option_map_or kind.members (slice_get topics t) []
 
   -- what is counted over the members of each topic
-  abbrev pub counted : (List Member → ℕ) → List Topic → ℕ
+  abbrev pub counted : (List Member → ℕ) → List JudgedTopic → ℕ
   counted count topics = sum_by (λ topic. count (kind.members topic)) topics
 
   -- the bytes of the names of documents
@@ -98,25 +98,25 @@ module _ {Row Member Topic : Type 0} (kind : Kind Row Member Topic) where
   bytes_in members = sum_by (λ member. length (kind.document member)) members
 
   -- the names of the documents of each topic
-  abbrev pub documents_seen : List Topic → List (List (List ℕ))
+  abbrev pub documents_seen : List JudgedTopic → List (List (List ℕ))
   documents_seen topics = map (λ topic. map kind.document (kind.members topic)) topics
 
   -- members and topics whose parts are kept in two lists
   abbrev pub members_in : List (List ℕ) → List ℤ → List Member
   members_in documents values = map (λ pair. kind.valued pair.0 pair.1) (zip documents values)
 
-  abbrev pub topics_in : List (List ℕ) → List (List Member) → List Topic
+  abbrev pub topics_in : List (List ℕ) → List (List Member) → List JudgedTopic
   topics_in names members = map (λ pair. kind.made pair.0 pair.1) (zip names members)
 
   -- topics whose names and members are kept in two lists, and whose rows and bytes are counted
-  pub record Holds (names : List (List ℕ)) (members : List (List Member)) (rows name_bytes : ℕ) (topics : List Topic) : Type 0 where
+  pub record Holds (names : List (List ℕ)) (members : List (List Member)) (rows name_bytes : ℕ) (topics : List JudgedTopic) : Type 0 where
     pub matched : length names ≡ length members
     pub topics_are : topics_in names members ≡ topics
     pub rows_counted : rows ≡ counted length topics
     pub bytes_counted : name_bytes ≡ counted bytes_in topics
 
 -- the judgements of a qrels file
-abbrev pub judgements : Kind Row Judged Topic
+abbrev pub judgements : Kind Row Judged JudgedTopic
 judgements = record {
   topic = λ row. row.topic;
   member = judged_of;
@@ -143,7 +143,7 @@ judgements = record {
 }
 
 -- the topics of judgements that are kept so
-module _ {names : List (List ℕ)} {documents : List (List Judged)} {rows name_bytes : ℕ} {topics : List Topic} where
+module _ {names : List (List ℕ)} {documents : List (List Judged)} {rows name_bytes : ℕ} {topics : List JudgedTopic} where
   pub holding : IsCounted names documents rows name_bytes → kept.topics_in names documents ≡ topics → Holds judgements names documents rows name_bytes topics
   holding c is = record { matched = c.matched; topics_are = is; rows_counted = c.rows_counted ∙ ap row_count is; bytes_counted = c.bytes_counted ∙ ap name_bytes_in is }
 

@@ -1,7 +1,7 @@
 -- Lists that are kept apart: names as bytes and ends, documents as names and grades, topics as names and documents.
 use Rattle.std.specs.Prelude.{◌≡◌, ◌≤◌, ℕ, zero, suc, List, [], ◌∷◌, length, map, slice_range, ℤ}
 use Rattle.std.specs.List.{zip}
-use Rattle.qrels_reader.specs.Grouped.{Judged, Topic, row_count, name_bytes_in}
+use Rattle.qrels_reader.specs.Grouped.{Judged, JudgedTopic, row_count, name_bytes_in}
 
 -- the pieces of bytes from a place on, by their ends
 abbrev pub cut : ℕ → List ℕ → List ℕ → List (List ℕ)
@@ -18,7 +18,7 @@ abbrev pub judged_in : List (List ℕ) → List ℤ → List Judged
 judged_in documents grades = map (λ pair. record { document = pair.0; grade = pair.1 }) (zip documents grades)
 
 -- topics with their documents
-abbrev pub topics_in : List (List ℕ) → List (List Judged) → List Topic
+abbrev pub topics_in : List (List ℕ) → List (List Judged) → List JudgedTopic
 topics_in names documents = map (λ pair. record { name = pair.0; documents = pair.1 }) (zip names documents)
 
 -- where a piece begins, by its number from 0

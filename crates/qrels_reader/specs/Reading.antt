@@ -49,6 +49,6 @@ rows_from read number rows (line ∷ rest) =
 abbrev pub rows_of : {R : Type 0} → (List R → List ℕ → Result (Option R) LineFault) → List ℕ → Result (List R) FileFault
 rows_of read bytes = rows_from read 1 [] (lines bytes)
 
--- the answer is the one that is wanted, or memory was wanting
+-- the answer is the one that is wanted, or memory ran out
 abbrev pub IsUnlessMemory : {A : Type 0} → Result A FileFault → Result A FileFault → Type 0
 IsUnlessMemory answer wanted = (answer ≡ Err Memory) ⊎ (answer ≡ wanted)

@@ -66,7 +66,7 @@ pub enum FileFault {
     /// A run has no name, since none was given and no line gives one.
     #[error("the run has no name")]
     NoTag,
-    /// Memory is wanting.
+    /// Memory runs out.
     #[error("out of memory")]
     Memory,
 }

@@ -19,10 +19,10 @@ pub struct Groups {
 
 impl Model for Groups {
     ghost use Rattle.std.specs.Prelude.{◌≡◌, List, length};
-    ghost use Rattle.qrels_reader.specs.Grouped.{Topic};
+    ghost use Rattle.qrels_reader.specs.Grouped.{JudgedTopic};
     ghost use Rattle.qrels_reader.specs.Names.{topics_in, IsCounted};
 
-    ghost Value = { List Topic };
+    ghost Value = { List JudgedTopic };
 
     ghost view = { λ q. topics_in q.topics q.judgements.items };
 

@@ -64,7 +64,7 @@ impl NameSet {
         }
     }
 
-    /// Puts a copy of a name at the end. It fails only where memory is wanting, and then changes nothing.
+    /// Puts a copy of a name at the end. It fails only where memory runs out, and then changes nothing.
     pub fn add(&mut self, alloc: Global, name: &[u8]) -> Result<(), AllocError>
         requires { list_any (bytes_eq name.now) self.old ≡ false }
         ensures ok { OnOk result (self.new ≡ self.old ++ name.now ∷ []) }

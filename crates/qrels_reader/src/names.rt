@@ -51,7 +51,7 @@ impl Names {
         part(&self.bytes, start, end)
     }
 
-    /// Puts a copy of a name at the end. It fails only where memory is wanting, and then changes nothing.
+    /// Puts a copy of a name at the end. It fails only where memory runs out, and then changes nothing.
     pub fn push(&mut self, name: &[u8]) -> Result<(), AllocError>
         requires { sum_by length self.old + length name.now < 2 ^ 32 }
         ensures ok { OnOk result (self.new ≡ self.old ++ name.now ∷ []) }

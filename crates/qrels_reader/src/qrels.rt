@@ -19,9 +19,9 @@ pub struct Qrels {
 
 impl Model for Qrels {
     ghost use Rattle.std.specs.Prelude.{List};
-    ghost use Rattle.qrels_reader.specs.Grouped.{Topic, IsQrels};
+    ghost use Rattle.qrels_reader.specs.Grouped.{JudgedTopic, IsQrels};
 
-    ghost Value = { List Topic };
+    ghost Value = { List JudgedTopic };
 
     ghost view = { λ q. q.groups };
 

@@ -11,7 +11,7 @@ use std::alloc::Global;
 /// Reads the rows of a qrels file, in the format of trec_eval: lines of topic, a field that is not used, document and grade.
 ///
 /// The first faulty line is told with its number and its first fault. `NoTopics` comes where no line has a fault and the file has
-/// no row, `Memory` where memory is wanting, and `NoTag` never.
+/// no row, `Memory` where memory runs out, and `NoTag` never.
 pub fn read_qrels(alloc: Global, bytes: &[u8]) -> Result<Qrels, FileFault>
     ensures { IsUnlessMemory result (qrels_of bytes.now) }
 {

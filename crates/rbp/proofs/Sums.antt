@@ -16,8 +16,8 @@ use Rattle.rbp.specs.Walk.{number_of}
 use Rattle.desk_model.specs.declared.types.Mark.{Mark}
 use Rattle.desk_model.specs.declared.types.Mark.TheVariants.{Unjudged, Relevant, Other}
 
-front_length : (p : ℕ) (docs : List ℕ) → p < length docs → length (take p docs) ≡ p
-front_length p docs h = omega (arith, length-take p docs)
+prefix_length : (p : ℕ) (docs : List ℕ) → p < length docs → length (take p docs) ≡ p
+prefix_length p docs h = omega (arith, length-take p docs)
 
 pub gained_more : (W : ℕ → ℕ) (t : ℕ → Bool) (p d : ℕ) (docs : List ℕ) → p < length docs → d ≡ get_or docs p 0 →
     gained W 1 (map t (take (p + 1) docs)) ≡ gained W 1 (map t (take p docs)) + (if t d then W (p + 1) else 0)
@@ -25,7 +25,7 @@ gained_more W t p d docs lt e =
     let longer : take (p + 1) docs ≡ take p docs ++ d ∷ [] = take_more docs p 0 lt ∙ ap (λ x. take p docs ++ x ∷ []) (sym e) in
     let split : map t (take p docs ++ d ∷ []) ≡ map t (take p docs) ++ t d ∷ [] = map-append t (take p docs) (d ∷ []) in
     let same : length (map t (take p docs)) ≡ length (take p docs) = simp length-map refl in
-    let place : 1 + length (map t (take p docs)) ≡ p + 1 = omega (arith, same, front_length p docs lt) in
+    let place : 1 + length (map t (take p docs)) ≡ p + 1 = omega (arith, same, prefix_length p docs lt) in
     let last : gained W (1 + length (map t (take p docs))) (t d ∷ []) ≡ (if t d then W (p + 1) else 0) + 0 = ap (λ n. gained W n (t d ∷ [])) place in
     omega (arith, ap (λ xs. gained W 1 (map t xs)) longer, ap (gained W 1) split, gained-append W 1 (map t (take p docs)) (t d ∷ []), last)
 

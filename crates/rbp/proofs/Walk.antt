@@ -59,9 +59,9 @@ nothing_from : (f : ℕ → ℤ) (s n : ℕ) → ((d : ℕ) → f d ≡ pos 0) �
 nothing_from f s zero h = refl
 nothing_from f s (suc n) h = let rest = nothing_from f (s + 1) n h in let here = h s in omega (arith, ints, rest, here)
 
-turned_from : (f g : ℕ → ℤ) (s n : ℕ) → ((d : ℕ) → f d ≡ neg_ℤ (g d)) → whole_sum (map f (range_with_len s n)) ≡ neg_ℤ (whole_sum (map g (range_with_len s n)))
-turned_from f g s zero h = refl
-turned_from f g s (suc n) h = let rest = turned_from f g (s + 1) n h in let here = h s in omega (arith, ints, rest, here)
+swapped_from : (f g : ℕ → ℤ) (s n : ℕ) → ((d : ℕ) → f d ≡ neg_ℤ (g d)) → whole_sum (map f (range_with_len s n)) ≡ neg_ℤ (whole_sum (map g (range_with_len s n)))
+swapped_from f g s zero h = refl
+swapped_from f g s (suc n) h = let rest = swapped_from f g (s + 1) n h in let here = h s in omega (arith, ints, rest, here)
 
 -- from -m to m
 abbrev pub IsSmall : ℕ → ℤ → Type 0
@@ -303,7 +303,7 @@ in_parts share picked p q v w marks a b h ra rb =
     let first : whole_sum (map one (range_with_len 0 n)) ≡ pos (gained (λ r. v (Some r)) 1 (map (with_picked marks (λ _. p)) a)) =
     counted_from one gains 0 n (λ d. h.first (mark_at marks d) (rank a d)) ∙ ap pos (sym (gained_by_documents v h.none_first (with_picked marks (λ _. p)) 1 n a ra.distinct (recursion_from_All (λ d. d < n) a ra.within))) in
     let second : whole_sum (map two (range_with_len 0 n)) ≡ neg_ℤ (pos (gained (λ r. w (Some r)) 1 (map (with_picked marks (λ _. q)) b))) =
-    turned_from two (λ d. pos (losses d)) 0 n (λ d. h.second (mark_at marks d) (rank b d))
+    swapped_from two (λ d. pos (losses d)) 0 n (λ d. h.second (mark_at marks d) (rank b d))
     ∙ ap (λ z. neg_ℤ z) (counted_from (λ d. pos (losses d)) losses 0 n (λ d. refl) ∙ ap pos (sym (gained_by_documents w h.none_second (with_picked marks (λ _. q)) 1 n b rb.distinct (recursion_from_All (λ d. d < n) b rb.within)))) in
     omega (arith, ints, parts, first, second)
 
@@ -385,36 +385,36 @@ pub most_high_parts : (top bottom : ℕ) (marks : List Mark) (a b : List ℕ) �
 most_high_parts top bottom marks a b ra rb =
     in_parts (high_share top bottom) is_in_most true false (high_weight top bottom) (low_weight top bottom) marks a b (most_alone (high_share top bottom) (high_weight top bottom) (low_weight top bottom) refl refl (high_first top bottom) (high_second top bottom)) ra rb
 
--- ---- the runs exchanged
-turned_ends : (lx hx ly hy : ℕ) (b c v w : Bool) → v ≡ b → w ≡ c → (ends lx hx ly hy b c).0 ≡ neg_ℤ (ends ly hy lx hx c b).1 → (ends lx hx ly hy v w).0 ≡ neg_ℤ (ends ly hy lx hx w v).1
-turned_ends lx hx ly hy b c v w e f h = rw (e, f) h
+-- ---- the swapped_tests runs
+swapped_ends : (lx hx ly hy : ℕ) (b c v w : Bool) → v ≡ b → w ≡ c → (ends lx hx ly hy b c).0 ≡ neg_ℤ (ends ly hy lx hx c b).1 → (ends lx hx ly hy v w).0 ≡ neg_ℤ (ends ly hy lx hx w v).1
+swapped_ends lx hx ly hy b c v w e f h = rw (e, f) h
 
-turned_low : (top bottom : ℕ) (x y : Option ℕ) → low_share top bottom x y ≡ neg_ℤ (high_share top bottom y x)
-turned_low top bottom x y = at (stands x y)
+swapped_low : (top bottom : ℕ) (x y : Option ℕ) → low_share top bottom x y ≡ neg_ℤ (high_share top bottom y x)
+swapped_low top bottom x y = at (stands x y)
   where
     shown : (b c : Bool) → comes_before x y ≡ b → comes_before y x ≡ c →
         (ends (low_weight top bottom x) (high_weight top bottom x) (low_weight top bottom y) (high_weight top bottom y) b c).0 ≡ neg_ℤ (ends (low_weight top bottom y) (high_weight top bottom y) (low_weight top bottom x) (high_weight top bottom x) c b).1 →
         low_share top bottom x y ≡ neg_ℤ (high_share top bottom y x)
-    shown b c e f h = turned_ends (low_weight top bottom x) (high_weight top bottom x) (low_weight top bottom y) (high_weight top bottom y) b c (comes_before x y) (comes_before y x) e f h
+    shown b c e f h = swapped_ends (low_weight top bottom x) (high_weight top bottom x) (low_weight top bottom y) (high_weight top bottom y) b c (comes_before x y) (comes_before y x) e f h
 
     at : Standing x y → low_share top bottom x y ≡ neg_ℤ (high_share top bottom y x)
     at (ahead e f) = shown true false e f (sym (neg_twice (pos (low_weight top bottom x - high_weight top bottom y))))
     at (behind e f) = shown false true e f (omega (arith, ints))
     at (level e f g) = shown false false e f refl
 
-turned_high : (top bottom : ℕ) (x y : Option ℕ) → high_share top bottom x y ≡ neg_ℤ (low_share top bottom y x)
-turned_high top bottom x y = sym (neg_twice (high_share top bottom x y)) ∙ ap (λ z. neg_ℤ z) (sym (turned_low top bottom y x))
+swapped_high : (top bottom : ℕ) (x y : Option ℕ) → high_share top bottom x y ≡ neg_ℤ (low_share top bottom y x)
+swapped_high top bottom x y = sym (neg_twice (high_share top bottom x y)) ∙ ap (λ z. neg_ℤ z) (sym (swapped_low top bottom y x))
 
-turned_part : (b : Bool) (y z : ℤ) → y ≡ neg_ℤ z → (if b then y else pos 0) ≡ neg_ℤ (if b then z else pos 0)
-turned_part true y z h = h
-turned_part false y z h = refl
+swapped_part : (b : Bool) (y z : ℤ) → y ≡ neg_ℤ z → (if b then y else pos 0) ≡ neg_ℤ (if b then z else pos 0)
+swapped_part true y z h = h
+swapped_part false y z h = refl
 
 pub most_low : (top bottom : ℕ) (marks : List Mark) (a b : List ℕ) → sum_of (low_share top bottom) is_in_most marks a b ≡ neg_ℤ (share_sum (high_share top bottom) marks b a)
 most_low top bottom marks a b =
-    turned_from (λ d. share_of (low_share top bottom) is_in_most (mark_at marks d) (rank a d) (rank b d)) (λ d. share_of (high_share top bottom) is_in_least (mark_at marks d) (rank b d) (rank a d)) 0 (length marks)
-    (λ d. turned_part (picked_value (comes_before (rank a d) (rank b d)) (mark_at marks d)) (low_share top bottom (rank a d) (rank b d)) (high_share top bottom (rank b d) (rank a d)) (turned_low top bottom (rank a d) (rank b d)))
+    swapped_from (λ d. share_of (low_share top bottom) is_in_most (mark_at marks d) (rank a d) (rank b d)) (λ d. share_of (high_share top bottom) is_in_least (mark_at marks d) (rank b d) (rank a d)) 0 (length marks)
+    (λ d. swapped_part (picked_value (comes_before (rank a d) (rank b d)) (mark_at marks d)) (low_share top bottom (rank a d) (rank b d)) (high_share top bottom (rank b d) (rank a d)) (swapped_low top bottom (rank a d) (rank b d)))
 
 pub most_high : (top bottom : ℕ) (marks : List Mark) (a b : List ℕ) → sum_of (high_share top bottom) is_in_most marks a b ≡ neg_ℤ (share_sum (low_share top bottom) marks b a)
 most_high top bottom marks a b =
-    turned_from (λ d. share_of (high_share top bottom) is_in_most (mark_at marks d) (rank a d) (rank b d)) (λ d. share_of (low_share top bottom) is_in_least (mark_at marks d) (rank b d) (rank a d)) 0 (length marks)
-    (λ d. turned_part (picked_value (comes_before (rank a d) (rank b d)) (mark_at marks d)) (high_share top bottom (rank a d) (rank b d)) (low_share top bottom (rank b d) (rank a d)) (turned_high top bottom (rank a d) (rank b d)))
+    swapped_from (λ d. share_of (high_share top bottom) is_in_most (mark_at marks d) (rank a d) (rank b d)) (λ d. share_of (low_share top bottom) is_in_least (mark_at marks d) (rank b d) (rank a d)) 0 (length marks)
+    (λ d. swapped_part (picked_value (comes_before (rank a d) (rank b d)) (mark_at marks d)) (high_share top bottom (rank a d) (rank b d)) (low_share top bottom (rank b d) (rank a d)) (swapped_high top bottom (rank a d) (rank b d)))

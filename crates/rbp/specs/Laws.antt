@@ -7,15 +7,15 @@ use Rattle.desk_model.specs.declared.types.MeasureName.TheVariants.{Biased}
 use Rattle.measure_laws.proofs.Persistence as persistence
 use Rattle.fractions.specs.declared.span.Span.{Span}
 use Rattle.fractions.specs.Numbers.{negated}
-use Rattle.measure_core.specs.Laws.{IsMet, mirrored, SpanIsModest, MeetsLaws, OwesLaws}
-use Rattle.measure_core.specs.Made.{AreNumbersOf}
+use Rattle.measure_core.specs.Laws.{IsMet, swapped_cell, SpanIsModest, MeetsLaws, OwesLaws}
+use Rattle.measure_core.specs.Made.{AreNumbersOfName}
 use Rattle.measure_core.specs.declared.cell.Cell.{Cell}
-use Rattle.measure_core.proofs.Turned.{negated_twice, meets_laws}
+use Rattle.measure_core.proofs.Swapped.{negated_twice, meets_laws}
 use Rattle.rbp.specs.Numbers.{biased_least, biased_cell, biased_bounds}
 
-mirrors : (top bottom : ℕ) (marks : List Mark) (a b : List ℕ) → biased_cell top bottom marks b a ≡ mirrored (biased_cell top bottom marks a b)
+swaps : (top bottom : ℕ) (marks : List Mark) (a b : List ℕ) → biased_cell top bottom marks b a ≡ swapped_cell (biased_cell top bottom marks a b)
 unfolding biased_cell
-mirrors top bottom marks a b = ap (λ (s : Span). cell s (negated (biased_least top bottom marks a b))) (sym (negated_twice (biased_least top bottom marks b a)))
+swaps top bottom marks a b = ap (λ (s : Span). cell s (negated (biased_least top bottom marks a b))) (sym (negated_twice (biased_least top bottom marks b a)))
   where
     cell : Span → Span → Cell
     cell s t = record { least = s; most = t }
@@ -32,7 +32,7 @@ owed top bottom p = record {
   low = λ marks a b met. persistence.least_encloses top bottom marks a b p met.first met.second;
   case = λ marks a b tail_a tail_b met tails. persistence.least_case_below top bottom marks a b p met.first met.second tail_a tail_b tails;
   modest = λ marks a b met. (persistence.lo_modest top bottom marks a b p met.first met.second, persistence.hi_modest top bottom marks a b p met.first met.second);
-  mirrors = λ marks a b met. mirrors top bottom marks a b;
+  swaps = λ marks a b met. swaps top bottom marks a b;
   bounds_enclose = λ marks a met. record {
     low = persistence.run_low_encloses top bottom marks a p met.ranking;
     high = persistence.run_high_encloses top bottom marks a p met.ranking;
@@ -44,6 +44,6 @@ pub laws : (top bottom : ℕ) → IsPersistence top bottom → MeetsLaws (Biased
 laws top bottom p = meets_laws (Biased top bottom) (biased_cell top bottom) (biased_bounds top bottom) p (owed top bottom p)
 
 -- its numbers are the stated sums
-pub numbers : (top bottom : ℕ) → AreNumbersOf (Biased top bottom) (biased_cell top bottom) (biased_bounds top bottom)
+pub numbers : (top bottom : ℕ) → AreNumbersOfName (Biased top bottom) (biased_cell top bottom) (biased_bounds top bottom)
 unfolding biased_cell biased_bounds
 numbers top bottom = record { cells = λ marks a b met. refl; ranges = λ marks a met. refl }

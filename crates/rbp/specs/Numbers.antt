@@ -10,7 +10,7 @@ use Rattle.measure_core.specs.declared.cell.Cell.{Cell}
 abbrev pub biased_least : ℕ → ℕ → List Mark → List ℕ → List ℕ → Span
 biased_least top bottom marks a b = record { lo = biased_least_lo top bottom marks a b; hi = biased_least_hi top bottom marks a b }
 
--- the greatest difference is the mirror image
+-- the greatest difference is the least one of the swapped runs, negated
 unfoldable pub biased_cell : ℕ → ℕ → List Mark → List ℕ → List ℕ → Cell
 biased_cell top bottom marks a b = record { least = biased_least top bottom marks a b; most = negated (biased_least top bottom marks b a) }
 

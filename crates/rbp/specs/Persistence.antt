@@ -10,7 +10,7 @@ pub record Persistence : Type 0 where
   pub bottom : ℕ
 
 -- the kept powers are those of the persistence, up to the 10,000th
-pub record IsKept (top bottom : ℕ) (known : Known) : Type 0 where
+pub record AreKnownPowers (top bottom : ℕ) (known : Known) : Type 0 where
   pub persistence : IsPersistence top bottom
   pub below : top < bottom
   pub top_is : known.top ≡ top

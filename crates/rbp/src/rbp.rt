@@ -1,5 +1,5 @@
 ghost use Rattle.std.specs.Prelude.{◌≡◌, ◌+◌, ◌-◌, ◌≤◌, ◌<◌, ◌^◌, ◌≤ℤ◌, ◌+ℤ◌, ◌-ℤ◌, if◌then◌else◌, true, false, nat_eq, nat_lt, ◌&&◌, pos, neg_ℤ, length, All, Some, IfOk};
-ghost use Rattle.measure_laws.specs.Ranks.{IsWithin, comes_before};
+ghost use Rattle.measure_laws.specs.Ranks.{IsRankWithin, comes_before};
 ghost use Rattle.measure_laws.specs.Powers.{low_weight, high_weight, low_power, high_power};
 ghost use Rattle.measure_laws.specs.Shares.{low_share, high_share, low_worth, high_worth, biased_truth, share_sum};
 ghost use Rattle.fractions.specs.Ends.{IsShort};
@@ -32,13 +32,13 @@ pub struct Rbp {
 }
 
 impl Model for Rbp {
-    ghost use Rattle.rbp.specs.Persistence.{Persistence, IsKept};
+    ghost use Rattle.rbp.specs.Persistence.{Persistence, AreKnownPowers};
 
     ghost Value = { Persistence };
 
     ghost view = { λ r. record { top = r.top; bottom = r.bottom } };
 
-    ghost invariant = { λ r. IsKept r.top r.bottom r.powers };
+    ghost invariant = { λ r. AreKnownPowers r.top r.bottom r.powers };
 }
 
 /// No weight.
@@ -194,7 +194,7 @@ impl Rbp {
 
     /// The weight of a rank, and none of an absent one.
     fn weight_at(&self, rank: Option<u32>) -> Span
-        requires { IsWithin 10000 rank }
+        requires { IsRankWithin 10000 rank }
         ensures lo { result.lo ≡ pos (low_weight self.now.top self.now.bottom rank) }
         ensures hi { result.hi ≡ pos (high_weight self.now.top self.now.bottom rank) }
         ensures lo_small { result.lo ≤ℤ pos (10 ^ 18) }
@@ -209,7 +209,7 @@ impl Rbp {
     /// The weight of a rank as two numbers of parts of 10^18.
     #[inline]
     fn parts_at(&self, rank: u32) -> Parts
-        requires { IsWithin 10000 (Some rank) }
+        requires { IsRankWithin 10000 (Some rank) }
         ensures low { result.low ≡ low_weight self.now.top self.now.bottom (Some rank) }
         ensures high { result.high ≡ high_weight self.now.top self.now.bottom (Some rank) }
     {
@@ -251,8 +251,8 @@ impl Rbp {
     /// What a document with these two ranks adds to the difference.
     #[inline]
     fn share(&self, x: u32, y: u32) -> Span
-        requires first { IsWithin 10000 (Some x) }
-        requires second { IsWithin 10000 (Some y) }
+        requires first { IsRankWithin 10000 (Some x) }
+        requires second { IsRankWithin 10000 (Some y) }
         ensures lo { result.lo ≡ low_share self.now.top self.now.bottom (Some x) (Some y) }
         ensures hi { result.hi ≡ high_share self.now.top self.now.bottom (Some x) (Some y) }
         ensures loose { IsLoose result }
@@ -270,8 +270,8 @@ impl Rbp {
     /// ranks alone.
     #[inline]
     fn correction(&self, x: u32, y: u32, mark: Mark) -> Shares
-        requires first { IsWithin 10000 (Some x) }
-        requires second { IsWithin 10000 (Some y) }
+        requires first { IsRankWithin 10000 (Some x) }
+        requires second { IsRankWithin 10000 (Some y) }
         ensures least_lo { result.least.lo ≡ correction (low_share self.now.top self.now.bottom) is_in_least mark (Some x) (Some y) }
         ensures least_hi { result.least.hi ≡ correction (high_share self.now.top self.now.bottom) is_in_least mark (Some x) (Some y) }
         ensures most_lo { result.most.lo ≡ correction (low_share self.now.top self.now.bottom) is_in_most mark (Some x) (Some y) }
@@ -304,8 +304,8 @@ impl Rbp {
     /// The sums of corrections with those of two places, where they are of one document.
     #[inline]
     fn with_places(&self, sums: Shares, x: Placed, y: Placed, mark: Mark) -> Shares
-        requires first { IsWithin 10000 (Some x.rank) }
-        requires second { IsWithin 10000 (Some y.rank) }
+        requires first { IsRankWithin 10000 (Some x.rank) }
+        requires second { IsRankWithin 10000 (Some y.rank) }
         requires least { IsLoose sums.least }
         requires most { IsLoose sums.most }
         ensures least_lo { result.least.lo ≡ sums.least.lo +ℤ (if nat_eq x.doc y.doc then correction (low_share self.now.top self.now.bottom) is_in_least mark (Some x.rank) (Some y.rank) else pos 0) }
@@ -446,10 +446,10 @@ impl Measure for Rbp {
         steps.tick();
         let shares = self.shares(a, b, marks);
         let least = self.less_tail(shares.least, ranks_of(b));
-        let turned = self.less_tail(shares.most.negate(), ranks_of(a));
+        let swapped = self.less_tail(shares.most.negate(), ranks_of(a));
         Cell {
             least,
-            most: turned.negate(),
+            most: swapped.negate(),
         }
     }
 

@@ -4,7 +4,7 @@ ghost use Rattle.desk_model.specs.Score.{true_among};
 ghost use Rattle.desk_model.specs.declared.types.Mark.{Mark as M};
 ghost use Rattle.desk_model.specs.declared.types.MeasureName.TheVariants.{Recall as R};
 ghost use Rattle.measure_laws.specs.Cases.{picked_where, recall_pick};
-ghost use Rattle.measure_laws.specs.Fronts.{only_second};
+ghost use Rattle.measure_laws.specs.Prefixes.{only_second};
 ghost use Rattle.measure_core.specs.Laws.{AreMet, AreValues};
 ghost use Rattle.measure_core.specs.Made.{IsMadeFor};
 ghost use Rattle.measure_core.specs.Numbers.{exact_least};
@@ -16,7 +16,7 @@ use measure_core::{Cell, Measure, Steps};
 use std::alloc::Global;
 use std::marker::Model;
 use std::sync::ledger::Ledger;
-use topic_counts::counts::{Counts, front_documents, is_among_first, own_counts};
+use topic_counts::counts::{Counts, is_among_first, own_counts, prefix_documents};
 use topic_counts::topic::all_documents;
 
 /// How many units make a score of 1.
@@ -178,11 +178,11 @@ impl Measure for Recall {
     }
 
     fn bounds(&self, a: &Ranking, marks: &[Mark]) -> Span {
-        let front = front_documents(self.k, a, marks);
+        let prefix = prefix_documents(self.k, a, marks);
         let all = all_documents(marks);
         Span {
-            lo: least_span(front, Counts::NONE, all).lo,
-            hi: least_span(Counts::NONE, front, all).negate().hi,
+            lo: least_span(prefix, Counts::NONE, all).lo,
+            hi: least_span(Counts::NONE, prefix, all).negate().hi,
         }
     }
 

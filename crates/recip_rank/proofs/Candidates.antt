@@ -5,7 +5,7 @@ use Rattle.std.specs.List.{IsDistinct, AllByRecursion, position_from}
 use Rattle.desk_model.specs.Mark.{is_unjudged, mark_at}
 use Rattle.desk_model.specs.Completion.{picked_value}
 use Rattle.desk_model.specs.Ranking.{IsRanking, rank}
-use Rattle.measure_laws.specs.Ranks.{IsWithin, earlier}
+use Rattle.measure_laws.specs.Ranks.{IsRankWithin, earlier}
 use Rattle.measure_laws.specs.Differences.{Scores, is_smaller, first_least, ArePositive}
 use Rattle.measure_laws.specs.ReciprocalCase.{with_choice, reciprocal_scores, unjudged_of, reciprocal_choice}
 use Rattle.measure_laws.proofs.Picks.{NoGreater, NoGreater-trans, first_least-append, first_least-least}
@@ -157,21 +157,21 @@ walk_shut marks a b p d best lt e shut w =
       unseen = subst (AllByRecursion (λ x. with_choice marks None x ≡ false)) (sym longer) (all_more (λ x. with_choice marks None x ≡ false) (take p b) d w.unseen (not_yet marks d Other shut refl));
     }
 
-earlier-within : (n : ℕ) (x y : Option ℕ) → IsWithin n x → IsWithin n y → IsWithin n (earlier x y)
+earlier-within : (n : ℕ) (x y : Option ℕ) → IsRankWithin n x → IsRankWithin n y → IsRankWithin n (earlier x y)
 earlier-within n None y h k = k
 earlier-within n (Some x) None h k = h
 earlier-within n (Some x) (Some y) h k = (omega (arith, h, k), omega (arith, h, k))
 
 -- the candidate at an unjudged document
 pub open_firsts : (marks : List Mark) (a b : List ℕ) (p d : ℕ) (judged place first : Option ℕ) → IsRanking (length marks) a → IsRanking (length marks) b → p < length b → d ≡ get_or b p 0 → mark_at marks d ≡ Unjudged →
-    AllByRecursion (λ x. with_choice marks None x ≡ false) (take p b) → judged ≡ first_true (with_choice marks None) a → place ≡ rank a d → first ≡ earlier judged place → IsWithin 10000 judged → IsWithin 10000 place →
+    AllByRecursion (λ x. with_choice marks None x ≡ false) (take p b) → judged ≡ first_true (with_choice marks None) a → place ≡ rank a d → first ≡ earlier judged place → IsRankWithin 10000 judged → IsRankWithin 10000 place →
     AreFirsts marks a b (record { choice = Some d; firsts = record { first = first; second = Some (p + 1) } })
 open_firsts marks a b p d judged place first ra rb lt e open' unseen ej ep ef wj wp =
     let swap : 1 + p ≡ p + 1 = omega arith in
     record {
       first = ef ∙ ap (λ o. earlier o place) ej ∙ ap (earlier (first_true (with_choice marks None) a)) ep ∙ sym (choice_first marks d open' 1 a);
       second = sym (chosen_first marks d open' 1 p b rb.distinct unseen lt e ∙ ap (λ n. Some n) swap);
-      first_within = subst (IsWithin 10000) (sym ef) (earlier-within 10000 judged place wj wp);
+      first_within = subst (IsRankWithin 10000) (sym ef) (earlier-within 10000 judged place wj wp);
       second_within = (omega arith, omega (arith, rb.short));
     }
 

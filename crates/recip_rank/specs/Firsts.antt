@@ -1,6 +1,6 @@
 -- The first true ranks of two runs under a choice of one unjudged document, or of none.
 use Rattle.std.specs.Prelude.{◌≡◌, ℕ, List, Option}
-use Rattle.measure_laws.specs.Ranks.{IsWithin}
+use Rattle.measure_laws.specs.Ranks.{IsRankWithin}
 use Rattle.measure_laws.specs.Differences.{Scores}
 use Rattle.measure_laws.specs.ReciprocalCase.{with_choice}
 use Rattle.desk_model.specs.Score.{first_true, reciprocal}
@@ -15,5 +15,5 @@ scores_at x y = record { first = reciprocal x; second = reciprocal y }
 pub record AreFirsts (marks : List Mark) (a b : List ℕ) (c : Candidate) : Type 0 where
   pub first : c.firsts.first ≡ first_true (with_choice marks c.choice) a
   pub second : c.firsts.second ≡ first_true (with_choice marks c.choice) b
-  pub first_within : IsWithin 10000 c.firsts.first
-  pub second_within : IsWithin 10000 c.firsts.second
+  pub first_within : IsRankWithin 10000 c.firsts.first
+  pub second_within : IsRankWithin 10000 c.firsts.second

@@ -1,6 +1,6 @@
 ghost use Rattle.std.specs.Prelude.{◌≡◌, ◌^◌, ◌≤◌, ◌<◌, length, All};
 ghost use Rattle.desk_model.specs.Completion.{with_picked};
-ghost use Rattle.measure_laws.specs.Ranks.{IsWithin, earlier};
+ghost use Rattle.measure_laws.specs.Ranks.{IsRankWithin, earlier};
 ghost use Rattle.measure_laws.specs.Differences.{is_smaller};
 ghost use Rattle.measure_laws.specs.ReciprocalCase.{reciprocal_choice};
 ghost use Rattle.desk_model.specs.Score.{first_true, reciprocal};
@@ -36,7 +36,7 @@ struct Part {
 }
 
 fn part_of(rank: Option<u32>) -> Part
-    requires { IsWithin 10000 rank }
+    requires { IsRankWithin 10000 rank }
     ensures num { result.num ≡ (reciprocal rank).num }
     ensures den { result.den ≡ (reciprocal rank).den }
     ensures num_small { result.num ≤ 1 }
@@ -68,7 +68,7 @@ pub fn first_rank(picked: bool, docs: &[u32], marks: &[Mark]) -> Option<u32>
     requires known { All (λ doc. doc < length marks.now) docs.now }
     requires few { length docs.now ≤ 10000 }
     ensures first { result ≡ first_true (with_picked marks.now (λ _. picked)) docs.now }
-    ensures within { IsWithin 10000 result }
+    ensures within { IsRankWithin 10000 result }
 {
     for (place, doc) in docs.iter().enumerate() {
         if is_true(picked, marks[*doc as usize]) {
@@ -80,8 +80,8 @@ pub fn first_rank(picked: bool, docs: &[u32], marks: &[Mark]) -> Option<u32>
 
 /// The ends of the difference of the scores, in parts of 10^18.
 pub fn span(firsts: Firsts) -> Span
-    requires first { IsWithin 10000 firsts.first }
-    requires second { IsWithin 10000 firsts.second }
+    requires first { IsRankWithin 10000 firsts.first }
+    requires second { IsRankWithin 10000 firsts.second }
     ensures span { result ≡ difference_span (10 ^ 18) (reciprocal firsts.first) (reciprocal firsts.second) }
     ensures short { IsShort result }
 {
@@ -96,10 +96,10 @@ pub fn span(firsts: Firsts) -> Span
 
 /// Whether the difference of some scores is smaller than that of others.
 fn is_less(s: Firsts, t: Firsts) -> bool
-    requires s_first { IsWithin 10000 s.first }
-    requires s_second { IsWithin 10000 s.second }
-    requires t_first { IsWithin 10000 t.first }
-    requires t_second { IsWithin 10000 t.second }
+    requires s_first { IsRankWithin 10000 s.first }
+    requires s_second { IsRankWithin 10000 s.second }
+    requires t_first { IsRankWithin 10000 t.first }
+    requires t_second { IsRankWithin 10000 t.second }
     ensures { result ≡ is_smaller (scores_at s.first s.second) (scores_at t.first t.second) }
 {
     let a = part_of(s.first);

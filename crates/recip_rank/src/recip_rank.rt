@@ -1,6 +1,6 @@
 ghost use Rattle.std.specs.Prelude.{◌≡◌, ◌≤◌, length, IfOk};
 ghost use Rattle.desk_model.specs.declared.types.MeasureName.TheVariants.{Reciprocal as R};
-ghost use Rattle.measure_laws.specs.Ranks.{IsWithin};
+ghost use Rattle.measure_laws.specs.Ranks.{IsRankWithin};
 ghost use Rattle.measure_laws.specs.ReciprocalCase.{is_choice, with_choice};
 ghost use Rattle.measure_laws.specs.Weights.{reciprocal_weight};
 ghost use Rattle.fractions.specs.Ends.{IsShort};
@@ -44,7 +44,7 @@ fn least_span(a: &Ranking, b: &Ranking, marks: &[Mark]) -> Span
 
 /// One unit over a rank, rounded down; nothing for an absent one.
 fn worth(rank: Option<u32>) -> u128
-    requires { IsWithin 10000 rank }
+    requires { IsRankWithin 10000 rank }
     ensures { result ≡ reciprocal_weight rank }
 {
     match rank {

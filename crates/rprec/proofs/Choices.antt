@@ -13,7 +13,7 @@ use Rattle.desk_model.specs.Ranking.{IsRanking}
 use Rattle.desk_model.specs.Score.{true_among, true_count}
 use Rattle.desk_model.specs.declared.types.Mark.{Mark}
 use Rattle.desk_model.proofs.Counts.{count_by-agree}
-use Rattle.measure_laws.specs.Fronts.{only_second, neutral}
+use Rattle.measure_laws.specs.Prefixes.{only_second, neutral}
 use Rattle.measure_laws.specs.Differences.{is_smaller}
 use Rattle.measure_laws.specs.Classes.{is_unjudged, open_in, size_of, judged_count}
 use Rattle.measure_laws.specs.RprecCase.{greedy_truth, greedy_scores}
@@ -22,13 +22,13 @@ use Rattle.measure_laws.specs.LeastDifference.{IsPossible}
 use Rattle.measure_laws.proofs.LeastDifferences.{among_few, greedy_lead, open_size}
 use Rattle.measure_laws.proofs.RprecEnds.{count_picked, count_three}
 use Rattle.topic_counts.specs.declared.counts.Counts.{Counts}
-use Rattle.rprec.specs.declared.fronts.Fronts.{Fronts}
+use Rattle.rprec.specs.declared.prefixes.Prefixes.{Prefixes}
 use Rattle.rprec.specs.declared.greedy.Candidate.{Candidate}
-use Rattle.rprec.specs.Greedy.{AreFronts, AreTopic, AreFew, AreGains, beats, exchanged}
+use Rattle.rprec.specs.Greedy.{ArePrefixes, AreTopic, AreFew, AreGains, beats, swapped}
 
 -- ---- the gains of a greedy choice
-pub gains_are : (marks : List Mark) (a b : List ℕ) (r chosen : ℕ) (f : Fronts) (all : Counts) (c : Candidate) → IsRanking (length marks) a → IsRanking (length marks) b →
-    AreFronts marks (take r a) (take r b) f → AreTopic marks all → r ≡ all.relevant + chosen → chosen ≤ all.unjudged → c.count ≡ r →
+pub gains_are : (marks : List Mark) (a b : List ℕ) (r chosen : ℕ) (f : Prefixes) (all : Counts) (c : Candidate) → IsRanking (length marks) a → IsRanking (length marks) b →
+    ArePrefixes marks (take r a) (take r b) f → AreTopic marks all → r ≡ all.relevant + chosen → chosen ≤ all.unjudged → c.count ≡ r →
     c.first ≡ f.first.relevant + (chosen - (all.unjudged - f.first.unjudged)) → c.second ≡ f.second.relevant + min chosen f.second.unjudged → AreGains marks a b c
 gains_are marks a b r chosen f all c ra rb h topic er small ec e1 e2 =
     let picked : r - judged_count marks ≡ chosen = omega (arith, er, topic.relevant) in
@@ -76,7 +76,7 @@ class_sizes marks a b r =
     let zs = range_with_len 0 (length marks) in count_by-agree _ _ zs (every _ (λ d. and-true (is_unjudged (mark_at marks d))) zs) ∙ count_three (λ d. is_unjudged (mark_at marks d)) r a b zs
 
 -- the own unjudged documents of both are among all
-pub own_both : (marks : List Mark) (a b : List ℕ) (r : ℕ) (f : Fronts) (all : Counts) → IsRanking (length marks) a → IsRanking (length marks) b → AreFronts marks (take r a) (take r b) f → AreTopic marks all → f.first.unjudged + f.second.unjudged ≤ all.unjudged
+pub own_both : (marks : List Mark) (a b : List ℕ) (r : ℕ) (f : Prefixes) (all : Counts) → IsRanking (length marks) a → IsRanking (length marks) b → ArePrefixes marks (take r a) (take r b) f → AreTopic marks all → f.first.unjudged + f.second.unjudged ≤ all.unjudged
 own_both marks a b r f all ra rb h topic =
     omega (
       arith,
@@ -86,9 +86,9 @@ own_both marks a b r f all ra rb h topic =
       class_sizes marks a b r,
     )
 
-pub fronts_small : (marks : List Mark) (a b : List ℕ) (r : ℕ) (f : Fronts) → IsRanking (length marks) a → IsRanking (length marks) b → AreFronts marks (take r a) (take r b) f →
+pub prefixes_small : (marks : List Mark) (a b : List ℕ) (r : ℕ) (f : Prefixes) → IsRanking (length marks) a → IsRanking (length marks) b → ArePrefixes marks (take r a) (take r b) f →
     (f.first.relevant + f.first.unjudged ≤ 10000) × (f.second.relevant + f.second.unjudged ≤ 10000)
-fronts_small marks a b r f ra rb h =
+prefixes_small marks a b r f ra rb h =
     (omega (arith, h.first_few, length-take {A = ℕ} r a, ra.short), omega (arith, h.second_few, length-take {A = ℕ} r b, rb.short))
 
 -- all unjudged documents
@@ -100,9 +100,9 @@ all_open marks =
     let open_here : count_by (λ d. open_in marks (λ _. true) d && true) zs ≡ size_of (length marks) (open_in marks (λ _. true)) = count_by-agree _ _ zs (every _ (λ d. and-true (open_in marks (λ _. true) d)) zs) in
     omega (arith, here, none, open_here, count_picked marks (λ _. true) (λ _. true) zs)
 
-pub few_are : (marks : List Mark) (a b : List ℕ) (r : ℕ) (f : Fronts) (all : Counts) → IsRanking (length marks) a → IsRanking (length marks) b → AreFronts marks (take r a) (take r b) f → AreTopic marks all → all.relevant + all.unjudged ≤ 25000000 → AreFew f all
+pub few_are : (marks : List Mark) (a b : List ℕ) (r : ℕ) (f : Prefixes) (all : Counts) → IsRanking (length marks) a → IsRanking (length marks) b → ArePrefixes marks (take r a) (take r b) f → AreTopic marks all → all.relevant + all.unjudged ≤ 25000000 → AreFew f all
 few_are marks a b r f all ra rb h topic few =
-    let small = fronts_small marks a b r f ra rb h in record { first = small.0; second = small.1; within = own_both marks a b r f all ra rb h topic; total = few }
+    let small = prefixes_small marks a b r f ra rb h in record { first = small.0; second = small.1; within = own_both marks a b r f all ra rb h topic; total = few }
 
-pub few_exchanged : (f g : Fronts) (all : Counts) → AreFew f all → g ≡ exchanged f → AreFew g all
-few_exchanged f g all h e = subst (λ x. AreFew x all) (sym e) (record { first = h.second; second = h.first; within = omega (arith, h.within); total = h.total })
+pub few_swapped : (f g : Prefixes) (all : Counts) → AreFew f all → g ≡ swapped f → AreFew g all
+few_swapped f g all h e = subst (λ x. AreFew x all) (sym e) (record { first = h.second; second = h.first; within = omega (arith, h.within); total = h.total })

@@ -11,8 +11,8 @@ use Rattle.desk_model.specs.declared.placed.Placed.{Placed}
 use Rattle.desk_model.specs.declared.types.Mark.{Mark}
 use Rattle.desk_model.specs.declared.types.Mark.TheVariants.{Unjudged, Relevant, Other}
 use Rattle.topic_counts.specs.declared.counts.Counts.{Counts}
-use Rattle.rprec.specs.declared.fronts.Fronts.{Fronts}
-use Rattle.rprec.specs.Greedy.{AreBefore, AreFronts, AreNext, number_if, one_of}
+use Rattle.rprec.specs.declared.prefixes.Prefixes.{Prefixes}
+use Rattle.rprec.specs.Greedy.{AreBefore, ArePrefixes, AreNext, number_if, one_of}
 use Rattle.rprec.specs.Shared.{AreShared, met, entered as counts_entered}
 use Rattle.rprec.specs.Walk.{AreCounted, AreRanksOf, AreWalked, IsWalk, both, flagged_at}
 use Rattle.std.proofs.Math.Bool.{and-false}
@@ -116,8 +116,8 @@ counted_next marks xs ys x y f s counts sx sy d h = by_test (nat_eq x.doc y.doc)
     u : ℕ
     u = one_where (is_unjudged (mark_at marks x.doc))
 
-    turned : (m n : ℕ) (b : Bool) → nat_eq m n ≡ b → nat_eq n m ≡ b
-    turned m n b e = grind (arith, nat_tests, e)
+    swapped_facts : (m n : ℕ) (b : Bool) → nat_eq m n ≡ b → nat_eq n m ≡ b
+    swapped_facts m n b e = grind (arith, nat_tests, e)
 
     same_doc : (m n : ℕ) → nat_eq m n ≡ true → m ≡ n
     same_doc m n e = grind (arith, nat_tests)
@@ -133,7 +133,7 @@ counted_next marks xs ys x y f s counts sx sy d h = by_test (nat_eq x.doc y.doc)
         let raised = raise_first marks xs ys f s counts (x.rank - 1) u h sx (omega (arith, d.first.0, d.first.1.0)) (omega (arith, d.first.0, d.first.1.0, d.first_long)) (d.first_down (same_doc x.doc y.doc e)) is in
         same_counted marks xs ys _ _ _ _ _ _
         (sym (ap (λ (b : Bool). if b then flagged (λ place. place) x.rank y.rank f else f) e ∙ ap (λ (b : Bool). if b then set f (x.rank - 1) true else f) t))
-        (sym (ap (λ (b : Bool). if b then flagged (λ place. place + 1) y.rank x.rank s else s) (turned x.doc y.doc true e) ∙ ap (λ (b : Bool). if b then set s (y.rank - 1) true else s) other))
+        (sym (ap (λ (b : Bool). if b then flagged (λ place. place + 1) y.rank x.rank s else s) (swapped_facts x.doc y.doc true e) ∙ ap (λ (b : Bool). if b then set s (y.rank - 1) true else s) other))
         (ap (λ (n : ℕ). set counts n (get_or counts n 0 + u)) place ∙ sym (ap (λ (b : Bool). set counts k (get_or counts k 0 + (if b && is_unjudged (mark_at marks x.doc) then 1 else 0))) e))
         raised
     later e false t =
@@ -143,7 +143,7 @@ counted_next marks xs ys x y f s counts sx sy d h = by_test (nat_eq x.doc y.doc)
         let raised = raise_second marks xs ys f s counts (y.rank - 1) u h sy (omega (arith, d.second.0, d.second.1.0)) (omega (arith, d.second.0, d.second.1.0, d.second_long)) (d.second_down (same_doc x.doc y.doc e)) is in
         same_counted marks xs ys _ _ _ _ _ _
         (sym (ap (λ (b : Bool). if b then flagged (λ place. place) x.rank y.rank f else f) e ∙ ap (λ (b : Bool). if b then set f (x.rank - 1) true else f) t))
-        (sym (ap (λ (b : Bool). if b then flagged (λ place. place + 1) y.rank x.rank s else s) (turned x.doc y.doc true e) ∙ ap (λ (b : Bool). if b then set s (y.rank - 1) true else s) other))
+        (sym (ap (λ (b : Bool). if b then flagged (λ place. place + 1) y.rank x.rank s else s) (swapped_facts x.doc y.doc true e) ∙ ap (λ (b : Bool). if b then set s (y.rank - 1) true else s) other))
         (ap (λ (n : ℕ). set counts n (get_or counts n 0 + u)) place ∙ sym (ap (λ (b : Bool). set counts k (get_or counts k 0 + (if b && is_unjudged (mark_at marks x.doc) then 1 else 0))) e))
         raised
 
@@ -153,7 +153,7 @@ counted_next marks xs ys x y f s counts sx sy d h = by_test (nat_eq x.doc y.doc)
         let none : get_or counts k 0 + 0 ≡ get_or counts k 0 = omega arith in
         same_counted marks xs ys _ _ _ _ _ _
         (sym (ap (λ (b : Bool). if b then flagged (λ place. place) x.rank y.rank f else f) e))
-        (sym (ap (λ (b : Bool). if b then flagged (λ place. place + 1) y.rank x.rank s else s) (turned x.doc y.doc false e)))
+        (sym (ap (λ (b : Bool). if b then flagged (λ place. place + 1) y.rank x.rank s else s) (swapped_facts x.doc y.doc false e)))
         (sym (ap (λ (b : Bool). set counts k (get_or counts k 0 + (if b && is_unjudged (mark_at marks x.doc) then 1 else 0))) e ∙ ap (set counts k) none ∙ set-get_or counts k 0))
         h
 
@@ -272,13 +272,13 @@ met_next marks docs others place one h = elim (cases_lt place (length docs)) [
     by_mark false m n e = refl
 
 -- what the counts say of them
-pub counted_before : (marks : List Mark) (a b : List ℕ) (place : ℕ) (f : Fronts) (one two : Counts) (counts : List ℕ) (both : ℕ) → both ≡ get_or counts place 0 → IsRanking (length marks) a → IsRanking (length marks) b → AreShared marks a b counts → place < 10000 →
-    AreFronts marks (take place a) (take place b) f → AreNext marks a place one → AreNext marks b place two → AreBefore marks a b place f one two both
-counted_before marks a b place f one two counts both e ra rb h lt fronts x y = record {
+pub counted_before : (marks : List Mark) (a b : List ℕ) (place : ℕ) (f : Prefixes) (one two : Counts) (counts : List ℕ) (both : ℕ) → both ≡ get_or counts place 0 → IsRanking (length marks) a → IsRanking (length marks) b → AreShared marks a b counts → place < 10000 →
+    ArePrefixes marks (take place a) (take place b) f → AreNext marks a place one → AreNext marks b place two → AreBefore marks a b place f one two both
+counted_before marks a b place f one two counts both e ra rb h lt prefixes x y = record {
   short = lt;
   first_distinct = ra.distinct;
   second_distinct = rb.distinct;
-  counts = fronts;
+  counts = prefixes;
   first = x;
   second = y;
   shared = omega (arith, e, h.each place, met_next marks a (take place b) place one x, met_next marks b (take (place + 1) a) place two y);

@@ -10,16 +10,16 @@ use Rattle.desk_model.specs.Placed.{lookup, IsAscending}
 use Rattle.desk_model.specs.Ranking.{is_in, rank}
 use Rattle.desk_model.specs.declared.placed.Placed.{Placed}
 use Rattle.topic_counts.specs.Pairs.{after, Taken}
-use Rattle.measure_laws.specs.Ranks.{IsWithin}
+use Rattle.measure_laws.specs.Ranks.{IsRankWithin}
 use Rattle.topic_counts.proofs.Merge.{absent_below, further, taken_head, taken_none}
-use Rattle.topic_counts.proofs.Fronts.{is_by, rank_by}
+use Rattle.topic_counts.proofs.Prefixes.{is_by, rank_by}
 use Rattle.desk_model.specs.declared.types.Mark.{Mark}
 use Rattle.desk_model.proofs.Counts.{IsDistinct-take}
 use Rattle.topic_counts.specs.declared.counts.Counts.{Counts}
-use Rattle.rprec.specs.declared.fronts.Fronts.{Fronts}
-use Rattle.rprec.specs.Greedy.{AreBefore, AreFronts, exchanged}
+use Rattle.rprec.specs.declared.prefixes.Prefixes.{Prefixes}
+use Rattle.rprec.specs.Greedy.{AreBefore, ArePrefixes, swapped}
 use Rattle.rprec.specs.Walk.{AreRanksOf, AreWalked, IsWalk, both}
-use Rattle.rprec.proofs.Steps.{fronts_exchanged, after_next, number_either}
+use Rattle.rprec.proofs.Steps.{prefixes_swapped, after_next, number_either}
 
 -- for each place of a list, whether another has the document among so many first ones
 pub record AreFlags (xs ys : List ℕ) (depth : ℕ → ℕ) (flags : List Bool) : Type 0 where
@@ -112,7 +112,7 @@ ranks_after part xs es doc r h f d s e = elim (split d doc) [
 ]
 
 -- the ranks of the next document
-pub rank_within : (part : ℕ → Bool) (xs : List ℕ) (es : List Placed) (doc : ℕ) (r : Option ℕ) → Taken es doc r → AreRanksOf part xs es → length xs ≤ 10000 → IsWithin 10000 r
+pub rank_within : (part : ℕ → Bool) (xs : List ℕ) (es : List Placed) (doc : ℕ) (r : Option ℕ) → Taken es doc r → AreRanksOf part xs es → length xs ≤ 10000 → IsRankWithin 10000 r
 unfolding AreRanksOf
 rank_within part xs es doc None h f short = tt
 rank_within part xs es doc (Some r) h f short = let here = rank_place xs doc r (f doc r (sym h.here)).0 in (here.0, omega (arith, here.1.0))
@@ -322,24 +322,24 @@ rank_second part elsewhere xs ys es fs j d f s h w short =
 
 -- ---- the next documents of both lists
 -- the counts with them, of which some unjudged ones are now in both
-pub record AreDeeper (marks : List Mark) (a b : List ℕ) (place gone : ℕ) (before : Fronts) (one two : Counts) : Type 0 where
-  pub after : Fronts
-  pub counts : AreFronts marks (take (place + 1) a) (take (place + 1) b) after
+pub record AreDeeper (marks : List Mark) (a b : List ℕ) (place gone : ℕ) (before : Prefixes) (one two : Counts) : Type 0 where
+  pub after : Prefixes
+  pub counts : ArePrefixes marks (take (place + 1) a) (take (place + 1) b) after
   pub first : after.first.relevant ≡ before.first.relevant + one.relevant
   pub second : after.second.relevant ≡ before.second.relevant + two.relevant
   pub first_open : after.first.unjudged + gone ≡ before.first.unjudged + one.unjudged
   pub second_open : after.second.unjudged + gone ≡ before.second.unjudged + two.unjudged
 
-pub deeper : (marks : List Mark) (a b : List ℕ) (place : ℕ) (f : Fronts) (one two : Counts) (both : ℕ) → AreBefore marks a b place f one two both → AreDeeper marks a b place both f one two
+pub deeper : (marks : List Mark) (a b : List ℕ) (place : ℕ) (f : Prefixes) (one two : Counts) (both : ℕ) → AreBefore marks a b place f one two both → AreDeeper marks a b place both f one two
 deeper marks a b place f one two both h =
     let v = is_in (take place b) (get_or a place 0) in
     let w = is_in (take (place + 1) a) (get_or b place 0) in
     let m = after_next marks a (take place b) place v f one h.first_distinct (record { counts = h.counts; next = λ k. refl; distinct = IsDistinct-take place b h.second_distinct }) h.first in
-    let turned = fronts_exchanged marks (take (place + 1) a) (take place b) m.after m.counts in
-    let n = after_next marks b (take (place + 1) a) place w (exchanged m.after) two h.second_distinct (record { counts = turned; next = λ k. refl; distinct = IsDistinct-take (place + 1) a h.first_distinct }) h.second in
+    let swapped_facts = prefixes_swapped marks (take (place + 1) a) (take place b) m.after m.counts in
+    let n = after_next marks b (take (place + 1) a) place w (swapped m.after) two h.second_distinct (record { counts = swapped_facts; next = λ k. refl; distinct = IsDistinct-take (place + 1) a h.first_distinct }) h.second in
     record {
-      after = exchanged n.after;
-      counts = fronts_exchanged marks (take (place + 1) b) (take (place + 1) a) n.after n.counts;
+      after = swapped n.after;
+      counts = prefixes_swapped marks (take (place + 1) b) (take (place + 1) a) n.after n.counts;
       first = n.other ∙ m.relevant;
       second = n.relevant ∙ ap (λ (k : ℕ). k + two.relevant) m.other;
       first_open = omega (arith, n.gone, m.unjudged, number_either v one.unjudged, h.shared);

@@ -15,8 +15,8 @@ use Rattle.desk_model.proofs.Counts.{one_if, count_by-weaker, IsDistinct-take}
 use Rattle.desk_model.proofs.PrecisionEnds.{difference_outside}
 use Rattle.measure_laws.proofs.RecallEnds.{every}
 use Rattle.topic_counts.specs.declared.counts.Counts.{Counts}
-use Rattle.rprec.specs.declared.fronts.Fronts.{Fronts}
-use Rattle.rprec.specs.Greedy.{AreFronts, AreNext, exchanged, number_if, one_of}
+use Rattle.rprec.specs.declared.prefixes.Prefixes.{Prefixes}
+use Rattle.rprec.specs.Greedy.{ArePrefixes, AreNext, swapped, number_if, one_of}
 
 -- ---- lists
 whole : (xs : List ℕ) (i : ℕ) → length xs ≤ i → take i xs ≡ xs
@@ -59,8 +59,8 @@ fewer_relevant marks xs ys = count_by-weaker _ _ xs (every _ (λ d. weaker_value
     weaker_value Relevant e h = h
     weaker_value Other e h = absurd (cc)
 
-pub fronts_exchanged : (marks : List Mark) (xs ys : List ℕ) (f : Fronts) → AreFronts marks xs ys f → AreFronts marks ys xs (exchanged f)
-fronts_exchanged marks xs ys f h = record { relevant = sym h.relevant; first = h.second; second = h.first; first_few = h.second_few; second_few = h.first_few }
+pub prefixes_swapped : (marks : List Mark) (xs ys : List ℕ) (f : Prefixes) → ArePrefixes marks xs ys f → ArePrefixes marks ys xs (swapped f)
+prefixes_swapped marks xs ys f h = record { relevant = sym h.relevant; first = h.second; second = h.first; first_few = h.second_few; second_few = h.first_few }
 
 longer_by : (xs longer : List ℕ) (x : ℕ) → longer ≡ xs ++ x ∷ [] → length longer ≡ length xs + 1
 longer_by xs longer x e = ap length e ∙ length-append xs (x ∷ [])
@@ -72,10 +72,10 @@ one_each Unjudged one e f = (sym e, (sym f, omega (arith, f)))
 one_each Other one e f = (sym e, (sym f, omega (arith, f)))
 
 -- a document that the other list has not
-pub fronts_alone : (marks : List Mark) (xs longer ys : List ℕ) (x : ℕ) (f g : Fronts) (one : Counts) → longer ≡ xs ++ x ∷ [] → is_in ys x ≡ false → IsDistinct nat_eq xs → IsDistinct nat_eq longer → IsDistinct nat_eq ys → AreFronts marks xs ys f →
+pub prefixes_alone : (marks : List Mark) (xs longer ys : List ℕ) (x : ℕ) (f g : Prefixes) (one : Counts) → longer ≡ xs ++ x ∷ [] → is_in ys x ≡ false → IsDistinct nat_eq xs → IsDistinct nat_eq longer → IsDistinct nat_eq ys → ArePrefixes marks xs ys f →
     one.relevant ≡ one_of false (mark_at marks x) → one.relevant + one.unjudged ≡ one_of true (mark_at marks x) →
-    g.first.relevant ≡ f.first.relevant + one.relevant → g.first.unjudged ≡ f.first.unjudged + one.unjudged → g.second.relevant ≡ f.second.relevant → g.second.unjudged ≡ f.second.unjudged → AreFronts marks longer ys g
-fronts_alone marks xs longer ys x f g one e v dx dl dy h er eu ea eb same same_open =
+    g.first.relevant ≡ f.first.relevant + one.relevant → g.first.unjudged ≡ f.first.unjudged + one.unjudged → g.second.relevant ≡ f.second.relevant → g.second.unjudged ≡ f.second.unjudged → ArePrefixes marks longer ys g
+prefixes_alone marks xs longer ys x f g one e v dx dl dy h er eu ea eb same same_open =
     let each = one_each (mark_at marks x) one er eu in
     let own = own_next false marks xs longer ys x false e v in
     let either = own_next true marks xs longer ys x false e v in
@@ -92,10 +92,10 @@ fronts_alone marks xs longer ys x f g one e v dx dl dy h er eu ea eb same same_o
     }
 
 -- a document that it has
-pub fronts_shared : (marks : List Mark) (xs longer ys : List ℕ) (x : ℕ) (f g : Fronts) (one : Counts) → longer ≡ xs ++ x ∷ [] → is_in ys x ≡ true → IsDistinct nat_eq xs → IsDistinct nat_eq longer → IsDistinct nat_eq ys → AreFronts marks xs ys f →
+pub prefixes_shared : (marks : List Mark) (xs longer ys : List ℕ) (x : ℕ) (f g : Prefixes) (one : Counts) → longer ≡ xs ++ x ∷ [] → is_in ys x ≡ true → IsDistinct nat_eq xs → IsDistinct nat_eq longer → IsDistinct nat_eq ys → ArePrefixes marks xs ys f →
     one.relevant ≡ one_of false (mark_at marks x) → one.relevant + one.unjudged ≡ one_of true (mark_at marks x) →
-    g.first.relevant ≡ f.first.relevant + one.relevant → g.first.unjudged ≡ f.first.unjudged → g.second.relevant ≡ f.second.relevant → g.second.unjudged + one.unjudged ≡ f.second.unjudged → AreFronts marks longer ys g
-fronts_shared marks xs longer ys x f g one e v dx dl dy h er eu ea eb ec ed =
+    g.first.relevant ≡ f.first.relevant + one.relevant → g.first.unjudged ≡ f.first.unjudged → g.second.relevant ≡ f.second.relevant → g.second.unjudged + one.unjudged ≡ f.second.unjudged → ArePrefixes marks longer ys g
+prefixes_shared marks xs longer ys x f g one e v dx dl dy h er eu ea eb ec ed =
     let each = one_each (mark_at marks x) one er eu in
     let own = own_next false marks xs longer ys x true e v in
     let either = own_next true marks xs longer ys x true e v in
@@ -112,7 +112,7 @@ fronts_shared marks xs longer ys x f g one e v dx dl dy h er eu ea eb ec ed =
     }
 
 -- where it has, there is such an unjudged one to take away
-pub some_unjudged : (marks : List Mark) (xs longer ys : List ℕ) (x : ℕ) (f : Fronts) (one : Counts) → longer ≡ xs ++ x ∷ [] → is_in ys x ≡ true → IsDistinct nat_eq xs → IsDistinct nat_eq longer → IsDistinct nat_eq ys → AreFronts marks xs ys f →
+pub some_unjudged : (marks : List Mark) (xs longer ys : List ℕ) (x : ℕ) (f : Prefixes) (one : Counts) → longer ≡ xs ++ x ∷ [] → is_in ys x ≡ true → IsDistinct nat_eq xs → IsDistinct nat_eq longer → IsDistinct nat_eq ys → ArePrefixes marks xs ys f →
     one.relevant ≡ one_of false (mark_at marks x) → one.relevant + one.unjudged ≡ one_of true (mark_at marks x) → one.unjudged ≤ f.second.unjudged
 some_unjudged marks xs longer ys x f one e v dx dl dy h er eu =
     let each = one_each (mark_at marks x) one er eu in
@@ -120,25 +120,25 @@ some_unjudged marks xs longer ys x f one e v dx dl dy h er eu =
 
 -- ---- the next document of a list
 -- the counts of two lists that are to be told of the next document of a third, whose first ones the first list is, and whether the second list has it
-pub record IsTold (marks : List Mark) (docs ys : List ℕ) (place : ℕ) (is_shared : Bool) (fronts : Fronts) : Type 0 where
-  pub counts : AreFronts marks (take place docs) ys fronts
+pub record IsTold (marks : List Mark) (docs ys : List ℕ) (place : ℕ) (is_shared : Bool) (prefixes : Prefixes) : Type 0 where
+  pub counts : ArePrefixes marks (take place docs) ys prefixes
   pub next : place < length docs → is_in ys (get_or docs place 0) ≡ is_shared
   pub distinct : IsDistinct nat_eq ys
 
 -- the counts with that document
-pub record AreAfter (marks : List Mark) (docs ys : List ℕ) (place : ℕ) (is_shared : Bool) (before : Fronts) (one : Counts) : Type 0 where
-  pub after : Fronts
-  pub counts : AreFronts marks (take (place + 1) docs) ys after
+pub record AreAfter (marks : List Mark) (docs ys : List ℕ) (place : ℕ) (is_shared : Bool) (before : Prefixes) (one : Counts) : Type 0 where
+  pub after : Prefixes
+  pub counts : ArePrefixes marks (take (place + 1) docs) ys after
   pub relevant : after.first.relevant ≡ before.first.relevant + one.relevant
   pub unjudged : after.first.unjudged ≡ before.first.unjudged + number_if (not is_shared) one.unjudged
   pub other : after.second.relevant ≡ before.second.relevant
   pub gone : after.second.unjudged + number_if is_shared one.unjudged ≡ before.second.unjudged
 
 -- with some unjudged documents more of the first, and fewer of the second
-abbrev with_one : Fronts → Counts → ℕ → ℕ → Fronts
+abbrev with_one : Prefixes → Counts → ℕ → ℕ → Prefixes
 with_one f one own gone = record { first = record { relevant = f.first.relevant + one.relevant; unjudged = f.first.unjudged + own }; second = record { relevant = f.second.relevant; unjudged = f.second.unjudged - gone } }
 
-after_here : (marks : List Mark) (docs ys : List ℕ) (place : ℕ) (b : Bool) (f : Fronts) (one : Counts) → IsDistinct nat_eq docs → place < length docs → IsTold marks docs ys place b f →
+after_here : (marks : List Mark) (docs ys : List ℕ) (place : ℕ) (b : Bool) (f : Prefixes) (one : Counts) → IsDistinct nat_eq docs → place < length docs → IsTold marks docs ys place b f →
     one.relevant ≡ one_of false (mark_at marks (get_or docs place 0)) → one.relevant + one.unjudged ≡ one_of true (mark_at marks (get_or docs place 0)) → AreAfter marks docs ys place b f one
 after_here marks docs ys place true f one distinct lt h er eu =
     let x = get_or docs place 0 in
@@ -149,7 +149,7 @@ after_here marks docs ys place true f one distinct lt h er eu =
     let left : f.second.unjudged - one.unjudged + one.unjudged ≡ f.second.unjudged = omega (arith, there) in
     record {
       after = with_one f one 0 one.unjudged;
-      counts = fronts_shared marks (take place docs) (take (place + 1) docs) ys x f (with_one f one 0 one.unjudged) one longer (h.next lt) xs ls h.distinct h.counts er eu refl (omega arith) refl left;
+      counts = prefixes_shared marks (take place docs) (take (place + 1) docs) ys x f (with_one f one 0 one.unjudged) one longer (h.next lt) xs ls h.distinct h.counts er eu refl (omega arith) refl left;
       relevant = refl;
       unjudged = refl;
       other = refl;
@@ -158,7 +158,7 @@ after_here marks docs ys place true f one distinct lt h er eu =
 after_here marks docs ys place false f one distinct lt h er eu = record {
   after = with_one f one one.unjudged 0;
   counts =
-      fronts_alone marks (take place docs) (take (place + 1) docs) ys (get_or docs place 0) f (with_one f one one.unjudged 0) one (take_more docs place 0 lt) (h.next lt) (IsDistinct-take place docs distinct) (IsDistinct-take (place + 1) docs distinct) h.distinct h.counts er eu
+      prefixes_alone marks (take place docs) (take (place + 1) docs) ys (get_or docs place 0) f (with_one f one one.unjudged 0) one (take_more docs place 0 lt) (h.next lt) (IsDistinct-take place docs distinct) (IsDistinct-take (place + 1) docs distinct) h.distinct h.counts er eu
       refl refl refl (omega arith);
   relevant = refl;
   unjudged = refl;
@@ -170,17 +170,17 @@ number_none : (b : Bool) (n : ℕ) → n ≡ 0 → number_if b n ≡ 0
 number_none true n e = e
 number_none false n e = refl
 
-after_past : (marks : List Mark) (docs ys : List ℕ) (place : ℕ) (b : Bool) (f : Fronts) (one : Counts) → length docs ≤ place → IsTold marks docs ys place b f → one.relevant ≡ 0 → one.unjudged ≡ 0 → AreAfter marks docs ys place b f one
+after_past : (marks : List Mark) (docs ys : List ℕ) (place : ℕ) (b : Bool) (f : Prefixes) (one : Counts) → length docs ≤ place → IsTold marks docs ys place b f → one.relevant ≡ 0 → one.unjudged ≡ 0 → AreAfter marks docs ys place b f one
 after_past marks docs ys place b f one le h er eu = record {
   after = f;
-  counts = subst (λ (xs : List ℕ). AreFronts marks xs ys f) (sym (past place docs le)) h.counts;
+  counts = subst (λ (xs : List ℕ). ArePrefixes marks xs ys f) (sym (past place docs le)) h.counts;
   relevant = omega (arith, er);
   unjudged = omega (arith, number_none (not b) one.unjudged eu);
   other = refl;
   gone = omega (arith, number_none b one.unjudged eu);
 }
 
-pub after_next : (marks : List Mark) (docs ys : List ℕ) (place : ℕ) (b : Bool) (f : Fronts) (one : Counts) → IsDistinct nat_eq docs → IsTold marks docs ys place b f → AreNext marks docs place one → AreAfter marks docs ys place b f one
+pub after_next : (marks : List Mark) (docs ys : List ℕ) (place : ℕ) (b : Bool) (f : Prefixes) (one : Counts) → IsDistinct nat_eq docs → IsTold marks docs ys place b f → AreNext marks docs place one → AreAfter marks docs ys place b f one
 after_next marks docs ys place b f one distinct h next = elim (cases_lt place (length docs)) [
   | inl lt ↦ let here = next.here lt in after_here marks docs ys place b f one distinct lt h here.least here.most
   | inr le ↦ let none = next.past le in after_past marks docs ys place b f one le h none.least (omega (arith, none.least, none.most))
@@ -192,7 +192,7 @@ number_either true n = omega arith
 number_either false n = omega arith
 
 -- counts with the same fields
-pub same_counts : (marks : List Mark) (xs ys : List ℕ) (f g : Fronts) → g.first.relevant ≡ f.first.relevant → g.first.unjudged ≡ f.first.unjudged → g.second.relevant ≡ f.second.relevant → g.second.unjudged ≡ f.second.unjudged → AreFronts marks xs ys f → AreFronts marks xs ys g
+pub same_counts : (marks : List Mark) (xs ys : List ℕ) (f g : Prefixes) → g.first.relevant ≡ f.first.relevant → g.first.unjudged ≡ f.first.unjudged → g.second.relevant ≡ f.second.relevant → g.second.unjudged ≡ f.second.unjudged → ArePrefixes marks xs ys f → ArePrefixes marks xs ys g
 same_counts marks xs ys f g ea eb ec ed h = record {
   relevant = omega (arith, ea, ec, h.relevant);
   first = omega (arith, eb, h.first);

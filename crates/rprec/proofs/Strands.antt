@@ -73,8 +73,8 @@ strand_next below above xs ys es fs es' fs' gs hs f s f' s' apart w h = record {
   };
 }
 
-pub strands_turned : (below above : ℕ → Bool) (xs ys : List ℕ) (es fs gs hs : List Placed) (f s : List Bool) → AreStrands below above xs ys es fs gs hs f s → AreStrands above below xs ys gs hs es fs f s
-strands_turned below above xs ys es fs gs hs f s h = record { lower = h.upper; upper = h.lower }
+pub strands_swapped : (below above : ℕ → Bool) (xs ys : List ℕ) (es fs gs hs : List Placed) (f s : List Bool) → AreStrands below above xs ys es fs gs hs f s → AreStrands above below xs ys gs hs es fs f s
+strands_swapped below above xs ys es fs gs hs f s h = record { lower = h.upper; upper = h.lower }
 
 -- ---- the parts of a list
 -- below a document, and from it on
@@ -129,9 +129,9 @@ left_somewhere middle xs ys all every es fs gs hs h k ex ey doc r s er es' = by_
     by_test true eb = inr (found (lookup es doc) (lookup fs doc) (h.low doc ∙ ap (λ (v : Bool). if v then lookup all doc else None) eb ∙ ex doc ∙ er) (k.low doc ∙ ap (λ (v : Bool). if v then lookup every doc else None) eb ∙ ey doc ∙ es'))
     by_test false eb = inl (found (lookup gs doc) (lookup hs doc) (h.high doc ∙ ap (λ (v : Bool). if v then None else lookup all doc) eb ∙ ex doc ∙ er) (k.high doc ∙ ap (λ (v : Bool). if v then None else lookup every doc) eb ∙ ey doc ∙ es'))
 
-turned_somewhere : (a b : Bool) → (a ≡ true) ⊎ (b ≡ true) → (b ≡ true) ⊎ (a ≡ true)
-turned_somewhere a b (inl e) = inr e
-turned_somewhere a b (inr e) = inl e
+swapped_somewhere : (a b : Bool) → (a ≡ true) ⊎ (b ≡ true) → (b ≡ true) ⊎ (a ≡ true)
+swapped_somewhere a b (inl e) = inr e
+swapped_somewhere a b (inr e) = inl e
 
 -- before the first step of either walk
 strand_start : (below above : ℕ → Bool) (xs ys : List ℕ) (es fs gs hs : List Placed) (f s : List Bool) → length xs ≤ 10000 → length ys ≤ 10000 → IsDistinct nat_eq xs → IsDistinct nat_eq ys → length xs ≤ length f → length ys ≤ length s → IsAscending es → IsAscending fs →
@@ -147,13 +147,13 @@ strand_start below above xs ys es fs gs hs f s sx sy dx dy lx ly ax ay rx ry oth
   first_ranks = rx;
   second_ranks = ry;
   first = walked_start (both_in gs hs) xs ys (λ place. place) es fs f dx lx left df;
-  second = walked_start (both_in gs hs) ys xs (λ place. place + 1) fs es s dy ly (λ doc r t er et. turned_left doc (left doc t r et er)) ds;
+  second = walked_start (both_in gs hs) ys xs (λ place. place + 1) fs es s dy ly (λ doc r t er et. swapped_left doc (left doc t r et er)) ds;
   apart = no_other above below xs gs hs apart other;
 }
   where
-    turned_left : (doc : ℕ) → (both_in gs hs doc ≡ true) ⊎ (both_in es fs doc ≡ true) → (both_in gs hs doc ≡ true) ⊎ (both (lookup fs doc) (lookup es doc) ≡ true)
-    turned_left doc (inl e) = inl e
-    turned_left doc (inr e) = inr (both_sym (lookup fs doc) (lookup es doc) ∙ e)
+    swapped_left : (doc : ℕ) → (both_in gs hs doc ≡ true) ⊎ (both_in es fs doc ≡ true) → (both_in gs hs doc ≡ true) ⊎ (both (lookup fs doc) (lookup es doc) ≡ true)
+    swapped_left doc (inl e) = inl e
+    swapped_left doc (inr e) = inr (both_sym (lookup fs doc) (lookup es doc) ∙ e)
 
 pub strands_start : (middle : ℕ) (xs ys : List ℕ) (all every es fs gs hs : List Placed) (f s : List Bool) → length xs ≤ 10000 → length ys ≤ 10000 → IsDistinct nat_eq xs → IsDistinct nat_eq ys → length xs ≤ length f → length ys ≤ length s → AreParts middle all es gs → AreParts middle every fs hs →
     ((doc : ℕ) → lookup all doc ≡ rank xs doc) → ((doc : ℕ) → lookup every doc ≡ rank ys doc) → ((place : ℕ) → get_or f place false ≡ false) → ((place : ℕ) → get_or s place false ≡ false) →
@@ -166,7 +166,7 @@ strands_start middle xs ys all every es fs gs hs f s sx sy dx dy lx ly h k ex ey
     let high_other = ranks_above middle ys every fs hs k ey in
     record {
       lower = strand_start (is_below middle) (is_above middle) xs ys es fs gs hs f s sx sy dx dy lx ly h.lower k.lower low low_other high (above_apart middle) left df ds;
-      upper = strand_start (is_above middle) (is_below middle) xs ys gs hs es fs f s sx sy dx dy lx ly h.upper k.upper high high_other low (below_apart middle) (λ doc r t er et. turned_somewhere (both_in gs hs doc) (both_in es fs doc) (left doc r t er et)) df ds;
+      upper = strand_start (is_above middle) (is_below middle) xs ys gs hs es fs f s sx sy dx dy lx ly h.upper k.upper high high_other low (below_apart middle) (λ doc r t er et. swapped_somewhere (both_in gs hs doc) (both_in es fs doc) (left doc r t er et)) df ds;
     }
 
 -- ---- two walks with the counts so far
@@ -176,8 +176,8 @@ pub record AreCountedStrands (marks : List Mark) (below above : ℕ → Bool) (x
   pub strands : AreStrands below above xs ys es fs gs hs in_second in_first
   pub counted : AreCounted marks xs ys in_second in_first counts
 
-pub counted_turned : (marks : List Mark) (below above : ℕ → Bool) (xs ys : List ℕ) (es fs gs hs : List Placed) (counts : List ℕ) → AreCountedStrands marks below above xs ys es fs gs hs counts → AreCountedStrands marks above below xs ys gs hs es fs counts
-counted_turned marks below above xs ys es fs gs hs counts h = record { in_second = h.in_second; in_first = h.in_first; strands = strands_turned below above xs ys es fs gs hs h.in_second h.in_first h.strands; counted = h.counted }
+pub counted_swapped : (marks : List Mark) (below above : ℕ → Bool) (xs ys : List ℕ) (es fs gs hs : List Placed) (counts : List ℕ) → AreCountedStrands marks below above xs ys es fs gs hs counts → AreCountedStrands marks above below xs ys gs hs es fs counts
+counted_swapped marks below above xs ys es fs gs hs counts h = record { in_second = h.in_second; in_first = h.in_first; strands = strands_swapped below above xs ys es fs gs hs h.in_second h.in_first h.strands; counted = h.counted }
 
 -- the first of them, by itself
 pub lower_walk : (marks : List Mark) (below above : ℕ → Bool) (xs ys : List ℕ) (es fs gs hs : List Placed) (counts : List ℕ) → AreCountedStrands marks below above xs ys es fs gs hs counts → IsCountedWalk marks below (both_in gs hs) xs ys es fs counts

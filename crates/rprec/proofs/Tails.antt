@@ -1,4 +1,4 @@
--- Where the fronts stay as they are, three numbers of relevant documents hold the least difference.
+-- Where the prefixes stay as they are, three numbers of relevant documents hold the least difference.
 use Rattle.std.proofs.Common.{◌≡◌, ℕ, zero, suc, ◌+◌, ◌-◌, ◌*◌, ◌<◌, ◌≤◌, min, max, Bool, true, false, not, ◌&&◌, ◌||◌, ◌⊎◌, nat_lt, List, [], ◌∷◌, ◌++◌, length, take, arith, refl, ap, ◌∙◌, sym, subst, inl, inr}
 use Rattle.std.specs.Prelude.{if◌then◌else◌}
 use Rattle.std.specs.List.{AllByRecursion, range_with_len}
@@ -14,9 +14,9 @@ use Rattle.measure_laws.specs.Classes.{judged_count}
 use Rattle.measure_laws.proofs.Picks.{NoGreater, NoGreater-trans, NoGreater-refl, first_least-all, first_least-least, no_smaller, first_least-append}
 use Rattle.measure_laws.proofs.RprecEnds.{greedy_positive, range_push}
 use Rattle.topic_counts.specs.declared.counts.Counts.{Counts}
-use Rattle.rprec.specs.declared.fronts.Fronts.{Fronts}
+use Rattle.rprec.specs.declared.prefixes.Prefixes.{Prefixes}
 use Rattle.rprec.specs.declared.greedy.Candidate.{Candidate}
-use Rattle.rprec.specs.Greedy.{AreFronts, AreTopic, AreGains, IsLeast, beats, better_of, candidate, best_beyond}
+use Rattle.rprec.specs.Greedy.{ArePrefixes, AreTopic, AreGains, IsLeast, beats, better_of, candidate, best_beyond}
 use Rattle.rprec.specs.Search.{IsBestOf, precedes}
 use Rattle.rprec.proofs.Choices.{scaled_test, smaller_is, gains_are, own_both}
 
@@ -187,43 +187,43 @@ stretch_falls marks a b p r n up down h m k lt le =
     (h.count k le ∙ ap (λ (x : ℕ). r + x) k_is) (h.count m (omega arith)) (h.first k le ∙ ap (λ (x : ℕ). (p 0).first + up * x) k_is) (h.second k le ∙ ap (λ (x : ℕ). (p 0).second + down * x) k_is) (h.first m (omega arith)) (h.second m (omega arith))
     ∙ stretch_test r (p 0).first (p 0).second up down m e (omega arith)
 
--- ---- the choices from where the fronts stay as they are
--- a front beyond the length of its list
+-- ---- the choices from where the prefixes stay as they are
+-- a prefix beyond the length of its list
 same_take : (xs : List ℕ) (r s longest : ℕ) → length xs ≤ longest → r ≤ s → (r < s → longest ≤ r) → take s xs ≡ take r xs
 same_take xs r s longest h le f = elim (cases_lt r s) [
   | inl less ↦ let short = f less in take_all s xs (omega arith) ∙ sym (take_all r xs (omega arith))
   | inr more ↦ let e : s ≡ r = omega arith in ap (λ (k : ℕ). take k xs) e
 ]
 
-pub same_fronts : (marks : List Mark) (a b : List ℕ) (f : Fronts) (r s longest : ℕ) → length a ≤ longest → length b ≤ longest → r ≤ s → (r < s → longest ≤ r) → AreFronts marks (take r a) (take r b) f → AreFronts marks (take s a) (take s b) f
-same_fronts marks a b f r s longest ha hb le g h =
-    subst (λ (ys : List ℕ). AreFronts marks (take s a) ys f) (sym (same_take b r s longest hb le g)) (subst (λ (xs : List ℕ). AreFronts marks xs (take r b) f) (sym (same_take a r s longest ha le g)) h)
+pub same_prefixes : (marks : List Mark) (a b : List ℕ) (f : Prefixes) (r s longest : ℕ) → length a ≤ longest → length b ≤ longest → r ≤ s → (r < s → longest ≤ r) → ArePrefixes marks (take r a) (take r b) f → ArePrefixes marks (take s a) (take s b) f
+same_prefixes marks a b f r s longest ha hb le g h =
+    subst (λ (ys : List ℕ). ArePrefixes marks (take s a) ys f) (sym (same_take b r s longest hb le g)) (subst (λ (xs : List ℕ). ArePrefixes marks xs (take r b) f) (sym (same_take a r s longest ha le g)) h)
 
-pub choice_gains : (marks : List Mark) (a b : List ℕ) (r chosen : ℕ) (f : Fronts) (all : Counts) (c : Candidate) → IsRanking (length marks) a → IsRanking (length marks) b →
-    AreFronts marks (take r a) (take r b) f → AreTopic marks all → r ≡ all.relevant + chosen → chosen ≤ all.unjudged → c ≡ candidate f all chosen → AreGains marks a b c
+pub choice_gains : (marks : List Mark) (a b : List ℕ) (r chosen : ℕ) (f : Prefixes) (all : Counts) (c : Candidate) → IsRanking (length marks) a → IsRanking (length marks) b →
+    ArePrefixes marks (take r a) (take r b) f → AreTopic marks all → r ≡ all.relevant + chosen → chosen ≤ all.unjudged → c ≡ candidate f all chosen → AreGains marks a b c
 choice_gains marks a b r chosen f all c ra rb h topic er small e =
     subst (AreGains marks a b) (sym e) (gains_are marks a b r chosen f all (candidate f all chosen) ra rb h topic er small (sym er) refl refl)
 
-pub record IsSettled (marks : List Mark) (a b : List ℕ) (all : Counts) (f : Fronts) (start : ℕ) : Type 0 where
-  pub fronts : (c : ℕ) → start ≤ c → c ≤ all.unjudged → AreFronts marks (take (all.relevant + c) a) (take (all.relevant + c) b) f
+pub record IsSettled (marks : List Mark) (a b : List ℕ) (all : Counts) (f : Prefixes) (start : ℕ) : Type 0 where
+  pub prefixes : (c : ℕ) → start ≤ c → c ≤ all.unjudged → ArePrefixes marks (take (all.relevant + c) a) (take (all.relevant + c) b) f
   pub positive : start < all.unjudged → 0 < all.relevant + start
   pub short : start < all.unjudged → f.first.relevant + f.first.unjudged ≤ all.relevant + start
   pub within : f.first.unjudged + f.second.unjudged ≤ all.unjudged
 
-pub settled : (marks : List Mark) (a b : List ℕ) (all : Counts) (f : Fronts) (start longest : ℕ) → IsRanking (length marks) a → IsRanking (length marks) b → AreTopic marks all → length a ≤ longest → length b ≤ longest → 0 < longest →
-    start ≡ min (longest - all.relevant) all.unjudged → AreFronts marks (take (all.relevant + start) a) (take (all.relevant + start) b) f → IsSettled marks a b all f start
+pub settled : (marks : List Mark) (a b : List ℕ) (all : Counts) (f : Prefixes) (start longest : ℕ) → IsRanking (length marks) a → IsRanking (length marks) b → AreTopic marks all → length a ≤ longest → length b ≤ longest → 0 < longest →
+    start ≡ min (longest - all.relevant) all.unjudged → ArePrefixes marks (take (all.relevant + start) a) (take (all.relevant + start) b) f → IsSettled marks a b all f start
 settled marks a b all f start longest ra rb topic ha hb positive e h = record {
-  fronts = λ c lo hi. same_fronts marks a b f (all.relevant + start) (all.relevant + c) longest ha hb (omega arith) (λ l. omega arith) h;
+  prefixes = λ c lo hi. same_prefixes marks a b f (all.relevant + start) (all.relevant + c) longest ha hb (omega arith) (λ l. omega arith) h;
   positive = λ l. omega arith;
   short = λ l. omega (arith, h.first_few, length-take {A = ℕ} (all.relevant + start) a);
   within = own_both marks a b (all.relevant + start) f all ra rb h topic;
 }
 
-settled_gains : (marks : List Mark) (a b : List ℕ) (all : Counts) (f : Fronts) (start c : ℕ) → IsRanking (length marks) a → IsRanking (length marks) b → AreTopic marks all → IsSettled marks a b all f start →
+settled_gains : (marks : List Mark) (a b : List ℕ) (all : Counts) (f : Prefixes) (start c : ℕ) → IsRanking (length marks) a → IsRanking (length marks) b → AreTopic marks all → IsSettled marks a b all f start →
     start ≤ c → c ≤ all.unjudged → AreGains marks a b (candidate f all c)
-settled_gains marks a b all f start c ra rb topic h lo hi = gains_are marks a b (all.relevant + c) c f all (candidate f all c) ra rb (h.fronts c lo hi) topic refl hi refl refl refl
+settled_gains marks a b all f start c ra rb topic h lo hi = gains_are marks a b (all.relevant + c) c f all (candidate f all c) ra rb (h.prefixes c lo hi) topic refl hi refl refl refl
 
-settled_stretch : (marks : List Mark) (a b : List ℕ) (all : Counts) (f : Fronts) (start c d up down : ℕ) → IsRanking (length marks) a → IsRanking (length marks) b → AreTopic marks all → IsSettled marks a b all f start →
+settled_stretch : (marks : List Mark) (a b : List ℕ) (all : Counts) (f : Prefixes) (start c d up down : ℕ) → IsRanking (length marks) a → IsRanking (length marks) b → AreTopic marks all → IsSettled marks a b all f start →
     start ≤ c → c ≤ d → d ≤ all.unjudged → ((i : ℕ) → c + i ≤ d → (candidate f all (c + i)).first ≡ (candidate f all (c + 0)).first + up * i) → ((i : ℕ) → c + i ≤ d → (candidate f all (c + i)).second ≡ (candidate f all (c + 0)).second + down * i) →
     IsStretch marks a b (λ i. candidate f all (c + i)) (all.relevant + c) (d - c) up down
 settled_stretch marks a b all f start c d up down ra rb topic h lo le hi first second = record {
@@ -235,7 +235,7 @@ settled_stretch marks a b all f start c d up down ra rb topic h lo le hi first s
 }
 
 -- from one place to another, along an even stretch
-advanced : (marks : List Mark) (a b : List ℕ) (all : Counts) (f : Fronts) (start c d up down : ℕ) (best : Candidate) → IsRanking (length marks) a → IsRanking (length marks) b → AreTopic marks all → IsSettled marks a b all f start →
+advanced : (marks : List Mark) (a b : List ℕ) (all : Counts) (f : Prefixes) (start c d up down : ℕ) (best : Candidate) → IsRanking (length marks) a → IsRanking (length marks) b → AreTopic marks all → IsSettled marks a b all f start →
     start ≤ c → c ≤ d → d ≤ all.unjudged → ((i : ℕ) → c + i ≤ d → (candidate f all (c + i)).first ≡ (candidate f all (c + 0)).first + up * i) → ((i : ℕ) → c + i ≤ d → (candidate f all (c + i)).second ≡ (candidate f all (c + 0)).second + down * i) →
     IsBest marks a b all.relevant c best → IsBest marks a b all.relevant d (better_of (candidate f all d) best)
 advanced marks a b all f start c d up down best ra rb topic h lo le hi first second k =
@@ -246,7 +246,7 @@ advanced marks a b all f start c d up down best ra rb topic h lo le hi first sec
     (settled_gains marks a b all f start d ra rb topic h (omega arith) hi) (omega arith) (stretch_falls marks a b p (all.relevant + c) (d - c) up down even))
 
 -- beyond the places where the second run's own documents, and then all but the first run's own, are used up, the difference rises
-pub beyond_least : (marks : List Mark) (a b : List ℕ) (all : Counts) (f : Fronts) (start : ℕ) (best : Candidate) → IsRanking (length marks) a → IsRanking (length marks) b → AreTopic marks all → start ≤ all.unjudged → IsSettled marks a b all f start → IsBest marks a b all.relevant start best →
+pub beyond_least : (marks : List Mark) (a b : List ℕ) (all : Counts) (f : Prefixes) (start : ℕ) (best : Candidate) → IsRanking (length marks) a → IsRanking (length marks) b → AreTopic marks all → start ≤ all.unjudged → IsSettled marks a b all f start → IsBest marks a b all.relevant start best →
     ((best_beyond f all start best).count ≡ first_least (greedy_scores marks a b) all.relevant (range_with_len (all.relevant + 1) all.unjudged)) × AreGains marks a b (best_beyond f all start best)
 beyond_least marks a b all f start best ra rb topic small h k =
     let others = all.unjudged - f.first.unjudged in
@@ -265,7 +265,7 @@ beyond_least marks a b all f start best ra rb topic small h k =
     (best_still marks a b all.relevant two (all.unjudged - two) after second rises ∙ ap (λ (x : ℕ). first_least (greedy_scores marks a b) all.relevant (range_with_len (all.relevant + 1) x)) whole, second.gains)
 
 -- it is the least of all
-pub beyond_is_least : (marks : List Mark) (a b : List ℕ) (all : Counts) (f : Fronts) (start : ℕ) (best after : Candidate) → IsRanking (length marks) a → IsRanking (length marks) b → AreTopic marks all → start ≤ all.unjudged → IsSettled marks a b all f start → IsBest marks a b all.relevant start best →
+pub beyond_is_least : (marks : List Mark) (a b : List ℕ) (all : Counts) (f : Prefixes) (start : ℕ) (best after : Candidate) → IsRanking (length marks) a → IsRanking (length marks) b → AreTopic marks all → start ≤ all.unjudged → IsSettled marks a b all f start → IsBest marks a b all.relevant start best →
     after ≡ best_beyond f all start best → IsLeast marks a b after
 beyond_is_least marks a b all f start best after ra rb topic small h k e =
     let found = beyond_least marks a b all f start best ra rb topic small h k in

@@ -11,7 +11,7 @@ use Rattle.desk_model.specs.declared.types.Mark.{Mark}
 use Rattle.desk_model.proofs.Counts.{one_if}
 use Rattle.measure_laws.specs.Classes.{is_unjudged, open_in, is_among_first, size_of, judged_count}
 use Rattle.measure_laws.specs.RprecCase.{greedy_pick}
-use Rattle.measure_laws.specs.Fronts.{only_second, neutral}
+use Rattle.measure_laws.specs.Prefixes.{only_second, neutral}
 use Rattle.measure_laws.proofs.RprecEnds.{count_more}
 use Rattle.rprec.specs.declared.values.Wanted.{Wanted}
 use Rattle.rprec.specs.Picks.{picks}

@@ -11,7 +11,7 @@ use Rattle.measure_laws.specs.Classes.{open_in, size_of, judged_count}
 use Rattle.measure_laws.specs.RprecCase.{greedy_truth, rprec_count}
 use Rattle.topic_counts.specs.declared.counts.Counts.{Counts}
 use Rattle.topic_counts.specs.Own.{AreCountsOf}
-use Rattle.rprec.specs.declared.fronts.Fronts.{Fronts}
+use Rattle.rprec.specs.declared.prefixes.Prefixes.{Prefixes}
 use Rattle.rprec.specs.declared.greedy.Candidate.{Candidate}
 
 -- one for a mark that is relevant, or that can be
@@ -19,12 +19,12 @@ abbrev pub one_of : Bool → Mark → ℕ
 one_of taken mark = if picked_value taken mark then 1 else 0
 
 -- the counts of two lists: of relevant documents, as far apart as those that each alone has, and of the unjudged ones that each alone has
-pub record AreFronts (marks : List Mark) (xs ys : List ℕ) (fronts : Fronts) : Type 0 where
-  pub relevant : fronts.first.relevant + only_count false marks ys xs ≡ fronts.second.relevant + only_count false marks xs ys
-  pub first : fronts.first.unjudged + only_count false marks xs ys ≡ only_count true marks xs ys
-  pub second : fronts.second.unjudged + only_count false marks ys xs ≡ only_count true marks ys xs
-  pub first_few : fronts.first.relevant + fronts.first.unjudged ≤ length xs
-  pub second_few : fronts.second.relevant + fronts.second.unjudged ≤ length ys
+pub record ArePrefixes (marks : List Mark) (xs ys : List ℕ) (prefixes : Prefixes) : Type 0 where
+  pub relevant : prefixes.first.relevant + only_count false marks ys xs ≡ prefixes.second.relevant + only_count false marks xs ys
+  pub first : prefixes.first.unjudged + only_count false marks xs ys ≡ only_count true marks xs ys
+  pub second : prefixes.second.unjudged + only_count false marks ys xs ≡ only_count true marks ys xs
+  pub first_few : prefixes.first.relevant + prefixes.first.unjudged ≤ length xs
+  pub second_few : prefixes.second.relevant + prefixes.second.unjudged ≤ length ys
 
 -- a number, or none
 abbrev pub number_if : Bool → ℕ → ℕ
@@ -36,18 +36,18 @@ pub record AreNext (marks : List Mark) (docs : List ℕ) (place : ℕ) (counts :
   pub past : length docs ≤ place → AreCountsOf 0 0 counts
 
 -- the counts of two lists up to a place, those of the documents there, and how many unjudged ones of these the other list has by then: the second at an earlier place, the first at no later one
-pub record AreBefore (marks : List Mark) (xs ys : List ℕ) (place : ℕ) (fronts : Fronts) (one two : Counts) (both : ℕ) : Type 0 where
+pub record AreBefore (marks : List Mark) (xs ys : List ℕ) (place : ℕ) (prefixes : Prefixes) (one two : Counts) (both : ℕ) : Type 0 where
   pub short : place < 10000
   pub first_distinct : IsDistinct nat_eq xs
   pub second_distinct : IsDistinct nat_eq ys
-  pub counts : AreFronts marks (take place xs) (take place ys) fronts
+  pub counts : ArePrefixes marks (take place xs) (take place ys) prefixes
   pub first : AreNext marks xs place one
   pub second : AreNext marks ys place two
   pub shared : both ≡ number_if (is_in (take place ys) (slice_index xs place)) one.unjudged + number_if (is_in (take (place + 1) xs) (slice_index ys place)) two.unjudged
 
--- the counts of the lists exchanged
-abbrev pub exchanged : Fronts → Fronts
-exchanged f = record { first = f.second; second = f.first }
+-- the counts of the lists swapped
+abbrev pub swapped : Prefixes → Prefixes
+swapped f = record { first = f.second; second = f.first }
 
 -- the counts of all documents of a topic
 pub record AreTopic (marks : List Mark) (all : Counts) : Type 0 where
@@ -66,19 +66,19 @@ beats c best = nat_lt (c.first * max 1 best.count + best.second * max 1 c.count)
 abbrev pub better_of : Candidate → Candidate → Candidate
 better_of c best = if beats c best then c else best
 
--- the greedy choice of some of the unjudged documents, by the counts of two fronts
-abbrev pub candidate : Fronts → Counts → ℕ → Candidate
-candidate fronts all chosen = record {
+-- the greedy choice of some of the unjudged documents, by the counts of two prefixes
+abbrev pub candidate : Prefixes → Counts → ℕ → Candidate
+candidate prefixes all chosen = record {
   count = all.relevant + chosen;
-  first = fronts.first.relevant + (chosen - (all.unjudged - fronts.first.unjudged));
-  second = fronts.second.relevant + min chosen fronts.second.unjudged;
+  first = prefixes.first.relevant + (chosen - (all.unjudged - prefixes.first.unjudged));
+  second = prefixes.second.relevant + min chosen prefixes.second.unjudged;
 }
 
 -- counts that are no more than a run and a topic have
-pub record AreFew (fronts : Fronts) (all : Counts) : Type 0 where
-  pub first : fronts.first.relevant + fronts.first.unjudged ≤ 10000
-  pub second : fronts.second.relevant + fronts.second.unjudged ≤ 10000
-  pub within : fronts.first.unjudged + fronts.second.unjudged ≤ all.unjudged
+pub record AreFew (prefixes : Prefixes) (all : Counts) : Type 0 where
+  pub first : prefixes.first.relevant + prefixes.first.unjudged ≤ 10000
+  pub second : prefixes.second.relevant + prefixes.second.unjudged ≤ 10000
+  pub within : prefixes.first.unjudged + prefixes.second.unjudged ≤ all.unjudged
   pub total : all.relevant + all.unjudged ≤ 25000000
 
 -- a candidate with no more than a run and a topic have
@@ -88,9 +88,9 @@ pub record IsSmall (c : Candidate) : Type 0 where
   pub second_few : c.second ≤ 10000
 
 -- the best so far, against the choices where the second run's own unjudged documents are used up, and all but the first run's own
-abbrev pub best_beyond : Fronts → Counts → ℕ → Candidate → Candidate
-best_beyond fronts all chosen best =
-    better_of (candidate fronts all (max chosen (all.unjudged - fronts.first.unjudged))) (better_of (candidate fronts all (max chosen fronts.second.unjudged)) best)
+abbrev pub best_beyond : Prefixes → Counts → ℕ → Candidate → Candidate
+best_beyond prefixes all chosen best =
+    better_of (candidate prefixes all (max chosen (all.unjudged - prefixes.first.unjudged))) (better_of (candidate prefixes all (max chosen prefixes.second.unjudged)) best)
 
 -- it is the smallest number of relevant documents with the least difference, one that the topic can have
 pub record IsLeast (marks : List Mark) (a b : List ℕ) (c : Candidate) : Type 0 where

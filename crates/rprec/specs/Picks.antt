@@ -2,7 +2,7 @@
 use Rattle.std.specs.Prelude.{ℕ, Bool, ◌||◌, List}
 use Rattle.desk_model.specs.declared.types.Mark.{Mark}
 use Rattle.measure_laws.specs.Classes.{open_in, is_among_first}
-use Rattle.measure_laws.specs.Fronts.{only_second, neutral}
+use Rattle.measure_laws.specs.Prefixes.{only_second, neutral}
 use Rattle.rprec.specs.declared.values.Wanted.{Wanted}
 
 -- the first ones of each class, as many as are wanted

@@ -2,7 +2,7 @@
 use Rattle.std.specs.Prelude.{◌≡◌, ℕ, ◌+◌, ◌<◌, ◌≤◌, ◌&&◌, ◌||◌, ◌⊎◌, Bool, false, not, nat_lt, if◌then◌else◌, slice_index_or}
 use Rattle.topic_counts.specs.declared.counts.Counts.{Counts}
 use Rattle.rprec.specs.declared.depths.Column.{Column}
-use Rattle.rprec.specs.declared.fronts.Fronts.{Fronts}
+use Rattle.rprec.specs.declared.prefixes.Prefixes.{Prefixes}
 use Rattle.rprec.specs.declared.greedy.Candidate.{Candidate}
 use Rattle.rprec.specs.declared.search.Choices.{Choices}
 use Rattle.rprec.specs.Greedy.{AreFew, beats, candidate}
@@ -11,12 +11,12 @@ use Rattle.rprec.specs.Greedy.{AreFew, beats, candidate}
 abbrev pub counts_at : Column → ℕ → Counts
 counts_at column place = record { relevant = slice_index_or column.relevant place 0; unjudged = slice_index_or column.unjudged place 0 }
 
-abbrev pub fronts_at : Column → Column → ℕ → Fronts
-fronts_at first second place = record { first = counts_at first place; second = counts_at second place }
+abbrev pub prefixes_at : Column → Column → ℕ → Prefixes
+prefixes_at first second place = record { first = counts_at first place; second = counts_at second place }
 
 -- the greedy choice at a place of two columns, where so many unjudged documents are chosen at the first place
 abbrev pub choice : Column → Column → Counts → ℕ → ℕ → Candidate
-choice first second all chosen place = candidate (fronts_at first second place) all (chosen + place)
+choice first second all chosen place = candidate (prefixes_at first second place) all (chosen + place)
 
 -- whether a candidate has a smaller difference than another, or the same with fewer relevant documents
 abbrev pub precedes : Candidate → Candidate → Bool
@@ -35,7 +35,7 @@ pub record IsNear (c : Candidate) : Type 0 where
 -- so many choices that the topic has
 pub record AreChoices (first second : Column) (all : Counts) (chosen count : ℕ) : Type 0 where
   pub few : count ≤ 1024
-  pub counts : (place : ℕ) → place < count → AreFew (fronts_at first second place) all
+  pub counts : (place : ℕ) → place < count → AreFew (prefixes_at first second place) all
   pub within : chosen + count ≤ all.unjudged + 1
   pub near : all.relevant + chosen + count ≤ 10001
 

@@ -1,10 +1,10 @@
 ghost use Rattle.std.specs.Prelude.{◌≡◌, ◌≢◌, ℕ, ◌+◌, ◌<◌, ◌≤◌, length, take};
 ghost use Rattle.desk_model.specs.Ranking.{IsRanking};
-ghost use Rattle.rprec.specs.Greedy.{AreFronts};
-ghost use Rattle.rprec.specs.Search.{counts_at as counts_of, fronts_at};
+ghost use Rattle.rprec.specs.Greedy.{ArePrefixes};
+ghost use Rattle.rprec.specs.Search.{counts_at as counts_of, prefixes_at};
 ghost use Rattle.rprec.specs.Shared.{AreShared};
 
-use crate::fronts::{Fronts, counts_at, deepened, next_counts};
+use crate::prefixes::{Prefixes, counts_at, deepened, next_counts};
 use crate::shared::Shared;
 use desk_model::Mark;
 use topic_counts::counts::Counts;
@@ -64,27 +64,27 @@ impl Depths {
         }
     }
 
-    fn put(&mut self, place: u32, fronts: Fronts)
+    fn put(&mut self, place: u32, prefixes: Prefixes)
         requires { place < 1024 }
-        ensures here { fronts_at self.new.first self.new.second place ≡ fronts }
-        ensures others { (other : ℕ) → other ≢ place → fronts_at self.new.first self.new.second other ≡ fronts_at self.old.first self.old.second other }
+        ensures here { prefixes_at self.new.first self.new.second place ≡ prefixes }
+        ensures others { (other : ℕ) → other ≢ place → prefixes_at self.new.first self.new.second other ≡ prefixes_at self.old.first self.old.second other }
     {
-        self.first.put(place, fronts.first);
-        self.second.put(place, fronts.second);
+        self.first.put(place, prefixes.first);
+        self.second.put(place, prefixes.second);
     }
 
     /// Enters the counts at so many depths beyond one, where both runs are as long.
     fn enter_inside(
         &mut self,
-        fronts: Fronts,
+        prefixes: Prefixes,
         depth: u32,
         count: u32,
         a: &[u32],
         b: &[u32],
         shared: &Shared,
         marks: &[Mark],
-    ) -> Fronts
-        requires fronts { AreFronts marks.now (take depth a.now) (take depth b.now) fronts }
+    ) -> Prefixes
+        requires prefixes { ArePrefixes marks.now (take depth a.now) (take depth b.now) prefixes }
         requires a { IsRanking (length marks.now) a.now }
         requires b { IsRanking (length marks.now) b.now }
         requires shared { AreShared marks.now a.now b.now shared.now.counts }
@@ -92,78 +92,78 @@ impl Depths {
         requires depth { depth + count ≤ 10000 }
         requires first { depth + count ≤ length a.now }
         requires second { depth + count ≤ length b.now }
-        ensures each { (place : ℕ) → place < count → AreFronts marks.now (take (depth + place + 1) a.now) (take (depth + place + 1) b.now) (fronts_at self.new.first self.new.second place) }
-        ensures last { AreFronts marks.now (take (depth + count) a.now) (take (depth + count) b.now) result }
+        ensures each { (place : ℕ) → place < count → ArePrefixes marks.now (take (depth + place + 1) a.now) (take (depth + place + 1) b.now) (prefixes_at self.new.first self.new.second place) }
+        ensures last { ArePrefixes marks.now (take (depth + count) a.now) (take (depth + count) b.now) result }
     {
-        let mut fronts = fronts;
+        let mut prefixes = prefixes;
         for place in 0..count {
             let next = depth + place;
             let both = u32::from(shared.counts[next as usize]);
             let one = counts_at(a, next, marks);
             let two = counts_at(b, next, marks);
-            fronts = deepened(fronts, one, two, both);
-            self.put(place, fronts);
+            prefixes = deepened(prefixes, one, two, both);
+            self.put(place, prefixes);
         }
-        fronts
+        prefixes
     }
 
     /// Enters the counts at so many depths beyond one, where a run may end before.
     fn enter_beyond(
         &mut self,
-        fronts: Fronts,
+        prefixes: Prefixes,
         depth: u32,
         count: u32,
         a: &[u32],
         b: &[u32],
         shared: &Shared,
         marks: &[Mark],
-    ) -> Fronts
-        requires fronts { AreFronts marks.now (take depth a.now) (take depth b.now) fronts }
+    ) -> Prefixes
+        requires prefixes { ArePrefixes marks.now (take depth a.now) (take depth b.now) prefixes }
         requires a { IsRanking (length marks.now) a.now }
         requires b { IsRanking (length marks.now) b.now }
         requires shared { AreShared marks.now a.now b.now shared.now.counts }
         requires few { count ≤ 1024 }
         requires depth { depth + count ≤ 10000 }
-        ensures each { (place : ℕ) → place < count → AreFronts marks.now (take (depth + place + 1) a.now) (take (depth + place + 1) b.now) (fronts_at self.new.first self.new.second place) }
-        ensures last { AreFronts marks.now (take (depth + count) a.now) (take (depth + count) b.now) result }
+        ensures each { (place : ℕ) → place < count → ArePrefixes marks.now (take (depth + place + 1) a.now) (take (depth + place + 1) b.now) (prefixes_at self.new.first self.new.second place) }
+        ensures last { ArePrefixes marks.now (take (depth + count) a.now) (take (depth + count) b.now) result }
     {
-        let mut fronts = fronts;
+        let mut prefixes = prefixes;
         for place in 0..count {
             let next = depth + place;
             let both = u32::from(shared.counts[next as usize]);
             let one = next_counts(a, next, marks);
             let two = next_counts(b, next, marks);
-            fronts = deepened(fronts, one, two, both);
-            self.put(place, fronts);
+            prefixes = deepened(prefixes, one, two, both);
+            self.put(place, prefixes);
         }
-        fronts
+        prefixes
     }
 
     /// Enters the counts at so many depths beyond one, and gives the last of them.
     pub fn enter(
         &mut self,
-        fronts: Fronts,
+        prefixes: Prefixes,
         depth: u32,
         count: u32,
         a: &[u32],
         b: &[u32],
         shared: &Shared,
         marks: &[Mark],
-    ) -> Fronts
-        requires fronts { AreFronts marks.now (take depth a.now) (take depth b.now) fronts }
+    ) -> Prefixes
+        requires prefixes { ArePrefixes marks.now (take depth a.now) (take depth b.now) prefixes }
         requires a { IsRanking (length marks.now) a.now }
         requires b { IsRanking (length marks.now) b.now }
         requires shared { AreShared marks.now a.now b.now shared.now.counts }
         requires few { count ≤ 1024 }
         requires depth { depth + count ≤ 10000 }
-        ensures each { (place : ℕ) → place < count → AreFronts marks.now (take (depth + place + 1) a.now) (take (depth + place + 1) b.now) (fronts_at self.new.first self.new.second place) }
-        ensures last { AreFronts marks.now (take (depth + count) a.now) (take (depth + count) b.now) result }
+        ensures each { (place : ℕ) → place < count → ArePrefixes marks.now (take (depth + place + 1) a.now) (take (depth + place + 1) b.now) (prefixes_at self.new.first self.new.second place) }
+        ensures last { ArePrefixes marks.now (take (depth + count) a.now) (take (depth + count) b.now) result }
     {
         let end = (depth + count) as usize;
         if end <= a.len() && end <= b.len() {
-            self.enter_inside(fronts, depth, count, a, b, shared, marks)
+            self.enter_inside(prefixes, depth, count, a, b, shared, marks)
         } else {
-            self.enter_beyond(fronts, depth, count, a, b, shared, marks)
+            self.enter_beyond(prefixes, depth, count, a, b, shared, marks)
         }
     }
 }

@@ -1,19 +1,19 @@
 ghost use Rattle.std.specs.Prelude.{◌≡◌, ◌+◌, ◌<◌, ◌≤◌, length, take};
 ghost use Rattle.desk_model.specs.Ranking.{IsRanking};
 ghost use Rattle.measure_laws.specs.RprecCase.{IsSmallestAttained};
-ghost use Rattle.rprec.specs.Greedy.{AreFronts, AreFew, AreTopic, IsLeast, IsSmall, candidate, exchanged};
+ghost use Rattle.rprec.specs.Greedy.{ArePrefixes, AreFew, AreTopic, IsLeast, IsSmall, candidate, swapped};
 ghost use Rattle.rprec.specs.Search.{AreChoices, IsBestOf, IsNear, choice};
 ghost use Rattle.rprec.specs.Shared.{AreShared};
 
 use crate::depths::{Depths, STRETCH};
-use crate::fronts::Fronts;
 use crate::greedy::{Candidate, best_beyond, greedy_choice};
+use crate::prefixes::Prefixes;
 use crate::search::Choices;
 use crate::shared::Shared;
 use desk_model::Mark;
 use topic_counts::counts::Counts;
 
-/// The least candidate of two runs, and that of the runs exchanged, whose difference is the greatest
+/// The least candidate of two runs, and that of the swapped runs, whose difference is the greatest
 /// one negated.
 #[derive(Clone, Copy, PartialEq, Eq, Debug)]
 pub struct Extremes {
@@ -52,20 +52,20 @@ fn stretch(depth: u32, left: u32, a: &[u32], b: &[u32]) -> u32
 }
 
 /// The counts at the number of documents judged relevant.
-fn fronts_at(
+fn prefixes_at(
     depths: &mut Depths,
     depth: u32,
     a: &[u32],
     b: &[u32],
     shared: &Shared,
     marks: &[Mark],
-) -> Fronts
+) -> Prefixes
     requires a { IsRanking (length marks.now) a.now }
     requires b { IsRanking (length marks.now) b.now }
     requires shared { AreShared marks.now a.now b.now shared.now.counts }
-    ensures { AreFronts marks.now (take depth a.now) (take depth b.now) result }
+    ensures { ArePrefixes marks.now (take depth a.now) (take depth b.now) result }
 {
-    let mut fronts = Fronts {
+    let mut prefixes = Prefixes {
         first: Counts::NONE,
         second: Counts::NONE,
     };
@@ -73,29 +73,29 @@ fn fronts_at(
     let mut place = 0;
     while place < end {
         let count = stretch(place, end - place, a, b);
-        fronts = depths.enter(fronts, place, count, a, b, shared, marks);
+        prefixes = depths.enter(prefixes, place, count, a, b, shared, marks);
         place += count;
     }
-    fronts
+    prefixes
 }
 
-/// The greedy choices of two runs, and of the runs exchanged.
-fn greedy_choices(fronts: Fronts, chosen: u32, all: Counts) -> Extremes
-    requires few { AreFew fronts all }
+/// The greedy choices of two runs, and of the swapped runs.
+fn greedy_choices(prefixes: Prefixes, chosen: u32, all: Counts) -> Extremes
+    requires few { AreFew prefixes all }
     requires chosen { chosen ≤ all.unjudged }
-    ensures least { result.least ≡ candidate fronts all chosen }
-    ensures most { result.most ≡ candidate (exchanged fronts) all chosen }
+    ensures least { result.least ≡ candidate prefixes all chosen }
+    ensures most { result.most ≡ candidate (swapped prefixes) all chosen }
     ensures least_small { IsSmall result.least }
     ensures most_small { IsSmall result.most }
 {
     Extremes {
-        least: greedy_choice(fronts, chosen, all),
-        most: greedy_choice(fronts.exchanged(), chosen, all),
+        least: greedy_choice(prefixes, chosen, all),
+        most: greedy_choice(prefixes.swapped(), chosen, all),
     }
 }
 
 /// The best of the greedy choices at some depths and of earlier candidates, for two runs and for the
-/// runs exchanged.
+/// runs swapped.
 fn best_extremes(
     depths: &Depths,
     count: u32,
@@ -150,19 +150,19 @@ pub fn find_extremes(a: &[u32], b: &[u32], shared: &Shared, all: Counts, marks: 
     ensures low { all.relevant ≤ result.least.count }
 {
     let mut depths = Depths::new();
-    let mut fronts = fronts_at(&mut depths, all.relevant, a, b, shared, marks);
-    let mut best = greedy_choices(fronts, 0, all);
+    let mut prefixes = prefixes_at(&mut depths, all.relevant, a, b, shared, marks);
+    let mut best = greedy_choices(prefixes, 0, all);
     let steps = longest(a, b).saturating_sub(all.relevant);
     let steps = steps.min(all.unjudged);
     let mut chosen = 0;
     while chosen < steps {
         let count = stretch(all.relevant + chosen, steps - chosen, a, b);
-        fronts = depths.enter(fronts, all.relevant + chosen, count, a, b, shared, marks);
+        prefixes = depths.enter(prefixes, all.relevant + chosen, count, a, b, shared, marks);
         best = best_extremes(&depths, count, chosen + 1, all, best);
         chosen += count;
     }
     Extremes {
-        least: best_beyond(fronts, steps, all, best.least),
-        most: best_beyond(fronts.exchanged(), steps, all, best.most),
+        least: best_beyond(prefixes, steps, all, best.least),
+        most: best_beyond(prefixes.swapped(), steps, all, best.most),
     }
 }

@@ -1,7 +1,7 @@
 ghost use Rattle.std.specs.Prelude.{◌≡◌, ◌≤◌};
 ghost use Rattle.rprec.specs.Greedy.{AreFew, IsSmall, beats, best_beyond as beyond, better_of, candidate};
 
-use crate::fronts::Fronts;
+use crate::prefixes::Prefixes;
 use topic_counts::counts::Counts;
 
 /// A number of relevant documents, and how many of them each run has among as many first documents,
@@ -15,17 +15,17 @@ pub struct Candidate {
 
 /// The greedy choice of some of the unjudged documents: the second run's own ones come first, and
 /// the first run's own ones last.
-pub fn greedy_choice(fronts: Fronts, chosen: u32, all: Counts) -> Candidate
-    requires few { AreFew fronts all }
+pub fn greedy_choice(prefixes: Prefixes, chosen: u32, all: Counts) -> Candidate
+    requires few { AreFew prefixes all }
     requires chosen { chosen ≤ all.unjudged }
-    ensures value { result ≡ candidate fronts all chosen }
+    ensures value { result ≡ candidate prefixes all chosen }
     ensures small { IsSmall result }
 {
-    let others = all.unjudged - fronts.first.unjudged;
+    let others = all.unjudged - prefixes.first.unjudged;
     Candidate {
         count: all.relevant + chosen,
-        first: fronts.first.relevant + chosen.saturating_sub(others),
-        second: fronts.second.relevant + chosen.min(fronts.second.unjudged),
+        first: prefixes.first.relevant + chosen.saturating_sub(others),
+        second: prefixes.second.relevant + chosen.min(prefixes.second.unjudged),
     }
 }
 
@@ -51,18 +51,18 @@ fn better(c: Candidate, best: Candidate) -> Candidate
     if is_less(c, best) { c } else { best }
 }
 
-/// The best of all, where the best up to some number is known and the fronts stay as they are from
+/// The best of all, where the best up to some number is known and the prefixes stay as they are from
 /// there on. The difference falls or rises evenly up to where the second run's own documents are
 /// used up, and from there up to where only the first run's own ones are left; then it rises.
-pub fn best_beyond(fronts: Fronts, chosen: u32, all: Counts, best: Candidate) -> Candidate
-    requires few { AreFew fronts all }
+pub fn best_beyond(prefixes: Prefixes, chosen: u32, all: Counts, best: Candidate) -> Candidate
+    requires few { AreFew prefixes all }
     requires chosen { chosen ≤ all.unjudged }
     requires best { IsSmall best }
-    ensures value { result ≡ beyond fronts all chosen best }
+    ensures value { result ≡ beyond prefixes all chosen best }
     ensures small { IsSmall result }
 {
-    let others = all.unjudged - fronts.first.unjudged;
-    let second_used = greedy_choice(fronts, chosen.max(fronts.second.unjudged), all);
-    let others_used = greedy_choice(fronts, chosen.max(others), all);
+    let others = all.unjudged - prefixes.first.unjudged;
+    let second_used = greedy_choice(prefixes, chosen.max(prefixes.second.unjudged), all);
+    let others_used = greedy_choice(prefixes, chosen.max(others), all);
     better(others_used, better(second_used, best))
 }

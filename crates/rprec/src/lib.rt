@@ -4,8 +4,8 @@
 
 pub mod depths;
 pub mod extremes;
-pub mod fronts;
 pub mod greedy;
+pub mod prefixes;
 pub mod rprec;
 pub mod search;
 pub mod shared;

@@ -3,8 +3,8 @@ ghost use Rattle.rprec.specs.Greedy.{beats};
 ghost use Rattle.rprec.specs.Search.{IsBestOf, IsChoiceOf, IsNear, are_choices, choice_of, precedes as before, preferred as better_of};
 
 use crate::depths::Column;
-use crate::fronts::Fronts;
 use crate::greedy::{Candidate, greedy_choice};
+use crate::prefixes::Prefixes;
 use topic_counts::counts::Counts;
 
 /// How many choices are compared with the best in one go.
@@ -63,11 +63,11 @@ impl<'c> Choices<'c> {
         ensures value { result ≡ choice_of self.now place }
         ensures near { IsNear result }
     {
-        let fronts = Fronts {
+        let prefixes = Prefixes {
             first: self.first.at(place),
             second: self.second.at(place),
         };
-        greedy_choice(fronts, self.chosen + place, self.all)
+        greedy_choice(prefixes, self.chosen + place, self.all)
     }
 
     /// Whether some of these choices may precede a candidate: where none does, that is seen here many

@@ -2,7 +2,7 @@ ghost use Rattle.std.specs.Prelude.{◌≡◌, ◌+◌, ◌-◌, ◌≤◌, ◌&
 ghost use Rattle.desk_model.specs.Completion.{picked_value, with_picked};
 ghost use Rattle.desk_model.specs.Ranking.{IsRanking};
 ghost use Rattle.measure_laws.specs.Classes.{is_unjudged, open_in, size_of, judged_count};
-ghost use Rattle.measure_laws.specs.Fronts.{only_second, neutral};
+ghost use Rattle.measure_laws.specs.Prefixes.{only_second, neutral};
 ghost use Rattle.measure_core.specs.Laws.{AreValues};
 ghost use Rattle.rprec.specs.Greedy.{AreTopic};
 ghost use Rattle.rprec.specs.Picks.{picks};

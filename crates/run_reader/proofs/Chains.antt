@@ -13,7 +13,7 @@ use Rattle.qrels_reader.specs.declared.fault.FileFault.{FileFault}
 use Rattle.qrels_reader.specs.declared.fault.FileFault.TheVariants.{Line, Memory}
 use Rattle.qrels_reader.specs.declared.limits.TheConstants.{MOST_NAME_BYTES}
 use Rattle.qrels_reader.specs.Reading.{unless, checked, and_then, field, is_long, read_line}
-use Rattle.qrels_reader.specs.Grouped.{Topic, is_topic}
+use Rattle.qrels_reader.specs.Grouped.{JudgedTopic, is_topic}
 use Rattle.qrels_reader.proofs.Chains.{read_whole, read_refused, on_ok}
 use Rattle.run_reader.specs.declared.limits.TheConstants.{MOST_RANKS, MOST_RUN_ROWS}
 use Rattle.run_reader.specs.declared.used.Used.{Used}
@@ -45,7 +45,7 @@ faults_are used ts rows row e =
     (λ i. (sym a i, RepeatedDocument) ∷ (nat_le MOST_RANKS (sym b i), TooDeep) ∷ (nat_le MOST_RUN_ROWS (used.rows + sym c i), TooManyRows) ∷ (nat_lt MOST_NAME_BYTES (used.name_bytes + sym d i + length row.document), TooManyNameBytes) ∷ [])
     ∙ ap (λ ts. faults_after used ts row) (sym e)
 
-module _ (qrels : List Topic) (used : Used) (number : ℕ) (rows : List RunRow) (line : List ℕ) where
+module _ (qrels : List JudgedTopic) (used : Used) (number : ℕ) (rows : List RunRow) (line : List ℕ) where
   filled : is_blank line ≡ false → read_line (read_row qrels used) number rows line ≡ result_map_both (λ row. row) (Line number) (read_row qrels used rows line)
   filled b = ap (λ b. cond b (Ok None) (result_map_both (λ row. row) (Line number) (read_row qrels used rows line))) b
 

@@ -6,7 +6,7 @@ use Rattle.desk_text.specs.Lines.{lines, is_blank}
 use Rattle.qrels_reader.specs.declared.fault.FileFault.{FileFault}
 use Rattle.qrels_reader.specs.Reading.{and_then, with_row, rows_from, rows_of, IsUnlessMemory}
 use Rattle.desk_model.specs.Name.{is_name}
-use Rattle.qrels_reader.specs.Grouped.{Topic}
+use Rattle.qrels_reader.specs.Grouped.{JudgedTopic}
 use Rattle.qrels_reader.specs.Grouped as qrels_grouped
 use Rattle.run_reader.specs.declared.used.Used.{Used}
 use Rattle.run_reader.specs.Rows.{RunRow, tag_of, read_row}
@@ -41,7 +41,7 @@ run_with-grouped None used rows = refl
 run_with-grouped (Some n) used rows =
     λ i. Ok (record { name = n; topics = grouped rows; used = record { rows = used.rows + row_count-grouped rows i; name_bytes = used.name_bytes + name_bytes_in-grouped runs rows i } })
 
-module _ (given : Option (List ℕ)) (qrels : List Topic) (used : Used) (bytes : List ℕ) where
+module _ (given : Option (List ℕ)) (qrels : List JudgedTopic) (used : Used) (bytes : List ℕ) where
   -- some lines are read, and the others are those from a place on
   pub record Progress (at number : ℕ) (name : Option (List ℕ)) (topics : List RunTopic) : Type 0 where
     pub rows : List RunRow

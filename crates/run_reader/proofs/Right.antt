@@ -64,7 +64,7 @@ named_form line row e =
       tag = is_name-field line 5 fine.1.0 (omega arith) rest.1;
     }
 
-module _ (qrels : List qrels_grouped.Topic) (used : Used) where
+module _ (qrels : List qrels_grouped.JudgedTopic) (used : Used) where
   -- rows have names, stand on topics of the qrels, and are no more on a topic than the limit allows
   pub record AreRight (rows : List RunRow) : Type 0 where
     pub named : All (IsNamed runs) rows
@@ -147,6 +147,6 @@ pub if_copied : (o : Option (Bor (List ℕ))) → IfSome o (λ n. is_name n.now 
 if_copied None h = h
 if_copied (Some n) h = h
 
-pub known_run : (qrels : List qrels_grouped.Topic) (name : Option (List ℕ)) (used : Used) (topics : List RunTopic) → All (λ name. qrels_grouped.is_topic name qrels ≡ true) (names_of topics) → IfOk (run_with name used topics) (λ run. All (λ name. qrels_grouped.is_topic name qrels ≡ true) (names_of run.topics))
+pub known_run : (qrels : List qrels_grouped.JudgedTopic) (name : Option (List ℕ)) (used : Used) (topics : List RunTopic) → All (λ name. qrels_grouped.is_topic name qrels ≡ true) (names_of topics) → IfOk (run_with name used topics) (λ run. All (λ name. qrels_grouped.is_topic name qrels ≡ true) (names_of run.topics))
 known_run qrels None used topics h = tt
 known_run qrels (Some n) used topics h = h

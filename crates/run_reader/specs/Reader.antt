@@ -3,7 +3,7 @@ use Rattle.std.specs.Prelude.{◌≡◌, true, All, ◌⊎◌, ℕ, ◌+◌, ◌
 use Rattle.std.specs.Str.{bytes_eq}
 use Rattle.desk_text.specs.Lines.{is_blank}
 use Rattle.qrels_reader.specs.Reading.{read_line, with_row}
-use Rattle.qrels_reader.specs.Grouped.{Topic, is_topic}
+use Rattle.qrels_reader.specs.Grouped.{JudgedTopic, is_topic}
 use Rattle.qrels_reader.specs.declared.fault.FileFault.{FileFault}
 use Rattle.qrels_reader.specs.declared.fault.FileFault.TheVariants.{Memory, NoTag}
 use Rattle.qrels_reader.specs.declared.limits.TheConstants.{MOST_NAME_BYTES}
@@ -58,8 +58,8 @@ pub record StaysBeside (old new : RunReader) : Type 0 where
   pub qrels : new.qrels.now ≡ old.qrels.now
   pub used : new.used ≡ old.used
 
--- a line was read after some rows: the topics are those of these rows and the line's, or the answer is the line's fault, or memory was wanting
-abbrev pub ReadsLine : List Topic → Used → ℕ → List RunRow → List ℕ → Result (Unit {0}) FileFault → List RunTopic → Type 0
+-- a line was read after some rows: the topics are those of these rows and the line's, or the answer is the line's fault, or memory ran out
+abbrev pub ReadsLine : List JudgedTopic → Used → ℕ → List RunRow → List ℕ → Result (Unit {0}) FileFault → List RunTopic → Type 0
 ReadsLine qrels used number rows line (Ok done) topics = (row : Option RunRow) × (read_line (read_row qrels used) number rows line ≡ Ok row) × (topics ≡ grouped (with_row rows row))
 ReadsLine qrels used number rows line (Err fault) topics = (fault ≡ Memory) ⊎ (read_line (read_row qrels used) number rows line ≡ Err fault)
 

@@ -10,7 +10,7 @@ use Rattle.decimal_score.specs.declared.score.ScoreFault.{ScoreFault}
 use Rattle.decimal_score.specs.declared.score.ScoreFault.TheVariants.{BadScore, ScoreTooLong, ScoreExponent}
 use Rattle.qrels_reader.specs.Reading.{field, is_long, and_then, unless, checked}
 use Rattle.qrels_reader.specs.Rows.{first_seen}
-use Rattle.qrels_reader.specs.Grouped.{Topic, is_topic}
+use Rattle.qrels_reader.specs.Grouped.{JudgedTopic, is_topic}
 use Rattle.qrels_reader.specs.declared.fault.LineFault.{LineFault}
 use Rattle.qrels_reader.specs.declared.fault.LineFault.TheVariants as fault
 use Rattle.qrels_reader.specs.declared.limits.TheConstants.{MOST_NAME_BYTES}
@@ -80,5 +80,5 @@ row_faults used rows row =
     ∷ []
 
 -- the row of a line after the kept rows before it, or the line's first fault; a row on a topic that the qrels lack is dropped
-abbrev pub read_row : List Topic → Used → List RunRow → List ℕ → Result (Option RunRow) LineFault
+abbrev pub read_row : List JudgedTopic → Used → List RunRow → List ℕ → Result (Option RunRow) LineFault
 read_row qrels used rows line = and_then (formed line) (λ row. if is_topic row.topic qrels then unless (row_faults used rows row) (Some row) else Ok None)

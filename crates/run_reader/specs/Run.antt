@@ -6,7 +6,7 @@ use Rattle.std.specs.Option.{option_map_or}
 use Rattle.std.specs.Str.{bytes_eq}
 use Rattle.desk_text.specs.Lines.{lines, is_blank}
 use Rattle.qrels_reader.specs.Reading.{and_then, rows_of}
-use Rattle.qrels_reader.specs.Grouped.{Topic}
+use Rattle.qrels_reader.specs.Grouped.{JudgedTopic}
 use Rattle.qrels_reader.specs.declared.fault.LineFault.{LineFault}
 use Rattle.qrels_reader.specs.declared.fault.LineFault.TheVariants.{RepeatedDocument, TooDeep, TooManyRows, TooManyNameBytes}
 use Rattle.qrels_reader.specs.declared.fault.FileFault.{FileFault}
@@ -33,7 +33,7 @@ pub record Run : Type 0 where
   pub used : Used
 
 -- what was used is within the limits
-pub record IsWithin (used : Used) : Type 0 where
+pub record IsWithinLimits (used : Used) : Type 0 where
   pub rows : used.rows ≤ MOST_RUN_ROWS
   pub name_bytes : used.name_bytes ≤ MOST_NAME_BYTES
 
@@ -63,7 +63,7 @@ named None used rows = Err NoTag
 named (Some name) used rows = Ok (record { name = name; topics = grouped rows; used = used_with used rows })
 
 -- what the bytes of a run file say, beside the qrels and what earlier files used: its run, or its first refusal
-abbrev pub run_of : Option (List ℕ) → List Topic → Used → List ℕ → Result Run FileFault
+abbrev pub run_of : Option (List ℕ) → List JudgedTopic → Used → List ℕ → Result Run FileFault
 run_of given qrels used bytes = and_then (rows_of (read_row qrels used) bytes) (named (name_of given (lines bytes)) used)
 
 abbrev pub names_of : List RunTopic → List (List ℕ)

@@ -4,7 +4,7 @@ ghost use Rattle.std.specs.Option.{option_copied};
 ghost use Rattle.qrels_reader.specs.Reading.{IsUnlessMemory};
 ghost use Rattle.desk_model.specs.Name.{is_name};
 ghost use Rattle.qrels_reader.specs.Grouped.{is_topic};
-ghost use Rattle.run_reader.specs.Run.{run_of, names_of, IsWithin};
+ghost use Rattle.run_reader.specs.Run.{run_of, names_of, IsWithinLimits};
 
 use crate::reader::RunReader;
 use crate::run_rows::RunRows;
@@ -18,7 +18,7 @@ use std::alloc::{AllocError, Global};
 ///
 /// The run's name is the one that is given, else the tag of the first line that is not blank. `used` is what the qrels and the
 /// earlier runs used. The first faulty line is told with its number and its first fault. `NoTag` comes where no line has a fault and
-/// the run has no name, `Memory` where memory is wanting, and `NoTopics` never.
+/// the run has no name, `Memory` where memory runs out, and `NoTopics` never.
 pub fn read_run(
     alloc: Global,
     bytes: &[u8],
@@ -27,7 +27,7 @@ pub fn read_run(
     used: Used,
 ) -> Result<RunRows, FileFault>
     requires name { IfSome name (λ n. is_name n.now ≡ true) }
-    requires within { IsWithin used }
+    requires within { IsWithinLimits used }
     ensures run { IsUnlessMemory result (run_of (option_copied name.entry) qrels.now used bytes.now) }
     ensures known { IfOk result (λ run. All (λ topic. is_topic topic qrels.now ≡ true) (names_of run.topics)) }
 {

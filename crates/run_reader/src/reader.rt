@@ -5,7 +5,7 @@ ghost use Rattle.qrels_reader.specs.Grouped.{is_topic};
 ghost use Rattle.qrels_reader.specs.declared.limits.TheConstants.{MOST_NAME_BYTES};
 ghost use Rattle.desk_model.specs.Name.{is_name};
 ghost use Rattle.run_reader.specs.Rows.{RunRow};
-ghost use Rattle.run_reader.specs.Run.{grouped, limits_after, faults_after, with_row_on, row_count, name_bytes_in, IsRun, IsWithin};
+ghost use Rattle.run_reader.specs.Run.{grouped, limits_after, faults_after, with_row_on, row_count, name_bytes_in, IsRun, IsWithinLimits};
 ghost use Rattle.run_reader.specs.Reader.{row_said, place_of, name_in, name_after, IsSound, StaysBeside, ReadsLine, run_with};
 
 use crate::gathered::Gathered;
@@ -34,7 +34,7 @@ impl<'q, 'a> RunReader<'q, 'a> {
         used: Used,
         qrels: &'q Qrels,
     ) -> RunReader<'q, 'a>
-        requires { IsWithin used }
+        requires { IsWithinLimits used }
         ensures none { result.gathered.kept ≡ [] }
         ensures sound { IsSound result }
         ensures lines { result.lines ≡ 0 }

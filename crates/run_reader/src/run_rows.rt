@@ -3,7 +3,7 @@ ghost use Rattle.std.specs.Prelude.{◌≡◌, ◌<◌, ◌≤◌, [], true, All
 ghost use Rattle.std.specs.List.{IsDistinct};
 ghost use Rattle.std.specs.Str.{bytes_eq};
 ghost use Rattle.desk_model.specs.Name.{is_name};
-ghost use Rattle.run_reader.specs.Run.{IsRun, IsWithin, rows_on_topic};
+ghost use Rattle.run_reader.specs.Run.{IsRun, IsWithinLimits, rows_on_topic};
 
 use crate::limits::MOST_RANKS;
 use crate::scored_rows::ScoredRows;
@@ -23,20 +23,20 @@ pub struct RunRows {
 impl Model for RunRows {
     ghost use Rattle.std.specs.Prelude.{◌≡◌, true};
     ghost use Rattle.desk_model.specs.Name.{is_name};
-    ghost use Rattle.run_reader.specs.Run.{Run, IsRun, IsWithin};
+    ghost use Rattle.run_reader.specs.Run.{Run, IsRun, IsWithinLimits};
 
     ghost Value = { Run };
 
     ghost view = { λ r. record { name = r.name.items; topics = r.kept; used = r.used } };
 
-    ghost invariant = { λ r. (is_name r.name.items ≡ true) × IsRun r.kept × IsWithin r.used };
+    ghost invariant = { λ r. (is_name r.name.items ≡ true) × IsRun r.kept × IsWithinLimits r.used };
 }
 
 impl RunRows {
     pub(crate) fn new(name: Vec<u8>, kept: TopicRows, used: Used) -> RunRows
         requires name { is_name name.items ≡ true }
         requires kept { IsRun kept }
-        requires used { IsWithin used }
+        requires used { IsWithinLimits used }
         ensures { result ≡ record { name = name.items; topics = kept; used = used } }
     {
         RunRows { name, kept, used }
@@ -54,7 +54,7 @@ impl RunRows {
     /// What this and the earlier files used.
     pub fn used(&self) -> Used
         ensures value { result ≡ self.now.used }
-        ensures within { IsWithin result }
+        ensures within { IsWithinLimits result }
     {
         self.used
     }

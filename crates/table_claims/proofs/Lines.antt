@@ -33,7 +33,7 @@ use Rattle.table_claims.specs.Claims.{HoldsByName, HoldsByNames, SaysExactly, En
 use Rattle.table_claims.proofs.Spelling.{AreInk, AreInLine, IsWord, ink_in_line, in_line-append, in_line-spaced, fields_word, fields_last, whole_lines-take, whole_lines-of_ended}
 use Rattle.table_claims.proofs.Texts.{decimal_ink, decimal_text_word, measure_ink, name_word, verdict_word}
 use Rattle.table_claims.proofs.Rounding.{printed_low, printed_high}
-use Rattle.table_claims.proofs.Pairing.{all-append, all_front, all_weaker, both, each_line, AlikePairs, paired, numbered_from_0}
+use Rattle.table_claims.proofs.Pairing.{all-append, all_prefix, all_weaker, both, each_line, AlikePairs, paired, numbered_from_0}
 
 word : (w : List ℕ) (filled : 0 < length w) (ink : AreInk w) → IsWord w
 word w filled ink = record { filled = filled; ink = ink }
@@ -236,8 +236,8 @@ module _ (name : MeasureName) (desk : Desk) (marks : List (List Mark)) where
       let ws : IsWord said = verdict_word (verdict t) in
       let own = fields_pair x said y lo hi na.1 ws nb.1 wl wh in
       let bounds = in_line-spaced lo hi (ink_in_line lo wl.ink) (ink_in_line hi wh.ink) in
-      let front = in_line-append (codes "pair ") x (search rules) (ink_in_line x na.1.ink) in
-      let order = in_line-spaced (codes "pair " ++ x) said front (ink_in_line said ws.ink) in
+      let prefix = in_line-append (codes "pair ") x (search rules) (ink_in_line x na.1.ink) in
+      let order = in_line-spaced (codes "pair " ++ x) said prefix (ink_in_line said ws.ink) in
       let names = in_line-spaced ((codes "pair " ++ x) ++ 32 ∷ said) y order (ink_in_line y nb.1.ink) in
       let topics = topics_under desk marks in (
         in_line-spaced (((codes "pair " ++ x) ++ 32 ∷ said) ++ 32 ∷ y) (lo ++ 32 ∷ hi) names bounds,
@@ -286,20 +286,20 @@ table_sound name desk marks level bounds totals measure valid marked runs pairs 
     all-append (IsSound name desk marks) (head_lines name level (length desk.topics) (length desk.runs) ++ run_lines parts desk.runs bounds) (pair_lines parts desk.runs totals)
     (all-append (IsSound name desk marks) (head_lines name level (length desk.topics) (length desk.runs)) (run_lines parts desk.runs bounds) head each_run) each_pair
 
--- the whole lines of any front of sound lines
-front_true : (name : MeasureName) (desk : Desk) (marks : List (List Mark)) (lines : List (List ℕ)) (n : ℕ) → AllByRecursion (IsSound name desk marks) lines →
+-- the whole lines of any prefix of sound lines
+prefix_true : (name : MeasureName) (desk : Desk) (marks : List (List Mark)) (lines : List (List ℕ)) (n : ℕ) → AllByRecursion (IsSound name desk marks) lines →
     All (IsTrueLine name desk marks) (whole_lines (take n (flat_map ended lines)))
-front_true name desk marks lines n h =
+prefix_true name desk marks lines n h =
     let cut = whole_lines-take (flat_map ended lines) n in
     let whole = whole_lines-of_ended lines (all_weaker (IsSound name desk marks) AreInLine lines (λ line s. s.0) h) in
     let true_lines = all_weaker (IsSound name desk marks) (IsTrueLine name desk marks) lines (λ line s. s.1) h in
     All-from_recursion (IsTrueLine name desk marks) (whole_lines (take n (flat_map ended lines)))
-    (all_front (IsTrueLine name desk marks) (whole_lines (take n (flat_map ended lines))) cut.0 (subst (AllByRecursion (IsTrueLine name desk marks)) (sym whole ∙ cut.1) true_lines))
+    (all_prefix (IsTrueLine name desk marks) (whole_lines (take n (flat_map ended lines))) cut.0 (subst (AllByRecursion (IsTrueLine name desk marks)) (sym whole ∙ cut.1) true_lines))
 
 pub printed_lines : ForEachPair HoldsOfPair → ForEachRun HoldsOfRun → ForEachPair (λ name topics a b t. (k : ℕ) → name ≡ Precision k → IsExactVerdict name topics a b (verdict t)) → ForEachLine IsTrueLine
 unfolding table_text
 printed_lines pairs runs exact name desk marks level received bounds totals measure valid marked numbers =
-    front_true name desk marks (table_lines desk name level (pos (unit_of name)) bounds totals) received
+    prefix_true name desk marks (table_lines desk name level (pos (unit_of name)) bounds totals) received
     (table_sound name desk marks level bounds totals measure valid marked (runs name desk marks bounds totals measure valid marked numbers)
     (both (λ pair t. HoldsOfPair name (topics_under desk marks) pair.0 pair.1 t) (λ pair t. (k : ℕ) → name ≡ Precision k → IsExactVerdict name (topics_under desk marks) pair.0 pair.1 (verdict t))
     (pairs_of (run_numbers (length desk.runs))) totals (pairs name desk marks bounds totals measure valid marked numbers) (exact name desk marks bounds totals measure valid marked numbers)))

@@ -64,7 +64,7 @@ fields_word w rest h = ap (filter is_filled) (pieces_word w rest h.ink) ∙ kept
 pub fields_last : (w : List ℕ) → IsWord w → fields_of w ≡ w ∷ []
 fields_last w h = ap (filter is_filled) (pieces_last w h.ink) ∙ kept w [] h.filled
 
--- the whole lines of a front of a text are the first of its whole lines
+-- the whole lines of a prefix of a text are the first of its whole lines
 pub whole_lines-take : (t : List ℕ) (n : ℕ) → (more : List (List ℕ)) × (whole_lines t ≡ whole_lines (take n t) ++ more)
 whole_lines-take [] zero = ([], refl)
 whole_lines-take [] (suc n) = ([], refl)

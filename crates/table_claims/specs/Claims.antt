@@ -81,7 +81,7 @@ pub record IsTrueLine (name : MeasureName) (desk : Desk) (marks : List (List Mar
   pub run_bounds : (run low high : List ℕ) → IsRunLine line run low high →
       HoldsByName desk run (EnclosesMean name (topics_under desk marks) low high)
 
--- a fact of each whole line of any front of a table, whose numbers are those of a measure's name over a desk and its marks
+-- a fact of each whole line of any prefix of a table, whose numbers are those of a measure's name over a desk and its marks
 abbrev pub ForEachLine : (MeasureName → Desk → List (List Mark) → List ℕ → Type 0) → Type 0
 ForEachLine fact =
     (name : MeasureName) (desk : Desk) (marks : List (List Mark)) (level received : ℕ) (bounds : List Span) (totals : List Totals) →

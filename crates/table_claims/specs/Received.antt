@@ -1,7 +1,7 @@
 -- The lines among received bytes, whose last line may be cut short.
 use Rattle.std.specs.Prelude.{ℕ, ◌==◌, List, [], ◌∷◌, if◌then◌else◌}
 
--- a byte at the front of the first whole line, if there is one
+-- a byte at the start of the first whole line, if there is one
 abbrev pub onto_whole : ℕ → List (List ℕ) → List (List ℕ)
 onto_whole b [] = []
 onto_whole b (line ∷ lines) = (b ∷ line) ∷ lines

@@ -1,6 +1,6 @@
 pub mod Merge
 pub mod Places
-pub mod Fronts
+pub mod Prefixes
 pub mod Walk
 pub mod Own
 pub mod MarkCounts

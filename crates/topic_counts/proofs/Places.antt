@@ -9,7 +9,7 @@ use Rattle.desk_model.specs.Placed.{lookup, IsAscending}
 use Rattle.desk_model.specs.Ranking.{IsRanking, rank}
 use Rattle.desk_model.specs.declared.placed.Placed.{Placed}
 use Rattle.desk_model.proofs.Counts.{one_if, nat_eq-true}
-use Rattle.measure_laws.specs.Ranks.{IsWithin}
+use Rattle.measure_laws.specs.Ranks.{IsRankWithin}
 use Rattle.topic_counts.proofs.Merge.{absent_below}
 use Rattle.measure_laws.proofs.Ranks.{rank_within}
 
@@ -70,14 +70,14 @@ pub list_within : (n : ℕ) (a : List ℕ) (es : List Placed) → IsRanking n a 
 list_within n a es ra h = entries_within n es (λ d r k. ranked_within n d r 1 a (recursion_from_All (λ x. x < n) a ra.within) (sym (h d) ∙ k))
 
 -- every rank in a list is one that the list has for a document
-pub ranks_within : (es : List Placed) → IsAscending es → ((d : ℕ) → IsWithin 10000 (lookup es d)) → AllByRecursion (λ (e : Placed). IsWithin 10000 (Some e.rank)) es
+pub ranks_within : (es : List Placed) → IsAscending es → ((d : ℕ) → IsRankWithin 10000 (lookup es d)) → AllByRecursion (λ (e : Placed). IsRankWithin 10000 (Some e.rank)) es
 ranks_within [] h k = tt
 ranks_within (e ∷ es) h k =
-    (subst (IsWithin 10000) (ap (λ (b : Bool). if b then Some e.rank else lookup es e.doc) (eq-eqb e.doc e.doc refl)) (k e.doc), ranks_within es h.1 (λ d. at d (nat_eq e.doc d) refl))
+    (subst (IsRankWithin 10000) (ap (λ (b : Bool). if b then Some e.rank else lookup es e.doc) (eq-eqb e.doc e.doc refl)) (k e.doc), ranks_within es h.1 (λ d. at d (nat_eq e.doc d) refl))
   where
-    at : (d : ℕ) (b : Bool) → nat_eq e.doc d ≡ b → IsWithin 10000 (lookup es d)
-    at d true t = subst (IsWithin 10000) (sym (subst (λ (z : ℕ). lookup es z ≡ None) (nat_eq-true e.doc d t) (absent_below e.doc es h.0))) tt
-    at d false t = subst (IsWithin 10000) (ap (λ (b : Bool). if b then Some e.rank else lookup es d) t) (k d)
+    at : (d : ℕ) (b : Bool) → nat_eq e.doc d ≡ b → IsRankWithin 10000 (lookup es d)
+    at d true t = subst (IsRankWithin 10000) (sym (subst (λ (z : ℕ). lookup es z ≡ None) (nat_eq-true e.doc d t) (absent_below e.doc es h.0))) tt
+    at d false t = subst (IsRankWithin 10000) (ap (λ (b : Bool). if b then Some e.rank else lookup es d) t) (k d)
 
-pub list_ranks : (docs : List ℕ) (es : List Placed) → length docs ≤ 10000 → IsAscending es → ((d : ℕ) → lookup es d ≡ rank docs d) → AllByRecursion (λ (e : Placed). IsWithin 10000 (Some e.rank)) es
-list_ranks docs es short h k = ranks_within es h (λ d. subst (IsWithin 10000) (sym (k d)) (rank_within docs 10000 d short))
+pub list_ranks : (docs : List ℕ) (es : List Placed) → length docs ≤ 10000 → IsAscending es → ((d : ℕ) → lookup es d ≡ rank docs d) → AllByRecursion (λ (e : Placed). IsRankWithin 10000 (Some e.rank)) es
+list_ranks docs es short h k = ranks_within es h (λ d. subst (IsRankWithin 10000) (sym (k d)) (rank_within docs 10000 d short))

@@ -14,13 +14,13 @@ use Rattle.desk_model.specs.Ranking.{IsRanking, is_in, rank}
 use Rattle.desk_model.specs.declared.types.Mark.{Mark}
 use Rattle.desk_model.specs.declared.placed.Placed.{Placed}
 use Rattle.desk_model.proofs.Counts.{one_if, count_by-agree, count_by-none, nat_eq-true, IsDistinct-take}
-use Rattle.desk_model.proofs.PrecisionEnds.{front_within}
+use Rattle.desk_model.proofs.PrecisionEnds.{prefix_within}
 use Rattle.topic_counts.proofs.Merge.{absent_below, further}
 use Rattle.topic_counts.proofs.Places.{even, neither, IsAscending-drop, at_place, stepped}
 use Rattle.measure_laws.proofs.Ranks.{sum_by-agree, sum_by-plus, one_counts}
 use Rattle.measure_laws.proofs.RecallEnds.{every, class_count}
 use Rattle.topic_counts.specs.Own.{shared_count}
-use Rattle.topic_counts.proofs.Fronts.{is_by, rank_by}
+use Rattle.topic_counts.proofs.Prefixes.{is_by, rank_by}
 
 -- whether a document is true and has a rank of at most k in both lists
 abbrev pub is_shared : (ℕ → Bool) → ℕ → List Placed → List Placed → ℕ → Bool
@@ -47,18 +47,18 @@ first_at truth k x xs ys later d false e = ap (λ (b : Bool). truth d && (is_by 
 first_alone : (truth : ℕ → Bool) (k n : ℕ) (x : Placed) (xs ys : List Placed) → AllByRecursion (λ (e : Placed). x.doc < e.doc) ys → left truth k n (x ∷ xs) ys ≡ left truth k n xs ys
 first_alone truth k n x xs ys later = count_by-agree _ _ (range_with_len 0 n) (every (λ d. is_shared truth k (x ∷ xs) ys d ≡ is_shared truth k xs ys d) (λ d. first_at truth k x xs ys later d (nat_eq x.doc d) refl) (range_with_len 0 n))
 
-swapped : (t p q : Bool) → (t && (p && q)) ≡ (t && (q && p))
-swapped true true true = refl
-swapped true true false = refl
-swapped true false true = refl
-swapped true false false = refl
-swapped false p q = refl
+swapped_tests : (t p q : Bool) → (t && (p && q)) ≡ (t && (q && p))
+swapped_tests true true true = refl
+swapped_tests true true false = refl
+swapped_tests true false true = refl
+swapped_tests true false false = refl
+swapped_tests false p q = refl
 
-turned : (truth : ℕ → Bool) (k n : ℕ) (xs ys : List Placed) → left truth k n xs ys ≡ left truth k n ys xs
-turned truth k n xs ys = count_by-agree _ _ (range_with_len 0 n) (every (λ d. is_shared truth k xs ys d ≡ is_shared truth k ys xs d) (λ d. swapped (truth d) (is_by k (lookup xs d)) (is_by k (lookup ys d))) (range_with_len 0 n))
+left_swapped : (truth : ℕ → Bool) (k n : ℕ) (xs ys : List Placed) → left truth k n xs ys ≡ left truth k n ys xs
+left_swapped truth k n xs ys = count_by-agree _ _ (range_with_len 0 n) (every (λ d. is_shared truth k xs ys d ≡ is_shared truth k ys xs d) (λ d. swapped_tests (truth d) (is_by k (lookup xs d)) (is_by k (lookup ys d))) (range_with_len 0 n))
 
 second_alone : (truth : ℕ → Bool) (k n : ℕ) (y : Placed) (xs ys : List Placed) → AllByRecursion (λ (e : Placed). y.doc < e.doc) xs → left truth k n xs (y ∷ ys) ≡ left truth k n xs ys
-second_alone truth k n y xs ys later = turned truth k n xs (y ∷ ys) ∙ first_alone truth k n y ys xs later ∙ turned truth k n ys xs
+second_alone truth k n y xs ys later = left_swapped truth k n xs (y ∷ ys) ∙ first_alone truth k n y ys xs later ∙ left_swapped truth k n ys xs
 
 -- ---- a document that both have
 never_first : (t q : Bool) → one_if (t && (false && q)) ≡ 0
@@ -157,7 +157,7 @@ left_whole truth k n a b es fs ra he hf =
     (every (λ d. is_shared truth k es fs d ≡ ((truth d && is_in ys d) && (is_in xs d && true)))
     (λ d. ap (λ o. truth d && (is_by k o && is_by k (lookup fs d))) (he d) ∙ ap (λ o. truth d && (is_by k (rank a d) && is_by k o)) (hf d)
     ∙ ap (λ c. truth d && (c && is_by k (rank b d))) (sym (rank_by k d a)) ∙ ap (λ c. truth d && (is_in xs d && c)) (sym (rank_by k d b)) ∙ regrouped (truth d) (is_in xs d) (is_in ys d)) zs)
-    ∙ class_count (λ d. truth d && is_in ys d) n xs [] (IsDistinct-take k a ra.distinct) (front_within k n a ra)
+    ∙ class_count (λ d. truth d && is_in ys d) n xs [] (IsDistinct-take k a ra.distinct) (prefix_within k n a ra)
     ∙ count_by-agree _ _ xs (every (λ d. ((truth d && is_in ys d) && true) ≡ (truth d && is_in ys d)) (λ d. and-true (truth d && is_in ys d)) xs)
 
 -- ---- and where it ends
@@ -175,7 +175,7 @@ left_first_done truth k n i es fs h =
     ap (λ (xs : List Placed). left truth k n xs fs) (drop_all i es h) ∙ count_by-none _ (range_with_len 0 n) (every (λ d. is_shared truth k [] fs d ≡ false) (λ d. none_first (truth d) (is_by k (lookup fs d))) (range_with_len 0 n))
 
 pub left_second_done : (truth : ℕ → Bool) (k n j : ℕ) (es fs : List Placed) → length fs ≤ j → left truth k n es (drop j fs) ≡ 0
-left_second_done truth k n j es fs h = turned truth k n es (drop j fs) ∙ left_first_done truth k n j fs es h
+left_second_done truth k n j es fs h = left_swapped truth k n es (drop j fs) ∙ left_first_done truth k n j fs es h
 
 pub shared_few : (taken : Bool) (k n : ℕ) (marks : List Mark) (a b : List ℕ) → IsRanking n a → shared_count taken marks (take k a) (take k b) ≤ 10000
 shared_few taken k n marks a b ra = omega (arith, count_by-le-length (λ d. with_picked marks (λ _. taken) d && is_in (take k b) d) (take k a), length-take k a, ra.short)

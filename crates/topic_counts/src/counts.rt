@@ -1,7 +1,7 @@
 ghost use Rattle.std.specs.Prelude.{◌≡◌, ◌+◌, ◌≤◌, ◌<◌, length, take, All, pos, true, false, ◌&&◌, if◌then◌else◌};
 ghost use Rattle.desk_model.specs.Completion.{picked_value};
 ghost use Rattle.desk_model.specs.Ranking.{IsRanking, is_in};
-ghost use Rattle.desk_model.specs.Classes.{only_count, front_count};
+ghost use Rattle.desk_model.specs.Classes.{only_count, prefix_count};
 ghost use Rattle.topic_counts.specs.Own.{AreOwn};
 
 use crate::shared::shared_documents;
@@ -81,7 +81,7 @@ pub struct OwnCounts {
 const LOOKED_UP: u32 = 256;
 
 /// The first k documents, or all where there are fewer.
-fn front(docs: &[u32], k: u32) -> &[u32]
+fn prefix(docs: &[u32], k: u32) -> &[u32]
     ensures { result.now ≡ take k docs.now }
 {
     &docs[..docs.len().min(k as usize)]
@@ -92,7 +92,7 @@ pub fn is_among_first(k: u32, ranking: &Ranking, doc: u32) -> bool
     ensures { result ≡ is_in (take k ranking.now) doc }
 {
     if k <= 32 {
-        front(ranking.docs(), k).contains(&doc)
+        prefix(ranking.docs(), k).contains(&doc)
     } else {
         match ranking.rank_of(doc) {
             Some(rank) => rank <= k,
@@ -102,14 +102,14 @@ pub fn is_among_first(k: u32, ranking: &Ranking, doc: u32) -> bool
 }
 
 /// The counts of a ranking's first k documents.
-pub fn front_documents(k: u32, ranking: &Ranking, marks: &[Mark]) -> Counts
+pub fn prefix_documents(k: u32, ranking: &Ranking, marks: &[Mark]) -> Counts
     requires { IsRanking (length marks.now) ranking.now }
-    ensures least { result.relevant ≡ front_count false k marks.now ranking.now }
-    ensures most { result.relevant + result.unjudged ≡ front_count true k marks.now ranking.now }
+    ensures least { result.relevant ≡ prefix_count false k marks.now ranking.now }
+    ensures most { result.relevant + result.unjudged ≡ prefix_count true k marks.now ranking.now }
     ensures few { result.relevant + result.unjudged ≤ 10000 }
 {
     let mut counts = Counts::NONE;
-    for doc in front(ranking.docs(), k) {
+    for doc in prefix(ranking.docs(), k) {
         counts = counts.with(marks[*doc as usize]);
     }
     counts
@@ -123,7 +123,7 @@ pub fn own_documents(k: u32, ranking: &Ranking, other: &Ranking, marks: &[Mark])
     ensures few { result.relevant + result.unjudged ≤ 10000 }
 {
     let mut counts = Counts::NONE;
-    for doc in front(ranking.docs(), k) {
+    for doc in prefix(ranking.docs(), k) {
         let mark = marks[*doc as usize];
         if mark != Mark::Other && !is_among_first(k, other, *doc) {
             counts = counts.with(mark);
@@ -147,7 +147,7 @@ pub fn own_counts(k: u32, a: &Ranking, b: &Ranking, marks: &[Mark]) -> OwnCounts
     }
     let shared = shared_documents(k, a, b, marks);
     OwnCounts {
-        first: front_documents(k, a, marks).without(shared),
-        second: front_documents(k, b, marks).without(shared),
+        first: prefix_documents(k, a, marks).without(shared),
+        second: prefix_documents(k, b, marks).without(shared),
     }
 }

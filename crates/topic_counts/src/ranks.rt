@@ -1,6 +1,6 @@
 ghost use Rattle.std.specs.Prelude.{◌≡◌, ◌≤◌, length};
 ghost use Rattle.desk_model.specs.Ranking.{rank};
-ghost use Rattle.measure_laws.specs.Ranks.{IsWithin};
+ghost use Rattle.measure_laws.specs.Ranks.{IsRankWithin};
 
 use desk_model::Ranking;
 
@@ -8,7 +8,7 @@ use desk_model::Ranking;
 pub fn rank_in(run: &Ranking, doc: u32) -> Option<u32>
     requires { length run.now ≤ 10000 }
     ensures rank { result ≡ rank run.now doc }
-    ensures within { IsWithin 10000 result }
+    ensures within { IsRankWithin 10000 result }
 {
     run.rank_of(doc)
 }

@@ -1,7 +1,7 @@
 -- What a run used.
 use Rattle.std.proofs.Common.{◌≡◌, ℕ, ◌+◌, List, Option, Some, None, Result, Ok, Err, inl, inr, ap, sym, ◌∙◌}
 use Rattle.qrels_reader.specs.Reading.{and_then, rows_of, IsUnlessMemory}
-use Rattle.qrels_reader.specs.Grouped.{Topic}
+use Rattle.qrels_reader.specs.Grouped.{JudgedTopic}
 use Rattle.qrels_reader.specs.declared.fault.FileFault.{FileFault}
 use Rattle.run_reader.specs.Rows.{RunRow, read_row}
 use Rattle.run_reader.specs.Run.{Run, run_of, row_count, named, grouped, used_with}
@@ -19,7 +19,7 @@ of_answer : (used : Used) (name : Option (List ℕ)) (answer : Result (List RunR
 of_answer used name (Ok rows) run h = of_rows used name rows run h
 of_answer used name (Err fault) run h = absurd (cc)
 
-pub added_up : (name : Option (List ℕ)) (qrels : List Topic) (used : Used) (bytes : List ℕ) (run : Run) → run_of name qrels used bytes ≡ Ok run → run.used.rows ≡ used.rows + row_count run.topics
+pub added_up : (name : Option (List ℕ)) (qrels : List JudgedTopic) (used : Used) (bytes : List ℕ) (run : Run) → run_of name qrels used bytes ≡ Ok run → run.used.rows ≡ used.rows + row_count run.topics
 added_up name qrels used bytes run h = of_answer used _ (rows_of (read_row qrels used) bytes) run h
 
 -- a run that was read is the one that is wanted

@@ -20,7 +20,7 @@ use Rattle.desk_model.specs.Ranking.{IsRanking}
 use Rattle.desk_model.specs.Desk.{Desk, IsDesk, AreRankingsOver, ranking_of}
 use Rattle.desk_model.proofs.Names.{ascending_far}
 use Rattle.desk_model.proofs.Nested.{length-rankings, ranking_over}
-use Rattle.qrels_reader.specs.Grouped.{Topic, documents_on, names_of}
+use Rattle.qrels_reader.specs.Grouped.{JudgedTopic, documents_on, names_of}
 use Rattle.qrels_reader.proofs.Seen.{laws, same, or-false}
 use Rattle.run_reader.specs.Run.{Run, rows_on_topic}
 use Rattle.trec_order.specs.Order.{IsTrecOrder}
@@ -82,7 +82,7 @@ one_names (x ∷ xs) (y ∷ ys) s t h =
     λ i. first i ∷ rest i
 
 -- ---- topics
-module _ (qrels : List Topic) (runs : List Run) where
+module _ (qrels : List JudgedTopic) (runs : List Run) where
   one_book : (b c : Book) → IsBook b → IsBook c → IsBookOf qrels runs b → IsBookOf qrels runs c → b.name ≡ c.name → b ≡ c
   one_book b c sound_b sound_c of_b of_c name =
       let docs : b.docs ≡ c.docs = one_names b.docs c.docs sound_b.ascending sound_c.ascending
@@ -130,7 +130,7 @@ no_book = record { name = []; docs = []; grades = [] }
 no_run : Run
 no_run = record { name = []; topics = []; used = record { rows = 0; name_bytes = 0 } }
 
-module _ (qrels : List Topic) (runs : List Run) (d e : Desk) (is_d : IsDeskOf qrels runs d) (is_e : IsDeskOf qrels runs e) where
+module _ (qrels : List JudgedTopic) (runs : List Run) (d e : Desk) (is_d : IsDeskOf qrels runs d) (is_e : IsDeskOf qrels runs e) where
   one_topics : d.topics ≡ e.topics
   one_topics =
       one_books qrels runs d.topics e.topics is_d.valid.books is_e.valid.books is_d.books is_e.books

@@ -20,7 +20,7 @@ use Rattle.run_reader.specs.Run.{Run, rows_on_topic}
 use Rattle.trec_order.specs.Order.{IsTrecOrder}
 use Rattle.topics_pool.specs.Names.{AreNames, numbered_names}
 use Rattle.topics_pool.specs.Rows.{doc_names}
-use Rattle.topics_pool.specs.Made.{AreNumbersOf, AreDocsOf}
+use Rattle.topics_pool.specs.Made.{AreRankedNumbers, AreDocsOf}
 use Rattle.topics_pool.specs.Sorted.{Numbered, AreSorted, IsPlaceOf}
 use Rattle.topics_pool.proofs.Sorting.{ascends}
 
@@ -138,7 +138,7 @@ module _ (names : List (List ℕ)) (pairs : List Numbered) (places : List ℕ) (
         (ap (λ docs. get_or docs (get_or places n 0) []) has ∙ stands_there names pairs n (get_or places n 0) are (placed_within n (All-head (λ n. n < length names) n numbers within)))
         (renamed_docs numbers (All-tail (λ n. n < length names) n numbers within))
 
-    pub are_docs : (run : Run) (topic : List ℕ) (numbers : List ℕ) → book.name ≡ topic → AreNumbersOf names (rows_on_topic run topic) numbers → AreDocsOf run book places numbers
+    pub are_docs : (run : Run) (topic : List ℕ) (numbers : List ℕ) → book.name ≡ topic → AreRankedNumbers names (rows_on_topic run topic) numbers → AreDocsOf run book places numbers
     are_docs run topic numbers named each = record {
       known = All-weaker (λ n. n < length names) (λ n. n < length places) (λ n lt. let long = same_count names pairs are in omega (arith, lt, long, count)) numbers each.within;
       within = All-map (λ doc. doc < length book.docs) (slice_index places) numbers (All-weaker (λ n. n < length names) (λ n. slice_index places n < length book.docs) (λ n lt.

@@ -19,7 +19,7 @@ use Rattle.std.proofs.lemmas.List.Elements.{All-weaker}
 use Rattle.topics_pool.specs.Names.{Gathers}
 use Rattle.topics_pool.proofs.Sets.{renamed}
 use Rattle.topics_pool.specs.Rows.{retrieved, doc_names}
-use Rattle.topics_pool.specs.Made.{AreNumbersOf, IsRankingOf, AreRankingsOf, IsOneMore, HaveOneMore}
+use Rattle.topics_pool.specs.Made.{AreRankedNumbers, IsRankingOf, AreRankingsOf, IsOneMore, HaveOneMore}
 use Rattle.desk_model.proofs.Nested.{zipped_at, length-zipped}
 
 -- the ranked names are the documents of the rows, in another order
@@ -121,7 +121,7 @@ topic_step runs books book old new before long more =
     subst (AllZip (IsRankingOf run) (books ++ book ∷ [])) (sym one.added) (AllZip-end (IsRankingOf run) books (get_or old k []) book one.docs (zipped_at (AreRankingsOf books) runs old k run [] before got) one.ranking))
 
 -- numbers stay those of the rows where more names are added
-pub still_numbers : (old more new : List (List ℕ)) (rows : List Scored) (numbers : List ℕ) → Gathers old more new → AreNumbersOf old rows numbers → AreNumbersOf new rows numbers
+pub still_numbers : (old more new : List (List ℕ)) (rows : List Scored) (numbers : List ℕ) → Gathers old more new → AreRankedNumbers old rows numbers → AreRankedNumbers new rows numbers
 still_numbers old more new rows numbers gathered are = record {
   within = All-weaker (λ n. n < length old) (λ n. n < length new) (λ n lt. let longer = gathered.longer in omega (arith, lt, longer)) numbers are.within;
   order = subst (IsTrecOrder rows) (sym (renamed old new numbers gathered.kept are.within)) are.order;

@@ -4,14 +4,14 @@ use Rattle.std.specs.List.{AllZip}
 use Rattle.desk_model.specs.Book.{Book, IsBook}
 use Rattle.desk_model.specs.Name.{AreAscending}
 use Rattle.desk_model.specs.Ranking.{IsRanking}
-use Rattle.qrels_reader.specs.Grouped.{Topic, names_of}
+use Rattle.qrels_reader.specs.Grouped.{JudgedTopic, names_of}
 use Rattle.run_reader.specs.Run.{Run, Scored, rows_on_topic}
 use Rattle.trec_order.specs.Order.{IsTrecOrder}
 use Rattle.topics_pool.specs.Names.{HaveSameNames, numbered_names}
 use Rattle.topics_pool.specs.Rows.{IsBookOf, doc_names, topic_names}
 
 -- the topics of the qrels, ascending
-pub record AreBooksOf (qrels : List Topic) (runs : List Run) (books : List Book) : Type 0 where
+pub record AreBooksOf (qrels : List JudgedTopic) (runs : List Run) (books : List Book) : Type 0 where
   pub sound : All IsBook books
   pub of_rows : All (IsBookOf qrels runs) books
   pub ascending : AreAscending (topic_names books)
@@ -19,7 +19,7 @@ pub record AreBooksOf (qrels : List Topic) (runs : List Run) (books : List Book)
   pub count : length books ≡ length qrels
 
 -- numbers of names that rank the documents of rows
-pub record AreNumbersOf (names : List (List ℕ)) (rows : List Scored) (numbers : List ℕ) : Type 0 where
+pub record AreRankedNumbers (names : List (List ℕ)) (rows : List Scored) (numbers : List ℕ) : Type 0 where
   pub within : All (λ n. n < length names) numbers
   pub order : IsTrecOrder rows (numbered_names names numbers)
 

@@ -7,7 +7,7 @@ ghost use Rattle.desk_model.specs.Book.{IsBook};
 ghost use Rattle.qrels_reader.specs.Grouped.{documents_at, names_of};
 ghost use Rattle.run_reader.specs.declared.limits.TheConstants.{MOST_RUN_ROWS};
 ghost use Rattle.topics_pool.specs.Names.{AreNames, AreAmong};
-ghost use Rattle.topics_pool.specs.Rows.{listed, grade_in, rows_of, topic_names, IsBookOf};
+ghost use Rattle.topics_pool.specs.Rows.{listed, grade_in, total_rows, topic_names, IsBookOf};
 ghost use Rattle.topics_pool.specs.Made.{AreBooksOf, AreRankingsOf, HaveOneMore};
 
 use crate::ascending::{ascending, copied, named, places, sorted};
@@ -58,7 +58,7 @@ fn topic_book(
 ) -> Result<TopicBook, OutOfMemory>
     requires place { position (bytes_eq name.now) (names_of qrels.now) ≡ Some t }
     requires named { is_name name.now ≡ true }
-    requires rows { rows_of runs.now ≤ MOST_RUN_ROWS }
+    requires rows { total_rows runs.now ≤ MOST_RUN_ROWS }
     requires each { length rankings.old ≡ length runs.now }
     ensures name { IfOk result (λ book. book.name ≡ name.now) }
     ensures book { IfOk result (λ book. IsBook book) }
@@ -100,7 +100,7 @@ fn books_of(
 ) -> Result<Vec<TopicBook>, OutOfMemory>
     requires topics { topics.now ≡ names_of qrels.now }
     requires names { AreAmong names.now topics.now }
-    requires rows { rows_of runs.now ≤ MOST_RUN_ROWS }
+    requires rows { total_rows runs.now ≤ MOST_RUN_ROWS }
     requires none { AllZip (AreRankingsOf []) runs.now (map (λ each. each.items) rankings.old) }
     ensures names { IfOk result (λ books. topic_names books.items ≡ names.now) }
     ensures books { IfOk result (λ books. All (λ book. IsBook book) books.items) }
@@ -124,7 +124,7 @@ pub fn topic_books(
     runs: &[RunRows],
     rankings: &mut [Vec<Ranking>],
 ) -> Result<Vec<TopicBook>, OutOfMemory>
-    requires rows { rows_of runs.now ≤ MOST_RUN_ROWS }
+    requires rows { total_rows runs.now ≤ MOST_RUN_ROWS }
     requires none { AllZip (AreRankingsOf []) runs.now (map (λ each. each.items) rankings.old) }
     ensures books { IfOk result (λ books. AreBooksOf qrels.now runs.now books.items) }
     ensures rankings { IfOk result (λ books. AllZip (AreRankingsOf books.items) runs.now (map (λ each. each.items) rankings.new)) }

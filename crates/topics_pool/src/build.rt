@@ -1,7 +1,7 @@
 // The desk of rows.
 ghost use Rattle.std.specs.Prelude.{◌≡◌, ◌<◌, ◌≤◌, IfOk, IfErr, vec_len, length};
 ghost use Rattle.run_reader.specs.declared.limits.TheConstants.{MOST_RUN_ROWS};
-ghost use Rattle.topics_pool.specs.Rows.{IsDeskOf, IsNoFault, IsFaultOf, rows_of};
+ghost use Rattle.topics_pool.specs.Rows.{IsDeskOf, IsNoFault, IsFaultOf, total_rows};
 
 use crate::book::topic_books;
 use crate::fault::{DeskFault, OutOfMemory};
@@ -17,7 +17,7 @@ use std::alloc::Global;
 fn desk_of(alloc: Global, qrels: &Qrels, runs: &[RunRows]) -> Result<Desk, OutOfMemory>
     requires some { 0 < length runs.now }
     requires few { length runs.now ≤ 256 }
-    requires rows { rows_of runs.now ≤ MOST_RUN_ROWS }
+    requires rows { total_rows runs.now ≤ MOST_RUN_ROWS }
     requires right { IsNoFault qrels.now runs.now }
     ensures { IfOk result (λ desk. IsDeskOf qrels.now runs.now desk) }
 {
@@ -35,7 +35,7 @@ fn desk_of(alloc: Global, qrels: &Qrels, runs: &[RunRows]) -> Result<Desk, OutOf
 pub fn build_desk(alloc: Global, qrels: Qrels, runs: Vec<RunRows>) -> Result<Desk, DeskFault>
     requires some { 0 < vec_len runs }
     requires few { vec_len runs ≤ 256 }
-    requires rows { rows_of runs.items ≤ MOST_RUN_ROWS }
+    requires rows { total_rows runs.items ≤ MOST_RUN_ROWS }
     ensures desk { IfOk result (IsDeskOf qrels runs.items) }
     ensures right { IfOk result (λ _. IsNoFault qrels runs.items) }
     ensures fault { IfErr result (IsFaultOf qrels runs.items) }

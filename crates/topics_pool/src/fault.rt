@@ -21,12 +21,12 @@ pub enum DeskFault {
         /// The number of pairs times the number of topics.
         cells: u64,
     },
-    /// Memory is wanting.
+    /// Memory runs out.
     #[error("out of memory")]
     Memory,
 }
 
-/// Memory is wanting.
+/// Memory runs out.
 #[derive(Clone, Copy, Debug, PartialEq, Eq)]
 pub(crate) struct OutOfMemory;
 

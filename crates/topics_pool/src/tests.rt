@@ -1,7 +1,7 @@
 // A small desk, by hand.
 ghost use Rattle.std.specs.Prelude.{◌≡◌, ◌≤◌, length, IfOk};
 ghost use Rattle.run_reader.specs.declared.limits.TheConstants.{MOST_RUN_ROWS};
-ghost use Rattle.topics_pool.specs.Rows.{rows_of};
+ghost use Rattle.topics_pool.specs.Rows.{total_rows};
 
 use super::*;
 use desk_model::{Desk, Marks};
@@ -43,7 +43,7 @@ fn read_runs(
     second: &[u8],
 ) -> Result<Vec<RunRows>, Fail>
     ensures two { IfOk result (λ runs. length runs.items ≡ 2) }
-    ensures rows { IfOk result (λ runs. rows_of runs.items ≤ MOST_RUN_ROWS) }
+    ensures rows { IfOk result (λ runs. total_rows runs.items ≤ MOST_RUN_ROWS) }
 {
     let none = Used {
         rows: 0,

@@ -5,7 +5,7 @@ ghost use Rattle.qrels_reader.specs.Grouped.{documents_at};
 ghost use Rattle.run_reader.specs.Run.{rows_on_topic};
 ghost use Rattle.topics_pool.specs.Names.{with_names, AreNames, Gathers, numbered_names};
 ghost use Rattle.topics_pool.specs.Rows.{listed, retrieved};
-ghost use Rattle.topics_pool.specs.Made.{AreNumbersOf};
+ghost use Rattle.topics_pool.specs.Made.{AreRankedNumbers};
 
 use crate::fault::OutOfMemory;
 use qrels_reader::{NameIndex, Qrels};
@@ -52,7 +52,7 @@ fn add_run<'n>(
 ) -> Result<Vec<usize>, OutOfMemory>
     requires { AreNames names.old }
     ensures names { OnOk result (Gathers names.old (retrieved topic.now run.now) names.new) }
-    ensures numbers { IfOk result (λ numbers. AreNumbersOf names.new (rows_on_topic run.now topic.now) numbers.items) }
+    ensures numbers { IfOk result (λ numbers. AreRankedNumbers names.new (rows_on_topic run.now topic.now) numbers.items) }
 {
     // The documents of the rows are names.
     let _ = run.rows_on(topic);
@@ -69,7 +69,7 @@ pub fn add_runs<'n>(
 ) -> Result<Vec<Vec<usize>>, OutOfMemory>
     requires { AreNames names.old }
     ensures names { OnOk result (Gathers names.old (flat_map (retrieved topic.now) runs.now) names.new) }
-    ensures numbers { IfOk result (λ numbers. AllZip (λ run each. AreNumbersOf names.new (rows_on_topic run topic.now) each) runs.now (map (λ each. each.items) numbers.items)) }
+    ensures numbers { IfOk result (λ numbers. AllZip (λ run each. AreRankedNumbers names.new (rows_on_topic run topic.now) each) runs.now (map (λ each. each.items) numbers.items)) }
 {
     let mut numbers = Vec::with_capacity(alloc, runs.len())?;
     for run in runs {

@@ -149,8 +149,8 @@ verdict_of_the_example = refl
 pub verdict_by_one_unit : verdict (sums (pos 1) (pos 2) (pos 8) (pos 9)) ≡ Above
 verdict_by_one_unit = refl
 
-pub verdict_of_the_runs_exchanged : verdict (sums (negsuc 0) (negsuc 0) (negsuc 0) (negsuc 0)) ≡ Below
-verdict_of_the_runs_exchanged = refl
+pub verdict_of_the_runs_swapped : verdict (sums (negsuc 0) (negsuc 0) (negsuc 0) (negsuc 0)) ≡ Below
+verdict_of_the_runs_swapped = refl
 
 pub verdict_of_zeros : verdict (sums (pos 0) (pos 0) (pos 0) (pos 0)) ≡ Equal
 verdict_of_zeros = refl

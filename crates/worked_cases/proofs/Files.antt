@@ -4,7 +4,7 @@ use Rattle.std.specs.Prelude.{codes, Ok, Err}
 use Rattle.decimal_score.specs.Reading.{score_of, zeros_of}
 use Rattle.qrels_reader.specs.Reading.{read_line}
 use Rattle.qrels_reader.specs.Rows.{Row, read_row}
-use Rattle.qrels_reader.specs.Grouped.{Topic, qrels_of}
+use Rattle.qrels_reader.specs.Grouped.{JudgedTopic, qrels_of}
 use Rattle.qrels_reader.specs.declared.fault.LineFault.TheVariants.{BadByte, BadFieldCount, NameTooLong, BadGrade, BadScore, RepeatedDocument}
 use Rattle.qrels_reader.specs.declared.fault.FileFault.TheVariants.{Line, NoTopics, NoTag}
 use Rattle.run_reader.specs.Run.{run_of, name_of}
@@ -75,7 +75,7 @@ pub faulty_line_read : read_line read_row 7 (d1_judged ∷ []) (codes "401 0 d1 
 faulty_line_read = refl
 
 -- ---- runs, beside judgements on topic 401 alone
-abbrev judged_401 : List Topic
+abbrev judged_401 : List JudgedTopic
 judged_401 = record { name = codes "401"; documents = record { document = codes "d1"; grade = pos 1 } ∷ [] } ∷ []
 
 abbrev nothing_used : Used

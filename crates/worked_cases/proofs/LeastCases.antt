@@ -2,7 +2,7 @@
 use Rattle.std.proofs.Common.{◌≡◌, ℕ, Bool, true, false, List, [], ◌∷◌, refl, Some, None, arith, lit≤}
 use Rattle.desk_model.specs.declared.types.Mark.TheVariants.{Unjudged, Relevant, Other}
 use Rattle.desk_model.specs.declared.types.MeasureName.TheVariants.{Precision, Recall, RPrecision, Reciprocal, Biased}
-use Rattle.measure_laws.specs.Fronts.{only_second, neutral}
+use Rattle.measure_laws.specs.Prefixes.{only_second, neutral}
 use Rattle.measure_laws.specs.Ranks.{comes_before}
 use Rattle.measure_laws.specs.Classes.{judged_count}
 use Rattle.measure_laws.specs.Differences.{IsNoGreater, Scores, is_smaller, first_least}
@@ -92,7 +92,7 @@ least_case_of_the_example = refl
 pub least_case_at_the_first_rank : of_three (least_truth (Precision 1) three_unjudged a b) ≡ false ∷ true ∷ false ∷ []
 least_case_at_the_first_rank = refl
 
--- the most case is the least case of the runs exchanged
+-- the most case is the least case of the swapped runs
 pub most_case_at_the_first_rank : of_three (least_truth (Precision 1) three_unjudged b a) ≡ true ∷ false ∷ false ∷ []
 most_case_at_the_first_rank = refl
 
@@ -125,7 +125,7 @@ number_with_the_least_difference = refl
 pub least_case_of_r_precision : of_three (least_truth RPrecision three_unjudged (0 ∷ []) (0 ∷ 1 ∷ [])) ≡ true ∷ true ∷ false ∷ []
 least_case_of_r_precision = refl
 
--- the runs exchanged: no R gives less than 0, and 0 is the smallest R
+-- the swapped runs: no R gives less than 0, and 0 is the smallest R
 pub number_with_no_difference : rprec_count three_unjudged (0 ∷ 1 ∷ []) (0 ∷ []) ≡ 0
 number_with_no_difference = refl
 

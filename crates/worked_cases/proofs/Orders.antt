@@ -9,7 +9,7 @@ use Rattle.desk_model.specs.Book.{Book, file_grade_of}
 use Rattle.desk_model.specs.Desk.{Desk, ranking_of}
 use Rattle.desk_model.specs.declared.types.Mark.{Mark}
 use Rattle.desk_model.specs.declared.types.Mark.TheVariants.{Unjudged, Relevant, Other}
-use Rattle.qrels_reader.specs.Grouped.{Topic, documents_on}
+use Rattle.qrels_reader.specs.Grouped.{JudgedTopic, documents_on}
 use Rattle.run_reader.specs.Run.{Run, Scored, rows_on_topic}
 use Rattle.trec_order.specs.Order.{trec_cmp, IsTrecOrder}
 use Rattle.trec_order.proofs.Unique.{one_order}
@@ -57,7 +57,7 @@ unfolding IsStrictlySortedBy
 order_of_no_rows = record { ranked = []; once = record { moves = []; below = tt; is = refl }; ordered = tt; are_names = refl }
 
 -- ---- the judgements list c with grade 2 and a with grade 0 on topic 401; the first run has c and d, the second e and a
-abbrev qrels : List Topic
+abbrev qrels : List JudgedTopic
 qrels = record { name = codes "401"; documents = record { document = codes "c"; grade = pos 2 } ∷ record { document = codes "a"; grade = pos 0 } ∷ [] } ∷ []
 
 abbrev first_run : Run
@@ -167,8 +167,8 @@ pub desk_of_no_rows : IsDeskOf [] [] (record { topics = []; runs = []; rankings 
 desk_of_no_rows = record { topics = λ name. refl; books = All-from_recursion (IsBookOf [] []) [] tt; run_names = refl; rankings = λ r t run topic e f. absurd (cc) }
 
 -- the runs in another order are another desk
-pub desk_of_the_runs_exchanged : IsDeskOf qrels (second_run ∷ first_run ∷ []) desk → ⊥
-desk_of_the_runs_exchanged h = different (codes "one") (codes "two") refl refl (ap (λ names. slice_index_or names 0 []) h.run_names)
+pub desk_of_the_runs_swapped : IsDeskOf qrels (second_run ∷ first_run ∷ []) desk → ⊥
+desk_of_the_runs_swapped h = different (codes "one") (codes "two") refl refl (ap (λ names. slice_index_or names 0 []) h.run_names)
 
 -- ---- rows that make no desk
 pub different_run_names : first_repeated (codes "one" ∷ codes "two" ∷ []) ≡ None

@@ -122,8 +122,8 @@ pub words_of_verdicts : word_of Close ≡ codes "close"
 words_of_verdicts = refl
 
 -- ---- lines among received bytes: the last one may be cut short
-pub whole_line_and_a_front : whole_lines (codes "level 1" ++ 10 ∷ codes "topi") ≡ codes "level 1" ∷ []
-whole_line_and_a_front = refl
+pub whole_line_and_a_prefix : whole_lines (codes "level 1" ++ 10 ∷ codes "topi") ≡ codes "level 1" ∷ []
+whole_line_and_a_prefix = refl
 
 pub no_whole_line : whole_lines (codes "measure P_") ≡ []
 no_whole_line = refl

@@ -15,7 +15,7 @@ use Rattle.measure_laws.specs.Powers.{low_power, high_power}
 use Rattle.measure_core.specs.declared.cell.Cell.{Cell}
 use Rattle.measure_laws.specs.Measures.{IsExactMeasure}
 use Rattle.measure_core.specs.Made.{HasEnds, HasBounds, width_of}
-use Rattle.pair_table.specs.Sums.{run_numbers, pair_sums, run_sums, span_sum, turned}
+use Rattle.pair_table.specs.Sums.{run_numbers, pair_sums, run_sums, span_sum, swapped_totals}
 use Rattle.pair_table.specs.Numbers.{AreNumbersIn}
 use Rattle.pair_table.specs.Orders.{IsNearZero, total_width}
 use Rattle.table_claims.specs.Claims.{HoldsByNames, IsPairLine, IsRunLine, SaysExactly, EnclosesDifference, IsTrueLine}
@@ -31,15 +31,15 @@ three_runs = refl
 pub no_runs : run_numbers 0 ≡ []
 no_runs = refl
 
--- ---- the numbers of (1, 0) are those of (0, 1) turned
-pub sums_turned : turned (sums (pos 1) (pos 1) (pos 2) (pos 2)) ≡ sums (negsuc 1) (negsuc 1) (negsuc 0) (negsuc 0)
-sums_turned = refl
+-- ---- the numbers of (1, 0) are those of (0, 1) swapped_totals
+pub sums_swapped : swapped_totals (sums (pos 1) (pos 1) (pos 2) (pos 2)) ≡ sums (negsuc 1) (negsuc 1) (negsuc 0) (negsuc 0)
+sums_swapped = refl
 
-pub different_sums_turned : turned (sums (negsuc 3) (negsuc 2) (pos 5) (pos 6)) ≡ sums (negsuc 5) (negsuc 4) (pos 3) (pos 4)
-different_sums_turned = refl
+pub different_sums_swapped : swapped_totals (sums (negsuc 3) (negsuc 2) (pos 5) (pos 6)) ≡ sums (negsuc 5) (negsuc 4) (pos 3) (pos 4)
+different_sums_swapped = refl
 
-pub zeros_turned : turned (sums (pos 0) (pos 0) (pos 0) (pos 0)) ≡ sums (pos 0) (pos 0) (pos 0) (pos 0)
-zeros_turned = refl
+pub zeros_swapped : swapped_totals (sums (pos 0) (pos 0) (pos 0) (pos 0)) ≡ sums (pos 0) (pos 0) (pos 0) (pos 0)
+zeros_swapped = refl
 
 -- ---- sums of bounds
 pub bounds_of_two_topics : span_sum (record { lo = pos 1; hi = pos 2 } ∷ record { lo = pos 0; hi = pos 1 } ∷ []) ≡ record { lo = pos 1; hi = pos 3 }

@@ -5,27 +5,27 @@ use Rattle.std.specs.Fmt.{digits}
 use Rattle.desk_model.specs.declared.types.MeasureName.TheVariants.{Precision}
 use Rattle.desk_words.specs.declared.command.Job.{Job}
 use Rattle.desk_words.specs.declared.command.Command.TheVariants.{Table, Demo}
-use Rattle.desk_words.specs.Words.{IsCommandOf, IsLevelOf, run_of}
+use Rattle.desk_words.specs.Words.{IsCommandOf, IsLevelOf, run_word_of}
 use Rattle.desk_words.specs.Parts.{Part, spaced, joined, alone, line_of, values_of, words_alone}
 use Rattle.desk_words.specs.Laws.{SaysCommand}
 use Rattle.desk_words.proofs.Saying.{says_to}
 use Rattle.desk_outside.specs.Outside.{Rose, Lacks, Opens}
 
 -- ---- RUN words
-pub path_alone : run_of (codes "runs/a") ≡ Some (record { name = None; path = codes "runs/a" })
+pub path_alone : run_word_of (codes "runs/a") ≡ Some (record { name = None; path = codes "runs/a" })
 path_alone = refl
 
 -- cut at the first `=`
-pub name_and_path : run_of (codes "a=b=c") ≡ Some (record { name = Some (codes "a"); path = codes "b=c" })
+pub name_and_path : run_word_of (codes "a=b=c") ≡ Some (record { name = Some (codes "a"); path = codes "b=c" })
 name_and_path = refl
 
-pub name_without_a_path : run_of (codes "a=") ≡ None
+pub name_without_a_path : run_word_of (codes "a=") ≡ None
 name_without_a_path = refl
 
-pub path_without_a_name : run_of (codes "=b") ≡ None
+pub path_without_a_name : run_word_of (codes "=b") ≡ None
 path_without_a_name = refl
 
-pub empty_word : run_of [] ≡ None
+pub empty_word : run_word_of [] ≡ None
 empty_word = refl
 
 -- ---- levels: 1 where none is given

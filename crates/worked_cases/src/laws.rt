@@ -15,7 +15,7 @@ ghost use Rattle.desk_model.specs.declared.types.MeasureName.TheVariants.{Precis
 ghost use Rattle.desk_model.specs.declared.types.Verdict.TheVariants.{Above, Open, Close};
 ghost use Rattle.measure_laws.specs.Cases.{least_truth};
 ghost use Rattle.measure_laws.specs.Weights.{weight_of};
-ghost use Rattle.pair_table.specs.Sums.{turned};
+ghost use Rattle.pair_table.specs.Sums.{swapped_totals};
 ghost use Rattle.worked_cases.specs.Example.{two_topics, marks_401, a, b, d3_false, d3_true, no_document, without_tails, parts, sums};
 
 /// At level 2 a grade of 2 is relevant, a grade of 1 is not, and a document without a grade is unjudged.
@@ -60,7 +60,7 @@ pub fn verdicts_of_sums()
     ensures above { verdict (sums (pos 1) (pos 1) (pos 1) (pos 1)) ≡ Above }
     ensures open { verdict (sums (negsuc 0) (negsuc 0) (pos 0) (pos 0)) ≡ Open }
     ensures close { verdict (sums (negsuc 0) (pos 1) (negsuc 0) (pos 1)) ≡ Close }
-    ensures turned { turned (sums (pos 1) (pos 1) (pos 2) (pos 2)) ≡ sums (negsuc 1) (negsuc 1) (negsuc 0) (negsuc 0) }
+    ensures swapped_totals { swapped_totals (sums (pos 1) (pos 1) (pos 2) (pos 2)) ≡ sums (negsuc 1) (negsuc 1) (negsuc 0) (negsuc 0) }
 {}
 
 /// The judged d1 tells A from B under precision at 2, and the unjudged d3, which both have, does not. In

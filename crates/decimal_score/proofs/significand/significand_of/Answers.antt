@@ -13,9 +13,9 @@ appended-requires-2-clause-all_digits c = kept_digits _ _ c.kept_parts.ensures.f
 pub returns-in_err-appended-clause-long : goal.returns-in_err-appended-clause-long
 returns-in_err-appended-clause-long c =
     let kept = c.kept_parts.result in
-    let front = digits_value_after 10 0 kept.0.now in
-    let more = digits_value_after-ge front kept.1.now in
-    let long = kept_long c.args.whole.now c.args.fraction.now kept.0.now kept.1.now c.requires.whole_digits c.requires.fraction_digits c.kept_parts.ensures front refl (omega (arith, more, c.in_err-appended.ensures.long)) in
+    let prefix = digits_value_after 10 0 kept.0.now in
+    let more = digits_value_after-ge prefix kept.1.now in
+    let long = kept_long c.args.whole.now c.args.fraction.now kept.0.now kept.1.now c.requires.whole_digits c.requires.fraction_digits c.kept_parts.ensures prefix refl (omega (arith, more, c.in_err-appended.ensures.long)) in
     rw c.from_residual.ensures long
 
 pub returns-in_err-digits-clause-long : goal.returns-in_err-digits-clause-long

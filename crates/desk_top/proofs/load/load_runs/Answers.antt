@@ -4,10 +4,10 @@ use Rattle.std.proofs.lemmas.List.{drop_more, drop_all}
 use Rattle.std.proofs.lemmas.Result.{err_from_is_err_and}
 use Rattle.run_reader.specs.Run.{Run, run_of, row_count}
 use Rattle.run_reader.specs.declared.used.Used.{Used}
-use Rattle.topics_pool.specs.Rows.{rows_of}
+use Rattle.topics_pool.specs.Rows.{total_rows}
 use Rattle.desk_top.specs.Files.{file_as}
 use Rattle.desk_top.specs.Load.{runs_of, used_by}
-use Rattle.desk_top.proofs.Runs.{Reaches, reaches_first, reaches_more, reaches_all, stops_all, rows_of-push}
+use Rattle.desk_top.proofs.Runs.{Reaches, reaches_first, reaches_more, reaches_all, stops_all, total_rows-push}
 use Rattle.desk_top.proofs.Opening.{opens_none, opens_more, opens_last, opens_all}
 use Rattle.desk_top.proofs.Stopping.{gives_err}
 use Rattle.desk_top.proofs.load.load_runs.Goals as goal
@@ -29,7 +29,7 @@ loop-word-preserved g c =
       later = omega (arith, c.in_ok-run.ensures.later, kept.later);
       within = c.used-used.ensures.within;
       count = omega (arith, ap length pushed, length-append c.loop-word.runs.items (c.in_ok-run.run' ∷ []), kept.count);
-      rows = rw pushed (ap (λ (u : Used). u.rows) c.used-used.ensures.value ∙ c.in_ok-run.ensures.rows ∙ ap (λ n. n + row_count c.in_ok-run.run'.topics) kept.rows ∙ sym (rows_of-push c.loop-word.runs.items c.in_ok-run.run'));
+      rows = rw pushed (ap (λ (u : Used). u.rows) c.used-used.ensures.value ∙ c.in_ok-run.ensures.rows ∙ ap (λ n. n + row_count c.in_ok-run.run'.topics) kept.rows ∙ sym (total_rows-push c.loop-word.runs.items c.in_ok-run.run'));
       opened = rw c.used-used.ensures.value (opens_more c.args.qrels.now (used_by c.args.qrels.now) words c.loop-word.used word (drop (i + 1) words) _ _ _ told c.in_ok-run.run' (rw split at kept.opened) c.in_ok-run.ensures.opened gives);
       left = rw (c.used-used.ensures.value, pushed) more;
     }

@@ -1,6 +1,6 @@
 use Rattle.std.proofs.Common.{◌≡◌, ◌≤◌, drop, vec_len}
-use Rattle.run_reader.specs.Run.{IsWithin}
-use Rattle.topics_pool.specs.Rows.{rows_of}
+use Rattle.run_reader.specs.Run.{IsWithinLimits}
+use Rattle.topics_pool.specs.Rows.{total_rows}
 use Rattle.desk_top.specs.Load.{used_by}
 use Rattle.desk_top.proofs.Opening.{OpensSoFar}
 use Rattle.desk_top.proofs.Runs.{Reaches}
@@ -10,9 +10,9 @@ abbrev pub invariant-loop-word : goal.invariant-loop-word
 invariant-loop-word g l = record {
   files : g.F.Shelf.files l.files ≡ g.F.Shelf.files l.fn.files;
   later : g.F.Shelf.faults l.fn.files ≤ g.F.Shelf.faults l.files;
-  within : IsWithin l.used;
+  within : IsWithinLimits l.used;
   count : vec_len l.runs ≡ l.word-index;
-  rows : l.used.rows ≡ rows_of l.runs.items;
+  rows : l.used.rows ≡ total_rows l.runs.items;
   opened : OpensSoFar (g.F.Shelf.files l.fn.files) l.qrels (used_by l.qrels) l.words l.used (drop l.word-index l.words) (g.F.Shelf.opened l.fn.files) (g.F.Shelf.opened l.files);
   left : Reaches (g.F.Shelf.files l.fn.files) l.qrels (used_by l.qrels) l.words l.used l.runs.items (drop l.word-index l.words);
 }

@@ -8,5 +8,5 @@ pub returns : goal.returns
 returns c =
     let n : to_z w128 (of_z w128 c.args.n) ≡ c.args.n = omega (arith, ints) in
     let d : to_z w128 (of_z w128 c.args.d) ≡ c.args.d = omega (arith, ints) in
-    let turned : to_z w128 (of_z w128 (pos 0 -ℤ to_z w128 (of_z w128 c.args.n))) ≡ neg_ℤ c.args.n = omega (arith, ints) in
-    ceiling_is c.args.n (neg_ℤ c.args.n) c.args.d c.floor.result _ refl (omega (arith, ints)) (floor_read (neg_ℤ c.args.n) c.args.d _ _ c.floor.result turned d c.floor.ensures.floor)
+    let swapped : to_z w128 (of_z w128 (pos 0 -ℤ to_z w128 (of_z w128 c.args.n))) ≡ neg_ℤ c.args.n = omega (arith, ints) in
+    ceiling_is c.args.n (neg_ℤ c.args.n) c.args.d c.floor.result _ refl (omega (arith, ints)) (floor_read (neg_ℤ c.args.n) c.args.d _ _ c.floor.result swapped d c.floor.ensures.floor)

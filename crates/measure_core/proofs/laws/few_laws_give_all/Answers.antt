@@ -1,4 +1,4 @@
-use Rattle.measure_core.proofs.Turned.{meets_laws}
+use Rattle.measure_core.proofs.Swapped.{meets_laws}
 use Rattle.measure_core.proofs.laws.few_laws_give_all.Goals as goal
 
 pub returns : goal.returns

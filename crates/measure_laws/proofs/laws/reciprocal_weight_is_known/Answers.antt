@@ -1,13 +1,13 @@
 use Rattle.std.proofs.Common.{◌≡◌, ℕ, ◌+◌, ◌*◌, ◌/◌, ◌^◌, ◌<◌, ◌≤◌, length, Option, Some, None, MatchOption, arith, refl}
 use Rattle.std.proofs.Math.Nat.{div-mul-le_self, lt-div-mul-add}
 use Rattle.desk_model.specs.Ranking.{rank}
-use Rattle.measure_laws.specs.Ranks.{IsWithin}
+use Rattle.measure_laws.specs.Ranks.{IsRankWithin}
 use Rattle.measure_laws.specs.Weights.{reciprocal_weight}
 use Rattle.measure_laws.proofs.Ranks.{rank_within}
 use Rattle.measure_laws.proofs.laws.reciprocal_weight_is_known.Goals as goal
 
 -- S over a rank, rounded down, is its share
-share : (n : ℕ) (x : Option ℕ) → IsWithin n x →
+share : (n : ℕ) (x : Option ℕ) → IsRankWithin n x →
     MatchOption x (reciprocal_weight x ≡ 0) (λ r. (reciprocal_weight x * r ≤ 10 ^ 18) × (10 ^ 18 < (reciprocal_weight x + 1) * r))
 share n None h = refl
 share n (Some r) h =

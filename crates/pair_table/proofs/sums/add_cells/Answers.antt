@@ -6,7 +6,7 @@ use Rattle.desk_model.specs.Pairs.{pairs_of}
 use Rattle.desk_model.specs.declared.types.Totals.{Totals}
 use Rattle.measure_core.specs.Made.{ends_of}
 use Rattle.pair_table.specs.Sums.{added, run_numbers, pair_sums}
-use Rattle.pair_table.specs.Kept.{AreNear, AreWithin}
+use Rattle.pair_table.specs.Kept.{AreModestTotals, AreWithin}
 use Rattle.pair_table.proofs.Adding.{sums_near, sums_there, sums_within}
 use Rattle.std.proofs.lemmas.List.{length-map}
 use Rattle.pair_table.proofs.Filling.{refilled_here, refilled_more}
@@ -27,7 +27,7 @@ cell_at-cell-requires-clause-second g c =
 pub plus-requires-clause-totals : goal.plus-requires-clause-totals
 plus-requires-clause-totals g c =
     let here : get_or c.loop-place.totals c.loop-place.place nothing ≡ get_or c.args.totals.now c.loop-place.place nothing = refilled_here _ _ _ c.loop-place.totals c.args.totals.now c.loop-place.place nothing c.loop-place.invariant.refilled in
-    subst AreNear (sym here) (sums_near c.args.topic _ (omega (arith, c.requires.topic, c.run_count-runs.ensures.desk.topics)) (c.requires.sums.within c.loop-place.place nothing (omega arith)))
+    subst AreModestTotals (sym here) (sums_near c.args.topic _ (omega (arith, c.requires.topic, c.run_count-runs.ensures.desk.topics)) (c.requires.sums.within c.loop-place.place nothing (omega arith)))
 
 pub next-at-requires-clause-within : goal.next-at-requires-clause-within
 next-at-requires-clause-within g c =

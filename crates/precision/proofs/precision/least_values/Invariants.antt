@@ -1,6 +1,6 @@
 use Rattle.std.proofs.Common.{◌≡◌, ◌<◌, ℕ, length, false, slice_index_or}
 use Rattle.desk_model.specs.Completion.{with_picked}
-use Rattle.measure_laws.specs.Fronts.{only_second}
+use Rattle.measure_laws.specs.Prefixes.{only_second}
 use Rattle.precision.proofs.precision.least_values.Given as goal
 
 abbrev pub invariant-loop-place : goal.invariant-loop-place

@@ -3,7 +3,7 @@ use Rattle.std.proofs.lemmas.Grind.{common_steps}
 use Rattle.desk_model.specs.Mark.{mark_at}
 use Rattle.desk_model.specs.Completion.{with_picked}
 use Rattle.measure_laws.specs.Classes.{is_unjudged, open_in}
-use Rattle.measure_laws.specs.Fronts.{only_second, neutral}
+use Rattle.measure_laws.specs.Prefixes.{only_second, neutral}
 use Rattle.rprec.specs.Picks.{picks}
 use Rattle.rprec.proofs.Walks.{left_more, value_is, value_more, same_classes}
 use Rattle.rprec.proofs.values.values.Goals as goal

@@ -2,7 +2,7 @@ use Rattle.std.proofs.Common.{◌≡◌, ◌<◌, ◌-◌, ℕ, length, false, c
 use Rattle.std.specs.List.{range_with_len}
 use Rattle.desk_model.specs.Completion.{with_picked}
 use Rattle.measure_laws.specs.Classes.{open_in}
-use Rattle.measure_laws.specs.Fronts.{only_second, neutral}
+use Rattle.measure_laws.specs.Prefixes.{only_second, neutral}
 use Rattle.rprec.specs.Picks.{picks}
 use Rattle.rprec.proofs.values.values.Given as goal
 

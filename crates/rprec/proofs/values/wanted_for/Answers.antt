@@ -1,6 +1,6 @@
 use Rattle.std.proofs.Common.{◌≡◌, length, arith}
 use Rattle.measure_laws.specs.Classes.{open_in, size_of}
-use Rattle.measure_laws.specs.Fronts.{only_second}
+use Rattle.measure_laws.specs.Prefixes.{only_second}
 use Rattle.measure_laws.proofs.LeastDifferences.{open_size}
 use Rattle.rprec.proofs.Choices.{class_sizes}
 use Rattle.rprec.proofs.values.wanted_for.Goals as goal

@@ -1,6 +1,6 @@
 use Rattle.std.proofs.Common.{◌≡◌, Some, None, ap, sym, ◌∙◌}
 use Rattle.desk_model.specs.Ranking.{rank}
-use Rattle.topic_counts.proofs.Fronts.{is_by, rank_by}
+use Rattle.topic_counts.proofs.Prefixes.{is_by, rank_by}
 use Rattle.topic_counts.proofs.counts.is_among_first.Goals as goal
 
 pub returns-in-Some : goal.returns-in-Some

@@ -11,7 +11,7 @@ use Rattle.run_reader.specs.Run.{Run, rows_on_topic}
 use Rattle.topics_pool.specs.Names.{Gathers}
 use Rattle.topics_pool.specs.Rows.{retrieved, grade_in}
 use Rattle.topics_pool.specs.Sorted.{IsPlaceOf}
-use Rattle.topics_pool.specs.Made.{AreNumbersOf, AreDocsOf}
+use Rattle.topics_pool.specs.Made.{AreRankedNumbers, AreDocsOf}
 use Rattle.topics_pool.proofs.Books.{is_book, is_book_of, few_documents}
 use Rattle.topics_pool.proofs.Placing.{name_of, number_of, same_count, sorted_are_named, are_docs}
 use Rattle.topics_pool.proofs.Ranked.{zip-weaker}
@@ -68,8 +68,8 @@ rank_topic-requires-clause-docs c =
     let count : length places ≡ length pairs = ap length c.deref-5.ensures.value ∙ c.in_ok-places.ensures.count ∙ ap length c.deref-3.ensures.value in
     let placed = subst (λ ps. (n : ℕ) → n < length pairs → IsPlaceOf pairs n (get_or ps n 0)) (sym c.deref-5.ensures.value)
     (subst (λ each. (n : ℕ) → n < length each → IsPlaceOf each n (get_or c.in_ok-places.places.items n 0)) c.deref-3.ensures.value c.in_ok-places.ensures.places) in
-    let numbers = subst (λ each. AllZip (λ (run : Run) (each : List ℕ). AreNumbersOf set (rows_on_topic run name) each) runs (map items each)) (sym c.deref-4.ensures.value) c.in_ok-numbers.ensures.numbers in
-    zip-weaker (λ (run : Run) (each : List ℕ). AreNumbersOf set (rows_on_topic run name) each) (λ run each. AreDocsOf run book places each) runs (map items c.deref-4.result.now)
+    let numbers = subst (λ each. AllZip (λ (run : Run) (each : List ℕ). AreRankedNumbers set (rows_on_topic run name) each) runs (map items each)) (sym c.deref-4.ensures.value) c.in_ok-numbers.ensures.numbers in
+    zip-weaker (λ (run : Run) (each : List ℕ). AreRankedNumbers set (rows_on_topic run name) each) (λ run each. AreDocsOf run book places each) runs (map items c.deref-4.result.now)
     (λ run each are. are_docs set pairs places book c.in_ok-pairs.ensures has count placed run name each named are) numbers
 
 pub returns-clause-of_rows : goal.returns-clause-of_rows

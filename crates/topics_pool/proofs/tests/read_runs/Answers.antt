@@ -4,7 +4,7 @@ use Rattle.qrels_reader.specs.Reading.{IsUnlessMemory}
 use Rattle.qrels_reader.specs.declared.fault.FileFault.{FileFault}
 use Rattle.run_reader.specs.Run.{Run, run_of, row_count}
 use Rattle.run_reader.specs.declared.used.Used.{Used}
-use Rattle.topics_pool.specs.Rows.{rows_of}
+use Rattle.topics_pool.specs.Rows.{total_rows}
 use Rattle.topics_pool.proofs.AddedUp.{added_up, answered}
 use Rattle.topics_pool.proofs.tests.read_runs.Goals as goal
 
@@ -20,5 +20,5 @@ returns-clause-rows c =
     let b = added_up None qrels c.used.result c.args.second.now second (answered second (run_of None qrels c.used.result c.args.second.now) c.in_ok-second.ensures.run) in
     let used = ap (λ (u : Used). u.rows) c.used.ensures.value in
     let used-2 = ap (λ (u : Used). u.rows) c.used-2.ensures.value in
-    let sum = ap rows_of whole in
+    let sum = ap total_rows whole in
     omega (arith, sum, sum_by-cons count first (second ∷ []), sum_by-cons count second [], a, b, used, used-2, c.used-2.ensures.within.rows)

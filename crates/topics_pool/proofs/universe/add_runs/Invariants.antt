@@ -5,11 +5,11 @@ use Rattle.std.specs.declared.alloc.Global.{Global}
 use Rattle.run_reader.specs.Run.{rows_on_topic}
 use Rattle.topics_pool.specs.Names.{Gathers}
 use Rattle.topics_pool.specs.Rows.{retrieved}
-use Rattle.topics_pool.specs.Made.{AreNumbersOf}
+use Rattle.topics_pool.specs.Made.{AreRankedNumbers}
 use Rattle.topics_pool.proofs.universe.add_runs.Given as goal
 
 abbrev pub invariant-loop-run : goal.invariant-loop-run
 invariant-loop-run l = record {
   names : Gathers l.fn.names (flat_map (retrieved l.topic) (take l.run-index l.runs)) l.names;
-  numbers : AllZip (λ run each. AreNumbersOf l.names (rows_on_topic run l.topic) each) (take l.run-index l.runs) (map (λ (each : Vec ℕ Global). each.items) l.numbers.items);
+  numbers : AllZip (λ run each. AreRankedNumbers l.names (rows_on_topic run l.topic) each) (take l.run-index l.runs) (map (λ (each : Vec ℕ Global). each.items) l.numbers.items);
 }

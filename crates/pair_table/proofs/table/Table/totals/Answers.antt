@@ -2,9 +2,9 @@ use Rattle.std.proofs.Common.{◌≡◌, inl, inr, ap, sym, ◌∙◌, subst}
 use Rattle.std.specs.List.{Contains, zip}
 use Rattle.desk_model.specs.Pairs.{pairs_of}
 use Rattle.desk_model.specs.declared.types.Totals.{Totals}
-use Rattle.pair_table.specs.Sums.{run_numbers, turned}
+use Rattle.pair_table.specs.Sums.{run_numbers, swapped_totals}
 use Rattle.pair_table.specs.Kept.{Kept, AreSumsOf}
-use Rattle.pair_table.proofs.Turned.{turned_twice}
+use Rattle.pair_table.proofs.Swapped.{swapped_twice}
 use Rattle.pair_table.proofs.Zips.{beside}
 use Rattle.pair_table.proofs.table.Table.totals.Goals as goal
 
@@ -20,7 +20,7 @@ returns-else-i-j g c =
     let table = c.self.inside in
     let pairs = pairs_of (run_numbers table.runs) in
     let found = beside pairs table.totals.items c.pair_number-else-i-j.result (c.args.j, c.args.i) c.index-else-i-j.result.now c.self.invariant.each_pair c.pair_number-else-i-j.ensures c.index-else-i-j.ensures in
-    let back : turned c.turn.result ≡ c.index-else-i-j.result.now = ap turned c.turn.ensures ∙ turned_twice c.index-else-i-j.result.now in
+    let back : swapped_totals c.turn.result ≡ c.index-else-i-j.result.now = ap swapped_totals c.turn.ensures ∙ swapped_twice c.index-else-i-j.result.now in
     let kept : AreSumsOf table.runs table.totals.items c.args.i c.args.j c.turn.result =
     inr (subst (λ (t : Totals). Contains (zip pairs table.totals.items) ((c.args.j, c.args.i), t)) (sym back) found) in
     subst (λ (k : Kept _). AreSumsOf k.runs k.totals c.args.i c.args.j c.turn.result) c.self.view_is kept

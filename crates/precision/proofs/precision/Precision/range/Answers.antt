@@ -5,7 +5,7 @@ use Rattle.precision.proofs.precision.Precision.range.Goals as goal
 
 pub returns-clause-bounds : goal.returns-clause-bounds
 returns-clause-bounds c =
-    let low : to_z w64 (of_z w64 c.least.result) ≡ pos c.front_documents-front.result.relevant = omega (arith, ints) in
-    let high : to_z w64 (of_z w64 c.most.result) ≡ pos (c.front_documents-front.result.relevant + c.front_documents-front.result.unjudged) = omega (arith, ints) in
+    let low : to_z w64 (of_z w64 c.least.result) ≡ pos c.prefix_documents-prefix.result.relevant = omega (arith, ints) in
+    let high : to_z w64 (of_z w64 c.most.result) ≡ pos (c.prefix_documents-prefix.result.relevant + c.prefix_documents-prefix.result.unjudged) = omega (arith, ints) in
     let k : c.args.self.now ≡ c.self.inside.k = cc in
-    rw k (bounds_read c.self.inside.k c.args.marks.now c.args.run.now _ _ _ _ (omega arith) c.requires low high c.front_documents-front.ensures.least c.front_documents-front.ensures.most)
+    rw k (bounds_read c.self.inside.k c.args.marks.now c.args.run.now _ _ _ _ (omega arith) c.requires low high c.prefix_documents-prefix.ensures.least c.prefix_documents-prefix.ensures.most)

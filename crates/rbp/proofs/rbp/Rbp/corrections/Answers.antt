@@ -1,6 +1,6 @@
 use Rattle.std.proofs.Common.{◌≡◌, ◌+◌, ◌<◌, nat_le, length, slice_index_or, ℕ, ℤ, Option, Some, arith, ap}
 use Rattle.desk_model.proofs.Counts.{one_if}
-use Rattle.measure_laws.specs.Ranks.{IsWithin}
+use Rattle.measure_laws.specs.Ranks.{IsRankWithin}
 use Rattle.measure_laws.specs.Shares.{low_share, high_share}
 use Rattle.topic_counts.proofs.Places.{at_place, list_within, list_ranks, goes_on, one_at_most}
 use Rattle.rbp.specs.Persistence.{Persistence}
@@ -16,12 +16,12 @@ bounds-marks-x c =
 
 pub with_places-sums-requires-clause-first : goal.with_places-sums-requires-clause-first
 with_places-sums-requires-clause-first c =
-    at_place (λ e. IsWithin 10000 (Some e.rank)) c.loop-i.i c.by_doc-first.result.now _ c.loop-i-test.true
+    at_place (λ e. IsRankWithin 10000 (Some e.rank)) c.loop-i.i c.by_doc-first.result.now _ c.loop-i-test.true
     (list_ranks c.args.a.now c.by_doc-first.result.now c.requires.first.short c.by_doc-first.ensures.ascending c.by_doc-first.ensures.ranks)
 
 pub with_places-sums-requires-clause-second : goal.with_places-sums-requires-clause-second
 with_places-sums-requires-clause-second c =
-    at_place (λ e. IsWithin 10000 (Some e.rank)) c.loop-i.j c.by_doc-second.result.now _ c.if-j-second.true
+    at_place (λ e. IsRankWithin 10000 (Some e.rank)) c.loop-i.j c.by_doc-second.result.now _ c.if-j-second.true
     (list_ranks c.args.b.now c.by_doc-second.result.now c.requires.second.short c.by_doc-second.ensures.ascending c.by_doc-second.ensures.ranks)
 
 pub with_places-sums-requires-clause-least : goal.with_places-sums-requires-clause-least

@@ -1,7 +1,7 @@
 use Rattle.std.proofs.Common.{◌≡◌}
 use Rattle.measure_core.specs.Laws.{AreMet}
 use Rattle.recall.specs.LeastCase.{AreCounts}
-use Rattle.recall.proofs.Ends.{counts_exchanged, own_few, least_short, cell_is}
+use Rattle.recall.proofs.Ends.{counts_swapped, own_few, least_short, cell_is}
 use Rattle.recall.proofs.recall.RecallMeasure.cell.Goals as goal
 
 pub least_span-requires-clause-within : goal.least_span-requires-clause-within
@@ -49,4 +49,4 @@ returns-clause-cell g c =
     } in
     let k : c.args.self.now ≡ c.self.inside.k = cc in
     rw k (cell_is c.self.inside.k c.args.marks.now c.args.a.now c.args.b.now c.least_span.result c.least_span-2.result c.negate.result (c.least_span.ensures _ _ _ _ counts)
-    (c.least_span-2.ensures _ _ _ _ (counts_exchanged c.self.inside.k c.args.marks.now c.args.a.now c.args.b.now _ _ _ counts)) c.negate.ensures.lo c.negate.ensures.hi)
+    (c.least_span-2.ensures _ _ _ _ (counts_swapped c.self.inside.k c.args.marks.now c.args.a.now c.args.b.now _ _ _ counts)) c.negate.ensures.lo c.negate.ensures.hi)

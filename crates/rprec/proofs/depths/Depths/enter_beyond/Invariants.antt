@@ -1,10 +1,10 @@
 use Rattle.std.proofs.Common.{ℕ, ◌+◌, ◌<◌, take}
-use Rattle.rprec.specs.Greedy.{AreFronts}
-use Rattle.rprec.specs.Search.{fronts_at}
+use Rattle.rprec.specs.Greedy.{ArePrefixes}
+use Rattle.rprec.specs.Search.{prefixes_at}
 use Rattle.rprec.proofs.depths.Depths.enter_beyond.Given as goal
 
 abbrev pub invariant-loop-place : goal.invariant-loop-place
 invariant-loop-place l = record {
-  fronts : AreFronts l.marks (take (l.depth + l.place) l.a) (take (l.depth + l.place) l.b) l.fronts;
-  each : (place : ℕ) → place < l.place → AreFronts l.marks (take (l.depth + place + 1) l.a) (take (l.depth + place + 1) l.b) (fronts_at l.self.first l.self.second place);
+  prefixes : ArePrefixes l.marks (take (l.depth + l.place) l.a) (take (l.depth + l.place) l.b) l.prefixes;
+  each : (place : ℕ) → place < l.place → ArePrefixes l.marks (take (l.depth + place + 1) l.a) (take (l.depth + place + 1) l.b) (prefixes_at l.self.first l.self.second place);
 }

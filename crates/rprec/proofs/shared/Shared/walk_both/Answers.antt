@@ -1,7 +1,7 @@
 use Rattle.std.proofs.Common.{◌≤◌, drop, arith}
 use Rattle.desk_model.specs.declared.placed.Placed.{Placed}
 use Rattle.rprec.proofs.Flags.{none_left}
-use Rattle.rprec.proofs.Strands.{above_apart, at_most_one, below_apart, both_in, counted_strands_end, counted_strands_start, counted_turned, is_above, is_below, lower_walk, next_places, strand_walked, walk_stepped}
+use Rattle.rprec.proofs.Strands.{above_apart, at_most_one, below_apart, both_in, counted_strands_end, counted_strands_start, counted_swapped, is_above, is_below, lower_walk, next_places, strand_walked, walk_stepped}
 use Rattle.rprec.proofs.shared.Shared.walk_both.Goals as goal
 
 abbrev nothing : Placed
@@ -49,52 +49,52 @@ pub enter-requires-in-loop-i-clause-first_low : goal.enter-requires-in-loop-i-cl
 enter-requires-in-loop-i-clause-first_low c =
     let walked = walk_stepped c.args.marks.now (is_below c.middle_document-middle.result) (both_in (drop c.loop-i.k c.cut.result.1.now) (drop c.loop-i.l c.cut-2.result.1.now)) c.args.a.now c.args.b.now c.cut.result.0.now c.cut-2.result.0.now c.loop-i.i c.loop-i.j c.passed-i.result c.passed-j.result nothing c.loop-i.self.counts c.enter.new.self.counts c.loop-i-test.true c.if-j-other_low.true
     c.passed-i.ensures c.passed-j.ensures c.enter.ensures (lower_walk _ _ _ _ _ _ _ _ _ _ c.loop-i.invariant.strands) in
-    let one = counted_turned _ _ _ _ _ _ _ _ _ _ (strand_walked _ _ (is_above c.middle_document-middle.result) _ _ _ _ _ _ _ _ _ _ (below_apart c.middle_document-middle.result) walked c.loop-i.invariant.strands) in
+    let one = counted_swapped _ _ _ _ _ _ _ _ _ _ (strand_walked _ _ (is_above c.middle_document-middle.result) _ _ _ _ _ _ _ _ _ _ (below_apart c.middle_document-middle.result) walked c.loop-i.invariant.strands) in
     (next_places c.args.marks.now (is_above c.middle_document-middle.result) _ c.args.a.now c.args.b.now c.cut.result.1.now c.cut-2.result.1.now c.loop-i.k c.loop-i.l nothing c.enter.new.self.counts c.if-k-high.true c.if-l-other_high.true (lower_walk _ _ _ _ _ _ _ _ _ _ one)).first_low
 
 pub enter-requires-in-loop-i-clause-first_high : goal.enter-requires-in-loop-i-clause-first_high
 enter-requires-in-loop-i-clause-first_high c =
     let walked = walk_stepped c.args.marks.now (is_below c.middle_document-middle.result) (both_in (drop c.loop-i.k c.cut.result.1.now) (drop c.loop-i.l c.cut-2.result.1.now)) c.args.a.now c.args.b.now c.cut.result.0.now c.cut-2.result.0.now c.loop-i.i c.loop-i.j c.passed-i.result c.passed-j.result nothing c.loop-i.self.counts c.enter.new.self.counts c.loop-i-test.true c.if-j-other_low.true
     c.passed-i.ensures c.passed-j.ensures c.enter.ensures (lower_walk _ _ _ _ _ _ _ _ _ _ c.loop-i.invariant.strands) in
-    let one = counted_turned _ _ _ _ _ _ _ _ _ _ (strand_walked _ _ (is_above c.middle_document-middle.result) _ _ _ _ _ _ _ _ _ _ (below_apart c.middle_document-middle.result) walked c.loop-i.invariant.strands) in
+    let one = counted_swapped _ _ _ _ _ _ _ _ _ _ (strand_walked _ _ (is_above c.middle_document-middle.result) _ _ _ _ _ _ _ _ _ _ (below_apart c.middle_document-middle.result) walked c.loop-i.invariant.strands) in
     (next_places c.args.marks.now (is_above c.middle_document-middle.result) _ c.args.a.now c.args.b.now c.cut.result.1.now c.cut-2.result.1.now c.loop-i.k c.loop-i.l nothing c.enter.new.self.counts c.if-k-high.true c.if-l-other_high.true (lower_walk _ _ _ _ _ _ _ _ _ _ one)).first_high
 
 pub enter-requires-in-loop-i-clause-second_low : goal.enter-requires-in-loop-i-clause-second_low
 enter-requires-in-loop-i-clause-second_low c =
     let walked = walk_stepped c.args.marks.now (is_below c.middle_document-middle.result) (both_in (drop c.loop-i.k c.cut.result.1.now) (drop c.loop-i.l c.cut-2.result.1.now)) c.args.a.now c.args.b.now c.cut.result.0.now c.cut-2.result.0.now c.loop-i.i c.loop-i.j c.passed-i.result c.passed-j.result nothing c.loop-i.self.counts c.enter.new.self.counts c.loop-i-test.true c.if-j-other_low.true
     c.passed-i.ensures c.passed-j.ensures c.enter.ensures (lower_walk _ _ _ _ _ _ _ _ _ _ c.loop-i.invariant.strands) in
-    let one = counted_turned _ _ _ _ _ _ _ _ _ _ (strand_walked _ _ (is_above c.middle_document-middle.result) _ _ _ _ _ _ _ _ _ _ (below_apart c.middle_document-middle.result) walked c.loop-i.invariant.strands) in
+    let one = counted_swapped _ _ _ _ _ _ _ _ _ _ (strand_walked _ _ (is_above c.middle_document-middle.result) _ _ _ _ _ _ _ _ _ _ (below_apart c.middle_document-middle.result) walked c.loop-i.invariant.strands) in
     (next_places c.args.marks.now (is_above c.middle_document-middle.result) _ c.args.a.now c.args.b.now c.cut.result.1.now c.cut-2.result.1.now c.loop-i.k c.loop-i.l nothing c.enter.new.self.counts c.if-k-high.true c.if-l-other_high.true (lower_walk _ _ _ _ _ _ _ _ _ _ one)).second_low
 
 pub enter-requires-in-loop-i-clause-second_high : goal.enter-requires-in-loop-i-clause-second_high
 enter-requires-in-loop-i-clause-second_high c =
     let walked = walk_stepped c.args.marks.now (is_below c.middle_document-middle.result) (both_in (drop c.loop-i.k c.cut.result.1.now) (drop c.loop-i.l c.cut-2.result.1.now)) c.args.a.now c.args.b.now c.cut.result.0.now c.cut-2.result.0.now c.loop-i.i c.loop-i.j c.passed-i.result c.passed-j.result nothing c.loop-i.self.counts c.enter.new.self.counts c.loop-i-test.true c.if-j-other_low.true
     c.passed-i.ensures c.passed-j.ensures c.enter.ensures (lower_walk _ _ _ _ _ _ _ _ _ _ c.loop-i.invariant.strands) in
-    let one = counted_turned _ _ _ _ _ _ _ _ _ _ (strand_walked _ _ (is_above c.middle_document-middle.result) _ _ _ _ _ _ _ _ _ _ (below_apart c.middle_document-middle.result) walked c.loop-i.invariant.strands) in
+    let one = counted_swapped _ _ _ _ _ _ _ _ _ _ (strand_walked _ _ (is_above c.middle_document-middle.result) _ _ _ _ _ _ _ _ _ _ (below_apart c.middle_document-middle.result) walked c.loop-i.invariant.strands) in
     (next_places c.args.marks.now (is_above c.middle_document-middle.result) _ c.args.a.now c.args.b.now c.cut.result.1.now c.cut-2.result.1.now c.loop-i.k c.loop-i.l nothing c.enter.new.self.counts c.if-k-high.true c.if-l-other_high.true (lower_walk _ _ _ _ _ _ _ _ _ _ one)).second_high
 
 pub enter-requires-in-loop-i-clause-known : goal.enter-requires-in-loop-i-clause-known
 enter-requires-in-loop-i-clause-known c =
     let walked = walk_stepped c.args.marks.now (is_below c.middle_document-middle.result) (both_in (drop c.loop-i.k c.cut.result.1.now) (drop c.loop-i.l c.cut-2.result.1.now)) c.args.a.now c.args.b.now c.cut.result.0.now c.cut-2.result.0.now c.loop-i.i c.loop-i.j c.passed-i.result c.passed-j.result nothing c.loop-i.self.counts c.enter.new.self.counts c.loop-i-test.true c.if-j-other_low.true
     c.passed-i.ensures c.passed-j.ensures c.enter.ensures (lower_walk _ _ _ _ _ _ _ _ _ _ c.loop-i.invariant.strands) in
-    let one = counted_turned _ _ _ _ _ _ _ _ _ _ (strand_walked _ _ (is_above c.middle_document-middle.result) _ _ _ _ _ _ _ _ _ _ (below_apart c.middle_document-middle.result) walked c.loop-i.invariant.strands) in
+    let one = counted_swapped _ _ _ _ _ _ _ _ _ _ (strand_walked _ _ (is_above c.middle_document-middle.result) _ _ _ _ _ _ _ _ _ _ (below_apart c.middle_document-middle.result) walked c.loop-i.invariant.strands) in
     (next_places c.args.marks.now (is_above c.middle_document-middle.result) _ c.args.a.now c.args.b.now c.cut.result.1.now c.cut-2.result.1.now c.loop-i.k c.loop-i.l nothing c.enter.new.self.counts c.if-k-high.true c.if-l-other_high.true (lower_walk _ _ _ _ _ _ _ _ _ _ one)).known
 
 pub enter-requires-in-loop-i-clause-few : goal.enter-requires-in-loop-i-clause-few
 enter-requires-in-loop-i-clause-few c =
     let walked = walk_stepped c.args.marks.now (is_below c.middle_document-middle.result) (both_in (drop c.loop-i.k c.cut.result.1.now) (drop c.loop-i.l c.cut-2.result.1.now)) c.args.a.now c.args.b.now c.cut.result.0.now c.cut-2.result.0.now c.loop-i.i c.loop-i.j c.passed-i.result c.passed-j.result nothing c.loop-i.self.counts c.enter.new.self.counts c.loop-i-test.true c.if-j-other_low.true
     c.passed-i.ensures c.passed-j.ensures c.enter.ensures (lower_walk _ _ _ _ _ _ _ _ _ _ c.loop-i.invariant.strands) in
-    let one = counted_turned _ _ _ _ _ _ _ _ _ _ (strand_walked _ _ (is_above c.middle_document-middle.result) _ _ _ _ _ _ _ _ _ _ (below_apart c.middle_document-middle.result) walked c.loop-i.invariant.strands) in
+    let one = counted_swapped _ _ _ _ _ _ _ _ _ _ (strand_walked _ _ (is_above c.middle_document-middle.result) _ _ _ _ _ _ _ _ _ _ (below_apart c.middle_document-middle.result) walked c.loop-i.invariant.strands) in
     (next_places c.args.marks.now (is_above c.middle_document-middle.result) _ c.args.a.now c.args.b.now c.cut.result.1.now c.cut-2.result.1.now c.loop-i.k c.loop-i.l nothing c.enter.new.self.counts c.if-k-high.true c.if-l-other_high.true (lower_walk _ _ _ _ _ _ _ _ _ _ one)).few
 
 pub loop-i-preserved : goal.loop-i-preserved
 loop-i-preserved c =
     let walked = walk_stepped c.args.marks.now (is_below c.middle_document-middle.result) (both_in (drop c.loop-i.k c.cut.result.1.now) (drop c.loop-i.l c.cut-2.result.1.now)) c.args.a.now c.args.b.now c.cut.result.0.now c.cut-2.result.0.now c.loop-i.i c.loop-i.j c.passed-i.result c.passed-j.result nothing c.loop-i.self.counts c.enter.new.self.counts c.loop-i-test.true c.if-j-other_low.true
     c.passed-i.ensures c.passed-j.ensures c.enter.ensures (lower_walk _ _ _ _ _ _ _ _ _ _ c.loop-i.invariant.strands) in
-    let one = counted_turned _ _ _ _ _ _ _ _ _ _ (strand_walked _ _ (is_above c.middle_document-middle.result) _ _ _ _ _ _ _ _ _ _ (below_apart c.middle_document-middle.result) walked c.loop-i.invariant.strands) in
+    let one = counted_swapped _ _ _ _ _ _ _ _ _ _ (strand_walked _ _ (is_above c.middle_document-middle.result) _ _ _ _ _ _ _ _ _ _ (below_apart c.middle_document-middle.result) walked c.loop-i.invariant.strands) in
     let walked_too = walk_stepped c.args.marks.now (is_above c.middle_document-middle.result) _ c.args.a.now c.args.b.now c.cut.result.1.now c.cut-2.result.1.now c.loop-i.k c.loop-i.l c.passed-k.result c.passed-l.result nothing c.enter.new.self.counts c.enter-in-loop-i.new.self.counts c.if-k-high.true c.if-l-other_high.true
     c.passed-k.ensures c.passed-l.ensures c.enter-in-loop-i.ensures (lower_walk _ _ _ _ _ _ _ _ _ _ one) in
-    let two = counted_turned _ _ _ _ _ _ _ _ _ _ (strand_walked _ _ (is_below c.middle_document-middle.result) _ _ _ _ _ _ _ _ _ _ (above_apart c.middle_document-middle.result) walked_too one) in
+    let two = counted_swapped _ _ _ _ _ _ _ _ _ _ (strand_walked _ _ (is_below c.middle_document-middle.result) _ _ _ _ _ _ _ _ _ _ (above_apart c.middle_document-middle.result) walked_too one) in
     let first_step : c.passed-i.result ≤ 1 = at_most_one _ c.passed-i.result c.passed-i.ensures in
     let second_step : c.passed-j.result ≤ 1 = at_most_one _ c.passed-j.result c.passed-j.ensures in
     let third_step : c.passed-k.result ≤ 1 = at_most_one _ c.passed-k.result c.passed-k.ensures in
@@ -114,13 +114,13 @@ walk-requires-clause-walk c =
 pub walk-requires-2-clause-walk : goal.walk-requires-2-clause-walk
 walk-requires-2-clause-walk c =
     let first = c.walk.ensures (is_below c.middle_document-middle.result) (both_in (drop c.loop-i.k c.cut.result.1.now) (drop c.loop-i.l c.cut-2.result.1.now)) c.args.a.now c.args.b.now (lower_walk _ _ _ _ _ _ _ _ _ _ c.loop-i.invariant.strands) in
-    let after = counted_turned _ _ _ _ _ _ _ _ _ _ (strand_walked _ _ (is_above c.middle_document-middle.result) _ _ _ _ _ _ _ _ _ _ (below_apart c.middle_document-middle.result) first.walk c.loop-i.invariant.strands) in
+    let after = counted_swapped _ _ _ _ _ _ _ _ _ _ (strand_walked _ _ (is_above c.middle_document-middle.result) _ _ _ _ _ _ _ _ _ _ (below_apart c.middle_document-middle.result) first.walk c.loop-i.invariant.strands) in
     (is_above c.middle_document-middle.result, both_in first.es first.fs, c.args.a.now, c.args.b.now, lower_walk _ _ _ _ _ _ _ _ _ _ after)
 
 pub returns : goal.returns
 returns c =
     let first = c.walk.ensures (is_below c.middle_document-middle.result) (both_in (drop c.loop-i.k c.cut.result.1.now) (drop c.loop-i.l c.cut-2.result.1.now)) c.args.a.now c.args.b.now (lower_walk _ _ _ _ _ _ _ _ _ _ c.loop-i.invariant.strands) in
-    let after = counted_turned _ _ _ _ _ _ _ _ _ _ (strand_walked _ _ (is_above c.middle_document-middle.result) _ _ _ _ _ _ _ _ _ _ (below_apart c.middle_document-middle.result) first.walk c.loop-i.invariant.strands) in
+    let after = counted_swapped _ _ _ _ _ _ _ _ _ _ (strand_walked _ _ (is_above c.middle_document-middle.result) _ _ _ _ _ _ _ _ _ _ (below_apart c.middle_document-middle.result) first.walk c.loop-i.invariant.strands) in
     let second = c.walk-2.ensures (is_above c.middle_document-middle.result) (both_in first.es first.fs) c.args.a.now c.args.b.now (lower_walk _ _ _ _ _ _ _ _ _ _ after) in
     let end = strand_walked _ _ (is_below c.middle_document-middle.result) _ _ _ _ _ _ _ _ _ _ (above_apart c.middle_document-middle.result) second.walk after in
     counted_strands_end _ (is_above c.middle_document-middle.result) (is_below c.middle_document-middle.result) _ _ _ _ _ _ _ (none_left second.es second.fs second.ended) (none_left first.es first.fs first.ended) end

@@ -1,6 +1,6 @@
 use Rattle.std.proofs.Common.{◌≡◌, ◌+◌, ◌≤◌, take, count_by, true, false}
 use Rattle.desk_model.specs.Completion.{with_picked}
-use Rattle.topic_counts.proofs.counts.front_documents.Given as goal
+use Rattle.topic_counts.proofs.counts.prefix_documents.Given as goal
 
 abbrev pub invariant-loop-doc : goal.invariant-loop-doc
 invariant-loop-doc l = record {

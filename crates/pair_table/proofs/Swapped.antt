@@ -12,10 +12,10 @@ use Rattle.desk_model.specs.declared.types.Mark.{Mark}
 use Rattle.desk_model.specs.declared.types.MeasureName.{MeasureName}
 use Rattle.desk_model.specs.declared.types.Totals.{Totals}
 use Rattle.fractions.specs.declared.span.Span.{Span}
-use Rattle.measure_core.specs.Laws.{MeetsLaws, mirrored}
+use Rattle.measure_core.specs.Laws.{MeetsLaws, swapped_cell}
 use Rattle.measure_core.specs.Made.{ends_of}
 use Rattle.measure_core.specs.declared.cell.Cell.{Cell}
-use Rattle.pair_table.specs.Sums.{run_numbers, cell_ends, pair_sums, all_pair_sums, turned}
+use Rattle.pair_table.specs.Sums.{run_numbers, cell_ends, pair_sums, all_pair_sums, swapped_totals}
 use Rattle.pair_table.specs.Kept.{AreSumsOf}
 use Rattle.pair_table.proofs.DeskTopics.{topics_met}
 use Rattle.pair_table.proofs.Orders.{MetBy}
@@ -25,13 +25,13 @@ use Rattle.pair_table.proofs.Zips.{all_then, made_beside, IsPairBelow, pairs_bel
 neg_adds : (z w v u : ℤ) → z ≡ neg_ℤ w → v ≡ neg_ℤ u → z +ℤ v ≡ neg_ℤ (w +ℤ u)
 neg_adds z w v u h k = omega (arith, ints, h, k)
 
-pub turned_twice : (t : Totals) → turned (turned t) ≡ t
-turned_twice t = totals_same _ _ _ _ t.least_lo t.least_hi t.most_lo t.most_hi (neg_twice t.least_lo) (neg_twice t.least_hi) (neg_twice t.most_lo) (neg_twice t.most_hi)
+pub swapped_twice : (t : Totals) → swapped_totals (swapped_totals t) ≡ t
+swapped_twice t = totals_same _ _ _ _ t.least_lo t.least_hi t.most_lo t.most_hi (neg_twice t.least_lo) (neg_twice t.least_hi) (neg_twice t.most_lo) (neg_twice t.most_hi)
 
 -- the sum of one end of each topic is that of the other end, negated
-sum_turned : (f g : Ends → ℤ) (F G : Topic → Ends) (topics : List Topic) → AllByRecursion (λ (topic : Topic). f (F topic) ≡ neg_ℤ (g (G topic))) topics → whole_sum (map f (map F topics)) ≡ neg_ℤ (whole_sum (map g (map G topics)))
-sum_turned f g F G [] h = omega (arith, ints)
-sum_turned f g F G (t ∷ ts) h = neg_adds (f (F t)) (g (G t)) (whole_sum (map f (map F ts))) (whole_sum (map g (map G ts))) h.0 (sum_turned f g F G ts h.1)
+sum_swapped : (f g : Ends → ℤ) (F G : Topic → Ends) (topics : List Topic) → AllByRecursion (λ (topic : Topic). f (F topic) ≡ neg_ℤ (g (G topic))) topics → whole_sum (map f (map F topics)) ≡ neg_ℤ (whole_sum (map g (map G topics)))
+sum_swapped f g F G [] h = omega (arith, ints)
+sum_swapped f g F G (t ∷ ts) h = neg_adds (f (F t)) (g (G t)) (whole_sum (map f (map F ts))) (whole_sum (map g (map G ts))) h.0 (sum_swapped f g F G ts h.1)
 
 module _ (name : MeasureName) (cell : List Mark → List ℕ → List ℕ → Cell) (bounds : List Mark → List ℕ → Span) (laws : MeetsLaws name cell bounds) (topics : List Topic) (a b : ℕ) (met : AllByRecursion (MetBy a b) topics) where
   abbrev here : Topic → Cell
@@ -40,15 +40,15 @@ module _ (name : MeasureName) (cell : List Mark → List ℕ → List ℕ → Ce
   abbrev there : Topic → Cell
   there topic = cell topic.marks (topic.ranking b) (topic.ranking a)
 
-  turn_end : (f g : Ends → ℤ) → ((c : Cell) → f (ends_of (mirrored c)) ≡ neg_ℤ (g (ends_of c))) → whole_sum (map f (cell_ends cell topics b a)) ≡ neg_ℤ (whole_sum (map g (cell_ends cell topics a b)))
+  turn_end : (f g : Ends → ℤ) → ((c : Cell) → f (ends_of (swapped_cell c)) ≡ neg_ℤ (g (ends_of c))) → whole_sum (map f (cell_ends cell topics b a)) ≡ neg_ℤ (whole_sum (map g (cell_ends cell topics a b)))
   turn_end f g h =
-      sum_turned f g (λ topic. ends_of (there topic)) (λ topic. ends_of (here topic)) topics
+      sum_swapped f g (λ topic. ends_of (there topic)) (λ topic. ends_of (here topic)) topics
       (all_then (MetBy a b) (λ (topic : Topic). f (ends_of (there topic)) ≡ neg_ℤ (g (ends_of (here topic))))
-      (λ topic m. ap (λ (c : Cell). f (ends_of c)) (laws.mirrors topic.marks (topic.ranking a) (topic.ranking b) m) ∙ h (here topic)) topics met)
+      (λ topic m. ap (λ (c : Cell). f (ends_of c)) (laws.swaps topic.marks (topic.ranking a) (topic.ranking b) m) ∙ h (here topic)) topics met)
 
-  pub sums_turned : pair_sums cell topics b a ≡ turned (pair_sums cell topics a b)
+  pub sums_swapped : pair_sums cell topics b a ≡ swapped_totals (pair_sums cell topics a b)
   unfolding pair_sums
-  sums_turned =
+  sums_swapped =
       totals_same _ _ _ _ _ _ _ _ (turn_end (λ (e : Ends). e.least_lo) (λ (e : Ends). e.most_hi) (λ c. refl)) (turn_end (λ (e : Ends). e.least_hi) (λ (e : Ends). e.most_lo) (λ c. refl))
       (turn_end (λ (e : Ends). e.most_lo) (λ (e : Ends). e.least_hi) (λ c. refl)) (turn_end (λ (e : Ends). e.most_hi) (λ (e : Ends). e.least_lo) (λ c. refl))
 
@@ -62,7 +62,7 @@ exact_in_both name cell bounds desk marks i j sums laws valid known h =
     elim h [
       | inl straight ↦ (made_beside (IsPairBelow n) f (pairs_of (run_numbers n)) (i, j) sums (pairs_below n) straight).0
       | inr other ↦
-          let found = made_beside (IsPairBelow n) f (pairs_of (run_numbers n)) (j, i) (turned sums) (pairs_below n) other in
-          sym (turned_twice sums) ∙ ap turned found.0
-          ∙ sym (sums_turned name cell bounds laws topics j i (topics_met desk marks valid known j i (omega (arith, found.1.order, found.1.below)) found.1.below))
+          let found = made_beside (IsPairBelow n) f (pairs_of (run_numbers n)) (j, i) (swapped_totals sums) (pairs_below n) other in
+          sym (swapped_twice sums) ∙ ap swapped_totals found.0
+          ∙ sym (sums_swapped name cell bounds laws topics j i (topics_met desk marks valid known j i (omega (arith, found.1.order, found.1.below)) found.1.below))
     ]

@@ -1,7 +1,7 @@
 ghost use Rattle.std.specs.Prelude.{◌≡◌, ℕ, ◌+◌, ◌<◌, List, length, take, true, false};
 ghost use Rattle.desk_model.specs.Ranking.{IsRanking};
 ghost use Rattle.desk_model.specs.declared.types.Mark.{Mark as M};
-ghost use Rattle.rprec.specs.Greedy.{AreBefore, AreFronts, AreNext, exchanged, one_of};
+ghost use Rattle.rprec.specs.Greedy.{AreBefore, ArePrefixes, AreNext, swapped, one_of};
 
 use desk_model::Mark;
 use topic_counts::counts::Counts;
@@ -9,17 +9,17 @@ use topic_counts::counts::Counts;
 /// The counts of two runs' first documents: of all relevant ones of each, and of the unjudged ones
 /// that it alone has there.
 #[derive(Clone, Copy, PartialEq, Eq, Debug)]
-pub struct Fronts {
+pub struct Prefixes {
     pub first: Counts,
     pub second: Counts,
 }
 
-impl Fronts {
-    /// With the runs exchanged.
-    pub fn exchanged(self) -> Fronts
-        ensures { result ≡ exchanged self }
+impl Prefixes {
+    /// With the swapped runs.
+    pub fn swapped(self) -> Prefixes
+        ensures { result ≡ swapped self }
     {
-        Fronts {
+        Prefixes {
             first: self.second,
             second: self.first,
         }
@@ -60,18 +60,18 @@ pub fn next_counts(docs: &[u32], place: u32, marks: &[Mark]) -> Counts
 
 /// The counts with those of the next document of each run, where it is known how many unjudged ones
 /// both have now and had not before.
-pub fn deepened(fronts: Fronts, one: Counts, two: Counts, both: u32) -> Fronts
-    requires { (marks : List M) × (a : List ℕ) × (b : List ℕ) × (place : ℕ) × AreBefore marks a b place fronts one two both }
-    ensures { (marks : List M) (a b : List ℕ) (place : ℕ) → AreBefore marks a b place fronts one two both → AreFronts marks (take (place + 1) a) (take (place + 1) b) result }
+pub fn deepened(prefixes: Prefixes, one: Counts, two: Counts, both: u32) -> Prefixes
+    requires { (marks : List M) × (a : List ℕ) × (b : List ℕ) × (place : ℕ) × AreBefore marks a b place prefixes one two both }
+    ensures { (marks : List M) (a b : List ℕ) (place : ℕ) → AreBefore marks a b place prefixes one two both → ArePrefixes marks (take (place + 1) a) (take (place + 1) b) result }
 {
-    Fronts {
+    Prefixes {
         first: Counts {
-            relevant: fronts.first.relevant + one.relevant,
-            unjudged: fronts.first.unjudged + one.unjudged - both,
+            relevant: prefixes.first.relevant + one.relevant,
+            unjudged: prefixes.first.unjudged + one.unjudged - both,
         },
         second: Counts {
-            relevant: fronts.second.relevant + two.relevant,
-            unjudged: fronts.second.unjudged + two.unjudged - both,
+            relevant: prefixes.second.relevant + two.relevant,
+            unjudged: prefixes.second.unjudged + two.unjudged - both,
         },
     }
 }

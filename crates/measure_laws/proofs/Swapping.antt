@@ -1,4 +1,4 @@
--- The runs exchanged: what is said of the least difference of (b, a) says the same of the greatest of (a, b).
+-- The swapped runs: what is said of the least difference of (b, a) says the same of the greatest of (a, b).
 use Rattle.std.proofs.Common.{◌≡◌, ℕ, Bool, List, [], length, ℤ, zero, suc, pos, negsuc, neg_ℤ, ◌≤ℤ◌, arith, refl}
 use Rattle.std.proofs.lemmas.Int.{ints}
 use borrow.Author.Differences.{up, down}
@@ -12,51 +12,51 @@ use Rattle.desk_model.specs.declared.types.Mark.{Mark}
 use Rattle.desk_model.specs.declared.types.MeasureName.{MeasureName}
 
 -- the parts of a negated number
-pub turned_parts : (z : ℤ) → (up (neg_ℤ z) ≡ down z) × (down (neg_ℤ z) ≡ up z)
-turned_parts (pos zero) = (refl, refl)
-turned_parts (pos (suc n)) = (refl, refl)
-turned_parts (negsuc n) = (refl, refl)
+pub swapped_parts : (z : ℤ) → (up (neg_ℤ z) ≡ down z) × (down (neg_ℤ z) ≡ up z)
+swapped_parts (pos zero) = (refl, refl)
+swapped_parts (pos (suc n)) = (refl, refl)
+swapped_parts (negsuc n) = (refl, refl)
 
-pub at_most_turned : (z : ℤ) (u : ℕ) (x y : Fraction) → IsAtMost z u x y → IsAtLeast (neg_ℤ z) u y x
-at_most_turned z u x y h =
-    let parts = turned_parts z in
+pub at_most_swapped : (z : ℤ) (u : ℕ) (x y : Fraction) → IsAtMost z u x y → IsAtLeast (neg_ℤ z) u y x
+at_most_swapped z u x y h =
+    let parts = swapped_parts z in
     at_least_in (neg_ℤ z) u y x (rw (parts.0, parts.1) (omega (arith, at_most_out z u x y h)))
 
-pub at_least_turned : (z : ℤ) (u : ℕ) (x y : Fraction) → IsAtLeast z u x y → IsAtMost (neg_ℤ z) u y x
-at_least_turned z u x y h =
-    let parts = turned_parts z in
+pub at_least_swapped : (z : ℤ) (u : ℕ) (x y : Fraction) → IsAtLeast z u x y → IsAtMost (neg_ℤ z) u y x
+at_least_swapped z u x y h =
+    let parts = swapped_parts z in
     at_most_in (neg_ℤ z) u y x (rw (parts.0, parts.1) (omega (arith, at_least_out z u x y h)))
 
-turned_order : (z w : ℤ) → neg_ℤ z ≤ℤ w → neg_ℤ w ≤ℤ z
-turned_order z w h = omega (arith, ints)
+swapped_order : (z w : ℤ) → neg_ℤ z ≤ℤ w → neg_ℤ w ≤ℤ z
+swapped_order z w h = omega (arith, ints)
 
-turned_order_up : (z w : ℤ) → w ≤ℤ neg_ℤ z → z ≤ℤ neg_ℤ w
-turned_order_up z w h = omega (arith, ints)
+swapped_order_up : (z w : ℤ) → w ≤ℤ neg_ℤ z → z ≤ℤ neg_ℤ w
+swapped_order_up z w h = omega (arith, ints)
 
-pub every_turned : (m : MeasureName) (u : ℕ) (marks : List Mark) (a b : List ℕ) (z : ℤ) → InEvery m marks b a (IsAtMost z u) → InEvery m marks a b (IsAtLeast (neg_ℤ z) u)
-every_turned m u marks a b z h truth tail_a tail_b c = at_most_turned z u _ _ (h truth tail_b tail_a c)
+pub every_swapped : (m : MeasureName) (u : ℕ) (marks : List Mark) (a b : List ℕ) (z : ℤ) → InEvery m marks b a (IsAtMost z u) → InEvery m marks a b (IsAtLeast (neg_ℤ z) u)
+every_swapped m u marks a b z h truth tail_a tail_b c = at_most_swapped z u _ _ (h truth tail_b tail_a c)
 
-every_turned_back : (m : MeasureName) (u : ℕ) (marks : List Mark) (a b : List ℕ) (z : ℤ) → InEvery m marks a b (IsAtLeast z u) → InEvery m marks b a (IsAtMost (neg_ℤ z) u)
-every_turned_back m u marks a b z h truth tail_a tail_b c = at_least_turned z u _ _ (h truth tail_b tail_a c)
+every_swapped_back : (m : MeasureName) (u : ℕ) (marks : List Mark) (a b : List ℕ) (z : ℤ) → InEvery m marks a b (IsAtLeast z u) → InEvery m marks b a (IsAtMost (neg_ℤ z) u)
+every_swapped_back m u marks a b z h truth tail_a tail_b c = at_least_swapped z u _ _ (h truth tail_b tail_a c)
 
-some_turned : (m : MeasureName) (u : ℕ) (marks : List Mark) (a b : List ℕ) (z : ℤ) → InSome m marks b a (IsAtLeast z u) → InSome m marks a b (IsAtMost (neg_ℤ z) u)
-some_turned m u marks a b z h = (h.0, h.2, h.1, h.3, at_least_turned z u _ _ h.4)
+some_swapped : (m : MeasureName) (u : ℕ) (marks : List Mark) (a b : List ℕ) (z : ℤ) → InSome m marks b a (IsAtLeast z u) → InSome m marks a b (IsAtMost (neg_ℤ z) u)
+some_swapped m u marks a b z h = (h.0, h.2, h.1, h.3, at_least_swapped z u _ _ h.4)
 
-some_turned_back : (m : MeasureName) (u : ℕ) (marks : List Mark) (a b : List ℕ) (z : ℤ) → InSome m marks a b (IsAtMost z u) → InSome m marks b a (IsAtLeast (neg_ℤ z) u)
-some_turned_back m u marks a b z h = (h.0, h.2, h.1, h.3, at_most_turned z u _ _ h.4)
+some_swapped_back : (m : MeasureName) (u : ℕ) (marks : List Mark) (a b : List ℕ) (z : ℤ) → InSome m marks a b (IsAtMost z u) → InSome m marks b a (IsAtLeast (neg_ℤ z) u)
+some_swapped_back m u marks a b z h = (h.0, h.2, h.1, h.3, at_most_swapped z u _ _ h.4)
 
--- the ends of the greatest difference are those of the least one of the runs exchanged, negated and exchanged
+-- the ends of the greatest difference are those of the least one of the swapped runs, negated and in each other's place
 pub most_ends : (m : MeasureName) (u : ℕ) (marks : List Mark) (a b : List ℕ) (lo hi : ℤ) →
     IsGreatest (λ z. InEvery m marks b a (IsAtMost z u)) lo → IsSmallest (λ z. InSome m marks b a (IsAtLeast z u)) hi →
     IsSmallest (λ z. InEvery m marks a b (IsAtLeast z u)) (neg_ℤ lo) × IsGreatest (λ z. InSome m marks a b (IsAtMost z u)) (neg_ℤ hi)
 most_ends m u marks a b lo hi low high = (
   record {
-    so = every_turned m u marks a b lo low.so;
-    others = λ w h. turned_order w lo (low.others (neg_ℤ w) (every_turned_back m u marks a b w h));
+    so = every_swapped m u marks a b lo low.so;
+    others = λ w h. swapped_order w lo (low.others (neg_ℤ w) (every_swapped_back m u marks a b w h));
   },
   record {
-    so = some_turned m u marks a b hi high.so;
-    others = λ w h. turned_order_up w hi (high.others (neg_ℤ w) (some_turned_back m u marks a b w h));
+    so = some_swapped m u marks a b hi high.so;
+    others = λ w h. swapped_order_up w hi (high.others (neg_ℤ w) (some_swapped_back m u marks a b w h));
   },
 )
 
