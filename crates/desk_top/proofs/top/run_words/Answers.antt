@@ -1,0 +1,40 @@
+use Rattle.std.proofs.Common.{refl, ap, subst, inl}
+use Rattle.std.specs.Prelude.{map, string_bytes, Err}
+use Rattle.desk_words.specs.Words.{IsCommandOf}
+use Rattle.desk_words.specs.declared.command.Command.TheVariants.{Table, Certify, Session, Verify, Demo}
+use Rattle.desk_top.specs.Meaning.{words_meaning}
+use Rattle.desk_top.proofs.Meeting.{meets_words, meets_no_command, meets_memory, meets_usage}
+use Rattle.desk_top.proofs.top.run_words.Goals as goal
+
+pub returns-in-Err-Usage-clause-meets : goal.returns-in-Err-Usage-clause-meets
+returns-in-Err-Usage-clause-meets g c =
+    meets_no_command (map string_bytes c.args.words.now) _ _ _ _ _ _ _ (c.in-Err-Usage.ensures.usage (ap Err c.in-Err-Usage.field-0-is)) (meets_usage _ _ _ _ _ _ c.tell_usage.ensures.status refl refl c.tell_usage.ensures.line)
+
+pub returns-in-Err-Memory-clause-meets : goal.returns-in-Err-Memory-clause-meets
+returns-in-Err-Memory-clause-meets g c =
+    meets_memory (words_meaning (map string_bytes c.args.words.now)) _ _ _ _ _ _ _ c.tell_memory.ensures.status refl c.tell_memory.ensures.line (inl refl) (inl refl)
+
+pub returns-in-Table-clause-meets : goal.returns-in-Table-clause-meets
+returns-in-Table-clause-meets g c =
+    let words = map string_bytes c.args.words.now in
+    meets_words words (Table c.in-Table.job) _ _ _ _ _ _ _ (subst (IsCommandOf words) c.in-Table.is c.in-Ok.ensures.ok) c.run_table.ensures.meets
+
+pub returns-in-Certify-clause-meets : goal.returns-in-Certify-clause-meets
+returns-in-Certify-clause-meets g c =
+    let words = map string_bytes c.args.words.now in
+    meets_words words (Certify c.in-Certify.field-0) _ _ _ _ _ _ _ (subst (IsCommandOf words) c.in-Certify.is c.in-Ok.ensures.ok) (meets_usage _ _ _ _ _ _ c.tell_usage-in-Certify.ensures.status refl refl c.tell_usage-in-Certify.ensures.line)
+
+pub returns-in-Session-clause-meets : goal.returns-in-Session-clause-meets
+returns-in-Session-clause-meets g c =
+    let words = map string_bytes c.args.words.now in
+    meets_words words (Session c.in-Session.field-0) _ _ _ _ _ _ _ (subst (IsCommandOf words) c.in-Session.is c.in-Ok.ensures.ok) (meets_usage _ _ _ _ _ _ c.tell_usage-in-Session.ensures.status refl refl c.tell_usage-in-Session.ensures.line)
+
+pub returns-in-Verify-clause-meets : goal.returns-in-Verify-clause-meets
+returns-in-Verify-clause-meets g c =
+    let words = map string_bytes c.args.words.now in
+    meets_words words (Verify c.in-Verify.field-0) _ _ _ _ _ _ _ (subst (IsCommandOf words) c.in-Verify.is c.in-Ok.ensures.ok) (meets_usage _ _ _ _ _ _ c.tell_usage-in-Verify.ensures.status refl refl c.tell_usage-in-Verify.ensures.line)
+
+pub returns-clause-meets : goal.returns-clause-meets
+returns-clause-meets g c =
+    let words = map string_bytes c.args.words.now in
+    meets_words words (Demo c.in-Demo.seed) _ _ _ _ _ _ _ (subst (IsCommandOf words) c.in-Demo.is c.in-Ok.ensures.ok) (meets_usage _ _ _ _ _ _ c.tell_usage-in-Demo.ensures.status refl refl c.tell_usage-in-Demo.ensures.line)
