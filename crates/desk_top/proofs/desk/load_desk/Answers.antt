@@ -24,7 +24,7 @@ returns-in_err-runs-clause-makes g c =
     let told = g.F.Shelf.files c.args.files.now in
     let qrels = c.in_ok-qrels.qrels in
     let read : IfSome told (λ held. file_as qrels_of held job.qrels ≡ Ok qrels) = rw c.as_str.ensures at c.in_ok-qrels.ensures.gives in
-    let stops = rw (c.load_qrels.ensures.files, c.as_slice.ensures) at c.in_err-runs.ensures.gives in
+    let stops = rw (c.load_qrels.ensures.files, c.as_slice.ensures.runs) at c.in_err-runs.ensures.gives in
     makes_err told _ (g.F.Shelf.faults c.load_qrels.new.files) _ job c.from_residual-in_err-runs.result c.in_err-runs.field-0.0 (λ held. runs_of held qrels (used_by qrels) job.runs)
     (p.1 ∙ ap Err p.2) (omega (arith, c.load_qrels.ensures.later)) stops (λ files halt t stop. stops_at_runs files job qrels halt (if_some_at told (λ held. file_as qrels_of held job.qrels ≡ Ok qrels) files read t) stop)
 
@@ -35,7 +35,7 @@ returns-clause-makes g c =
     let qrels = c.in_ok-qrels.qrels in
     let runs = c.in_ok-runs.runs in
     let read : IfSome told (λ held. file_as qrels_of held job.qrels ≡ Ok qrels) = rw c.as_str.ensures at c.in_ok-qrels.ensures.gives in
-    let loaded = rw (c.load_qrels.ensures.files, c.as_slice.ensures) at c.in_ok-runs.ensures.gives in
+    let loaded = rw (c.load_qrels.ensures.files, c.as_slice.ensures.runs) at c.in_ok-runs.ensures.gives in
     makes_joined job qrels runs.items told _ _ c.join.result read loaded c.join.ensures
 
 pub returns-in_err-qrels-clause-opened : goal.returns-in_err-qrels-clause-opened
@@ -47,7 +47,7 @@ returns-in_err-runs-clause-opened g c =
     let told = g.F.Shelf.files c.args.files.now in
     let qrels = c.in_ok-qrels.qrels in
     let read : IfSome told (λ held. file_as qrels_of held job.qrels ≡ Ok qrels) = rw c.as_str.ensures at c.in_ok-qrels.ensures.gives in
-    opens_job told job qrels _ _ _ (rw c.as_str.ensures at c.load_qrels.ensures.opened) read (rw (c.load_qrels.ensures.files, c.as_slice.ensures) at c.load_runs.ensures.opened)
+    opens_job told job qrels _ _ _ (rw c.as_str.ensures at c.load_qrels.ensures.opened) read (rw (c.load_qrels.ensures.files, c.as_slice.ensures.runs) at c.load_runs.ensures.opened)
 
 pub returns-clause-opened : goal.returns-clause-opened
 returns-clause-opened g c =
@@ -55,4 +55,4 @@ returns-clause-opened g c =
     let told = g.F.Shelf.files c.args.files.now in
     let qrels = c.in_ok-qrels.qrels in
     let read : IfSome told (λ held. file_as qrels_of held job.qrels ≡ Ok qrels) = rw c.as_str.ensures at c.in_ok-qrels.ensures.gives in
-    opens_job told job qrels _ _ _ (rw c.as_str.ensures at c.load_qrels.ensures.opened) read (rw (c.load_qrels.ensures.files, c.as_slice.ensures) at c.load_runs.ensures.opened)
+    opens_job told job qrels _ _ _ (rw c.as_str.ensures at c.load_qrels.ensures.opened) read (rw (c.load_qrels.ensures.files, c.as_slice.ensures.runs) at c.load_runs.ensures.opened)
