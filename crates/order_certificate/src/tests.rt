@@ -36,7 +36,7 @@ fn what_was_read_is_written_again(rt: HostRuntime) {
 }
 
 #[test]
-fn the_first_bad_line_is_told(rt: HostRuntime) {
+fn each_fault_has_its_line(rt: HostRuntime) {
     for (text, line) in [
         (b"".as_slice(), 1),
         (
