@@ -2,7 +2,6 @@ ghost use Rattle.std.specs.Prelude.{◌≡◌, ◌≢◌, ◌<◌, length, IfOk}
 ghost use Rattle.desk_model.specs.Ranking.{IsRanking};
 ghost use Rattle.desk_model.specs.MeasureText.{IsMeasure};
 ghost use Rattle.measure_core.specs.Laws.{AreMet};
-ghost use Rattle.any_measure.specs.Built.{IsBuilt};
 
 use crate::{AnyMeasure, Common};
 use desk_model::{Mark, MeasureName, Ranking};
@@ -71,8 +70,7 @@ fn cell_once<L: Ledger>(
 
 /// Compares a measure with a row; the weight is that of the first run's first document.
 fn expect(rt: &impl Abort, alloc: Global, name: MeasureName, row: &Row<'_>) -> Result<(), Fail>
-    requires measure { IsMeasure name }
-    requires built { IsBuilt name }
+    requires { IsMeasure name }
 {
     let [one, other] = row.first;
     let [three, four] = row.second;

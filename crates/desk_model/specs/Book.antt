@@ -1,5 +1,6 @@
 -- A topic's documents, and what the judgements file says of them.
 use Rattle.std.specs.Prelude.{◌≡◌, ℕ, ◌≤◌, true, All, List, length, slice_index_or, Option, None, ℤ}
+use Rattle.desk_model.specs.Limits.{DOCUMENT_LIMIT}
 use Rattle.desk_model.specs.Name.{is_name, AreAscending}
 
 -- a topic: its name, the names of its documents, and the grade of each where the judgements file lists it
@@ -13,7 +14,7 @@ pub record IsBook (book : Book) : Type 0 where
   pub named : is_name book.name ≡ true
   pub documents : All (λ doc. is_name doc ≡ true) book.docs
   pub ascending : AreAscending book.docs
-  pub small : length book.docs ≤ 25000000
+  pub small : length book.docs ≤ DOCUMENT_LIMIT
   pub graded : length book.grades ≡ length book.docs
 
 -- the grade that the judgements file gives a document, where it lists it

@@ -1,6 +1,7 @@
 -- The desk: topics with their universes, and what each run retrieved on each topic.
 use Rattle.std.specs.Prelude.{◌≡◌, ℕ, ◌*◌, ◌/◌, ◌-◌, ◌<◌, ◌≤◌, Bool, true, All, List, [], length, map, take, slice_index_or}
 use Rattle.std.specs.List.{AllZip, IsDistinct, enumerate_from, list_any}
+use Rattle.desk_model.specs.Limits.{CELL_LIMIT, RUN_LIMIT, TOPIC_LIMIT}
 use Rattle.desk_model.specs.Name.{is_name, is_same_name, AreAscending}
 use Rattle.desk_model.specs.Book.{Book, IsBook}
 use Rattle.desk_model.specs.Ranking.{IsRanking, is_in}
@@ -27,12 +28,12 @@ pub record IsDesk (desk : Desk) : Type 0 where
   pub books : All IsBook desk.topics
   pub ascending : AreAscending (map (λ (book : Book). book.name) desk.topics)
   pub some_topic : 0 < length desk.topics
-  pub topics : length desk.topics ≤ 10000
+  pub topics : length desk.topics ≤ TOPIC_LIMIT
   pub named : All (λ run. is_name run ≡ true) desk.runs
   pub distinct : IsDistinct is_same_name desk.runs
   pub some_run : 0 < length desk.runs
-  pub runs : length desk.runs ≤ 256
-  pub cells : pair_count (length desk.runs) * length desk.topics ≤ 10000000
+  pub runs : length desk.runs ≤ RUN_LIMIT
+  pub cells : pair_count (length desk.runs) * length desk.topics ≤ CELL_LIMIT
   pub ranked : length desk.rankings ≡ length desk.runs
   pub rankings : All (AreRankingsOver desk.topics) desk.rankings
 

@@ -1,3 +1,4 @@
+pub mod Limits
 pub mod Mark
 pub mod Completion
 pub mod Ranking

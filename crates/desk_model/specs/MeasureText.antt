@@ -1,5 +1,6 @@
 -- The texts of measures.
 use Rattle.std.specs.Prelude.{◌≡◌, ◌≢◌, ℕ, ◌+◌, ◌^◌, ◌%◌, ◌<◌, ◌≤◌, List, ◌++◌, drop, replicate, length, codes, decimal}
+use Rattle.desk_model.specs.Limits.{DEPTH_LIMIT}
 use Rattle.desk_model.specs.declared.types.MeasureName.{MeasureName}
 use Rattle.desk_model.specs.declared.types.MeasureName.TheVariants.{Precision, Recall, RPrecision, Reciprocal, Biased}
 
@@ -17,7 +18,7 @@ measure_text (Biased top bottom) = codes "rbp_0." ++ persistence_digits top bott
 
 -- k is from 1 to 10,000
 abbrev pub IsDepth : ℕ → Type 0
-IsDepth k = (1 ≤ k) × (k ≤ 10000)
+IsDepth k = (1 ≤ k) × (k ≤ DEPTH_LIMIT)
 
 -- a persistence between 0 and 1 of 1 to 6 decimals, the last of which is not 0
 pub record IsPersistence (top bottom : ℕ) : Type 0 where

@@ -1,6 +1,7 @@
 -- Documents with their ranks, ascending by document.
 use Rattle.std.specs.Prelude.{◌≡◌, ℕ, ◌+◌, ◌<◌, ◌≤◌, nat_eq, if◌then◌else◌, List, [], ◌∷◌, length, Option, Some, None}
 use Rattle.std.specs.List.{AllByRecursion, IsDistinct}
+use Rattle.desk_model.specs.Limits.{RANK_LIMIT}
 use Rattle.desk_model.specs.Ranking.{rank}
 use Rattle.desk_model.specs.declared.placed.Placed.{Placed}
 
@@ -21,7 +22,7 @@ placed_from n (doc ∷ docs) = (record { doc = doc; rank = n }) ∷ placed_from 
 
 -- what a ranking keeps: its documents by rank, and the same ascending by document
 pub record KeepsPlaces (docs : List ℕ) (by_doc : List Placed) : Type 0 where
-  pub short : length docs ≤ 10000
+  pub short : length docs ≤ RANK_LIMIT
   pub distinct : IsDistinct nat_eq docs
   pub ascending : IsAscending by_doc
   pub looked_up : (doc : ℕ) → lookup by_doc doc ≡ rank docs doc

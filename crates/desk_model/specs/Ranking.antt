@@ -1,4 +1,5 @@
 -- Rankings as lists of document numbers.
+use Rattle.desk_model.specs.Limits.{RANK_LIMIT}
 use Rattle.std.specs.Prelude.{ℕ, Bool, ◌<◌, ◌≤◌, List, length, All, nat_eq, Option}
 use Rattle.std.specs.List.{IsDistinct, list_any, position_from}
 
@@ -6,7 +7,7 @@ use Rattle.std.specs.List.{IsDistinct, list_any, position_from}
 pub record IsRanking (universe : ℕ) (docs : List ℕ) : Type 0 where
   pub distinct : IsDistinct nat_eq docs
   pub within : All (λ doc. doc < universe) docs
-  pub short : length docs ≤ 10000
+  pub short : length docs ≤ RANK_LIMIT
 
 -- the rank of a document, from 1
 abbrev pub rank : List ℕ → ℕ → Option ℕ

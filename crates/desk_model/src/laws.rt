@@ -1,5 +1,6 @@
 //! Laws of completions, each the contract of a function that does nothing.
 ghost use Rattle.std.specs.Prelude.{◌≡◌, ◌↔◌, ℕ, ◌*◌, ◌<◌, ◌≤◌, true, false, All, List, length, ℤ, pos, ◌≤ℤ◌, ◌<ℤ◌};
+ghost use Rattle.desk_model.specs.Limits.{DOCUMENT_LIMIT};
 ghost use Rattle.desk_model.specs.Completion.{Completion};
 ghost use Rattle.desk_model.specs.Desk.{Desk, IsDesk, AreMarksOf, topics_under};
 ghost use Rattle.desk_model.specs.Ranking.{IsRanking};
@@ -86,7 +87,7 @@ pub fn rankings_are_over_universes()
     ensures topics { (desk : Desk) (marks : List (List Mark)) → AreMarksOf desk marks →
         length (topics_under desk marks) ≡ length desk.topics }
     ensures small { (desk : Desk) (marks : List (List Mark)) → IsDesk desk → AreMarksOf desk marks →
-        All (λ topic. length topic.marks ≤ 25000000) (topics_under desk marks) }
+        All (λ topic. length topic.marks ≤ DOCUMENT_LIMIT) (topics_under desk marks) }
     ensures rankings { (desk : Desk) (marks : List (List Mark)) (run : ℕ) → IsDesk desk → AreMarksOf desk marks →
         run < length desk.runs →
         All (λ topic. IsRanking (length topic.marks) (topic.ranking run)) (topics_under desk marks) }

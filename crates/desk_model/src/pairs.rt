@@ -7,6 +7,7 @@ pub struct PairPlaces {
 
 impl PairPlaces {
     ghost use Rattle.std.specs.Prelude.{◌≡◌, ◌+◌, ◌<◌, ◌≤◌};
+    ghost use Rattle.desk_model.specs.Limits.{RUN_LIMIT};
     ghost use Rattle.desk_model.specs.Pairs.{places_after};
 
     /// The first pair.
@@ -19,7 +20,7 @@ impl PairPlaces {
     pub fn next(self, runs: u32) -> PairPlaces
         requires order { self.first < self.second }
         requires within { self.second < runs }
-        requires few { runs ≤ 256 }
+        requires few { runs ≤ RUN_LIMIT }
         ensures { result ≡ places_after runs self }
     {
         if self.second + 1 < runs {

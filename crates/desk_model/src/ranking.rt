@@ -1,6 +1,7 @@
 ghost use Rattle.std.specs.Prelude.{◌≡◌, ℕ, ◌≤◌, length, nat_eq, IfOk, IfSome};
 ghost use Rattle.std.specs.List.{IsDistinct};
 ghost use Rattle.std.specs.List.Sorted.{IsPermutation};
+ghost use Rattle.desk_model.specs.Limits.{RANK_LIMIT};
 ghost use Rattle.desk_model.specs.Ranking.{IsRanking, rank};
 ghost use Rattle.desk_model.specs.Placed.{lookup, IsAscending, placed_from};
 
@@ -44,7 +45,7 @@ impl Ranking {
     /// The documents, the best first.
     pub fn docs(&self) -> &[u32]
         ensures docs { result.now ≡ self.now }
-        ensures short { length self.now ≤ 10000 }
+        ensures short { length self.now ≤ RANK_LIMIT }
         ensures distinct { IsDistinct nat_eq self.now }
     {
         &self.docs
@@ -72,7 +73,7 @@ impl Ranking {
 }
 
 fn placed(alloc: Global, docs: &[u32]) -> Result<Vec<Placed>, AllocError>
-    requires { length docs.now ≤ 10000 }
+    requires { length docs.now ≤ RANK_LIMIT }
     ensures { IfOk result (λ places. places.items ≡ placed_from 1 docs.now) }
 {
     let mut places = Vec::with_capacity(alloc, docs.len())?;
@@ -85,7 +86,7 @@ fn placed(alloc: Global, docs: &[u32]) -> Result<Vec<Placed>, AllocError>
 }
 
 fn by_document(alloc: Global, docs: &[u32]) -> Result<Vec<Placed>, AllocError>
-    requires short { length docs.now ≤ 10000 }
+    requires short { length docs.now ≤ RANK_LIMIT }
     requires distinct { IsDistinct nat_eq docs.now }
     ensures ascending { IfOk result (λ places. IsAscending places.items) }
     ensures moved { IfOk result (λ places. IsPermutation (placed_from 1 docs.now) places.items) }

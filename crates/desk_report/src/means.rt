@@ -1,4 +1,5 @@
 // Means with six digits after the point, rounded outward.
+ghost use Rattle.desk_model.specs.Limits.{TOPIC_LIMIT};
 ghost use Rattle.std.specs.Prelude.{◌≡◌, ◌+◌, ◌*◌, ◌<◌, ◌≤◌, ◌^◌, ◌++◌, ◌∷◌, [], drop, decimal, pos, neg_ℤ, ◌≤ℤ◌, ◌*ℤ◌, OnOk};
 ghost use Rattle.std.specs.Prelude.{unsigned_abs};
 ghost use Rattle.fractions.specs.Ends.{IsShort};
@@ -65,7 +66,7 @@ pub fn parts(unit: i128, topics: u32) -> u128
     requires unit { pos 1 ≤ℤ unit }
     requires unit_small { unit ≤ℤ pos (10 ^ 19) }
     requires topics { 1 ≤ topics }
-    requires topics_few { topics ≤ 10000 }
+    requires topics_few { topics ≤ TOPIC_LIMIT }
     ensures product { result ≡ unsigned_abs unit * topics }
     ensures some { 1 ≤ result }
     ensures small { result ≤ 10 ^ 23 }

@@ -1,6 +1,7 @@
 // The printed table.
 ghost use Rattle.std.specs.Prelude.{◌≡◌, ◌<◌, ◌≤◌, ◌^◌, ◌++◌, ◌∷◌, [], All, length, codes, decimal, pos, neg_ℤ, ◌≤ℤ◌, ◌*◌, flat_map, IfOk, OnOk};
 ghost use Rattle.std.specs.Prelude.{unsigned_abs};
+ghost use Rattle.desk_model.specs.Limits.{TOPIC_LIMIT};
 ghost use Rattle.desk_model.specs.MeasureText.{measure_text, persistence_digits};
 ghost use Rattle.desk_model.specs.Pairs.{pairs_of};
 ghost use Rattle.fractions.specs.Ends.{IsShort};
@@ -187,7 +188,7 @@ pub fn pair_line(
     requires unit { pos 1 ≤ℤ unit }
     requires unit_small { unit ≤ℤ pos (10 ^ 19) }
     requires topics { 1 ≤ topics }
-    requires topics_few { topics ≤ 10000 }
+    requires topics_few { topics ≤ TOPIC_LIMIT }
     requires totals { AreNearTotals totals.now }
     ensures { IfOk result (λ line. line.items ≡ ended (pair_line (unsigned_abs unit * topics) first.now second.now totals.now)) }
 {

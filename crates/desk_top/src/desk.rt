@@ -46,8 +46,6 @@ fn join<'a>(alloc: Global, qrels: Qrels, runs: Vec<RunRows>) -> Result<Desk, Sto
 
 /// The desk of the files of a job.
 pub fn load_desk<'a, F: Shelf>(alloc: Global, files: &mut F, job: &'a Job) -> Result<Desk, Stop<'a>>
-    requires some { 0 < length job.now.runs }
-    requires few { length job.now.runs ≤ 256 }
     ensures makes { Makes (F.files files.old) (F.faults files.old) (F.faults files.new) job.now result }
     ensures files { F.files files.new ≡ F.files files.old }
     ensures opened { Opens (JobMayOpen (F.files files.old) job.now) (F.opened files.old) (F.opened files.new) }

@@ -55,9 +55,7 @@ pub fn print_table<'a, F: Shelf, K: Sink, P: Maker, L: Ledger>(
     maker: &P,
     steps: &mut Steps<L>,
 ) -> Result<(), Stop<'a>>
-    requires some { 0 < length job.now.runs }
-    requires few { length job.now.runs ≤ 256 }
-    requires measure { IsMeasure job.now.measure }
+    requires { IsMeasure job.now.measure }
     ensures ends { Ends (shelf (F.files files.old) (F.opened files.old) (F.opened files.new) (F.faults files.old) (F.faults files.new)) job.now (sink (K.received out.old) (K.received out.new) (K.faults out.old) (K.faults out.new)) result }
     ensures opened { Opens (JobMayOpen (F.files files.old) job.now) (F.opened files.old) (F.opened files.new) }
     ensures steps { CountsSteps (F.files files.old) job.now steps.old steps.new }

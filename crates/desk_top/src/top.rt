@@ -27,9 +27,7 @@ fn run_table<F: Shelf, S: Source, K: Sink, E: Sink, P: Maker, L: Ledger>(
     maker: &P,
     steps: &mut Steps<L>,
 ) -> u8
-    requires some { 0 < length job.now.runs }
-    requires few { length job.now.runs ≤ 256 }
-    requires measure { IsMeasure job.now.measure }
+    requires { IsMeasure job.now.measure }
     ensures known { result ≤ 6 }
     ensures meets { Meets (table_meaning job.now)
         (shelf (F.files files.old) (F.opened files.old) (F.opened files.new) (F.faults files.old) (F.faults files.new))

@@ -2,6 +2,7 @@
 use Rattle.std.specs.Prelude.{◌≡◌, ℕ, ◌<◌, ◌≤◌, ◌^◌, ◌==◌, ◌&&◌, Bool, nat_lt, List, [], ◌∷◌, Option, Some, None, if◌then◌else◌, ◌⊎◌, codes, decimal, length, map}
 use Rattle.std.specs.List.{before_first, after_first, list_any}
 use Rattle.clap.specs.Words.{Text, fault_of}
+use Rattle.desk_model.specs.Limits.{RUN_LIMIT}
 use Rattle.desk_model.specs.Name.{is_name}
 use Rattle.desk_model.specs.MeasureText.{IsMeasure, IsTextOf}
 use Rattle.desk_model.specs.declared.types.MeasureName.{MeasureName}
@@ -44,7 +45,7 @@ IsLevelOf values level = ((values ≡ []) × (level ≡ 1)) ⊎ ((values ≡ dec
 pub record AreRunsOf (least : ℕ) (values : List Text) (runs : List RunWord) : Type 0 where
   pub each : map run_word_of values ≡ map Some runs
   pub enough : least ≤ length runs
-  pub few : length runs ≤ 256
+  pub few : length runs ≤ RUN_LIMIT
 
 -- the job that the words after the first say
 pub record IsJobOf (least : ℕ) (words : List Text) (job : Job) : Type 0 where

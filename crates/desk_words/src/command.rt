@@ -1,4 +1,5 @@
 //! Commands.
+ghost use Rattle.desk_model.specs.Limits.{RUN_LIMIT};
 ghost use Rattle.std.specs.Prelude.{◌≡◌, ◌<◌, ◌≤◌, length, string_bytes, vec_len};
 
 use desk_model::{MeasureName, Name};
@@ -97,20 +98,21 @@ pub struct RunWords {
 
 impl Model for RunWords {
     ghost use Rattle.std.specs.Prelude.{List, ◌<◌, ◌≤◌, length};
+    ghost use Rattle.desk_model.specs.Limits.{RUN_LIMIT};
     ghost use Rattle.desk_words.specs.declared.command.RunWord.{RunWord};
 
     ghost Value = { List RunWord };
 
     ghost view = { λ r. r.words.items };
 
-    ghost invariant = { λ r. (0 < length r.words.items) × (length r.words.items ≤ 256) };
+    ghost invariant = { λ r. (0 < length r.words.items) × (length r.words.items ≤ RUN_LIMIT) };
 }
 
 impl RunWords {
     /// These runs.
     pub fn new(words: Vec<RunWord>) -> RunWords
         requires some { 0 < vec_len words }
-        requires few { vec_len words ≤ 256 }
+        requires few { vec_len words ≤ RUN_LIMIT }
         ensures { result ≡ words.items }
     {
         RunWords { words }
@@ -120,7 +122,7 @@ impl RunWords {
     pub fn as_slice(&self) -> &[RunWord]
         ensures runs { result.now ≡ self.now }
         ensures some { 0 < length self.now }
-        ensures few { length self.now ≤ 256 }
+        ensures few { length self.now ≤ RUN_LIMIT }
     {
         self.words.as_slice()
     }

@@ -1,6 +1,7 @@
 -- What the walk through every completion says.
 use Rattle.std.specs.Prelude.{◌<◌, ◌≤◌}
 use Rattle.std.specs.Int.{int_min, int_max}
+use Rattle.desk_model.specs.Limits.{DEPTH_LIMIT, DOCUMENT_LIMIT, RANK_LIMIT}
 use Rattle.desk_model.specs.Fraction as model
 use Rattle.desk_model.specs.Extremes as extremes
 use Rattle.desk_model.specs.declared.types.MeasureName.{MeasureName}
@@ -10,8 +11,8 @@ use Rattle.every_completion.specs.declared.ends.Ends.{Ends}
 
 -- a measure that looks at no place past a run's end, with a k from 1 to 10,000 where it has one
 abbrev pub LooksAtNoTail : MeasureName → Type 0
-LooksAtNoTail (Precision k) = (1 ≤ k) × (k ≤ 10000)
-LooksAtNoTail (Recall k) = (1 ≤ k) × (k ≤ 10000)
+LooksAtNoTail (Precision k) = (1 ≤ k) × (k ≤ DEPTH_LIMIT)
+LooksAtNoTail (Recall k) = (1 ≤ k) × (k ≤ DEPTH_LIMIT)
 LooksAtNoTail RPrecision = Unit {0}
 LooksAtNoTail Reciprocal = Unit {0}
 LooksAtNoTail (Biased top bottom) = ⊥
@@ -22,9 +23,9 @@ value_of x = record { num = x.num; den = x.den }
 
 -- the sizes of a score: at most 10,000 parts, and a universe of at most 25,000,000 documents
 pub record IsSmall (x : Fraction) : Type 0 where
-  pub num : x.num ≤ 10000
+  pub num : x.num ≤ RANK_LIMIT
   pub positive : 0 < x.den
-  pub den : x.den ≤ 25000000
+  pub den : x.den ≤ DOCUMENT_LIMIT
 
 -- computed ends as whole numbers
 abbrev pub ends_of : Ends → extremes.Ends

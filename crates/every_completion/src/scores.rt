@@ -1,4 +1,5 @@
 ghost use Rattle.std.specs.Prelude.{◌≡◌, ◌^◌, ◌≤◌, ◌<◌, length, All, [], false, IfSome};
+ghost use Rattle.desk_model.specs.Limits.{DOCUMENT_LIMIT};
 ghost use Rattle.desk_model.specs.Completion.{picked_value, with_picked};
 ghost use Rattle.desk_model.specs.Ranking.{IsRanking};
 ghost use Rattle.desk_model.specs.Fraction.{over};
@@ -82,7 +83,7 @@ fn first_relevant(docs: &[u32], marks: &[Mark]) -> Option<u64>
 pub fn score_of(measure: MeasureName, docs: &[u32], marks: &[Mark]) -> Fraction
     requires measure { LooksAtNoTail measure }
     requires docs { IsRanking (length marks.now) docs.now }
-    requires universe { length marks.now ≤ 25000000 }
+    requires universe { length marks.now ≤ DOCUMENT_LIMIT }
     ensures value { value_of result ≡ score measure (length marks.now) (with_picked marks.now (λ _. false)) docs.now [] }
     ensures small { IsSmall result }
 {

@@ -1,4 +1,5 @@
 ghost use Rattle.std.specs.Prelude.{◌≡◌, ◌↔◌, ◌^◌, ◌≤◌, ◌<◌, ℕ, length, count_by, false, true, not, Err, IfOk, IfSome, IfNone, pos, neg_ℤ, ◌*ℤ◌, ◌-ℤ◌, ◌≤ℤ◌};
+ghost use Rattle.desk_model.specs.Limits.{DOCUMENT_LIMIT, PARTS_OF_ONE};
 ghost use Rattle.desk_model.specs.Mark.{is_unjudged, mark_at};
 ghost use Rattle.desk_model.specs.Ranking.{IsRanking};
 ghost use Rattle.desk_model.specs.Fraction.{IsAtMost, IsAtLeast};
@@ -50,7 +51,7 @@ fn first_unjudged(marks: &[Mark], from: usize) -> Option<usize>
 
 /// Unit times (more minus less).
 fn scaled(unit: u64, more: u64, less: u64) -> i128
-    requires unit { unit ≤ 10 ^ 18 }
+    requires unit { unit ≤ PARTS_OF_ONE }
     requires more { more ≤ 10 ^ 12 }
     requires less { less ≤ 10 ^ 12 }
     ensures value { result ≡ pos unit *ℤ (pos more -ℤ pos less) }
@@ -63,7 +64,7 @@ fn scaled(unit: u64, more: u64, less: u64) -> i128
 
 /// The floor and the ceiling of unit times (x minus y).
 fn rounded(unit: u64, x: Fraction, y: Fraction) -> (i128, i128)
-    requires unit { unit ≤ 10 ^ 18 }
+    requires unit { unit ≤ PARTS_OF_ONE }
     requires first { IsSmall x }
     requires second { IsSmall y }
     ensures low { IsGreatest (λ z. IsAtMost z unit (value_of x) (value_of y)) result.0 }
@@ -83,10 +84,10 @@ fn judged_ends(
     marks: &[Mark],
 ) -> Ends
     requires measure { LooksAtNoTail measure }
-    requires unit { unit ≤ 10 ^ 18 }
+    requires unit { unit ≤ PARTS_OF_ONE }
     requires first { IsRanking (length marks.now) first.now }
     requires second { IsRanking (length marks.now) second.now }
-    requires universe { length marks.now ≤ 25000000 }
+    requires universe { length marks.now ≤ DOCUMENT_LIMIT }
     requires judged { (doc : ℕ) → doc < length marks.now → is_unjudged (mark_at marks.now doc) ≡ false }
     ensures { AreExtremes measure unit marks.now first.now second.now (ends_of result) }
 {
@@ -111,10 +112,10 @@ fn walk(
     from: usize,
 ) -> Ends
     requires measure { LooksAtNoTail measure }
-    requires unit { unit ≤ 10 ^ 18 }
+    requires unit { unit ≤ PARTS_OF_ONE }
     requires first { IsRanking (length marks.old) first.now }
     requires second { IsRanking (length marks.old) second.now }
-    requires universe { length marks.old ≤ 25000000 }
+    requires universe { length marks.old ≤ DOCUMENT_LIMIT }
     requires from { from ≤ length marks.old }
     requires judged { (doc : ℕ) → doc < from → is_unjudged (mark_at marks.old doc) ≡ false }
     ensures same { marks.new ≡ marks.old }
@@ -145,10 +146,10 @@ pub fn extremes(
     marks: &[Mark],
 ) -> Result<Ends, EndsFault>
     requires measure { LooksAtNoTail measure }
-    requires unit { unit ≤ 10 ^ 18 }
+    requires unit { unit ≤ PARTS_OF_ONE }
     requires first { IsRanking (length marks.now) first.now }
     requires second { IsRanking (length marks.now) second.now }
-    requires universe { length marks.now ≤ 25000000 }
+    requires universe { length marks.now ≤ DOCUMENT_LIMIT }
     ensures ends { IfOk result (λ ends. AreExtremes measure unit marks.now first.now second.now (ends_of ends)) }
     ensures many { (result ≡ Err EndsFault.TooManyUnjudged) ↔ (16 < count_by is_unjudged marks.now) }
 {

@@ -1,3 +1,4 @@
+ghost use Rattle.desk_model.specs.Limits.{PARTS_OF_ONE};
 ghost use Rattle.std.specs.Prelude.{◌≡◌, ◌+◌, ◌-◌, ◌*◌, ◌/◌, ◌^◌, ◌≤◌, ◌<◌, pos, ◌*ℤ◌, ◌≤ℤ◌, Some, IfOk};
 ghost use Rattle.measure_laws.specs.Powers.{ceil_div, low_power, high_power, low_weight, high_weight};
 
@@ -41,22 +42,22 @@ impl Model for Powers {
 
 /// A part of a number of parts, rounded down.
 fn part_down(parts: u64, top: u32, bottom: u32) -> u64
-    requires parts { parts ≤ 10 ^ 18 }
+    requires parts { parts ≤ PARTS_OF_ONE }
     requires bottom { 0 < bottom }
     requires below { top ≤ bottom }
     ensures value { result ≡ parts * top / bottom }
-    ensures within { result ≤ 10 ^ 18 }
+    ensures within { result ≤ PARTS_OF_ONE }
 {
     (u128::from(parts) * u128::from(top) / u128::from(bottom)) as u64
 }
 
 /// A part of a number of parts, rounded up.
 fn part_up(parts: u64, top: u32, bottom: u32) -> u64
-    requires parts { parts ≤ 10 ^ 18 }
+    requires parts { parts ≤ PARTS_OF_ONE }
     requires bottom { 0 < bottom }
     requires below { top ≤ bottom }
     ensures value { result ≡ ceil_div (parts * top) bottom }
-    ensures within { result ≤ 10 ^ 18 }
+    ensures within { result ≤ PARTS_OF_ONE }
 {
     ((u128::from(parts) * u128::from(top) + u128::from(bottom - 1)) / u128::from(bottom)) as u64
 }
@@ -98,7 +99,7 @@ impl Powers {
     pub fn low(&self, i: u32) -> i128
         requires { i ≤ self.now.last }
         ensures value { result ≡ pos (low_power self.now.top self.now.bottom i) }
-        ensures encloses { (result *ℤ pos (self.now.bottom ^ i)) ≤ℤ pos (10 ^ 18 * self.now.top ^ i) }
+        ensures encloses { (result *ℤ pos (self.now.bottom ^ i)) ≤ℤ pos (PARTS_OF_ONE * self.now.top ^ i) }
     {
         i128::from(self.places[i as usize].low)
     }
@@ -107,7 +108,7 @@ impl Powers {
     pub fn high(&self, i: u32) -> i128
         requires { i ≤ self.now.last }
         ensures value { result ≡ pos (high_power self.now.top self.now.bottom i) }
-        ensures encloses { pos (10 ^ 18 * self.now.top ^ i) ≤ℤ (result *ℤ pos (self.now.bottom ^ i)) }
+        ensures encloses { pos (PARTS_OF_ONE * self.now.top ^ i) ≤ℤ (result *ℤ pos (self.now.bottom ^ i)) }
     {
         i128::from(self.places[i as usize].high)
     }
@@ -119,8 +120,8 @@ impl Powers {
         requires last { i ≤ self.now.last }
         ensures lo { result.lo ≡ pos (low_weight self.now.top self.now.bottom (Some i)) }
         ensures hi { result.hi ≡ pos (high_weight self.now.top self.now.bottom (Some i)) }
-        ensures encloses_lo { (result.lo *ℤ pos (self.now.bottom ^ i)) ≤ℤ pos (10 ^ 18 * ((self.now.bottom - self.now.top) * self.now.top ^ (i - 1))) }
-        ensures encloses_hi { pos (10 ^ 18 * ((self.now.bottom - self.now.top) * self.now.top ^ (i - 1))) ≤ℤ (result.hi *ℤ pos (self.now.bottom ^ i)) }
+        ensures encloses_lo { (result.lo *ℤ pos (self.now.bottom ^ i)) ≤ℤ pos (PARTS_OF_ONE * ((self.now.bottom - self.now.top) * self.now.top ^ (i - 1))) }
+        ensures encloses_hi { pos (PARTS_OF_ONE * ((self.now.bottom - self.now.top) * self.now.top ^ (i - 1))) ≤ℤ (result.hi *ℤ pos (self.now.bottom ^ i)) }
     {
         let place = self.places[i as usize - 1];
         Span {

@@ -1,3 +1,4 @@
+ghost use Rattle.desk_model.specs.Limits.{PARTS_OF_ONE};
 ghost use Rattle.std.specs.Prelude.{◌≡◌, ◌^◌, ◌≤ℤ◌, ◌<ℤ◌, ◌+ℤ◌, ◌*ℤ◌, pos, neg_ℤ};
 ghost use Rattle.fractions.specs.Ends.{IsFloor, IsCeiling, IsShort};
 
@@ -65,7 +66,7 @@ pub fn span_of(num: i128, den: i128, unit: i128) -> Span
     requires num_low { neg_ℤ (pos (10 ^ 9)) ≤ℤ num }
     requires num_high { num ≤ℤ pos (10 ^ 9) }
     requires unit { pos 1 ≤ℤ unit }
-    requires unit_small { unit ≤ℤ pos (10 ^ 18) }
+    requires unit_small { unit ≤ℤ pos PARTS_OF_ONE }
     ensures floor { IsFloor (unit *ℤ num) den result.lo }
     ensures ceiling { IsCeiling (unit *ℤ num) den result.hi }
 {

@@ -1,5 +1,6 @@
 -- What the laws of a measure say.
 use Rattle.std.specs.Prelude.{◌≡◌, ℕ, ◌^◌, ◌<◌, ◌≤◌, Bool, false, List, length, slice_index_or}
+use Rattle.desk_model.specs.Limits.{DOCUMENT_LIMIT, PARTS_OF_ONE}
 use Rattle.desk_model.specs.Ranking.{IsRanking}
 use Rattle.desk_model.specs.Completion.{Completes}
 use Rattle.desk_model.specs.Fraction.{IsAtMost, IsAtLeast}
@@ -18,13 +19,13 @@ use Rattle.measure_core.specs.declared.cell.Cell.{Cell}
 -- a ranking over the universe of the marks
 pub record IsMet (marks : List Mark) (a : List ℕ) : Type 0 where
   pub ranking : IsRanking (length marks) a
-  pub small : length marks ≤ 25000000
+  pub small : length marks ≤ DOCUMENT_LIMIT
 
 -- two rankings over the universe of the marks
 pub record AreMet (marks : List Mark) (a b : List ℕ) : Type 0 where
   pub first : IsRanking (length marks) a
   pub second : IsRanking (length marks) b
-  pub small : length marks ≤ 25000000
+  pub small : length marks ≤ DOCUMENT_LIMIT
 
 -- unit times the difference lies from the lower end of the least to the upper end of the most, in every completion
 pub record Encloses (measure : MeasureName) (marks : List Mark) (a b : List ℕ) (cell : Cell) : Type 0 where
@@ -78,8 +79,8 @@ pub record MeetsLaws (measure : MeasureName) (cell : List Mark → List ℕ → 
   pub swaps : (marks : List Mark) (a b : List ℕ) → AreMet marks a b → cell marks b a ≡ swapped_cell (cell marks a b)
   pub cell_modest : (marks : List Mark) (a b : List ℕ) → AreMet marks a b → CellIsModest (cell marks a b)
   pub bounds_modest : (marks : List Mark) (a : List ℕ) → IsMet marks a → SpanIsModest (bounds marks a)
-  pub unit_size : (1 ≤ unit_of measure) × (unit_of measure ≤ 10 ^ 18)
-  pub weight_size : (marks : List Mark) (a b : List ℕ) (doc : ℕ) → weight_of measure marks a b doc ≤ 10 ^ 18
+  pub unit_size : (1 ≤ unit_of measure) × (unit_of measure ≤ PARTS_OF_ONE)
+  pub weight_size : (marks : List Mark) (a b : List ℕ) (doc : ℕ) → weight_of measure marks a b doc ≤ PARTS_OF_ONE
   pub weight_even : (marks : List Mark) (a b : List ℕ) (doc : ℕ) → weight_of measure marks b a doc ≡ weight_of measure marks a b doc
 
 -- what is left to show of a measure: the rest of its laws follows

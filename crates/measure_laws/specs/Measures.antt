@@ -1,5 +1,6 @@
 -- The exact measures, and the units of all.
 use Rattle.std.specs.Prelude.{ℕ, ◌^◌}
+use Rattle.desk_model.specs.Limits.{PARTS_OF_ONE}
 use Rattle.desk_model.specs.declared.types.MeasureName.{MeasureName}
 use Rattle.desk_model.specs.declared.types.MeasureName.TheVariants.{Precision, Recall, RPrecision, Reciprocal, Biased}
 
@@ -14,4 +15,4 @@ IsExactMeasure (Biased top bottom) = ⊥
 -- how many units make a score of 1
 abbrev pub unit_of : MeasureName → ℕ
 unit_of (Precision k) = k
-unit_of _ = 10 ^ 18
+unit_of _ = PARTS_OF_ONE

@@ -1,6 +1,7 @@
 -- The weight of a document in a pair: how much it tells of the difference of the two runs.
 use Rattle.std.specs.Prelude.{ℕ, ◌/◌, ◌^◌, max, ◌||◌, if◌then◌else◌, List, Option, Some, None}
 use Rattle.std.specs.Int.{abs_diff}
+use Rattle.desk_model.specs.Limits.{PARTS_OF_ONE}
 use Rattle.desk_model.specs.Ranking.{rank}
 use Rattle.desk_model.specs.declared.types.Mark.{Mark}
 use Rattle.desk_model.specs.declared.types.MeasureName.{MeasureName}
@@ -16,7 +17,7 @@ one_side_weight k a b doc = if only_second k a b doc || only_second k b a doc th
 -- 10^18 over a rank, rounded down; an absent rank has none
 abbrev pub reciprocal_weight : Option ℕ → ℕ
 reciprocal_weight None = 0
-reciprocal_weight (Some rank) = 10 ^ 18 / rank
+reciprocal_weight (Some rank) = PARTS_OF_ONE / rank
 
 -- the weight of a document, by measure
 abbrev pub weight_of : MeasureName → List Mark → List ℕ → List ℕ → ℕ → ℕ

@@ -1,6 +1,7 @@
 //! Laws of the measures, each the contract of a function that does nothing.
 ghost use Rattle.std.specs.Prelude.{◌≡◌, ℕ, ℤ, ◌+◌, ◌-◌, ◌*◌, ◌^◌, ◌<◌, ◌≤◌, ◌≤ℤ◌, Bool, List, [], ◌∷◌, length, Some, None, MatchOption, pos, neg_ℤ};
 ghost use Rattle.std.specs.Int.{abs_diff};
+ghost use Rattle.desk_model.specs.Limits.{PARTS_OF_ONE};
 ghost use Rattle.desk_model.specs.Ranking.{IsRanking, rank};
 ghost use Rattle.desk_model.specs.Completion.{Completes};
 ghost use Rattle.desk_model.specs.Fraction.{IsAtMost, IsAtLeast};
@@ -60,26 +61,26 @@ pub fn ends_are_determined()
 /// The rounded powers of a persistence a / b enclose S times its power, and the rounded weights of a
 /// rank enclose S times what rank-biased precision gives it (Moffat and Zobel 2008).
 pub fn powers_enclose()
-    ensures low { (a b i : ℕ) → low_power a b i * b ^ i ≤ 10 ^ 18 * a ^ i }
-    ensures high { (a b i : ℕ) → 0 < b → 10 ^ 18 * a ^ i ≤ high_power a b i * b ^ i }
+    ensures low { (a b i : ℕ) → low_power a b i * b ^ i ≤ PARTS_OF_ONE * a ^ i }
+    ensures high { (a b i : ℕ) → 0 < b → PARTS_OF_ONE * a ^ i ≤ high_power a b i * b ^ i }
     ensures weight_low { (a b i : ℕ) → a < b → 1 ≤ i →
-        low_weight a b (Some i) * b ^ i ≤ 10 ^ 18 * ((b - a) * a ^ (i - 1)) }
+        low_weight a b (Some i) * b ^ i ≤ PARTS_OF_ONE * ((b - a) * a ^ (i - 1)) }
     ensures weight_high { (a b i : ℕ) → a < b → 1 ≤ i →
-        10 ^ 18 * ((b - a) * a ^ (i - 1)) ≤ high_weight a b (Some i) * b ^ i }
+        PARTS_OF_ONE * ((b - a) * a ^ (i - 1)) ≤ high_weight a b (Some i) * b ^ i }
 {}
 
 /// After 10^24 places less than one part of S is left.
 pub fn long_tail_leaves_little()
-    ensures { (top bottom n : ℕ) → IsPersistence top bottom → n ≡ 10 ^ 24 → 10 ^ 18 * top ^ n < bottom ^ n }
+    ensures { (top bottom n : ℕ) → IsPersistence top bottom → n ≡ 10 ^ 24 → PARTS_OF_ONE * top ^ n < bottom ^ n }
 {}
 
 /// The ends of rank-biased precision enclose S times the difference of two runs in every completion,
 /// under all tails, and the difference of the least case with its tails is at most `least_hi`.
 pub fn shares_enclose()
     ensures low { ForPersistence (λ top bottom marks a b. InEvery (Biased top bottom) marks a b
-        (IsAtMost (biased_ends top bottom marks a b).least_lo (10 ^ 18))) }
+        (IsAtMost (biased_ends top bottom marks a b).least_lo PARTS_OF_ONE)) }
     ensures high { ForPersistence (λ top bottom marks a b. InEvery (Biased top bottom) marks a b
-        (IsAtLeast (biased_ends top bottom marks a b).most_hi (10 ^ 18))) }
+        (IsAtLeast (biased_ends top bottom marks a b).most_hi PARTS_OF_ONE)) }
     ensures case { ForPersistence (λ top bottom marks a b. (tail_a tail_b : List Bool) →
         HasLeastTails (Biased top bottom) tail_a tail_b →
         let truth = least_truth (Biased top bottom) marks a b in
@@ -109,9 +110,9 @@ pub fn biased_ends_are_in_order()
 /// The sums of weights enclose S times the score of one run in every completion, under all tails.
 pub fn weights_enclose()
     ensures low { ForRun (λ top bottom marks a. InEveryScore (Biased top bottom) marks a
-        (IsAtMostScore (pos (biased_bound_lo top bottom marks a)) (10 ^ 18))) }
+        (IsAtMostScore (pos (biased_bound_lo top bottom marks a)) PARTS_OF_ONE)) }
     ensures high { ForRun (λ top bottom marks a. InEveryScore (Biased top bottom) marks a
-        (IsAtLeastScore (pos (biased_bound_hi top bottom marks a)) (10 ^ 18))) }
+        (IsAtLeastScore (pos (biased_bound_hi top bottom marks a)) PARTS_OF_ONE)) }
 {}
 
 /// The sums of shares are at most `8 * (n_a + n_b + 1)^2` apart, for rankings of n_a and n_b
@@ -122,15 +123,15 @@ pub fn shares_are_narrow()
     ensures low { ForPersistence (λ top bottom marks a b. IsModest (biased_least_lo top bottom marks a b)) }
     ensures high { ForPersistence (λ top bottom marks a b. IsModest (biased_least_hi top bottom marks a b)) }
     ensures bounds { ForRun (λ top bottom marks a.
-        (biased_bound_lo top bottom marks a ≤ 10 ^ 18) × (biased_bound_hi top bottom marks a ≤ 10 ^ 18)) }
+        (biased_bound_lo top bottom marks a ≤ PARTS_OF_ONE) × (biased_bound_hi top bottom marks a ≤ PARTS_OF_ONE)) }
 {}
 
 /// A unit is from 1 to 10^18. A weight is at most 10^18 and does not depend on the order of the runs.
 pub fn units_and_weights_are_modest()
     ensures unit { (measure : MeasureName) → IsMeasure measure →
-        (1 ≤ unit_of measure) × (unit_of measure ≤ 10 ^ 18) }
+        (1 ≤ unit_of measure) × (unit_of measure ≤ PARTS_OF_ONE) }
     ensures weight { (measure : MeasureName) (marks : List Mark) (a b : List ℕ) (doc : ℕ) →
-        IsMeasure measure → weight_of measure marks a b doc ≤ 10 ^ 18 }
+        IsMeasure measure → weight_of measure marks a b doc ≤ PARTS_OF_ONE }
     ensures even { (measure : MeasureName) (marks : List Mark) (a b : List ℕ) (doc : ℕ) →
         weight_of measure marks b a doc ≡ weight_of measure marks a b doc }
 {}
@@ -138,10 +139,10 @@ pub fn units_and_weights_are_modest()
 /// The unit of `P_k` is k, and that of the other measures is 10^18.
 pub fn units_are_known()
     ensures precision { (k : ℕ) → unit_of (Precision k) ≡ k }
-    ensures recall { (k : ℕ) → unit_of (Recall k) ≡ 10 ^ 18 }
-    ensures rprec { unit_of RPrecision ≡ 10 ^ 18 }
-    ensures reciprocal { unit_of Reciprocal ≡ 10 ^ 18 }
-    ensures biased { (top bottom : ℕ) → unit_of (Biased top bottom) ≡ 10 ^ 18 }
+    ensures recall { (k : ℕ) → unit_of (Recall k) ≡ PARTS_OF_ONE }
+    ensures rprec { unit_of RPrecision ≡ PARTS_OF_ONE }
+    ensures reciprocal { unit_of Reciprocal ≡ PARTS_OF_ONE }
+    ensures biased { (top bottom : ℕ) → unit_of (Biased top bottom) ≡ PARTS_OF_ONE }
 {}
 
 /// Under reciprocal rank the share of a document at rank r is the greatest whole number w with
@@ -149,8 +150,8 @@ pub fn units_are_known()
 /// two shares are.
 pub fn reciprocal_weight_is_known()
     ensures { (marks : List Mark) (a b : List ℕ) (doc : ℕ) → (v : ℕ) × (w : ℕ) ×
-        MatchOption (rank a doc) (v ≡ 0) (λ r. (v * r ≤ 10 ^ 18) × (10 ^ 18 < (v + 1) * r)) ×
-        MatchOption (rank b doc) (w ≡ 0) (λ r. (w * r ≤ 10 ^ 18) × (10 ^ 18 < (w + 1) * r)) ×
+        MatchOption (rank a doc) (v ≡ 0) (λ r. (v * r ≤ PARTS_OF_ONE) × (PARTS_OF_ONE < (v + 1) * r)) ×
+        MatchOption (rank b doc) (w ≡ 0) (λ r. (w * r ≤ PARTS_OF_ONE) × (PARTS_OF_ONE < (w + 1) * r)) ×
         (weight_of Reciprocal marks a b doc ≡ abs_diff v w) }
 {}
 

@@ -1,6 +1,7 @@
 -- Certificates and their text.
 use Rattle.std.specs.Prelude.{◌≡◌, ℕ, ◌<◌, ◌≤◌, ◌^◌, true, List, [], ◌∷◌, ◌++◌, All, length, map, flat_map, codes, decimal, ℤ, pos, unsigned_abs}
 use Rattle.std.specs.Fmt.{signed_decimal}
+use Rattle.desk_model.specs.Limits.{DOCUMENT_LIMIT, TOPIC_LIMIT}
 use Rattle.desk_model.specs.Name.{is_name, AreAscending}
 use Rattle.desk_model.specs.MeasureText.{IsMeasure, measure_text}
 use Rattle.desk_model.specs.declared.types.MeasureName.{MeasureName}
@@ -64,10 +65,10 @@ abbrev pub IsNumber : ℤ → Type 0
 IsNumber z = unsigned_abs z < 10 ^ 19
 
 abbrev pub IsTopicCount : ℕ → Type 0
-IsTopicCount n = (1 ≤ n) × (n ≤ 10000)
+IsTopicCount n = (1 ≤ n) × (n ≤ TOPIC_LIMIT)
 
 abbrev pub IsDocumentCount : ℕ → Type 0
-IsDocumentCount n = n ≤ 25000000
+IsDocumentCount n = n ≤ DOCUMENT_LIMIT
 
 -- different names, in ascending order
 pub record AreNames (names : List (List ℕ)) : Type 0 where

@@ -1,6 +1,7 @@
 //! The lines of a certificate, each at its place.
 ghost use Rattle.std.specs.Prelude.{true, ◌≡◌, ◌≢◌, ◌++◌, ◌∷◌, [], ◌+◌, ◌-◌, ◌<◌, ◌≤◌, ◌^◌, ◌↔◌, List, ℕ, ℤ, length, codes, decimal, Err, IsTrue, IfSome, IfNone, IfOk, pos};
 ghost use Rattle.std.specs.Fmt.{signed_decimal};
+ghost use Rattle.desk_model.specs.Limits.{DOCUMENT_LIMIT};
 ghost use Rattle.desk_model.specs.Name.{is_name};
 ghost use Rattle.desk_model.specs.MeasureText.{IsMeasure, measure_text};
 ghost use Rattle.order_certificate.specs.Certificate.{IsNumber, IsDocumentCount, low_line, low_high_line, count_line, document_line};
@@ -57,7 +58,7 @@ fn number(text: &[u8]) -> Option<i128>
 
 // The number from `least` to `most` that a text is in digits.
 fn count(text: &[u8], least: u64, most: u64) -> Option<u32>
-    requires { most ≤ 25000000 }
+    requires { most ≤ DOCUMENT_LIMIT }
     ensures some { IfSome result (λ n. text.now ≡ decimal n) }
     ensures least { IfSome result (λ n. least ≤ n) }
     ensures most { IfSome result (λ n. n ≤ most) }
@@ -137,7 +138,7 @@ fn measure_of(alloc: Global, line: &[u8]) -> Result<MeasureName, LineFault>
 
 // The number from `least` to `most` after a word.
 fn number_of(line: &[u8], word: &[u8], least: u64, most: u64) -> Result<u32, LineFault>
-    requires { most ≤ 25000000 }
+    requires { most ≤ DOCUMENT_LIMIT }
     ensures { IsPartOf (λ n. word.now ++ decimal n) (λ n. (least ≤ n) × (n ≤ most)) line.now result }
 {
     let Some(text) = after(line, word) else {
@@ -299,7 +300,7 @@ pub fn number_line(
     most: u64,
 ) -> Result<u32, LineFault>
     requires word { IsFreeOf 10 word.now }
-    requires most { most ≤ 25000000 }
+    requires most { most ≤ DOCUMENT_LIMIT }
     ensures { IsReading (number_place word.now (λ n. (least ≤ n) × (n ≤ most))) lines.old.rest result lines.new }
 {
     match lines.next_line() {

@@ -1,6 +1,7 @@
 -- What a table keeps.
 use Rattle.std.specs.Prelude.{◌≡◌, ℕ, ◌*◌, ◌^◌, ◌≤◌, List, All, length, map, take, ◌⊎◌, ℤ, pos, neg_ℤ, ◌≤ℤ◌}
 use Rattle.std.specs.List.{Contains, zip}
+use Rattle.desk_model.specs.Limits.{PARTS_OF_ONE, RUN_LIMIT}
 use Rattle.desk_model.specs.Pairs.{pairs_of}
 use Rattle.desk_model.specs.Verdict.{verdict}
 use Rattle.desk_model.specs.Order.{Topic}
@@ -30,7 +31,7 @@ AreModestTotals t = IsNear t.least_lo × IsNear t.least_hi × IsNear t.most_lo �
 
 -- within so many times 2*10^18 of 0
 abbrev pub IsAtMostInSize : ℕ → ℤ → Type 0
-IsAtMostInSize n z = (neg_ℤ (pos (n * (2 * 10 ^ 18))) ≤ℤ z) × (z ≤ℤ pos (n * (2 * 10 ^ 18)))
+IsAtMostInSize n z = (neg_ℤ (pos (n * (2 * PARTS_OF_ONE))) ≤ℤ z) × (z ≤ℤ pos (n * (2 * PARTS_OF_ONE)))
 
 -- all four sums are within so many times 2*10^18 of 0
 abbrev pub AreWithin : ℕ → Totals → Type 0
@@ -43,7 +44,7 @@ pub record AreSumsTo (cell : List Mark → List ℕ → List ℕ → Cell) (topi
 
 -- sums for each pair, a verdict for each sums, and bounds for each run
 pub record IsKeptTable (runs : ℕ) (totals : List Totals) (verdicts : List Verdict) (bounds : List Span) : Type 0 where
-  pub few : runs ≤ 256
+  pub few : runs ≤ RUN_LIMIT
   pub each_pair : length totals ≡ length (pairs_of (run_numbers runs))
   pub each_run : length bounds ≡ runs
   pub each_verdict : verdicts ≡ map verdict totals

@@ -1,4 +1,5 @@
 ghost use Rattle.std.specs.Prelude.{◌≡◌, ◌≢◌, ◌+◌, ◌*◌, ◌<◌, ◌≤◌, All, [], length, map, slice_get, Some, IfOk, OnOk, OnErr};
+ghost use Rattle.desk_model.specs.Limits.{RUN_LIMIT};
 ghost use Rattle.desk_model.specs.Desk.{AreMarksOf, topics_under, pair_count};
 ghost use Rattle.desk_model.specs.Pairs.{pairs_of};
 ghost use Rattle.desk_model.specs.Verdict.{totals_of, verdict};
@@ -50,7 +51,7 @@ const NO_BOUNDS: Span = Span { lo: 0, hi: 0 };
 
 /// The number of a pair among so many runs, the first before the second, from 0.
 fn pair_number(runs: u32, first: u32, second: u32) -> u32
-    requires few { runs ≤ 256 }
+    requires few { runs ≤ RUN_LIMIT }
     requires order { first < second }
     requires within { second < runs }
     ensures { slice_get (pairs_of (run_numbers runs)) result ≡ Some (first, second) }

@@ -1,4 +1,5 @@
 ghost use Rattle.std.specs.Prelude.{◌≡◌, ◌≤◌, length, IfOk};
+ghost use Rattle.desk_model.specs.Limits.{DEPTH_LIMIT, DOCUMENT_LIMIT};
 ghost use Rattle.desk_model.specs.Completion.{with_picked};
 ghost use Rattle.desk_model.specs.Ranking.{IsRanking};
 ghost use Rattle.desk_model.specs.Extremes.{AreExtremes, AreBounds};
@@ -25,19 +26,20 @@ pub struct Precision {
 
 impl Model for Precision {
     ghost use Rattle.std.specs.Prelude.{ℕ, ◌≤◌};
+    ghost use Rattle.desk_model.specs.Limits.{DEPTH_LIMIT};
 
     ghost Value = { ℕ };
 
     ghost view = { λ p. p.k };
 
-    ghost invariant = { λ p. (1 ≤ p.k) × (p.k ≤ 10000) };
+    ghost invariant = { λ p. (1 ≤ p.k) × (p.k ≤ DEPTH_LIMIT) };
 }
 
 impl Precision {
     /// The measure `P_k`, whose cells and bounds are the floors and ceilings of the extremes.
     pub fn new(k: u32) -> Precision
         requires positive { 1 ≤ k }
-        requires limited { k ≤ 10000 }
+        requires limited { k ≤ DEPTH_LIMIT }
         ensures depth { result ≡ k }
         ensures made { IsMadeFor (P k) (⟦<Precision as Measure>⟧.measured result) (⟦<Precision as Measure>⟧.cell_of result) (⟦<Precision as Measure>⟧.bounds_of result) }
     {
@@ -89,7 +91,7 @@ fn least_values(
     second: &Ranking,
     marks: &[Mark],
 ) -> Result<Vec<bool>, Memory>
-    requires { length marks.now ≤ 25000000 }
+    requires { length marks.now ≤ DOCUMENT_LIMIT }
     ensures { IfOk result (λ values. AreValues (with_picked marks.now (only_second k first.now second.now)) (length marks.now) values.items) }
 {
     let mut values = Vec::new(alloc);

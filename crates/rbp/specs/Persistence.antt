@@ -1,5 +1,6 @@
 -- The persistence of a measure, and the terms of its sums.
 use Rattle.std.specs.Prelude.{◌≡◌, ℕ, ◌<◌, ◌^◌, pos, neg_ℤ, ◌≤ℤ◌}
+use Rattle.desk_model.specs.Limits.{RANK_LIMIT}
 use Rattle.desk_model.specs.MeasureText.{IsPersistence}
 use Rattle.fractions.specs.Places.{Known}
 use Rattle.fractions.specs.declared.span.Span.{Span}
@@ -15,7 +16,7 @@ pub record AreKnownPowers (top bottom : ℕ) (known : Known) : Type 0 where
   pub below : top < bottom
   pub top_is : known.top ≡ top
   pub bottom_is : known.bottom ≡ bottom
-  pub last_is : known.last ≡ 10000
+  pub last_is : known.last ≡ RANK_LIMIT
 
 -- from -10^27 to 10^27
 abbrev pub IsLoose : Span → Type 0

@@ -7,6 +7,7 @@ ghost use Rattle.rbp.specs.Persistence.{IsLoose};
 ghost use Rattle.rbp.specs.Walk.{number_of, correction, correction_sum, is_in_least, is_in_most};
 ghost use Rattle.measure_core.specs.Laws.{AreMet, AreValues};
 ghost use Rattle.measure_core.specs.Made.{IsMadeFor};
+ghost use Rattle.desk_model.specs.Limits.{PARTS_OF_ONE, RANK_LIMIT};
 ghost use Rattle.desk_model.specs.MeasureText.{IsPersistence};
 ghost use Rattle.desk_model.specs.declared.types.MeasureName.TheVariants.{Biased as B};
 
@@ -154,7 +155,7 @@ fn is_before(x: Option<u32>, y: Option<u32>) -> bool
 
 /// How many documents a run ranks.
 fn ranks_of(run: &Ranking) -> u32
-    requires { length run.now ≤ 10000 }
+    requires { length run.now ≤ RANK_LIMIT }
     ensures { result ≡ length run.now }
 {
     run.docs().len() as u32
@@ -194,11 +195,11 @@ impl Rbp {
 
     /// The weight of a rank, and none of an absent one.
     fn weight_at(&self, rank: Option<u32>) -> Span
-        requires { IsRankWithin 10000 rank }
+        requires { IsRankWithin RANK_LIMIT rank }
         ensures lo { result.lo ≡ pos (low_weight self.now.top self.now.bottom rank) }
         ensures hi { result.hi ≡ pos (high_weight self.now.top self.now.bottom rank) }
-        ensures lo_small { result.lo ≤ℤ pos (10 ^ 18) }
-        ensures hi_small { result.hi ≤ℤ pos (10 ^ 18) }
+        ensures lo_small { result.lo ≤ℤ pos PARTS_OF_ONE }
+        ensures hi_small { result.hi ≤ℤ pos PARTS_OF_ONE }
     {
         match rank {
             None => Span { lo: 0, hi: 0 },
@@ -209,7 +210,7 @@ impl Rbp {
     /// The weight of a rank as two numbers of parts of 10^18.
     #[inline]
     fn parts_at(&self, rank: u32) -> Parts
-        requires { IsRankWithin 10000 (Some rank) }
+        requires { IsRankWithin RANK_LIMIT (Some rank) }
         ensures low { result.low ≡ low_weight self.now.top self.now.bottom (Some rank) }
         ensures high { result.high ≡ high_weight self.now.top self.now.bottom (Some rank) }
     {
@@ -223,7 +224,7 @@ impl Rbp {
     /// The sums of the weights of a run's documents.
     fn weights(&self, marks: &[Mark], docs: &[u32]) -> Weights
         requires known { All (λ doc. doc < length marks.now) docs.now }
-        requires few { length docs.now ≤ 10000 }
+        requires few { length docs.now ≤ RANK_LIMIT }
         ensures relevant_lo { result.relevant.lo ≡ pos (low_worth self.now.top self.now.bottom false marks.now docs.now) }
         ensures relevant_hi { result.relevant.hi ≡ pos (high_worth self.now.top self.now.bottom false marks.now docs.now) }
         ensures possible_lo { result.possible.lo ≡ pos (low_worth self.now.top self.now.bottom true marks.now docs.now) }
@@ -251,8 +252,8 @@ impl Rbp {
     /// What a document with these two ranks adds to the difference.
     #[inline]
     fn share(&self, x: u32, y: u32) -> Span
-        requires first { IsRankWithin 10000 (Some x) }
-        requires second { IsRankWithin 10000 (Some y) }
+        requires first { IsRankWithin RANK_LIMIT (Some x) }
+        requires second { IsRankWithin RANK_LIMIT (Some y) }
         ensures lo { result.lo ≡ low_share self.now.top self.now.bottom (Some x) (Some y) }
         ensures hi { result.hi ≡ high_share self.now.top self.now.bottom (Some x) (Some y) }
         ensures loose { IsLoose result }
@@ -270,8 +271,8 @@ impl Rbp {
     /// ranks alone.
     #[inline]
     fn correction(&self, x: u32, y: u32, mark: Mark) -> Shares
-        requires first { IsRankWithin 10000 (Some x) }
-        requires second { IsRankWithin 10000 (Some y) }
+        requires first { IsRankWithin RANK_LIMIT (Some x) }
+        requires second { IsRankWithin RANK_LIMIT (Some y) }
         ensures least_lo { result.least.lo ≡ correction (low_share self.now.top self.now.bottom) is_in_least mark (Some x) (Some y) }
         ensures least_hi { result.least.hi ≡ correction (high_share self.now.top self.now.bottom) is_in_least mark (Some x) (Some y) }
         ensures most_lo { result.most.lo ≡ correction (low_share self.now.top self.now.bottom) is_in_most mark (Some x) (Some y) }
@@ -304,8 +305,8 @@ impl Rbp {
     /// The sums of corrections with those of two places, where they are of one document.
     #[inline]
     fn with_places(&self, sums: Shares, x: Placed, y: Placed, mark: Mark) -> Shares
-        requires first { IsRankWithin 10000 (Some x.rank) }
-        requires second { IsRankWithin 10000 (Some y.rank) }
+        requires first { IsRankWithin RANK_LIMIT (Some x.rank) }
+        requires second { IsRankWithin RANK_LIMIT (Some y.rank) }
         requires least { IsLoose sums.least }
         requires most { IsLoose sums.most }
         ensures least_lo { result.least.lo ≡ sums.least.lo +ℤ (if nat_eq x.doc y.doc then correction (low_share self.now.top self.now.bottom) is_in_least mark (Some x.rank) (Some y.rank) else pos 0) }
@@ -378,18 +379,18 @@ impl Rbp {
     }
     /// 10^18 times what a tail after so many ranks adds at most.
     fn tail_most(&self, ranks: u32) -> i128
-        requires { ranks ≤ 10000 }
+        requires { ranks ≤ RANK_LIMIT }
         ensures value { result ≡ pos (high_power self.now.top self.now.bottom ranks) }
-        ensures small { result ≤ℤ pos (10 ^ 18) }
+        ensures small { result ≤ℤ pos PARTS_OF_ONE }
     {
         self.powers.high(ranks)
     }
 
     /// 10^18 times what 10^24 relevant places after so many ranks add at least.
     fn tail_least(&self, ranks: u32) -> i128
-        requires { ranks ≤ 10000 }
+        requires { ranks ≤ RANK_LIMIT }
         ensures value { result ≡ pos (low_power self.now.top self.now.bottom ranks - 1) }
-        ensures small { result ≤ℤ pos (10 ^ 18) }
+        ensures small { result ≤ℤ pos PARTS_OF_ONE }
     {
         let kept = self.powers.low(ranks);
         if kept > 0 { kept - 1 } else { 0 }
@@ -399,7 +400,7 @@ impl Rbp {
     /// second run has.
     fn less_tail(&self, shares: Span, ranks: u32) -> Span
         requires shares { IsLoose shares }
-        requires ranks { ranks ≤ 10000 }
+        requires ranks { ranks ≤ RANK_LIMIT }
         ensures lo { result.lo ≡ shares.lo -ℤ pos (high_power self.now.top self.now.bottom ranks) }
         ensures hi { result.hi ≡ shares.hi -ℤ pos (low_power self.now.top self.now.bottom ranks - 1) }
         ensures short { IsShort result }

@@ -1,4 +1,5 @@
 ghost use Rattle.std.specs.Prelude.{◌≡◌, ℕ, ◌+◌, ◌≤◌, max, nat_lt, List, length, IfOk};
+ghost use Rattle.desk_model.specs.Limits.{DEPTH_LIMIT, DOCUMENT_LIMIT, RANK_LIMIT};
 ghost use Rattle.desk_model.specs.Completion.{with_picked};
 ghost use Rattle.desk_model.specs.Score.{true_among};
 ghost use Rattle.desk_model.specs.declared.types.Mark.{Mark as M};
@@ -30,19 +31,20 @@ pub struct Recall {
 
 impl Model for Recall {
     ghost use Rattle.std.specs.Prelude.{ℕ, ◌≤◌};
+    ghost use Rattle.desk_model.specs.Limits.{DEPTH_LIMIT};
 
     ghost Value = { ℕ };
 
     ghost view = { λ r. r.k };
 
-    ghost invariant = { λ r. (1 ≤ r.k) × (r.k ≤ 10000) };
+    ghost invariant = { λ r. (1 ≤ r.k) × (r.k ≤ DEPTH_LIMIT) };
 }
 
 impl Recall {
     /// The measure `recall_k`, whose cells and bounds are the floors and ceilings of the extremes.
     pub fn new(k: u32) -> Recall
         requires positive { 1 ≤ k }
-        requires limited { k ≤ 10000 }
+        requires limited { k ≤ DEPTH_LIMIT }
         ensures depth { result ≡ k }
         ensures made { IsMadeFor (R k) (⟦<Recall as Measure>⟧.measured result) (⟦<Recall as Measure>⟧.cell_of result) (⟦<Recall as Measure>⟧.bounds_of result) }
     {
@@ -52,8 +54,8 @@ impl Recall {
 
 /// The number of relevant documents of the least case, or 1 where there is none.
 fn relevant_documents(first: Counts, second: Counts, all: Counts) -> u32
-    requires second { second.relevant + second.unjudged ≤ 10000 }
-    requires all { all.relevant + all.unjudged ≤ 25000000 }
+    requires second { second.relevant + second.unjudged ≤ RANK_LIMIT }
+    requires all { all.relevant + all.unjudged ≤ DOCUMENT_LIMIT }
     requires within { first.relevant + first.unjudged ≤ all.relevant + all.unjudged }
     ensures value { result ≡ max 1 (least_relevant first second all) }
     ensures few { result ≤ 25010000 }
@@ -68,9 +70,9 @@ fn relevant_documents(first: Counts, second: Counts, all: Counts) -> u32
 /// The ends of the least difference, in units, from the counts of the documents that one run alone
 /// has among its first k, of those that the other has, and of all documents.
 fn least_span(first: Counts, second: Counts, all: Counts) -> Span
-    requires first { first.relevant + first.unjudged ≤ 10000 }
-    requires second { second.relevant + second.unjudged ≤ 10000 }
-    requires all { all.relevant + all.unjudged ≤ 25000000 }
+    requires first { first.relevant + first.unjudged ≤ RANK_LIMIT }
+    requires second { second.relevant + second.unjudged ≤ RANK_LIMIT }
+    requires all { all.relevant + all.unjudged ≤ DOCUMENT_LIMIT }
     requires within { first.relevant + first.unjudged ≤ all.relevant + all.unjudged }
     ensures { (k : ℕ) (marks : List M) (a b : List ℕ) → AreCounts k marks a b first second all → result ≡ exact_least (R k) marks a b }
 {
@@ -111,7 +113,7 @@ fn values(
     b: &Ranking,
     marks: &[Mark],
 ) -> Result<Vec<bool>, Memory>
-    requires { length marks.now ≤ 25000000 }
+    requires { length marks.now ≤ DOCUMENT_LIMIT }
     ensures { IfOk result (λ values. AreValues (with_picked marks.now (picked_where leads k a.now b.now)) (length marks.now) values.items) }
 {
     let mut values = Vec::new(alloc);

@@ -1,4 +1,5 @@
 ghost use Rattle.std.specs.Prelude.{◌≡◌, ◌^◌, ◌≤◌, ◌<◌, length, All};
+ghost use Rattle.desk_model.specs.Limits.{PARTS_OF_ONE, RANK_LIMIT};
 ghost use Rattle.desk_model.specs.Completion.{with_picked};
 ghost use Rattle.measure_laws.specs.Ranks.{IsRankWithin, earlier};
 ghost use Rattle.measure_laws.specs.Differences.{is_smaller};
@@ -36,12 +37,12 @@ struct Part {
 }
 
 fn part_of(rank: Option<u32>) -> Part
-    requires { IsRankWithin 10000 rank }
+    requires { IsRankWithin RANK_LIMIT rank }
     ensures num { result.num ≡ (reciprocal rank).num }
     ensures den { result.den ≡ (reciprocal rank).den }
     ensures num_small { result.num ≤ 1 }
     ensures positive { 1 ≤ result.den }
-    ensures den_small { result.den ≤ 10000 }
+    ensures den_small { result.den ≤ RANK_LIMIT }
 {
     match rank {
         None => Part { num: 0, den: 1 },
@@ -66,9 +67,9 @@ fn earlier_of(x: Option<u32>, y: Option<u32>) -> Option<u32>
 /// The rank of the first relevant document, where all the unjudged ones are relevant or none is.
 pub fn first_rank(picked: bool, docs: &[u32], marks: &[Mark]) -> Option<u32>
     requires known { All (λ doc. doc < length marks.now) docs.now }
-    requires few { length docs.now ≤ 10000 }
+    requires few { length docs.now ≤ RANK_LIMIT }
     ensures first { result ≡ first_true (with_picked marks.now (λ _. picked)) docs.now }
-    ensures within { IsRankWithin 10000 result }
+    ensures within { IsRankWithin RANK_LIMIT result }
 {
     for (place, doc) in docs.iter().enumerate() {
         if is_true(picked, marks[*doc as usize]) {
@@ -80,9 +81,9 @@ pub fn first_rank(picked: bool, docs: &[u32], marks: &[Mark]) -> Option<u32>
 
 /// The ends of the difference of the scores, in parts of 10^18.
 pub fn span(firsts: Firsts) -> Span
-    requires first { IsRankWithin 10000 firsts.first }
-    requires second { IsRankWithin 10000 firsts.second }
-    ensures span { result ≡ difference_span (10 ^ 18) (reciprocal firsts.first) (reciprocal firsts.second) }
+    requires first { IsRankWithin RANK_LIMIT firsts.first }
+    requires second { IsRankWithin RANK_LIMIT firsts.second }
+    ensures span { result ≡ difference_span PARTS_OF_ONE (reciprocal firsts.first) (reciprocal firsts.second) }
     ensures short { IsShort result }
 {
     let x = part_of(firsts.first);
@@ -96,10 +97,10 @@ pub fn span(firsts: Firsts) -> Span
 
 /// Whether the difference of some scores is smaller than that of others.
 fn is_less(s: Firsts, t: Firsts) -> bool
-    requires s_first { IsRankWithin 10000 s.first }
-    requires s_second { IsRankWithin 10000 s.second }
-    requires t_first { IsRankWithin 10000 t.first }
-    requires t_second { IsRankWithin 10000 t.second }
+    requires s_first { IsRankWithin RANK_LIMIT s.first }
+    requires s_second { IsRankWithin RANK_LIMIT s.second }
+    requires t_first { IsRankWithin RANK_LIMIT t.first }
+    requires t_second { IsRankWithin RANK_LIMIT t.second }
     ensures { result ≡ is_smaller (scores_at s.first s.second) (scores_at t.first t.second) }
 {
     let a = part_of(s.first);

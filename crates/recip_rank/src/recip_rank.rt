@@ -1,4 +1,5 @@
 ghost use Rattle.std.specs.Prelude.{◌≡◌, ◌≤◌, length, IfOk};
+ghost use Rattle.desk_model.specs.Limits.{DOCUMENT_LIMIT, RANK_LIMIT};
 ghost use Rattle.desk_model.specs.declared.types.MeasureName.TheVariants.{Reciprocal as R};
 ghost use Rattle.measure_laws.specs.Ranks.{IsRankWithin};
 ghost use Rattle.measure_laws.specs.ReciprocalCase.{is_choice, with_choice};
@@ -44,7 +45,7 @@ fn least_span(a: &Ranking, b: &Ranking, marks: &[Mark]) -> Span
 
 /// One unit over a rank, rounded down; nothing for an absent one.
 fn worth(rank: Option<u32>) -> u128
-    requires { IsRankWithin 10000 rank }
+    requires { IsRankWithin RANK_LIMIT rank }
     ensures { result ≡ reciprocal_weight rank }
 {
     match rank {
@@ -65,7 +66,7 @@ fn is_chosen(choice: Option<u32>, doc: u32) -> bool
 
 /// Whether each document is relevant, where of the unjudged ones the chosen one alone is.
 fn values(alloc: Global, choice: Option<u32>, marks: &[Mark]) -> Result<Vec<bool>, Memory>
-    requires { length marks.now ≤ 25000000 }
+    requires { length marks.now ≤ DOCUMENT_LIMIT }
     ensures { IfOk result (λ values. AreValues (with_choice marks.now choice) (length marks.now) values.items) }
 {
     let mut values = Vec::new(alloc);

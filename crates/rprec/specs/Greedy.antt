@@ -1,6 +1,7 @@
 -- The greedy choices of R-precision in counts of documents.
 use Rattle.std.specs.Prelude.{nat_eq, take, ◌≡◌, ℕ, ◌+◌, ◌-◌, ◌*◌, ◌<◌, ◌≤◌, min, max, nat_lt, Bool, true, false, if◌then◌else◌, List, length, slice_index}
 use Rattle.std.specs.List.{IsDistinct}
+use Rattle.desk_model.specs.Limits.{DOCUMENT_LIMIT, RANK_LIMIT}
 use Rattle.desk_model.specs.Mark.{mark_at}
 use Rattle.desk_model.specs.Classes.{only_count}
 use Rattle.desk_model.specs.Completion.{picked_value}
@@ -37,7 +38,7 @@ pub record AreNext (marks : List Mark) (docs : List ℕ) (place : ℕ) (counts :
 
 -- the counts of two lists up to a place, those of the documents there, and how many unjudged ones of these the other list has by then: the second at an earlier place, the first at no later one
 pub record AreBefore (marks : List Mark) (xs ys : List ℕ) (place : ℕ) (prefixes : Prefixes) (one two : Counts) (both : ℕ) : Type 0 where
-  pub short : place < 10000
+  pub short : place < RANK_LIMIT
   pub first_distinct : IsDistinct nat_eq xs
   pub second_distinct : IsDistinct nat_eq ys
   pub counts : ArePrefixes marks (take place xs) (take place ys) prefixes
@@ -76,16 +77,16 @@ candidate prefixes all chosen = record {
 
 -- counts that are no more than a run and a topic have
 pub record AreFew (prefixes : Prefixes) (all : Counts) : Type 0 where
-  pub first : prefixes.first.relevant + prefixes.first.unjudged ≤ 10000
-  pub second : prefixes.second.relevant + prefixes.second.unjudged ≤ 10000
+  pub first : prefixes.first.relevant + prefixes.first.unjudged ≤ RANK_LIMIT
+  pub second : prefixes.second.relevant + prefixes.second.unjudged ≤ RANK_LIMIT
   pub within : prefixes.first.unjudged + prefixes.second.unjudged ≤ all.unjudged
-  pub total : all.relevant + all.unjudged ≤ 25000000
+  pub total : all.relevant + all.unjudged ≤ DOCUMENT_LIMIT
 
 -- a candidate with no more than a run and a topic have
 pub record IsSmall (c : Candidate) : Type 0 where
-  pub few : c.count ≤ 25000000
-  pub first_few : c.first ≤ 10000
-  pub second_few : c.second ≤ 10000
+  pub few : c.count ≤ DOCUMENT_LIMIT
+  pub first_few : c.first ≤ RANK_LIMIT
+  pub second_few : c.second ≤ RANK_LIMIT
 
 -- the best so far, against the choices where the second run's own unjudged documents are used up, and all but the first run's own
 abbrev pub best_beyond : Prefixes → Counts → ℕ → Candidate → Candidate

@@ -1,4 +1,5 @@
 -- The search for the best of many greedy choices.
+use Rattle.desk_model.specs.Limits.{RANK_LIMIT}
 use Rattle.std.specs.Prelude.{◌≡◌, ℕ, ◌+◌, ◌<◌, ◌≤◌, ◌&&◌, ◌||◌, ◌⊎◌, Bool, false, not, nat_lt, if◌then◌else◌, slice_index_or}
 use Rattle.topic_counts.specs.declared.counts.Counts.{Counts}
 use Rattle.rprec.specs.declared.depths.Column.{Column}
@@ -28,9 +29,9 @@ preferred c best = if precedes c best then c else best
 
 -- a candidate of no more documents than a run has
 pub record IsNear (c : Candidate) : Type 0 where
-  pub few : c.count ≤ 10000
-  pub first_few : c.first ≤ 10000
-  pub second_few : c.second ≤ 10000
+  pub few : c.count ≤ RANK_LIMIT
+  pub first_few : c.first ≤ RANK_LIMIT
+  pub second_few : c.second ≤ RANK_LIMIT
 
 -- so many choices that the topic has
 pub record AreChoices (first second : Column) (all : Counts) (chosen count : ℕ) : Type 0 where

@@ -1,6 +1,7 @@
 -- A walk over the documents of two runs, each ascending by document.
 use Rattle.std.specs.Prelude.{◌≡◌, ℕ, ◌+◌, ◌<◌, ◌≤◌, ◌&&◌, ◌⊎◌, Bool, true, false, not, nat_eq, nat_lt, if◌then◌else◌, All, List, [], length, take, slice_index, slice_index_or, Option, Some, None}
 use Rattle.std.specs.List.{IsDistinct}
+use Rattle.desk_model.specs.Limits.{RANK_LIMIT}
 use Rattle.desk_model.specs.Placed.{lookup, IsAscending}
 use Rattle.desk_model.specs.Ranking.{is_in, rank}
 use Rattle.desk_model.specs.Mark.{is_unjudged, mark_at}
@@ -24,8 +25,8 @@ pub record AreWalked (elsewhere : ℕ → Bool) (xs ys : List ℕ) (depth : ℕ 
 
 -- how far a walk over the documents of one part of two lists has come: its places left, and the flags so far
 pub record IsWalk (part elsewhere : ℕ → Bool) (xs ys : List ℕ) (es fs : List Placed) (in_second in_first : List Bool) : Type 0 where
-  pub first_short : length xs ≤ 10000
-  pub second_short : length ys ≤ 10000
+  pub first_short : length xs ≤ RANK_LIMIT
+  pub second_short : length ys ≤ RANK_LIMIT
   pub first_distinct : IsDistinct nat_eq xs
   pub second_distinct : IsDistinct nat_eq ys
   pub first_ascends : IsAscending es
@@ -42,7 +43,7 @@ flagged_at marks docs flags place = if (nat_lt place (length docs) && slice_inde
 
 -- for each place of two lists, how many unjudged documents are flagged there
 pub record AreCounted (marks : List Mark) (xs ys : List ℕ) (in_second in_first : List Bool) (counts : List ℕ) : Type 0 where
-  pub long : length counts ≡ 10000
+  pub long : length counts ≡ RANK_LIMIT
   pub known : All (λ doc. doc < length marks) xs
   pub each : (place : ℕ) → slice_index_or counts place 0 ≡ flagged_at marks xs in_second place + flagged_at marks ys in_first place
 

@@ -1,4 +1,5 @@
 ghost use Rattle.std.specs.Prelude.{◌≡◌, ◌≢◌, ℕ, ◌+◌, ◌<◌, ◌≤◌, length, take};
+ghost use Rattle.desk_model.specs.Limits.{RANK_LIMIT};
 ghost use Rattle.desk_model.specs.Ranking.{IsRanking};
 ghost use Rattle.rprec.specs.Greedy.{ArePrefixes};
 ghost use Rattle.rprec.specs.Search.{counts_at as counts_of, prefixes_at};
@@ -89,7 +90,7 @@ impl Depths {
         requires b { IsRanking (length marks.now) b.now }
         requires shared { AreShared marks.now a.now b.now shared.now.counts }
         requires few { count ≤ 1024 }
-        requires depth { depth + count ≤ 10000 }
+        requires depth { depth + count ≤ RANK_LIMIT }
         requires first { depth + count ≤ length a.now }
         requires second { depth + count ≤ length b.now }
         ensures each { (place : ℕ) → place < count → ArePrefixes marks.now (take (depth + place + 1) a.now) (take (depth + place + 1) b.now) (prefixes_at self.new.first self.new.second place) }
@@ -123,7 +124,7 @@ impl Depths {
         requires b { IsRanking (length marks.now) b.now }
         requires shared { AreShared marks.now a.now b.now shared.now.counts }
         requires few { count ≤ 1024 }
-        requires depth { depth + count ≤ 10000 }
+        requires depth { depth + count ≤ RANK_LIMIT }
         ensures each { (place : ℕ) → place < count → ArePrefixes marks.now (take (depth + place + 1) a.now) (take (depth + place + 1) b.now) (prefixes_at self.new.first self.new.second place) }
         ensures last { ArePrefixes marks.now (take (depth + count) a.now) (take (depth + count) b.now) result }
     {
@@ -155,7 +156,7 @@ impl Depths {
         requires b { IsRanking (length marks.now) b.now }
         requires shared { AreShared marks.now a.now b.now shared.now.counts }
         requires few { count ≤ 1024 }
-        requires depth { depth + count ≤ 10000 }
+        requires depth { depth + count ≤ RANK_LIMIT }
         ensures each { (place : ℕ) → place < count → ArePrefixes marks.now (take (depth + place + 1) a.now) (take (depth + place + 1) b.now) (prefixes_at self.new.first self.new.second place) }
         ensures last { ArePrefixes marks.now (take (depth + count) a.now) (take (depth + count) b.now) result }
     {

@@ -1,4 +1,5 @@
 ghost use Rattle.std.specs.Prelude.{◌≡◌, ◌+◌, ◌<◌, ◌≤◌, length, take};
+ghost use Rattle.desk_model.specs.Limits.{DOCUMENT_LIMIT, RANK_LIMIT};
 ghost use Rattle.desk_model.specs.Ranking.{IsRanking};
 ghost use Rattle.measure_laws.specs.RprecCase.{IsSmallestAttained};
 ghost use Rattle.rprec.specs.Greedy.{ArePrefixes, AreFew, AreTopic, IsLeast, IsSmall, candidate, swapped};
@@ -23,12 +24,12 @@ pub struct Extremes {
 
 /// How many documents the longer of two runs has, and at least 1.
 fn longest(a: &[u32], b: &[u32]) -> u32
-    requires first { length a.now ≤ 10000 }
-    requires second { length b.now ≤ 10000 }
+    requires first { length a.now ≤ RANK_LIMIT }
+    requires second { length b.now ≤ RANK_LIMIT }
     ensures first { length a.now ≤ result }
     ensures second { length b.now ≤ result }
     ensures positive { 1 ≤ result }
-    ensures few { result ≤ 10000 }
+    ensures few { result ≤ RANK_LIMIT }
 {
     a.len().max(b.len()).max(1) as u32
 }
@@ -36,8 +37,8 @@ fn longest(a: &[u32], b: &[u32]) -> u32
 /// How many depths beyond one to look at next, of so many: none that only one run has, where both have
 /// some.
 fn stretch(depth: u32, left: u32, a: &[u32], b: &[u32]) -> u32
-    requires first { length a.now ≤ 10000 }
-    requires second { length b.now ≤ 10000 }
+    requires first { length a.now ≤ RANK_LIMIT }
+    requires second { length b.now ≤ RANK_LIMIT }
     ensures few { result ≤ 1024 }
     ensures within { result ≤ left }
     ensures some { 0 < left → 0 < result }
@@ -140,7 +141,7 @@ pub fn find_extremes(a: &[u32], b: &[u32], shared: &Shared, all: Counts, marks: 
     requires b { IsRanking (length marks.now) b.now }
     requires shared { AreShared marks.now a.now b.now shared.now.counts }
     requires topic { AreTopic marks.now all }
-    requires few { all.relevant + all.unjudged ≤ 25000000 }
+    requires few { all.relevant + all.unjudged ≤ DOCUMENT_LIMIT }
     ensures least { IsLeast marks.now a.now b.now result.least }
     ensures most { IsLeast marks.now b.now a.now result.most }
     ensures least_first { IsSmallestAttained marks.now a.now b.now result.least.count }

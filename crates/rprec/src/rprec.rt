@@ -1,4 +1,5 @@
 ghost use Rattle.std.specs.Prelude.{◌≡◌, ℕ, ◌+◌, ◌≤◌, List, length, IfOk};
+ghost use Rattle.desk_model.specs.Limits.{DOCUMENT_LIMIT};
 ghost use Rattle.desk_model.specs.declared.types.Mark.{Mark as M};
 ghost use Rattle.desk_model.specs.declared.types.MeasureName.TheVariants.{RPrecision as R};
 ghost use Rattle.measure_laws.specs.RprecCase.{rprec_truth};
@@ -50,9 +51,9 @@ fn span(c: Candidate) -> Span
 
 /// The counts of all documents of a topic.
 fn topic(marks: &[Mark]) -> Counts
-    requires { length marks.now ≤ 25000000 }
+    requires { length marks.now ≤ DOCUMENT_LIMIT }
     ensures topic { AreTopic marks.now result }
-    ensures few { result.relevant + result.unjudged ≤ 25000000 }
+    ensures few { result.relevant + result.unjudged ≤ DOCUMENT_LIMIT }
 {
     all_documents(marks)
 }

@@ -1,4 +1,5 @@
 ghost use Rattle.std.specs.Prelude.{◌≡◌, ℕ, ◌+◌, ◌<◌, ◌≤◌, Bool, List, length, drop, nat_lt, slice_index_or, if◌then◌else◌, None};
+ghost use Rattle.desk_model.specs.Limits.{RANK_LIMIT};
 ghost use Rattle.desk_model.specs.Placed.{lookup, IsAscending};
 ghost use Rattle.desk_model.specs.Ranking.{IsRanking};
 ghost use Rattle.rprec.specs.Shared.{AreShared, entered};
@@ -36,7 +37,7 @@ impl Shared {
     /// That of runs that share no document.
     pub fn none() -> Shared
         ensures none { (place : ℕ) → slice_index_or result.counts place 0 ≡ 0 }
-        ensures long { length result.counts ≡ 10000 }
+        ensures long { length result.counts ≡ RANK_LIMIT }
     {
         Shared {
             counts: [0; 10_000],
@@ -47,9 +48,9 @@ impl Shared {
     /// here, as no processor could foresee it.
     fn enter(&mut self, x: Placed, y: Placed, marks: &[Mark])
         requires first_low { 1 ≤ x.rank }
-        requires first_high { x.rank ≤ 10000 }
+        requires first_high { x.rank ≤ RANK_LIMIT }
         requires second_low { 1 ≤ y.rank }
-        requires second_high { y.rank ≤ 10000 }
+        requires second_high { y.rank ≤ RANK_LIMIT }
         requires known { x.doc < length marks.now }
         requires few { (place : ℕ) → slice_index_or self.now.counts place 0 ≤ 2 }
         ensures { self.new.counts ≡ entered marks.now x y self.old.counts }
@@ -92,7 +93,7 @@ impl Shared {
         requires first { IsRanking (length marks.now) a.now }
         requires second { IsRanking (length marks.now) b.now }
         requires none { (place : ℕ) → slice_index_or self.now.counts place 0 ≡ 0 }
-        requires long { length self.now.counts ≡ 10000 }
+        requires long { length self.now.counts ≡ RANK_LIMIT }
         ensures { AreShared marks.now a.now b.now self.new.counts }
     {
         let middle = middle_document(a.by_doc());

@@ -1,4 +1,5 @@
 ghost use Rattle.std.specs.Prelude.{◌≡◌, ◌+◌, ◌-◌, ◌≤◌, ◌&&◌, ◌||◌, not, nat_lt, length, IfOk, if◌then◌else◌};
+ghost use Rattle.desk_model.specs.Limits.{DOCUMENT_LIMIT};
 ghost use Rattle.desk_model.specs.Completion.{picked_value, with_picked};
 ghost use Rattle.desk_model.specs.Ranking.{IsRanking};
 ghost use Rattle.measure_laws.specs.Classes.{is_unjudged, open_in, size_of, judged_count};
@@ -107,7 +108,7 @@ pub fn values(
     b: &Ranking,
     marks: &[Mark],
 ) -> Result<Vec<bool>, Memory>
-    requires { length marks.now ≤ 25000000 }
+    requires { length marks.now ≤ DOCUMENT_LIMIT }
     ensures { IfOk result (λ values. AreValues (with_picked marks.now (picks wanted marks.now a.now b.now count)) (length marks.now) values.items) }
 {
     let mut values = Vec::new(alloc);

@@ -1,5 +1,6 @@
 -- Documents that two rankings share among their first k, and those that one alone has there.
 use Rattle.std.specs.Prelude.{◌≡◌, ℕ, ◌+◌, ◌≤◌, Bool, true, false, ◌&&◌, List, take, count_by}
+use Rattle.desk_model.specs.Limits.{RANK_LIMIT}
 use Rattle.desk_model.specs.Classes.{only_count}
 use Rattle.desk_model.specs.Completion.{with_picked}
 use Rattle.desk_model.specs.Ranking.{is_in}
@@ -19,4 +20,4 @@ shared_count taken marks docs others = count_by (λ doc. with_picked marks (λ _
 pub record AreOwn (k : ℕ) (marks : List Mark) (ranking other : List ℕ) (counts : Counts) : Type 0 where
   pub least : counts.relevant ≡ only_count false marks (take k ranking) (take k other)
   pub most : counts.relevant + counts.unjudged ≡ only_count true marks (take k ranking) (take k other)
-  pub few : counts.relevant + counts.unjudged ≤ 10000
+  pub few : counts.relevant + counts.unjudged ≤ RANK_LIMIT

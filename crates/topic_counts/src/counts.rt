@@ -1,4 +1,5 @@
 ghost use Rattle.std.specs.Prelude.{◌≡◌, ◌+◌, ◌≤◌, ◌<◌, length, take, All, pos, true, false, ◌&&◌, if◌then◌else◌};
+ghost use Rattle.desk_model.specs.Limits.{RANK_LIMIT};
 ghost use Rattle.desk_model.specs.Completion.{picked_value};
 ghost use Rattle.desk_model.specs.Ranking.{IsRanking, is_in};
 ghost use Rattle.desk_model.specs.Classes.{only_count, prefix_count};
@@ -22,7 +23,7 @@ impl Counts {
 
     /// With one more document of this mark.
     pub fn with(self, mark: Mark) -> Counts
-        requires { self.relevant + self.unjudged < 10000 }
+        requires { self.relevant + self.unjudged < RANK_LIMIT }
         ensures relevant { result.relevant ≡ self.relevant + (if picked_value false mark then 1 else 0) }
         ensures either { result.relevant + result.unjudged ≡ self.relevant + self.unjudged + (if picked_value true mark then 1 else 0) }
     {
@@ -31,7 +32,7 @@ impl Counts {
 
     /// With one more document of this mark if it is to be counted, without a branch.
     pub fn with_if(self, counted: bool, mark: Mark) -> Counts
-        requires { self.relevant + self.unjudged ≤ 10000 }
+        requires { self.relevant + self.unjudged ≤ RANK_LIMIT }
         ensures relevant { result.relevant ≡ self.relevant + (if picked_value false mark && counted then 1 else 0) }
         ensures either { result.relevant + result.unjudged ≡ self.relevant + self.unjudged + (if picked_value true mark && counted then 1 else 0) }
     {
@@ -63,7 +64,7 @@ impl Counts {
 
     /// The number of them that are true where each unjudged one is.
     pub fn most(self) -> i64
-        requires { self.relevant + self.unjudged ≤ 10000 }
+        requires { self.relevant + self.unjudged ≤ RANK_LIMIT }
         ensures { result ≡ pos (self.relevant + self.unjudged) }
     {
         (self.relevant + self.unjudged) as i64
@@ -106,7 +107,7 @@ pub fn prefix_documents(k: u32, ranking: &Ranking, marks: &[Mark]) -> Counts
     requires { IsRanking (length marks.now) ranking.now }
     ensures least { result.relevant ≡ prefix_count false k marks.now ranking.now }
     ensures most { result.relevant + result.unjudged ≡ prefix_count true k marks.now ranking.now }
-    ensures few { result.relevant + result.unjudged ≤ 10000 }
+    ensures few { result.relevant + result.unjudged ≤ RANK_LIMIT }
 {
     let mut counts = Counts::NONE;
     for doc in prefix(ranking.docs(), k) {
@@ -120,7 +121,7 @@ pub fn own_documents(k: u32, ranking: &Ranking, other: &Ranking, marks: &[Mark])
     requires { IsRanking (length marks.now) ranking.now }
     ensures least { result.relevant ≡ only_count false marks.now (take k ranking.now) (take k other.now) }
     ensures most { result.relevant + result.unjudged ≡ only_count true marks.now (take k ranking.now) (take k other.now) }
-    ensures few { result.relevant + result.unjudged ≤ 10000 }
+    ensures few { result.relevant + result.unjudged ≤ RANK_LIMIT }
 {
     let mut counts = Counts::NONE;
     for doc in prefix(ranking.docs(), k) {

@@ -1,4 +1,5 @@
 ghost use Rattle.std.specs.Prelude.{◌≡◌, ◌+◌, ◌≤◌, length, count_by, true, false};
+ghost use Rattle.desk_model.specs.Limits.{DOCUMENT_LIMIT};
 ghost use Rattle.desk_model.specs.Completion.{picked_value, with_picked};
 ghost use Rattle.desk_model.specs.Score.{true_count};
 
@@ -36,7 +37,7 @@ fn block_documents(marks: &[Mark]) -> Counts
 
 /// The counts of all documents of a topic.
 pub fn all_documents(marks: &[Mark]) -> Counts
-    requires { length marks.now ≤ 25000000 }
+    requires { length marks.now ≤ DOCUMENT_LIMIT }
     ensures least { result.relevant ≡ true_count (with_picked marks.now (λ _. false)) (length marks.now) }
     ensures most { result.relevant + result.unjudged ≡ true_count (with_picked marks.now (λ _. true)) (length marks.now) }
     ensures few { result.relevant + result.unjudged ≤ length marks.now }

@@ -1,6 +1,7 @@
 // Names in ascending order.
 ghost use Rattle.std.specs.Prelude.{◌≡◌, ◌≤◌, ◌<◌, ℕ, true, All, IfOk, IsPermutation, length, map, slice_index};
 ghost use Rattle.std.specs.List.{range_with_len};
+ghost use Rattle.desk_model.specs.Limits.{DOCUMENT_LIMIT};
 ghost use Rattle.desk_model.specs.Name.{is_name, AreAscending};
 ghost use Rattle.topics_pool.specs.Names.{AreNames};
 ghost use Rattle.topics_pool.specs.Sorted.{AreSorted, IsPlaceOf};
@@ -70,7 +71,7 @@ pub fn ascending(alloc: Global, names: &NameIndex<'_>) -> Result<Vec<Name>, OutO
 
 /// Where each number stands among pairs that have them all.
 pub fn places(alloc: Global, pairs: &[Numbered<'_>]) -> Result<Vec<u32>, AllocError>
-    requires few { length pairs.now ≤ 25000000 }
+    requires few { length pairs.now ≤ DOCUMENT_LIMIT }
     requires all { IsPermutation (range_with_len 0 (length pairs.now)) (map (λ pair. pair.1) pairs.now) }
     ensures count { IfOk result (λ places. length places.items ≡ length pairs.now) }
     ensures places { IfOk result (λ places. (n : ℕ) → n < length pairs.now → IsPlaceOf pairs.now n (slice_index places.items n)) }

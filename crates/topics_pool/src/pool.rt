@@ -1,5 +1,6 @@
 // The pool of a depth.
 ghost use Rattle.std.specs.Prelude.{◌≡◌, ◌<◌, ◌≤◌, ◌+◌, [], length, slice_index_or, take};
+ghost use Rattle.desk_model.specs.Limits.{DOCUMENT_LIMIT};
 ghost use Rattle.desk_model.specs.Desk.{AreMarksOf, is_pooled, ranking_of};
 ghost use Rattle.desk_model.specs.Ranking.{is_in};
 ghost use Rattle.topics_pool.specs.Pool.{pool_of, IsCountOf};
@@ -26,7 +27,7 @@ impl PoolCount {
 
     // The counts with one more document.
     fn with(self, mark: Mark) -> PoolCount
-        requires size { self.size < 25000000 }
+        requires size { self.size < DOCUMENT_LIMIT }
         requires judged { self.judged ≤ self.size }
         requires relevant { self.relevant ≤ self.size }
         requires unjudged { self.unjudged ≤ self.size }

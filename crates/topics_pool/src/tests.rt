@@ -4,37 +4,11 @@ ghost use Rattle.run_reader.specs.declared.limits.TheConstants.{MOST_RUN_ROWS};
 ghost use Rattle.topics_pool.specs.Rows.{total_rows};
 
 use super::*;
-use desk_model::{Desk, Marks};
+use desk_model::Marks;
 use qrels_reader::{Qrels, read_qrels};
 use run_reader::{RunRows, Used, read_run};
 use std::alloc::Global;
-use std::process::Abort;
 use std::test::Fail;
-
-fn expect_topic(
-    rt: &impl Abort,
-    desk: &Desk,
-    t: u32,
-    name: &[u8],
-    docs: &[&[u8]],
-    grades: &[Option<i32>],
-) {
-    assert!(rt; t < desk.topic_count());
-    let topic = desk.topic(t);
-    assert_eq!(rt; topic.name(), name);
-    assert_eq!(rt; topic.grades(), grades);
-    assert_eq!(rt; topic.doc_count() as usize, docs.len());
-    for doc in 0..topic.doc_count() {
-        assert!(rt; (doc as usize) < docs.len());
-        assert_eq!(rt; topic.doc_name(doc), docs[doc as usize]);
-    }
-}
-
-fn expect_ranking(rt: &impl Abort, desk: &Desk, run: u32, t: u32, docs: &[u32]) {
-    assert!(rt; run < desk.run_count());
-    assert!(rt; t < desk.topic_count());
-    assert_eq!(rt; desk.ranking(run, t).docs(), docs);
-}
 
 fn read_runs(
     alloc: Global,
@@ -59,51 +33,21 @@ fn read_runs(
 }
 
 #[test]
-fn two_runs_make_a_desk_and_pools(rt: HostRuntime) -> Result<(), Fail> {
+fn two_runs_make_a_desk_and_a_pool(rt: HostRuntime) -> Result<(), Fail> {
     let alloc = rt.alloc();
     let qrels = read_qrels(alloc, b"402 0 b 1\n401 0 c 2\n401 0 a 0\n402 0 x -1\n")?;
     let first = b"401 Q0 c 1 3.0 A\n401 Q0 d 2 2.0 A\n402 Q0 b 1 1.0 A\n";
     let second = b"401 Q0 a 1 1.0 B\n403 Q0 z 1 1 B\n401 Q0 e 2 5.0 B\n";
     let runs = read_runs(alloc, &qrels, first, second)?;
     let desk = build_desk(alloc, qrels, runs)?;
-    assert_eq!(rt; desk.topic_count(), 2);
-    assert_eq!(rt; desk.run_count(), 2);
-    assert!(rt; 1 < desk.run_count());
-    assert_eq!(rt; desk.run_name(1), b"B".as_slice());
-    expect_topic(
-        &rt,
-        &desk,
-        0,
-        b"401",
-        &[b"a", b"c", b"d", b"e"],
-        &[Some(0), Some(2), None, None],
-    );
-    expect_topic(&rt, &desk, 1, b"402", &[b"b", b"x"], &[Some(1), Some(-1)]);
-    expect_ranking(&rt, &desk, 0, 0, &[1, 2]);
-    expect_ranking(&rt, &desk, 0, 1, &[0]);
-    expect_ranking(&rt, &desk, 1, 0, &[3, 0]);
-    expect_ranking(&rt, &desk, 1, 1, &[]);
     let marks = Marks::of_file(alloc, &desk, 1)?;
     assert!(rt; 0 < desk.topic_count());
-    let pool = pool_count(&desk, &marks, 0, 1);
-    assert_eq!(rt;
-        pool,
-        PoolCount {
-            size: 2,
-            judged: 1,
-            relevant: 1,
-            unjudged: 1
-        }
-    );
-    let pool = pool_count(&desk, &marks, 0, 2);
-    assert_eq!(rt;
-        pool,
-        PoolCount {
-            size: 4,
-            judged: 2,
-            relevant: 1,
-            unjudged: 2
-        }
-    );
+    let pool = PoolCount {
+        size: 4,
+        judged: 2,
+        relevant: 1,
+        unjudged: 2,
+    };
+    assert_eq!(rt; pool_count(&desk, &marks, 0, 2), pool);
     Ok(())
 }

@@ -7,14 +7,11 @@ use Rattle.desk_model.specs.Book.{Book, IsBook}
 use Rattle.desk_model.specs.Desk.{AreMarksOf, file_marks}
 use Rattle.desk_model.specs.Mark.{mark_of}
 use Rattle.desk_model.specs.declared.types.Mark.{Mark}
-use Rattle.topics_pool.proofs.tests.two_runs_make_a_desk_and_pools.Goals as goal
+use Rattle.topics_pool.proofs.tests.two_runs_make_a_desk_and_a_pool.Goals as goal
 
 marks_fit : (level : ℕ) (topics : List Book) → All IsBook topics → AllZip (λ (book : Book) (topic : List Mark). length topic ≡ length book.docs) topics (map (file_marks level) topics)
 marks_fit level [] are = tt
 marks_fit level (book ∷ topics) are = (length-map book.grades (λ grade. mark_of grade level) ∙ (All-head IsBook book topics are).graded, marks_fit level topics (All-tail IsBook book topics are))
 
-pub pool_count-pool-requires-clause-marks : goal.pool_count-pool-requires-clause-marks
-pool_count-pool-requires-clause-marks g c = subst (AreMarksOf c.in_ok-desk.desk) (sym c.in_ok-marks.ensures) (marks_fit 1 c.in_ok-desk.desk.topics c.topic_count.ensures.desk.books)
-
-pub pool_count-pool-requires-2-clause-marks : goal.pool_count-pool-requires-2-clause-marks
-pool_count-pool-requires-2-clause-marks g c = subst (AreMarksOf c.in_ok-desk.desk) (sym c.in_ok-marks.ensures) (marks_fit 1 c.in_ok-desk.desk.topics c.topic_count.ensures.desk.books)
+pub pool_count-requires-clause-marks : goal.pool_count-requires-clause-marks
+pool_count-requires-clause-marks g c = subst (AreMarksOf c.in_ok-desk.desk) (sym c.in_ok-marks.ensures) (marks_fit 1 c.in_ok-desk.desk.topics c.topic_count.ensures.desk.books)
