@@ -60,7 +60,7 @@ fn pair_number(runs: u32, first: u32, second: u32) -> u32
 }
 
 /// The sums of two swapped runs.
-fn turn(totals: &Totals) -> Totals
+fn swapped_sums(totals: &Totals) -> Totals
     requires { AreModestTotals totals.now }
     ensures { result ≡ swapped_totals totals.now }
 {
@@ -188,7 +188,7 @@ impl<M: Measure> Table<M> {
         if i < j {
             self.totals[pair_number(self.runs, i, j) as usize]
         } else {
-            turn(&self.totals[pair_number(self.runs, j, i) as usize])
+            swapped_sums(&self.totals[pair_number(self.runs, j, i) as usize])
         }
     }
 

@@ -20,7 +20,7 @@ returns-else-i-j g c =
     let table = c.self.inside in
     let pairs = pairs_of (run_numbers table.runs) in
     let found = beside pairs table.totals.items c.pair_number-else-i-j.result (c.args.j, c.args.i) c.index-else-i-j.result.now c.self.invariant.each_pair c.pair_number-else-i-j.ensures c.index-else-i-j.ensures in
-    let back : swapped_totals c.turn.result ≡ c.index-else-i-j.result.now = ap swapped_totals c.turn.ensures ∙ swapped_twice c.index-else-i-j.result.now in
-    let kept : AreSumsOf table.runs table.totals.items c.args.i c.args.j c.turn.result =
+    let back : swapped_totals c.swapped_sums.result ≡ c.index-else-i-j.result.now = ap swapped_totals c.swapped_sums.ensures ∙ swapped_twice c.index-else-i-j.result.now in
+    let kept : AreSumsOf table.runs table.totals.items c.args.i c.args.j c.swapped_sums.result =
     inr (subst (λ (t : Totals). Contains (zip pairs table.totals.items) ((c.args.j, c.args.i), t)) (sym back) found) in
-    subst (λ (k : Kept _). AreSumsOf k.runs k.totals c.args.i c.args.j c.turn.result) c.self.view_is kept
+    subst (λ (k : Kept _). AreSumsOf k.runs k.totals c.args.i c.args.j c.swapped_sums.result) c.self.view_is kept
