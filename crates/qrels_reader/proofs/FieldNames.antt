@@ -6,12 +6,12 @@ use Rattle.std.proofs.lemmas.Bool.{and_parts, and_from, ltb-false, ltb-true, le-
 use Rattle.desk_text.specs.Lines.{is_bad, is_separator, is_filled, onto_first, pieces, fields_of}
 use Rattle.desk_model.specs.Name.{is_name, is_field_byte}
 use Rattle.qrels_reader.specs.Reading.{field, is_long}
-use Rattle.qrels_reader.proofs.Seen.{or-false}
+use Rattle.small_lemmas.proofs.Tests.{neither}
 
 -- a byte that is neither bad nor a separator may stand in a name
 byte_of_field : (b : ℕ) → is_separator b ≡ false → is_bad b ≡ false → is_field_byte b ≡ true
 byte_of_field b s e =
-    let parts = or-false (nat_lt b 33 && not (is_separator b)) (b == 127) e in
+    let parts = neither (nat_lt b 33 && not (is_separator b)) (b == 127) e in
     let low : (nat_lt b 33 && true) ≡ false = sym (ap (λ t. nat_lt b 33 && not t) s) ∙ parts.0 in
     let high : 33 ≤ b = ltb-false b 33 (first (nat_lt b 33) low) in
     and_from _ _ (le-leb 33 b high) (ap not parts.1)
@@ -28,7 +28,7 @@ all-onto_first b (p ∷ ps) here rest =
 all-pieces : (line : List ℕ) → list_any is_bad line ≡ false → list_all (list_all is_field_byte) (pieces line) ≡ true
 all-pieces [] e = refl
 all-pieces (b ∷ bs) e =
-    let parts = or-false (is_bad b) (list_any is_bad bs) e in
+    let parts = neither (is_bad b) (list_any is_bad bs) e in
     by (all-pieces bs parts.1) parts.0 (is_separator b) refl
   where
     by : list_all (list_all is_field_byte) (pieces bs) ≡ true → is_bad b ≡ false → (s : Bool) → is_separator b ≡ s → list_all (list_all is_field_byte) (cond (is_separator b) ([] ∷ pieces bs) (onto_first b (pieces bs))) ≡ true

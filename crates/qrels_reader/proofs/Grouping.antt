@@ -9,7 +9,8 @@ use Rattle.std.proofs.lemmas.List.Sums.{sum_by-cons, sum_by_push}
 use Rattle.std.proofs.lemmas.Map.Steps.{list_any_congr}
 use Rattle.qrels_reader.specs.Rows.{first_seen}
 use Rattle.qrels_reader.proofs.Mapped.{list_any-map}
-use Rattle.qrels_reader.proofs.Seen.{laws, same, add_name, first_seen-append, IsDistinct, list_any-first_seen, IsDistinct-first_seen, or-false}
+use Rattle.small_lemmas.proofs.Tests.{neither}
+use Rattle.qrels_reader.proofs.Seen.{laws, same, add_name, first_seen-append, IsDistinct, list_any-first_seen, IsDistinct-first_seen}
 use Rattle.qrels_reader.proofs.RowFiles.{Kind, rows_on, has_topic, has_document, name_bytes_of, topics_of, topic_of, grouped, names_of, is_topic, counted, bytes_in}
 use Rattle.qrels_reader.proofs.Zipped.{counted-cons}
 
@@ -17,7 +18,7 @@ use Rattle.qrels_reader.proofs.Zipped.{counted-cons}
 filter_none : {A : Type 0} (p : A → Bool) (xs : List A) → list_any p xs ≡ false → filter p xs ≡ []
 filter_none p [] e = refl
 filter_none p (x ∷ xs) e =
-    let parts = or-false (p x) (list_any p xs) e in
+    let parts = neither (p x) (list_any p xs) e in
     ap (λ b. cond b (x ∷ filter p xs) (filter p xs)) parts.0 ∙ filter_none p xs parts.1
 
 -- one for each is how many there are
@@ -73,7 +74,7 @@ module _ {Row Member Topic : Type 0} (kind : Kind Row Member Topic) where
     others : (ns : List (List ℕ)) → list_any (bytes_eq (kind.topic row)) ns ≡ false → map after ns ≡ map before ns
     others [] e = refl
     others (n ∷ ns) e =
-        let parts = or-false (bytes_eq (kind.topic row) n) (list_any (bytes_eq (kind.topic row)) ns) e in
+        let parts = neither (bytes_eq (kind.topic row) n) (list_any (bytes_eq (kind.topic row)) ns) e in
         ap₂ (λ x xs. x ∷ xs) (other n parts.0) (others ns parts.1)
 
     added : (ns : List (List ℕ)) → IsDistinct ns → (list_any (bytes_eq (kind.topic row)) ns ≡ false → rows_on kind (kind.topic row) rows ≡ []) → map after (add_name ns (kind.topic row)) ≡ kind.with_row (map before ns) row

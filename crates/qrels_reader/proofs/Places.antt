@@ -5,7 +5,7 @@ use Rattle.std.specs.List.{list_any, position_or_len}
 use Rattle.std.specs.Str.{bytes_eq}
 use Rattle.std.proofs.lemmas.Bool.{lt-ltb, ltb-true, le-ltb, ltb-false}
 use Rattle.std.proofs.lemmas.List.{map-append, length-map, get_or_default}
-use Rattle.qrels_reader.proofs.Seen.{or-false}
+use Rattle.small_lemmas.proofs.Tests.{neither}
 use Rattle.qrels_reader.proofs.Mapped.{list_any-map}
 use Rattle.qrels_reader.proofs.RowFiles.{Kind, names_of, is_topic, place_of, members_at, documents_seen}
 
@@ -90,7 +90,7 @@ module _ {Row Member Topic : Type 0} (kind : Kind Row Member Topic) where
   pub members_on-none : (name : List ℕ) (ts : List Topic) → is_topic kind name ts ≡ false → kind.members_on name ts ≡ []
   members_on-none name [] e = kind.on_none name
   members_on-none name (x ∷ ts) e =
-      let parts = or-false (bytes_eq name (kind.name x)) (is_topic kind name ts) e in
+      let parts = neither (bytes_eq name (kind.name x)) (is_topic kind name ts) e in
       kind.on_some name x ts ∙ ap (λ b. cond b (kind.members x) (kind.members_on name ts)) parts.0 ∙ members_on-none name ts parts.1
 
   -- a new topic at the end, and the member of a row that is put there
@@ -99,7 +99,7 @@ module _ {Row Member Topic : Type 0} (kind : Kind Row Member Topic) where
       let new = kind.made (kind.topic row) [] in
       kind.put_first new [] (kind.member row) ∙ ap₂ (λ n ms. kind.made n (ms ++ kind.member row ∷ []) ∷ []) (kind.name-made (kind.topic row) []) (kind.members-made (kind.topic row) []) ∙ sym (kind.row_none row)
   put_new (x ∷ ts) row e =
-      let parts = or-false (bytes_eq (kind.topic row) (kind.name x)) (is_topic kind (kind.topic row) ts) e in
+      let parts = neither (bytes_eq (kind.topic row) (kind.name x)) (is_topic kind (kind.topic row) ts) e in
       kind.put_later x (ts ++ kind.made (kind.topic row) [] ∷ []) (length ts) (kind.member row) ∙ ap (λ us. x ∷ us) (put_new ts row parts.1) ∙ sym (with_row-cons x ts row false parts.0)
 
   pub members_at-new : (ts : List Topic) (name : List ℕ) → members_at kind (ts ++ kind.made name [] ∷ []) (length ts) ≡ []

@@ -15,7 +15,8 @@ use Rattle.qrels_reader.specs.declared.limits.TheConstants.{MOST_TOPICS, MOST_QR
 use Rattle.qrels_reader.specs.Reading.{unless, and_then, field, is_long, read_line, with_row}
 use Rattle.qrels_reader.specs.Rows.{Row, first_seen, topics_of, rows_on, has_topic, name_bytes_of, row_of, form_faults, row_faults, read_row}
 use Rattle.qrels_reader.specs.Grouped.{JudgedTopic, grouped, row_count, IsQrels}
-use Rattle.qrels_reader.proofs.Seen.{add_name, first_seen-append, or-false, IsDistinct}
+use Rattle.small_lemmas.proofs.Tests.{neither}
+use Rattle.qrels_reader.proofs.Seen.{add_name, first_seen-append, IsDistinct}
 use Rattle.qrels_reader.proofs.RowFiles.{judgements}
 use Rattle.qrels_reader.proofs.NamedRows.{IsNamed, documents_more, names_right, names_differ, documents_right, documents_differ}
 use Rattle.qrels_reader.proofs.Grouping.{has_topic-topics, row_count-grouped, name_bytes_in-grouped, length-grouped}
@@ -94,7 +95,7 @@ named_form : (line : List ℕ) (row : Row) → unless (form_faults line) (row_of
 named_form line row e =
     let fine = none_holds (form_faults line) (row_of line) row e in
     let count : length (fields_of line) ≡ 4 = eqb-true (length (fields_of line)) 4 (not-false (length (fields_of line) == 4) fine.1.1.0) in
-    let short = or-false (is_long (field line 0)) (is_long (field line 2)) fine.1.1.1.0 in
+    let short = neither (is_long (field line 0)) (is_long (field line 2)) fine.1.1.1.0 in
     subst (IsNamed judgements) (last (form_faults line) (row_of line) row e) (is_name-field line 0 fine.1.0 (omega arith) short.0, is_name-field line 2 fine.1.0 (omega arith) short.1)
 
 -- the rows with those of one more line are right
