@@ -8,7 +8,8 @@ use Rattle.std.proofs.lemmas.List.Quantifiers.{position-Some}
 use Rattle.std.proofs.lemmas.Map.Keys.{any_passes_from_place}
 use Rattle.std.proofs.lemmas.Option.{slice_get-get_or}
 use Rattle.qrels_reader.specs.Grouped.{Judged}
-use Rattle.qrels_reader.proofs.Seen.{laws, or-false}
+use Rattle.small_lemmas.proofs.Tests.{neither}
+use Rattle.qrels_reader.proofs.Seen.{laws}
 use Rattle.qrels_reader.proofs.Places.{is_some-position}
 use Rattle.topics_pool.specs.Rows.{listed, grade_in, first_repeated, is_repeated}
 
@@ -62,7 +63,7 @@ grade_found docs name i grade is got =
 find_none : (docs : List Judged) (name : List ℕ) → list_any (bytes_eq name) (listed docs) ≡ false → find (λ (d : Judged). bytes_eq name d.document) docs ≡ None
 find_none [] name h = refl
 find_none (d ∷ docs) name h =
-    let parts = or-false (bytes_eq name d.document) (list_any (bytes_eq name) (listed docs)) h in
+    let parts = neither (bytes_eq name d.document) (list_any (bytes_eq name) (listed docs)) h in
     rw (parts.0) (find_none docs name parts.1)
 
 pub grade_none : (docs : List Judged) (name : List ℕ) → position (bytes_eq name) (listed docs) ≡ None → None ≡ grade_in docs name

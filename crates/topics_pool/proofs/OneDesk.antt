@@ -21,7 +21,8 @@ use Rattle.desk_model.specs.Desk.{Desk, IsDesk, AreRankingsOver, ranking_of}
 use Rattle.desk_model.proofs.Names.{ascending_far}
 use Rattle.desk_model.proofs.Nested.{length-rankings, ranking_over}
 use Rattle.qrels_reader.specs.Grouped.{JudgedTopic, documents_on, names_of}
-use Rattle.qrels_reader.proofs.Seen.{laws, same, or-false}
+use Rattle.small_lemmas.proofs.Tests.{neither}
+use Rattle.qrels_reader.proofs.Seen.{laws, same}
 use Rattle.run_reader.specs.Run.{Run, rows_on_topic}
 use Rattle.trec_order.specs.Order.{IsTrecOrder}
 use Rattle.trec_order.proofs.Unique.{one_order}
