@@ -1,12 +1,12 @@
 -- A file that a reader refuses.
-use Rattle.std.proofs.Common.{◌≡◌, ℕ, List, refl, ap, sym, subst, ◌∙◌, inl, inr}
-use Rattle.std.specs.Prelude.{Option, Some, None, Result, Ok, Err, IfSome, ◌⊎◌}
+use Rattle.std.proofs.Common.{◌≡◌, ℕ, List, ap, sym, ◌∙◌, inl, inr}
+use Rattle.std.specs.Prelude.{Option, Some, None, Result, Ok, Err, IfSome}
 use Rattle.desk_outside.specs.Outside.{Files}
 use Rattle.qrels_reader.specs.declared.fault.FileFault.{FileFault}
 use Rattle.qrels_reader.specs.declared.fault.FileFault.TheVariants.{Memory}
 use Rattle.desk_top.specs.declared.stop.Stop.{Stop}
 use Rattle.desk_top.specs.declared.stop.Stop.TheVariants as stops
-use Rattle.desk_top.specs.Files.{Halt, Refusal, Refused, NoMemory, whole_file, halt_at, or_faulty, file_as, ◌>>=◌}
+use Rattle.desk_top.specs.Files.{Refusal, Refused, NoMemory, whole_file, halt_at, or_faulty, file_as, ◌>>=◌}
 use Rattle.desk_top.specs.Outcome.{Stops}
 use Rattle.desk_top.specs.Stopped.{IsStopOf}
 use Rattle.desk_top.specs.Views.{refusal_of}

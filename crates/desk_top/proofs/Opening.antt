@@ -1,6 +1,6 @@
 -- The names that are opened, one after the other.
 use Rattle.std.proofs.Common.{◌≡◌, ℕ, List, [], ◌∷◌, ◌++◌, refl, ap, sym, ◌∙◌, append_assoc, append-nil}
-use Rattle.std.specs.Prelude.{Option, Some, None, Result, Ok, Err, IfSome}
+use Rattle.std.specs.Prelude.{Option, Some, None, Ok, IfSome}
 use Rattle.desk_outside.specs.Outside.{Files}
 use Rattle.desk_words.specs.declared.command.Job.{Job}
 use Rattle.desk_words.specs.declared.command.RunWord.{RunWord}
@@ -8,7 +8,7 @@ use Rattle.qrels_reader.specs.Grouped.{JudgedTopic, qrels_of}
 use Rattle.run_reader.specs.Run.{Run, run_of}
 use Rattle.run_reader.specs.declared.used.Used.{Used}
 use Rattle.desk_top.specs.Files.{file_as}
-use Rattle.desk_top.specs.Load.{used_by, StartsWith, if_read, runs_to_open, paths_to_open, paths_of, MayOpen, JobMayOpen, Opens}
+use Rattle.desk_top.specs.Load.{used_by, if_read, runs_to_open, paths_of, MayOpen, JobMayOpen, Opens}
 
 -- the names that RUN words may open are these, and then those of the words that are left
 pub record Continues (told : Option Files) (qrels : List JudgedTopic) (first : Used) (all : List RunWord) (used : Used) (names : List (List ℕ)) (words : List RunWord) : Type 0 where

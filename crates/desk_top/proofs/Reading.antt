@@ -1,10 +1,10 @@
 -- A file that is read in pieces.
-use Rattle.std.proofs.Common.{◌≡◌, ℕ, ◌+◌, ◌<◌, ◌≤◌, List, [], ◌++◌, length, cond, true, false, refl, ap, sym, subst, ◌∙◌, arith, append_assoc, append-nil, length-append, inl, inr}
-use Rattle.std.specs.Prelude.{Option, Some, None, Result, Ok, Err, IfSome, IsSomeAnd, nat_le, ◌⊎◌, ◌^◌, min}
+use Rattle.std.proofs.Common.{◌≡◌, ℕ, ◌<◌, ◌≤◌, List, [], ◌++◌, length, cond, ap, sym, ◌∙◌, arith, append_assoc, append-nil, length-append, inl, inr}
+use Rattle.std.specs.Prelude.{Option, Some, None, Ok, Err, IfSome, IsSomeAnd, ◌⊎◌}
 use Rattle.std.specs.Io.KnownBytes.{Consumes, IsAtEnd}
 use Rattle.std.proofs.lemmas.Bool.{le-leb, lt-leb}
-use Rattle.desk_outside.specs.Outside.{Files, Rose, Lacks, Opens, TellsRest}
-use Rattle.desk_top.specs.Files.{Halt, Missing, Refused, TooLong, whole_file}
+use Rattle.desk_outside.specs.Outside.{Files, Rose, Lacks, Opens}
+use Rattle.desk_top.specs.Files.{Missing, Refused, TooLong, whole_file}
 use Rattle.desk_top.specs.declared.limits.TheConstants.{LONGEST_FILE}
 
 -- the bytes read so far and what is left are the whole content

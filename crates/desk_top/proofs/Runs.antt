@@ -1,18 +1,12 @@
 -- Runs that are read one after another.
-use Rattle.std.proofs.Common.{◌≡◌, ℕ, ◌+◌, ◌<◌, List, [], ◌∷◌, ◌++◌, length, drop, get_or, refl, ap, sym, subst, ◌∙◌, arith, append_assoc, append-nil, zero-add, inl, inr}
+use Rattle.std.proofs.Common.{◌≡◌, ◌+◌, List, [], ◌∷◌, ◌++◌, refl, ap, sym, ◌∙◌, append_assoc, append-nil, zero-add}
 use Rattle.std.proofs.lemmas.List.Sums.{sum_by-append}
 use Rattle.std.specs.Prelude.{Option, Some, None, Result, Ok, Err, IfSome}
-use Rattle.std.proofs.lemmas.List.{drop_more}
 use Rattle.desk_outside.specs.Outside.{Files}
 use Rattle.desk_words.specs.declared.command.RunWord.{RunWord}
 use Rattle.qrels_reader.specs.Grouped.{JudgedTopic}
-use Rattle.desk_text.specs.Lines.{lines}
-use Rattle.qrels_reader.specs.Reading.{IsUnlessMemory, and_then, total_rows as rows_read}
-use Rattle.qrels_reader.specs.declared.fault.FileFault.{FileFault}
-use Rattle.run_reader.specs.Rows.{RunRow, read_row}
-use Rattle.run_reader.specs.Run.{Run, run_of, named, name_of, grouped, used_with, row_count}
+use Rattle.run_reader.specs.Run.{Run, run_of, row_count}
 use Rattle.topics_pool.specs.Rows.{total_rows}
-use Rattle.run_reader.proofs.Grouping.{row_count-grouped}
 use Rattle.run_reader.specs.declared.used.Used.{Used}
 use Rattle.desk_top.specs.Files.{Halt, ◌>>=◌, file_as}
 use Rattle.desk_top.specs.Load.{runs_of}

@@ -1,22 +1,22 @@
 -- What follows for every call that meets what its words mean.
 use Rattle.std.proofs.Common.{◌≡◌, ℕ, List, [], ◌∷◌, ◌++◌, length, refl, ap, sym, subst, ◌∙◌, arith, inl, inr, append-nil}
-use Rattle.std.specs.Prelude.{Option, Some, None, Result, Ok, Err, ◌⊎◌}
+use Rattle.std.specs.Prelude.{Option, Some, None, Ok, Err, ◌⊎◌}
 use Rattle.std.specs.Io.KnownBytes.{append_known}
-use Rattle.desk_outside.specs.Outside.{Files, Rose}
+use Rattle.desk_outside.specs.Outside.{Files}
 use Rattle.desk_outside.proofs.Told.{append_known-nil}
 use Rattle.desk_words.specs.Words.{IsCommandOf}
 use Rattle.desk_words.specs.Laws.{CommandIsUnique}
 use Rattle.desk_words.specs.declared.command.Job.{Job}
 use Rattle.desk_words.specs.declared.command.Command.{Command}
 use Rattle.desk_words.specs.declared.command.Command.TheVariants.{Table}
-use Rattle.desk_top.specs.Files.{Halt, Missing, NoMemory, Refused, Refusal}
-use Rattle.desk_top.specs.Load.{Loaded, loaded, Opens}
+use Rattle.desk_top.specs.Files.{Halt, Missing, NoMemory, Refused}
+use Rattle.desk_top.specs.Load.{Loaded, loaded}
 use Rattle.desk_top.specs.Told.{Writes, refusal_line}
-use Rattle.desk_top.specs.Seen.{Shelf, Source, Sink, ReceivedNothing, ReceivedAll}
+use Rattle.desk_top.specs.Seen.{Shelf, Source, Sink, ReceivedNothing}
 use Rattle.desk_top.specs.Answer.{Answer, text_of, usage, halted}
 use Rattle.desk_top.specs.Meaning.{Input, Meaning, meaning_of, table_meaning, words_meaning}
-use Rattle.desk_top.specs.Meets.{HasAnswer, Gives, OutputFailed, FilesFailed, Meets, Stopped, OpensWithin}
-use Rattle.desk_top.specs.Laws.{IsCall, IsTableCall, OtherWordsAreUsage, TableIsNoUsage, GoodFilesAreAnswered, MissingFileIsOutside, RefusalIsTold}
+use Rattle.desk_top.specs.Meets.{Gives, OutputFailed, FilesFailed, Meets, Stopped, OpensWithin}
+use Rattle.desk_top.specs.Laws.{IsTableCall, OtherWordsAreUsage, TableIsNoUsage, GoodFilesAreAnswered, MissingFileIsOutside, RefusalIsTold}
 
 -- the answers of words that ask for a table are those of the table
 table_answers : CommandIsUnique → (words : List (List ℕ)) (job : Job) → IsCommandOf words (Table job) → (known : Option Files) (input : Input) (answer : Answer) → (words_meaning words).answers known input answer → (table_meaning job).answers known input answer

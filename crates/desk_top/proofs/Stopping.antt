@@ -1,7 +1,7 @@
 -- A command that stops at one of its files.
-use Rattle.std.proofs.Common.{◌≡◌, ℕ, ◌+◌, ◌≤◌, refl, ap, sym, subst, ◌∙◌, arith, inl, inr}
-use Rattle.std.specs.Prelude.{Option, Some, None, Result, Ok, Err, IfSome, IsSomeAnd}
-use Rattle.desk_outside.specs.Outside.{Files, Rose}
+use Rattle.std.proofs.Common.{◌≡◌, ℕ, ◌≤◌, refl, ap, sym, subst, ◌∙◌, arith, inl, inr}
+use Rattle.std.specs.Prelude.{Option, Some, None, Result, Ok, Err, IfSome}
+use Rattle.desk_outside.specs.Outside.{Files}
 use Rattle.desk_top.specs.declared.stop.Stop.{Stop}
 use Rattle.desk_top.specs.declared.stop.Stop.TheVariants as stops
 use Rattle.desk_top.specs.Files.{Halt, ◌>>=◌}

@@ -1,20 +1,12 @@
 -- The table of a desk.
-use Rattle.std.proofs.Common.{◌≡◌, ℕ, ◌^◌, ◌≤◌, List, length, map, ap, sym, subst, ◌∙◌, arith, ℤ, pos, ◌≤ℤ◌}
-use Rattle.std.specs.Prelude.{All}
-use Rattle.std.specs.List.{AllZip}
+use Rattle.std.proofs.Common.{◌≡◌, ℕ, List, length, map, ◌∙◌}
 use Rattle.std.proofs.lemmas.List.{length-map}
 use Rattle.std.proofs.lemmas.List.Elements.{recursion_from_All}
-use Rattle.desk_words.specs.declared.command.Job.{Job}
 use Rattle.desk_model.specs.Book.{Book, IsBook}
-use Rattle.desk_model.specs.Desk.{Desk, IsDesk, AreMarksOf, file_marks, topics_under}
+use Rattle.desk_model.specs.Desk.{Desk, IsDesk, AreMarksOf, file_marks}
 use Rattle.desk_model.specs.Mark.{mark_of}
 use Rattle.desk_model.specs.declared.types.Mark.{Mark}
-use Rattle.desk_model.specs.declared.types.Totals.{Totals}
-use Rattle.fractions.specs.declared.span.Span.{Span}
-use Rattle.measure_laws.specs.Measures.{unit_of}
-use Rattle.measure_core.specs.Made.{IsMadeFor}
 use Rattle.pair_table.proofs.Zips.{zip_making, all_then}
-use Rattle.pair_table.proofs.Named.{table_named}
 
 pub marks_known : (level : ℕ) (desk : Desk) → IsDesk desk → AreMarksOf desk (map (file_marks level) desk.topics)
 marks_known level desk valid =

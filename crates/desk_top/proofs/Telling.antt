@@ -2,7 +2,7 @@
 use Rattle.std.proofs.Common.{◌≡◌, ℕ, List}
 use Rattle.std.specs.Prelude.{Option, Result, Ok, Err, OnOk}
 use Rattle.std.specs.Io.KnownBytes.{append_known}
-use Rattle.desk_outside.specs.Outside.{Rose, AppendsPrefix, HasCause}
+use Rattle.desk_outside.specs.Outside.{AppendsPrefix, HasCause}
 use Rattle.desk_top.specs.Told.{Writes}
 
 pub writes : {T E : Type 0} (r : Result T E) (old new : Option (List ℕ)) (before now : ℕ) (text : List ℕ) → OnOk r (new ≡ append_known old text) → AppendsPrefix old new text → HasCause before now r → Writes old new before now text

@@ -1,7 +1,6 @@
-use Rattle.std.proofs.Common.{◌≡◌, ℕ, arith, ap, sym, ◌∙◌}
+use Rattle.std.proofs.Common.{◌≡◌, arith, ap, ◌∙◌}
 use Rattle.std.specs.Prelude.{Ok, Err, IfSome}
 use Rattle.std.proofs.lemmas.Result.{err_from_is_err_and}
-use Rattle.desk_outside.specs.Outside.{Files}
 use Rattle.qrels_reader.specs.Grouped.{qrels_of}
 use Rattle.desk_top.specs.Files.{file_as}
 use Rattle.desk_top.specs.Load.{runs_of, used_by}

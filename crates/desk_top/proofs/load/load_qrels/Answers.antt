@@ -1,4 +1,3 @@
-use Rattle.std.proofs.Common.{◌≡◌, rules}
 use Rattle.qrels_reader.specs.Grouped.{qrels_of}
 use Rattle.desk_top.proofs.Faults.{stops_at_file}
 use Rattle.desk_top.proofs.load.load_qrels.Goals as goal

@@ -1,4 +1,3 @@
-use Rattle.std.proofs.Common.{◌≡◌, rules}
 use Rattle.qrels_reader.specs.Reading.{IsUnlessMemory}
 use Rattle.run_reader.specs.Run.{run_of}
 use Rattle.desk_top.proofs.Faults.{stops_at_file, faulted}

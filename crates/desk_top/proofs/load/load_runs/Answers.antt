@@ -1,15 +1,10 @@
-use Rattle.std.proofs.Common.{◌≡◌, ◌+◌, [], ◌∷◌, ◌++◌, ℕ, length, drop, ap, sym, ◌∙◌, arith, length-append}
-use Rattle.std.specs.Prelude.{Err}
+use Rattle.std.proofs.Common.{◌≡◌, ◌+◌, [], ◌∷◌, length, drop, ap, sym, ◌∙◌, arith, length-append}
 use Rattle.std.proofs.lemmas.List.{drop_more, drop_all}
-use Rattle.std.proofs.lemmas.Result.{err_from_is_err_and}
-use Rattle.run_reader.specs.Run.{Run, run_of, row_count}
+use Rattle.run_reader.specs.Run.{row_count}
 use Rattle.run_reader.specs.declared.used.Used.{Used}
-use Rattle.topics_pool.specs.Rows.{total_rows}
-use Rattle.desk_top.specs.Files.{file_as}
-use Rattle.desk_top.specs.Load.{runs_of, used_by}
-use Rattle.desk_top.proofs.Runs.{Reaches, reaches_first, reaches_more, reaches_all, stops_all, total_rows-push}
-use Rattle.desk_top.proofs.Opening.{opens_none, opens_more, opens_last, opens_all}
-use Rattle.desk_top.proofs.Stopping.{gives_err}
+use Rattle.desk_top.specs.Load.{used_by}
+use Rattle.desk_top.proofs.Runs.{reaches_more, total_rows-push}
+use Rattle.desk_top.proofs.Opening.{opens_more, opens_last, opens_all}
 use Rattle.desk_top.proofs.load.load_runs.Goals as goal
 
 pub loop-word-preserved : goal.loop-word-preserved

@@ -1,9 +1,8 @@
-use Rattle.std.proofs.Common.{◌≡◌, List, ℕ, ap, sym, subst, ◌∙◌, arith, map, length, pos, to_z, of_z, Vec, Global}
+use Rattle.std.proofs.Common.{◌≡◌, ℕ, ap, ◌∙◌, arith, length, pos, to_z, of_z, Vec, Global}
 use Rattle.std.specs.Int.{w128}
 use Rattle.std.proofs.lemmas.Int.{ints}
-use Rattle.std.specs.Prelude.{IfOk, All}
 use Rattle.std.proofs.lemmas.Result.{IfOk-weaker}
-use Rattle.desk_model.specs.Desk.{AreMarksOf, topics_under}
+use Rattle.desk_model.specs.Desk.{topics_under}
 use Rattle.measure_laws.specs.Measures.{unit_of}
 use Rattle.pair_table.specs.Numbers.{AreNumbersIn}
 use Rattle.pair_table.specs.Sums.{all_run_sums, all_pair_sums}
