@@ -1,12 +1,15 @@
 -- The order of a topic's rows, the desk of the rows of files, and the pool.
-use Rattle.std.proofs.Common.{◌≡◌, ℕ, zero, suc, Bool, true, false, ◌||◌, List, [], ◌∷◌, slice_index_or, refl, ap, subst, Some, None, ℤ, pos, negsuc, arith, lit<, lit≤}
+use Rattle.std.proofs.Common.{◌≡◌, ℕ, ◌<◌, zero, suc, Bool, true, false, ◌||◌, List, [], ◌∷◌, slice_index_or, refl, ap, subst, Some, None, ℤ, pos, negsuc, arith, lit<, lit≤}
 use Rattle.std.specs.Prelude.{codes, Option, slice_get}
 use Rattle.std.specs.Str.{bytes_eq}
+use Rattle.std.specs.List.{IsDistinct}
 use Rattle.std.specs.List.Sorted.{IsStrictlySortedBy}
 use Rattle.std.specs.declared.cmp.Ordering.TheVariants.{Less, Equal, Greater}
 use Rattle.std.proofs.lemmas.List.Elements.{All-from_recursion}
-use Rattle.desk_model.specs.Book.{Book, file_grade_of}
-use Rattle.desk_model.specs.Desk.{Desk, ranking_of}
+use Rattle.desk_model.specs.Book.{Book, IsBook, file_grade_of}
+use Rattle.desk_model.specs.Desk.{Desk, IsDesk, AreRankingsOver, ranking_of}
+use Rattle.desk_model.specs.Name.{is_name}
+use Rattle.desk_model.specs.Ranking.{IsRanking}
 use Rattle.desk_model.specs.declared.types.Mark.{Mark}
 use Rattle.desk_model.specs.declared.types.Mark.TheVariants.{Unjudged, Relevant, Other}
 use Rattle.qrels_reader.specs.Grouped.{JudgedTopic, documents_on}
@@ -148,8 +151,44 @@ ranks_its_rows r run topic = IsTrecOrder (rows_on_topic run topic.name) (doc_nam
 same_value : {X : Type 0} (x y : X) → Some x ≡ Some y → x ≡ y
 same_value x y e = cc
 
+-- ---- the desk of the rows is a valid one
+valid_book : IsBook book
+unfolding IsStrictlySortedBy
+valid_book = record {
+  named = refl;
+  documents = All-from_recursion (λ doc. is_name doc ≡ true) book.docs (refl, (refl, (refl, (refl, tt))));
+  ascending = ((refl, (refl, (refl, tt))), ((refl, (refl, tt)), ((refl, tt), (tt, tt))));
+  small = lit≤ tt;
+  graded = refl;
+}
+
+first_ranking : IsRanking 4 (1 ∷ 2 ∷ [])
+unfolding IsDistinct
+first_ranking = record { distinct = ((refl, tt), (tt, tt)); within = All-from_recursion (λ doc. doc < 4) (1 ∷ 2 ∷ []) (lit< tt, (lit< tt, tt)); short = lit≤ tt }
+
+second_ranking : IsRanking 4 (3 ∷ 0 ∷ [])
+unfolding IsDistinct
+second_ranking = record { distinct = ((refl, tt), (tt, tt)); within = All-from_recursion (λ doc. doc < 4) (3 ∷ 0 ∷ []) (lit< tt, (lit< tt, tt)); short = lit≤ tt }
+
+valid_desk : IsDesk desk
+unfolding IsDistinct IsStrictlySortedBy
+valid_desk = record {
+  books = All-from_recursion IsBook desk.topics (valid_book, tt);
+  ascending = (tt, tt);
+  some_topic = lit< tt;
+  topics = lit≤ tt;
+  named = All-from_recursion (λ run. is_name run ≡ true) desk.runs (refl, (refl, tt));
+  distinct = ((refl, tt), (tt, tt));
+  some_run = lit< tt;
+  runs = lit≤ tt;
+  cells = lit≤ tt;
+  ranked = refl;
+  rankings = All-from_recursion (AreRankingsOver desk.topics) desk.rankings ((first_ranking, tt), ((second_ranking, tt), tt));
+}
+
 pub desk_of_the_rows : IsDeskOf qrels (first_run ∷ second_run ∷ []) desk
 desk_of_the_rows = record {
+  valid = valid_desk;
   topics = λ name. refl;
   books = All-from_recursion (IsBookOf qrels (first_run ∷ second_run ∷ [])) desk.topics (book_of_the_rows, tt);
   run_names = refl;
@@ -163,8 +202,14 @@ desk_of_the_rows = record {
     ranked (suc (suc r)) zero run topic e f = absurd (cc)
     ranked r (suc t) run topic e f = absurd (cc)
 
-pub desk_of_no_rows : IsDeskOf [] [] (record { topics = []; runs = []; rankings = [] })
-desk_of_no_rows = record { topics = λ name. refl; books = All-from_recursion (IsBookOf [] []) [] tt; run_names = refl; rankings = λ r t run topic e f. absurd (cc) }
+-- no desk has no topic
+pub desk_of_no_rows : IsDeskOf [] [] (record { topics = []; runs = []; rankings = [] }) → ⊥
+desk_of_no_rows h = let e = h.valid.some_topic in absurd (omega arith)
+
+-- a desk that lists a topic twice is of no rows
+pub desk_with_its_topic_twice : (rows : List JudgedTopic) (runs : List Run) (rankings : List (List (List ℕ))) → IsDeskOf rows runs (record { topics = book ∷ book ∷ []; runs = desk.runs; rankings = rankings }) → ⊥
+unfolding IsStrictlySortedBy
+desk_with_its_topic_twice rows runs rankings h = let e = h.valid.ascending.0.0 in absurd (cc)
 
 -- the runs in another order are another desk
 pub desk_of_the_runs_swapped : IsDeskOf qrels (second_run ∷ first_run ∷ []) desk → ⊥
