@@ -10,3 +10,5 @@ pub mod Parts
 pub mod Sequel
 pub mod Chain
 pub mod Numbering
+pub mod Holds
+pub mod Determined

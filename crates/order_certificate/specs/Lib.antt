@@ -2,3 +2,5 @@ pub mod Form
 pub mod Certificate
 pub mod Places
 pub mod Reading
+pub mod Claim
+pub mod Evidence

@@ -1,9 +1,22 @@
 //! Laws of certificates, each the contract of a function that does nothing.
-ghost use Rattle.std.specs.Prelude.{◌≡◌, ℕ, List};
+ghost use Rattle.std.specs.Prelude.{◌≡◌, ℕ, List, ℤ};
+ghost use Rattle.desk_model.specs.Completion.{Completion};
+ghost use Rattle.desk_model.specs.Desk.{topics_under};
+ghost use Rattle.desk_model.specs.Extremes.{Ends};
+ghost use Rattle.desk_model.specs.Fraction.{IsSame};
+ghost use Rattle.desk_model.specs.Order.{IsCompletion, run_mean};
+ghost use Rattle.desk_model.specs.declared.types.Mark.{Mark};
+ghost use Rattle.desk_model.specs.declared.types.MeasureName.{MeasureName};
+ghost use Rattle.measure_laws.specs.Ends.{HasEnds};
 ghost use Rattle.order_certificate.specs.Certificate.{IsCertificate, certificate_text};
 ghost use Rattle.order_certificate.specs.Form.{IsFirstBad};
 ghost use Rattle.order_certificate.specs.Places.{certificate_places, IsText};
+ghost use Rattle.order_certificate.specs.Claim.{NamedTopic, AreItsRuns, ClaimHolds, IsBelowIn, IsOpen};
+ghost use Rattle.order_certificate.specs.Evidence.{ForEvidence, IsLowSum, IsHighSum};
 ghost use Rattle.order_certificate.specs.declared.certificate.Certificate.{Certificate};
+ghost use Rattle.order_certificate.specs.declared.certificate.Evidence.TheVariants.{Above, Equal, Open};
+ghost use Rattle.order_certificate.specs.declared.certificate.TopicBound.{TopicBound};
+ghost use Rattle.order_certificate.specs.declared.certificate.TopicWitness.{TopicWitness};
 
 use desk_model::measure_of_text_is_unique;
 
@@ -31,3 +44,36 @@ pub fn first_bad_line_is_unique()
 {
     measure_of_text_is_unique();
 }
+
+/// Where a certificate is evidence, its claim holds, whoever wrote it.
+pub fn evidence_implies_claim()
+    ensures { ForEvidence (λ c desk marks. ClaimHolds c desk marks) }
+{}
+
+/// Evidence for `above` puts the mean of the first run above that of the second in every completion of
+/// the judgements, and evidence for `equal` makes the two means equal in every completion. Evidence for
+/// `open` holds two completions that differ on the order.
+pub fn evidence_holds_in_completions()
+    ensures above { ForEvidence (λ c desk marks. (first second : ℕ) (bounds : List TopicBound) →
+        AreItsRuns c desk first second → c.evidence ≡ Above bounds →
+        (completions : List Completion) → IsCompletion (topics_under desk marks) completions →
+        IsBelowIn c.measure (topics_under desk marks) second first completions) }
+    ensures equal { ForEvidence (λ c desk marks. (first second : ℕ) (bounds : List TopicBound) →
+        AreItsRuns c desk first second → c.evidence ≡ Equal bounds →
+        (completions : List Completion) → IsCompletion (topics_under desk marks) completions →
+        IsSame (run_mean c.measure first (topics_under desk marks) completions)
+        (run_mean c.measure second (topics_under desk marks) completions)) }
+    ensures open { ForEvidence (λ c desk marks. (first second : ℕ) (witnesses : List TopicWitness) →
+        AreItsRuns c desk first second → c.evidence ≡ Open witnesses →
+        IsOpen c.measure desk marks first second witnesses) }
+{}
+
+/// What evidence is held against is determined: the ends of a topic, and the two sums of lists.
+pub fn ends_of_evidence_are_determined()
+    ensures ends { (measure : MeasureName) (marks : List Mark) (a b : List ℕ) (e f : Ends) →
+        HasEnds measure marks a b e → HasEnds measure marks a b f → e ≡ f }
+    ensures low { (measure : MeasureName) (a b : ℕ) (witnesses : List TopicWitness) (topics : List NamedTopic)
+        (x y : ℤ) → IsLowSum measure a b witnesses topics x → IsLowSum measure a b witnesses topics y → x ≡ y }
+    ensures high { (measure : MeasureName) (a b : ℕ) (witnesses : List TopicWitness) (topics : List NamedTopic)
+        (x y : ℤ) → IsHighSum measure a b witnesses topics x → IsHighSum measure a b witnesses topics y → x ≡ y }
+{}
