@@ -12,3 +12,4 @@ pub mod Chain
 pub mod Numbering
 pub mod Holds
 pub mod Determined
+pub mod Lengths

@@ -1,5 +1,5 @@
 //! Laws of certificates, each the contract of a function that does nothing.
-ghost use Rattle.std.specs.Prelude.{◌≡◌, ℕ, List, ℤ};
+ghost use Rattle.std.specs.Prelude.{◌≡◌, ◌≤◌, ℕ, All, List, length, ℤ};
 ghost use Rattle.desk_model.specs.Completion.{Completion};
 ghost use Rattle.desk_model.specs.Desk.{topics_under};
 ghost use Rattle.desk_model.specs.Extremes.{Ends};
@@ -9,7 +9,7 @@ ghost use Rattle.desk_model.specs.declared.types.Mark.{Mark};
 ghost use Rattle.desk_model.specs.declared.types.MeasureName.{MeasureName};
 ghost use Rattle.measure_laws.specs.Ends.{HasEnds};
 ghost use Rattle.order_certificate.specs.Certificate.{IsCertificate, certificate_text};
-ghost use Rattle.order_certificate.specs.Form.{IsFirstBad};
+ghost use Rattle.order_certificate.specs.Form.{CanStand, IsFirstBad};
 ghost use Rattle.order_certificate.specs.Places.{certificate_places, IsText};
 ghost use Rattle.order_certificate.specs.Claim.{NamedTopic, AreItsRuns, ClaimHolds, IsBelowIn, IsOpen};
 ghost use Rattle.order_certificate.specs.Evidence.{ForEvidence, IsLowSum, IsHighSum};
@@ -44,6 +44,12 @@ pub fn first_bad_line_is_unique()
 {
     measure_of_text_is_unique();
 }
+
+/// No line that can stand in a certificate has more than 4,096 bytes.
+pub fn lines_are_short()
+    ensures { (lines : List (List ℕ)) → CanStand certificate_places lines →
+        All (λ line. length line ≤ 4096) lines }
+{}
 
 /// Where a certificate is evidence, its claim holds, whoever wrote it.
 pub fn evidence_implies_claim()
