@@ -13,3 +13,5 @@ pub mod Numbering
 pub mod Holds
 pub mod Determined
 pub mod Lengths
+pub mod Tested
+pub mod Decided

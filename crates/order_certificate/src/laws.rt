@@ -1,5 +1,5 @@
 //! Laws of certificates, each the contract of a function that does nothing.
-ghost use Rattle.std.specs.Prelude.{◌≡◌, ◌≤◌, ℕ, All, List, length, ℤ};
+ghost use Rattle.std.specs.Prelude.{◌≡◌, ◌≤◌, ◌⊎◌, ℕ, All, List, length, ℤ};
 ghost use Rattle.desk_model.specs.Completion.{Completion};
 ghost use Rattle.desk_model.specs.Desk.{topics_under};
 ghost use Rattle.desk_model.specs.Extremes.{Ends};
@@ -41,6 +41,14 @@ pub fn first_bad_line_is_unique()
         IsFirstBad certificate_places bytes m → IsFirstBad certificate_places bytes n → m ≡ n }
     ensures none { (bytes : List ℕ) (c : Certificate) (n : ℕ) → IsText bytes c →
         IsFirstBad certificate_places bytes n → ⊥ }
+{
+    measure_of_text_is_unique();
+}
+
+/// Bytes are the text of a certificate, or have a first bad line.
+pub fn other_bytes_have_a_bad_line()
+    ensures { (bytes : List ℕ) → ((c : Certificate) × IsText bytes c) ⊎
+        ((line : ℕ) × IsFirstBad certificate_places bytes line) }
 {
     measure_of_text_is_unique();
 }
