@@ -12,6 +12,7 @@ pub mod Chain
 pub mod Numbering
 pub mod Holds
 pub mod Determined
+pub mod EachPlace
 pub mod Lengths
 pub mod Tested
 pub mod Decided

@@ -1,11 +1,10 @@
 -- Whether a line shows a part that fits its place can be tested.
-use Rattle.std.proofs.Common.{◌≡◌, ◌≢◌, ℕ, zero, suc, ◌+◌, ◌^◌, ◌%◌, ◌<◌, ◌≤◌, Bool, true, false, List, [], ◌∷◌, ◌++◌, length, refl, ap, sym, subst, ◌∙◌, arith, ◌⊎◌, inl, inr, ℤ, pos, negsuc, append_assoc, length-append}
+use Rattle.std.proofs.Common.{◌≡◌, ◌≢◌, ℕ, zero, suc, ◌^◌, ◌%◌, ◌<◌, ◌≤◌, Bool, true, false, List, [], ◌∷◌, ◌++◌, length, refl, ap, sym, subst, ◌∙◌, arith, ◌⊎◌, inl, inr, ℤ, pos, negsuc, append_assoc, length-append}
 use Rattle.std.specs.Prelude.{codes, decimal}
 use Rattle.std.specs.Fmt.{signed_decimal}
 use Rattle.std.specs.declared.cmp.Ordering.{Ordering}
 use Rattle.std.specs.declared.cmp.Ordering.TheVariants.{Less, Equal, Greater}
 use Rattle.std.proofs.lemmas.Bool.{cases_eq}
-use Rattle.std.proofs.Math.Nat.{pow-le-pow_right}
 use Rattle.desk_model.specs.Name.{is_name, name_cmp}
 use Rattle.desk_model.specs.MeasureText.{measure_text, IsDepth, IsMeasure}
 use Rattle.desk_model.specs.declared.types.MeasureName.{MeasureName}
@@ -15,7 +14,7 @@ use Rattle.order_certificate.specs.declared.places.Claim.{Claim}
 use Rattle.order_certificate.specs.declared.places.Claim.TheVariants as claimed
 use Rattle.order_certificate.specs.Certificate.{low_line, low_high_line, count_line, document_line, IsNumber, IsLevel, IsTopicCount, IsDocumentCount}
 use Rattle.order_certificate.specs.Places.{IsNext, claim_line}
-use Rattle.order_certificate.proofs.Cuts.{AreFree, above_free, free_parts}
+use Rattle.order_certificate.proofs.Cuts.{AreFree, above_free, free_parts, head_of, tail_of}
 use Rattle.order_certificate.proofs.Parts.{after_word}
 use Rattle.order_certificate.proofs.Shown.{name_above, signed_above, named_one}
 
@@ -57,14 +56,6 @@ at_most (suc m) (suc n) = elim (at_most m n) [ inl le ↦ inl (omega arith) | in
 below : (m n : ℕ) → Known (m < n)
 below m n = elim (at_most (suc m) n) [ inl le ↦ inl (omega arith) | inr never ↦ inr (λ lt. never (omega arith)) ]
 
-abbrev head_of : List ℕ → ℕ
-head_of [] = 0
-head_of (x ∷ xs) = x
-
-abbrev tail_of : List ℕ → List ℕ
-tail_of [] = []
-tail_of (x ∷ xs) = xs
-
 not_empty : (xs ys : List ℕ) (y : ℕ) → [] ≢ xs ++ y ∷ ys
 not_empty xs ys y e = let n : 0 ≡ length (xs ++ y ∷ ys) = ap length e in let long = length-append xs (y ∷ ys) in omega arith
 
@@ -74,7 +65,7 @@ same_list [] (y ∷ ys) = inr (λ e. not_empty [] ys y e)
 same_list (x ∷ xs) [] = inr (λ e. not_empty [] xs x (sym e))
 same_list (x ∷ xs) (y ∷ ys) = elim (cases_eq x y) [
   | inl e ↦ elim (same_list xs ys) [ inl f ↦ inl (ap (λ z. z ∷ xs) e ∙ ap (λ zs. y ∷ zs) f) | inr never ↦ inr (λ g. never (ap tail_of g)) ]
-  | inr never ↦ inr (λ g. never (ap head_of g))
+  | inr never ↦ inr (λ g. never (ap (head_of 0) g))
 ]
 
 -- the numbers below a bound are tried one after another
@@ -113,7 +104,7 @@ word_known [] line = inl (line, refl)
 word_known (w ∷ ws) [] = inr (λ rest e. not_empty [] (ws ++ rest) w e)
 word_known (w ∷ ws) (l ∷ ls) = elim (cases_eq l w) [
   | inl e ↦ elim (word_known ws ls) [ inl h ↦ inl (h.0, ap (λ z. z ∷ ls) e ∙ ap (λ zs. w ∷ zs) h.1) | inr never ↦ inr (λ rest g. never rest (ap tail_of g)) ]
-  | inr never ↦ inr (λ rest g. never (ap head_of g))
+  | inr never ↦ inr (λ rest g. never (ap (head_of 0) g))
 ]
 
 word_found : {P : Type 0} (word : List ℕ) (show : P → List ℕ) (Fits : P → Type 0) → ((text : List ℕ) → Found show Fits text) → (line : List ℕ) → Found (λ p. word ++ show p) Fits line
@@ -127,7 +118,7 @@ word_found word show Fits found line = elim (word_known word line) [
 
 -- the first place of a byte
 later_cut : (s x : ℕ) (xs : List ℕ) → x ≢ s → ((n u : List ℕ) → xs ≢ n ++ s ∷ u) → (n u : List ℕ) → x ∷ xs ≢ n ++ s ∷ u
-later_cut s x xs ne never [] u e = ne (ap head_of e)
+later_cut s x xs ne never [] u e = ne (ap (head_of 0) e)
 later_cut s x xs ne never (m ∷ ms) u e = never ms u (ap tail_of e)
 
 pub cut_known : (s : ℕ) (xs : List ℕ) → ((n : List ℕ) × (u : List ℕ) × AreFree s n × (xs ≡ n ++ s ∷ u)) ⊎ ((n u : List ℕ) → xs ≢ n ++ s ∷ u)

@@ -45,8 +45,8 @@ pub fn first_bad_line_is_unique()
     measure_of_text_is_unique();
 }
 
-/// Bytes are the text of a certificate, or have a first bad line.
-pub fn other_bytes_have_a_bad_line()
+/// Bytes that are the text of no certificate have a first bad line.
+pub fn bad_line_exists()
     ensures { (bytes : List ℕ) → ((c : Certificate) × IsText bytes c) ⊎
         ((line : ℕ) × IsFirstBad certificate_places bytes line) }
 {

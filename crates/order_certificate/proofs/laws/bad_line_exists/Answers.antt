@@ -1,5 +1,5 @@
 use Rattle.order_certificate.proofs.Decided.{text_or_bad}
-use Rattle.order_certificate.proofs.laws.other_bytes_have_a_bad_line.Goals as goal
+use Rattle.order_certificate.proofs.laws.bad_line_exists.Goals as goal
 
 pub returns : goal.returns
 returns c = text_or_bad c.measure_of_text_is_unique.ensures
