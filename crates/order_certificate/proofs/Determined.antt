@@ -1,26 +1,16 @@
--- The ends and the sums that evidence is held against are determined.
+-- The two sums of an open claim are determined.
 use Rattle.std.proofs.Common.{◌≡◌, ℕ, Bool, List, [], ◌∷◌, refl, ap, sym, ◌∙◌, ℤ}
 use Rattle.std.specs.Prelude.{neg_ℤ}
 use Rattle.std.specs.List.{AllZip, zip}
 use Rattle.small_lemmas.proofs.Numbers.{neg_twice}
-use Rattle.desk_model.specs.Extremes.{Ends}
 use Rattle.desk_model.specs.Verdict.{whole_sum}
-use Rattle.desk_model.specs.declared.types.Mark.{Mark}
 use Rattle.desk_model.specs.declared.types.MeasureName.{MeasureName}
 use Rattle.desk_model.specs.declared.types.MeasureName.TheVariants.{Precision, Recall, RPrecision, Reciprocal, Biased}
-use Rattle.measure_laws.specs.Ends.{HasEnds, IsUpperEnd, IsLowerEnd}
-use Rattle.measure_laws.specs.Measures.{unit_of}
-use Rattle.measure_laws.proofs.Unique.{extremes_unique, smallest_unique}
+use Rattle.measure_laws.specs.Ends.{IsUpperEnd, IsLowerEnd}
+use Rattle.measure_laws.proofs.Unique.{smallest_unique}
 use Rattle.order_certificate.specs.Claim.{NamedTopic}
 use Rattle.order_certificate.specs.Evidence.{IsLowSum, IsHighSum}
 use Rattle.order_certificate.specs.declared.certificate.TopicWitness.{TopicWitness}
-
-pub one_ends : (m : MeasureName) (marks : List Mark) (a b : List ℕ) (e f : Ends) → HasEnds m marks a b e → HasEnds m marks a b f → e ≡ f
-one_ends (Precision k) marks a b e f h g = extremes_unique (Precision k) (unit_of (Precision k)) marks a b e f h g
-one_ends (Recall k) marks a b e f h g = extremes_unique (Recall k) (unit_of (Recall k)) marks a b e f h g
-one_ends RPrecision marks a b e f h g = extremes_unique RPrecision (unit_of RPrecision) marks a b e f h g
-one_ends Reciprocal marks a b e f h g = extremes_unique Reciprocal (unit_of Reciprocal) marks a b e f h g
-one_ends (Biased top bottom) marks a b e f h g = h ∙ sym g
 
 one_upper : (m : MeasureName) (n : ℕ) (truth : ℕ → Bool) (a b : List ℕ) (z w : ℤ) → IsUpperEnd m n truth a b z → IsUpperEnd m n truth a b w → z ≡ w
 one_upper (Precision k) n truth a b z w h g = smallest_unique _ z w h g

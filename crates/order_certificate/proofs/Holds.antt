@@ -4,7 +4,7 @@ use Rattle.std.proofs.Common.{◌≡◌, ◌≢◌, ℕ, ◌+◌, ◌*◌, ◌<�
 use Rattle.std.specs.Prelude.{◌||◌, ◌&&◌, int_lt, int_le}
 use Rattle.std.specs.List.{AllByRecursion, AllZip, position_from, zip}
 use Rattle.std.proofs.lemmas.Int.{ints}
-use Rattle.std.proofs.lemmas.Bool.Decides.{nat_tests}
+use Rattle.std.proofs.lemmas.Bool.{eq-eqb, ne_eqb}
 use Rattle.std.proofs.lemmas.List.Elements.{recursion_from_All}
 use Rattle.std.proofs.Math.Nat.{mul-le-mul_right}
 use Rattle.desk_model.specs.Book.{Book}
@@ -74,12 +74,6 @@ module _ (m : MeasureName) (valid : IsMeasure m) (a b : ℕ) where
     highs_hold zs ts r.1 h.1,
   )
 
-nat_eq-same : (n : ℕ) → nat_eq n n ≡ true
-nat_eq-same n = grind (arith, nat_tests)
-
-nat_eq-apart : (m n : ℕ) → m ≢ n → nat_eq m n ≡ false
-nat_eq-apart m n h = grind (arith, nat_tests)
-
 -- a completion of a topic with one tail for a and another for the others
 abbrev listed : (ℕ → Bool) → ℕ → List Bool → List Bool → Completion
 listed truth a tail_a tail_b = record { truth = truth; tail = λ r. cond (nat_eq r a) tail_a tail_b }
@@ -105,8 +99,8 @@ module _ (m : MeasureName) (fact : ℤ → Fraction → Fraction → Type 0) (ad
         let later = build ws ts zs r.1 u.1 h.1 in
         let truth = listed_truth t (list_of w) in
         let c = listed truth a tail_a tail_b in
-        let at_a : c.tail a ≡ tail_a = ap (λ v. cond v tail_a tail_b) (nat_eq-same a) in
-        let at_b : c.tail b ≡ tail_b = ap (λ v. cond v tail_a tail_b) (nat_eq-apart b a (λ e. apart (sym e))) in
+        let at_a : c.tail a ≡ tail_a = ap (λ v. cond v tail_a tail_b) (eq-eqb a a refl) in
+        let at_b : c.tail b ≡ tail_b = ap (λ v. cond v tail_a tail_b) (ne_eqb b a (λ e. apart (sym e))) in
         let n = length t.topic.marks in
         let score_a : run_score m a t.topic c ≡ score m n truth (t.topic.ranking a) tail_a = ap (score m n truth (t.topic.ranking a)) at_a in
         let score_b : run_score m b t.topic c ≡ score m n truth (t.topic.ranking b) tail_b = ap (score m n truth (t.topic.ranking b)) at_b in

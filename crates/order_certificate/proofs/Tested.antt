@@ -15,6 +15,7 @@ use Rattle.order_certificate.specs.declared.places.Claim.TheVariants as claimed
 use Rattle.order_certificate.specs.Certificate.{low_line, low_high_line, count_line, document_line, IsNumber, IsLevel, IsTopicCount, IsDocumentCount}
 use Rattle.order_certificate.specs.Places.{IsNext, claim_line}
 use Rattle.order_certificate.proofs.Cuts.{AreFree, above_free, free_parts, head_of, tail_of}
+use Rattle.order_certificate.proofs.Forms.{either_first}
 use Rattle.order_certificate.proofs.Parts.{after_word}
 use Rattle.order_certificate.proofs.Shown.{name_above, signed_above, named_one}
 
@@ -49,9 +50,7 @@ less_known Equal = inr (λ e. cc)
 less_known Greater = inr (λ e. cc)
 
 at_most : (m n : ℕ) → Known (m ≤ n)
-at_most zero n = inl (omega arith)
-at_most (suc m) zero = inr (λ le. omega arith)
-at_most (suc m) (suc n) = elim (at_most m n) [ inl le ↦ inl (omega arith) | inr never ↦ inr (λ le. never (omega arith)) ]
+at_most m n = elim (either_first n m) [ inl lt ↦ inr (λ le. omega arith) | inr le ↦ inl le ]
 
 below : (m n : ℕ) → Known (m < n)
 below m n = elim (at_most (suc m) n) [ inl le ↦ inl (omega arith) | inr never ↦ inr (λ lt. never (omega arith)) ]

@@ -2,12 +2,9 @@
 ghost use Rattle.std.specs.Prelude.{◌≡◌, ◌≤◌, ◌⊎◌, ℕ, All, List, length, ℤ};
 ghost use Rattle.desk_model.specs.Completion.{Completion};
 ghost use Rattle.desk_model.specs.Desk.{topics_under};
-ghost use Rattle.desk_model.specs.Extremes.{Ends};
 ghost use Rattle.desk_model.specs.Fraction.{IsSame};
 ghost use Rattle.desk_model.specs.Order.{IsCompletion, run_mean};
-ghost use Rattle.desk_model.specs.declared.types.Mark.{Mark};
 ghost use Rattle.desk_model.specs.declared.types.MeasureName.{MeasureName};
-ghost use Rattle.measure_laws.specs.Ends.{HasEnds};
 ghost use Rattle.order_certificate.specs.Certificate.{IsCertificate, certificate_text};
 ghost use Rattle.order_certificate.specs.Form.{CanStand, IsFirstBad};
 ghost use Rattle.order_certificate.specs.Places.{certificate_places, IsText};
@@ -82,10 +79,8 @@ pub fn evidence_holds_in_completions()
         IsOpen c.measure desk marks first second witnesses) }
 {}
 
-/// What evidence is held against is determined: the ends of a topic, and the two sums of lists.
-pub fn ends_of_evidence_are_determined()
-    ensures ends { (measure : MeasureName) (marks : List Mark) (a b : List ℕ) (e f : Ends) →
-        HasEnds measure marks a b e → HasEnds measure marks a b f → e ≡ f }
+/// The two sums of an open claim are determined.
+pub fn open_sums_are_determined()
     ensures low { (measure : MeasureName) (a b : ℕ) (witnesses : List TopicWitness) (topics : List NamedTopic)
         (x y : ℤ) → IsLowSum measure a b witnesses topics x → IsLowSum measure a b witnesses topics y → x ≡ y }
     ensures high { (measure : MeasureName) (a b : ℕ) (witnesses : List TopicWitness) (topics : List NamedTopic)

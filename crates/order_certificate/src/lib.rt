@@ -10,8 +10,8 @@ mod writing;
 
 pub use certificate::{Bounds, Certificate, Evidence, Names, TopicBound, TopicWitness, Witnesses};
 pub use laws::{
-    certificates_have_texts, ends_of_evidence_are_determined, evidence_holds_in_completions,
-    evidence_implies_claim, first_bad_line_is_unique, lines_are_short,
+    bad_line_exists, certificates_have_texts, evidence_holds_in_completions,
+    evidence_implies_claim, first_bad_line_is_unique, lines_are_short, open_sums_are_determined,
     text_and_certificate_are_one,
 };
 pub use reading::{CertFault, read_certificate};
