@@ -14,3 +14,4 @@ pub mod Orders
 pub mod Words
 pub mod Printing
 pub mod Tables
+pub mod Certificates
