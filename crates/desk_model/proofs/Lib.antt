@@ -12,3 +12,5 @@ pub mod PairPlace
 pub mod DeskTopics
 pub mod Floors
 pub mod MarkTests
+pub mod Agreement
+pub mod Sums

@@ -1,7 +1,7 @@
 -- Rankings by run and topic, and marks by topic, kept in vectors of vectors.
 use Rattle.std.proofs.Common.{◌≡◌, ℕ, zero, suc, ◌+◌, ◌<◌, List, [], ◌∷◌, ◌++◌, take, length, get_or, map, Option, Some, None, refl, ap, sym, ◌∙◌, arith}
 use Rattle.std.specs.Prelude.{Vec, slice_get, IfSome}
-use Rattle.std.specs.List.{AllZip}
+use Rattle.std.specs.List.{AllZip, zip}
 use Rattle.std.specs.declared.alloc.Global.{Global}
 use Rattle.std.proofs.lemmas.List.{get_or-map, take_more}
 use Rattle.std.proofs.lemmas.Option.{slice_get_within}
@@ -49,3 +49,9 @@ get_or-there (y ∷ xs) (suc i) x d e = get_or-there xs i x d e
 
 pub take-there : {X : Type 0} (xs : List X) (i : ℕ) (x : X) → slice_get xs i ≡ Some x → take (i + 1) xs ≡ take i xs ++ x ∷ []
 take-there xs i x e = take_more xs i x (slice_get_within xs i x e) ∙ ap (λ y. take i xs ++ y ∷ []) (get_or-there xs i x x e)
+
+-- two lists side by side
+pub length-zip : {A B : Type 0} (xs : List A) (ys : List B) → length ys ≡ length xs → length (zip xs ys) ≡ length xs
+length-zip [] ys h = refl
+length-zip (x ∷ xs) [] h = absurd (omega arith)
+length-zip (x ∷ xs) (y ∷ ys) h = ap suc (length-zip xs ys (omega arith))

@@ -8,10 +8,11 @@ use Rattle.std.specs.Option.{option_map}
 use Rattle.std.proofs.lemmas.Grind.{flat_map-append}
 use Rattle.std.specs.Prelude.{nat_lt}
 use Rattle.std.proofs.lemmas.Bool.Decides.{nat_tests}
+use Rattle.small_lemmas.proofs.Lists.{slice_get-zip}
 use Rattle.desk_model.specs.Pairs.{pairs_of, pairs_from}
 use Rattle.desk_model.specs.declared.pairs.PairPlaces.{PairPlaces}
 use Rattle.desk_model.proofs.PairPlace.{ArePlaces, pairs_from-end}
-use Rattle.desk_model.proofs.Nested.{take-there}
+use Rattle.desk_model.proofs.Nested.{length-zip, take-there}
 use Rattle.desk_report.specs.Table.{ended}
 
 pub three : (o p q r a b c : List ℕ) → p ≡ o ++ a → q ≡ p ++ b → r ≡ q ++ c → r ≡ o ++ (a ++ (b ++ c))
@@ -21,17 +22,6 @@ pub four : (o p q r s a b c d : List ℕ) → p ≡ o ++ a → q ≡ p ++ b → 
 four o p q r s a b c d e f g h = h ∙ ap (λ x. x ++ d) (g ∙ ap (λ x. x ++ c) (f ∙ ap (λ x. x ++ b) e)) ∙ simp append_assoc
 
 -- ---- lists side by side
-pub slice_get-zip : {A B : Type 0} (xs : List A) (ys : List B) (i : ℕ) (x : A) (y : B) → slice_get xs i ≡ Some x → slice_get ys i ≡ Some y → slice_get (zip xs ys) i ≡ Some (x, y)
-slice_get-zip [] ys i x y e f = absurd (cc)
-slice_get-zip (a ∷ xs) [] i x y e f = absurd (cc)
-slice_get-zip (a ∷ xs) (b ∷ ys) zero x y e f = let p : a ≡ x = cc in let q : b ≡ y = cc in rw (p, q) refl
-slice_get-zip (a ∷ xs) (b ∷ ys) (suc i) x y e f = slice_get-zip xs ys i x y e f
-
-pub length-zip : {A B : Type 0} (xs : List A) (ys : List B) → length ys ≡ length xs → length (zip xs ys) ≡ length xs
-length-zip [] ys h = refl
-length-zip (x ∷ xs) [] h = absurd (omega arith)
-length-zip (x ∷ xs) (y ∷ ys) h = ap suc (length-zip xs ys (omega arith))
-
 pub get_or-there : {X : Type 0} (xs : List X) (i : ℕ) (d : X) → i < length xs → slice_get xs i ≡ Some (get_or xs i d)
 get_or-there [] i d h = absurd (omega arith)
 get_or-there (x ∷ xs) zero d h = refl

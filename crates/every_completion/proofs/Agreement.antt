@@ -1,20 +1,19 @@
 -- A score looks at the truth values of the universe alone, and where every document is judged there is one difference.
-use Rattle.std.proofs.Common.{◌≡◌, ℕ, zero, suc, ◌+◌, ◌<◌, Bool, true, false, cond, List, [], ◌∷◌, take, length, count_by, Some, ℤ, arith, refl, ap, sym, subst, ◌∙◌}
-use Rattle.std.specs.List.{AllByRecursion, range_with_len, position_from}
-use Rattle.std.proofs.lemmas.List.Elements.{recursion_from_All}
+use Rattle.std.proofs.Common.{◌≡◌, ℕ, zero, suc, ◌+◌, ◌<◌, Bool, true, false, List, [], length, count_by, ℤ, arith, ap, sym, subst, ◌∙◌}
+use Rattle.std.specs.List.{range_with_len}
 use Rattle.desk_model.specs.Mark.{is_unjudged, mark_at}
 use Rattle.desk_model.specs.Completion.{Allows, Completes, picked_value, with_picked}
 use Rattle.desk_model.specs.Ranking.{IsRanking}
-use Rattle.desk_model.specs.Fraction.{Fraction, over, IsAtMost, IsAtLeast}
-use Rattle.desk_model.specs.Score.{true_among, true_count, reciprocal, score}
+use Rattle.desk_model.specs.Fraction.{Fraction, IsAtMost, IsAtLeast}
+use Rattle.desk_model.specs.Score.{score}
 use Rattle.desk_model.specs.Extremes.{IsGreatest, IsSmallest, InEvery, InSome, AreExtremes}
 use Rattle.desk_model.specs.declared.types.Mark.{Mark}
 use Rattle.desk_model.specs.declared.types.Mark.TheVariants.{Unjudged, Relevant, Other}
 use Rattle.desk_model.specs.declared.types.MeasureName.{MeasureName}
 use Rattle.desk_model.specs.declared.types.MeasureName.TheVariants.{Precision, Recall, RPrecision, Reciprocal, Biased}
 use Rattle.desk_model.proofs.Completions.{with_picked-Completes}
-use Rattle.desk_model.proofs.Counts.{one_if, count_by-cons, count_by-agree}
-use Rattle.desk_model.proofs.PrecisionEnds.{weaker, prefix_within}
+use Rattle.desk_model.proofs.Counts.{one_if, count_by-cons}
+use Rattle.desk_model.proofs.Agreement.{Agree, score_agree}
 use Rattle.every_completion.specs.Walk.{LooksAtNoTail}
 
 -- one more document of a universe
@@ -38,35 +37,13 @@ count_taken p i n m b h e f g = omega (arith, count_more p i, ap one_if (sym e �
 pub count_left : (p : ℕ → Bool) (i n m : ℕ) (b : Bool) → n ≡ count_by p (range_with_len 0 i) → b ≡ p i → b ≡ false → m ≡ n → m ≡ count_by p (range_with_len 0 (i + 1))
 count_left p i n m b h e f g = omega (arith, count_more p i, ap one_if (sym e ∙ f))
 
--- truth values that agree on a universe
-abbrev pub Agree : ℕ → (ℕ → Bool) → (ℕ → Bool) → Type 0
-Agree n s t = (doc : ℕ) → doc < n → s doc ≡ t doc
-
-among_agree : (k n : ℕ) (s t : ℕ → Bool) (docs : List ℕ) → IsRanking n docs → Agree n s t → true_among s k docs ≡ true_among t k docs
-among_agree k n s t docs r h = count_by-agree s t (take k docs) (weaker (λ d. d < n) (λ d. s d ≡ t d) h (take k docs) (prefix_within k n docs r))
-
-range_agree : (s t : ℕ → Bool) (a n : ℕ) → ((doc : ℕ) → doc < a + n → s doc ≡ t doc) → count_by s (range_with_len a n) ≡ count_by t (range_with_len a n)
-range_agree s t a zero h = refl
-range_agree s t a (suc n) h =
-    omega (arith, count_by-cons s a (range_with_len (a + 1) n), count_by-cons t a (range_with_len (a + 1) n), ap one_if (h a (omega arith)), range_agree s t (a + 1) n (λ doc k. h doc (omega arith)))
-
-count_agree : (n : ℕ) (s t : ℕ → Bool) → Agree n s t → true_count s n ≡ true_count t n
-count_agree n s t h = range_agree s t 0 n (λ doc k. h doc (omega arith))
-
-first_agree : (n rank : ℕ) (s t : ℕ → Bool) (docs : List ℕ) → AllByRecursion (λ d. d < n) docs → Agree n s t → position_from s rank docs ≡ position_from t rank docs
-first_agree n rank s t [] w h = refl
-first_agree n rank s t (x ∷ xs) w h =
-    ap (λ v. cond v (Some rank) (position_from s (rank + 1) xs)) (h x w.0) ∙ ap (λ p. cond (t x) (Some rank) p) (first_agree n (rank + 1) s t xs w.1 h)
-
--- so is a score that looks at no tail
-pub score_agree : (m : MeasureName) (n : ℕ) (s t : ℕ → Bool) (docs : List ℕ) (tail : List Bool) → LooksAtNoTail m → IsRanking n docs → Agree n s t → score m n s docs tail ≡ score m n t docs []
-score_agree (Precision k) n s t docs tail v r h = ap (λ x. over x k) (among_agree k n s t docs r h)
-score_agree (Recall k) n s t docs tail v r h =
-    ap (λ x. over x (true_count s n)) (among_agree k n s t docs r h) ∙ ap (over (true_among t k docs)) (count_agree n s t h)
-score_agree RPrecision n s t docs tail v r h =
-    ap (λ k. over (true_among s k docs) k) (count_agree n s t h) ∙ ap (λ x. over x (true_count t n)) (among_agree (true_count t n) n s t docs r h)
-score_agree Reciprocal n s t docs tail v r h = ap reciprocal (first_agree n 1 s t docs (recursion_from_All (λ d. d < n) docs r.within) h)
-score_agree (Biased top bottom) n s t docs tail v r h = absurd v
+-- a score that looks at no tail looks at the truth values of the universe alone
+pub score_alone : (m : MeasureName) (n : ℕ) (s t : ℕ → Bool) (docs : List ℕ) (tail : List Bool) → LooksAtNoTail m → IsRanking n docs → Agree n s t → score m n s docs tail ≡ score m n t docs []
+score_alone (Precision k) n s t docs tail v r h = score_agree (Precision k) n s t docs [] r h
+score_alone (Recall k) n s t docs tail v r h = score_agree (Recall k) n s t docs [] r h
+score_alone RPrecision n s t docs tail v r h = score_agree RPrecision n s t docs [] r h
+score_alone Reciprocal n s t docs tail v r h = score_agree Reciprocal n s t docs [] r h
+score_alone (Biased top bottom) n s t docs tail v r h = absurd v
 
 judged_value : (mark : Mark) (b : Bool) → is_unjudged mark ≡ false → Allows mark b → b ≡ picked_value false mark
 judged_value Unjudged b h a = absurd (cc)
@@ -87,7 +64,7 @@ judged_extremes m u marks a b x y lo hi v ra rb judged ex ey floor ceiling =
     let n = length marks in
     let none = with_picked marks (λ _. false) in
     let same : (docs : List ℕ) (truth : ℕ → Bool) (tail : List Bool) (s : Fraction) → IsRanking n docs → s ≡ score m n none docs [] → Completes marks truth → s ≡ score m n truth docs tail =
-    λ docs truth tail s r e c. e ∙ sym (score_agree m n truth none docs tail v r (one_completion marks truth judged c)) in
+    λ docs truth tail s r e c. e ∙ sym (score_alone m n truth none docs tail v r (one_completion marks truth judged c)) in
     let to_each : (fact : Fraction → Fraction → Type 0) → fact x y → InEvery m marks a b fact =
     λ fact h truth ta tb c. subst (λ s. fact s (score m n truth b tb)) (same a truth ta x ra ex c) (subst (fact x) (same b truth tb y rb ey c) h) in
     let from_one : (fact : Fraction → Fraction → Type 0) (truth : ℕ → Bool) (ta tb : List Bool) → Completes marks truth → fact (score m n truth a ta) (score m n truth b tb) → fact x y =

@@ -21,6 +21,7 @@ use Rattle.measure_laws.specs.Measures.{unit_of, IsExactMeasure}
 use Rattle.measure_laws.specs.Shares.{IsModest}
 use Rattle.measure_laws.proofs.RecallEnds.{count_le_universe}
 use Rattle.measure_laws.proofs.LeastEnds.{least_ends}
+use Rattle.measure_laws.proofs.Scores.{score-most, difference_low, difference_high, within_unit}
 use Rattle.measure_laws.proofs.LeastCases.{least_case_is_least}
 use Rattle.measure_laws.proofs.Swapping.{most_ends}
 use Rattle.measure_laws.proofs.Weights.{unit-size}
@@ -94,42 +95,6 @@ extremes m marks a b valid exact ra rb =
     record { least_lo = least.0; least_hi = least.1; most_hi = most.0; most_lo = most.1 }
 
 -- ---- sizes
-pub over-most : (n d : ℕ) → n ≤ d → (over n d).num ≤ (over n d).den
-over-most n zero h = omega arith
-over-most n (suc d) h = h
-
-pub reciprocal-most : (x : Option ℕ) → (reciprocal x).num ≤ (reciprocal x).den
-reciprocal-most None = omega arith
-reciprocal-most (Some zero) = omega arith
-reciprocal-most (Some (suc r)) = omega arith
-
-among_few : (truth : ℕ → Bool) (k : ℕ) (docs : List ℕ) → true_among truth k docs ≤ k
-among_few truth k docs = omega (arith, count_by-le-length truth (take k docs), length-take k docs)
-
-among_count : (truth : ℕ → Bool) (k n : ℕ) (docs : List ℕ) → IsRanking n docs → true_among truth k docs ≤ true_count truth n
-among_count truth k n docs r = count_le_universe truth n (take k docs) (IsDistinct-take k docs r.distinct) (prefix_within k n docs r)
-
--- a score is at most 1
-pub score-most : (m : MeasureName) (n : ℕ) (truth : ℕ → Bool) (docs : List ℕ) (tail : List Bool) → IsExactMeasure m → IsRanking n docs → (score m n truth docs tail).num ≤ (score m n truth docs tail).den
-score-most (Precision k) n truth docs tail exact r = over-most (true_among truth k docs) k (among_few truth k docs)
-score-most (Recall k) n truth docs tail exact r = over-most (true_among truth k docs) (true_count truth n) (among_count truth k n docs r)
-score-most RPrecision n truth docs tail exact r = over-most (true_among truth (true_count truth n) docs) (true_count truth n) (among_few truth (true_count truth n) docs)
-score-most Reciprocal n truth docs tail exact r = reciprocal-most (first_true truth docs)
-score-most (Biased top bottom) n truth docs tail exact r = absurd exact
-
-small_low : (u a b c d : ℕ) → c ≤ d → u * (c * b) ≤ u * (a * d) + u * (b * d)
-small_low u a b c d h = omega (arith, mul-le-mul_left (u * b) h)
-
-difference_low : (u : ℕ) (x y : Fraction) → y.num ≤ y.den → IsAtMost (neg_ℤ (pos u)) u x y
-difference_low zero x y h = at_most_in (pos 0) 0 x y (omega arith)
-difference_low (suc u) x y h = at_most_in (neg_ℤ (pos (suc u))) (suc u) x y (omega (arith, small_low (suc u) x.num x.den y.num y.den h))
-
-difference_high : (u : ℕ) (x y : Fraction) → x.num ≤ x.den → IsAtLeast (pos u) u x y
-difference_high u x y h = at_least_in (pos u) u x y (omega (arith, small_low u y.num y.den x.num x.den h))
-
-within_unit : (z : ℤ) (u : ℕ) → u ≤ 10 ^ 18 → neg_ℤ (pos u) ≤ℤ z → z ≤ℤ pos u → IsModest z
-within_unit z u h k l = omega (arith, ints)
-
 pub difference_modest : (u : ℕ) (x y : Fraction) → u ≤ 10 ^ 18 → 0 < x.den → 0 < y.den → x.num ≤ x.den → y.num ≤ y.den → SpanIsModest (difference_span u x y)
 difference_modest u x y small px py hx hy =
     let floor = difference_floor u x y px py in

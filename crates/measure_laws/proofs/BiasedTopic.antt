@@ -19,7 +19,7 @@ use Rattle.desk_model.proofs.Completions.{allowed_least, allowed_most}
 use Rattle.desk_model.proofs.Fractions.{at_most_in, at_least_in}
 use Rattle.desk_model.proofs.PrecisionEnds.{weaker}
 use Rattle.measure_laws.specs.Powers.{low_power, high_power, low_weight, high_weight}
-use Rattle.measure_laws.specs.Shares.{low_share, high_share, biased_truth, share_sum, biased_least_lo, biased_least_hi, biased_bound_lo, biased_bound_hi}
+use Rattle.measure_laws.specs.Shares.{low_share, high_share, biased_truth, share_sum, share_sum_of, biased_upper_end, biased_least_lo, biased_least_hi, biased_bound_lo, biased_bound_hi}
 use Rattle.measure_laws.proofs.Biased.{worth, gained_most, tail_adds, high_power-le}
 use Rattle.measure_laws.proofs.BiasedEnds.{weight_low, weight_high, biased-over}
 use Rattle.measure_laws.proofs.BiasedSizes.{powers_apart, rank_size, ShareSizes, share_sizes, low_weights_sum, high_weights_sum, whole_between, weights_by_document}
@@ -46,8 +46,8 @@ counted_between : (t : Bool) (z : ℤ) (g h : ℕ) → neg_ℤ (pos h) ≤ℤ z 
 counted_between true z g h p q = (p, q)
 counted_between false z g h p q = (omega (arith, ints), omega (arith, ints))
 
-sizes_at : (a b : ℕ) (marks : List Mark) (first second : List ℕ) (d : ℕ) → 0 < b → a ≤ b → ShareSizes a b (rank first d) (rank second d) (low_share a b (rank first d) (rank second d)) (high_share a b (rank first d) (rank second d))
-sizes_at a b marks first second d h k =
+sizes_at : (a b : ℕ) (first second : List ℕ) (d : ℕ) → 0 < b → a ≤ b → ShareSizes a b (rank first d) (rank second d) (low_share a b (rank first d) (rank second d)) (high_share a b (rank first d) (rank second d))
+sizes_at a b first second d h k =
     share_sizes a b (length first) (length second) (rank first d) (rank second d) h k (rank_within first (length first) d (omega arith)) (rank_within second (length second) d (omega arith))
 
 low_end : (t : ℤ) (h wl wh p : ℕ) → (neg_ℤ (pos wh) ≤ℤ t) × (t ≤ℤ pos wl) → wl + p ≤ 10 ^ 18 → wh + h ≤ 10 ^ 18 + 10000 → (neg_ℤ (pos (2 * 10 ^ 18)) ≤ℤ (t -ℤ pos h)) × ((t -ℤ pos h) ≤ℤ pos (2 * 10 ^ 18))
@@ -62,17 +62,21 @@ least_lo_modest a b marks first second h k ra rb =
     let n = length marks in
     let zs = range_with_len 0 n in
     let between = whole_between (λ d. if biased_truth marks first second d then low_share a b (rank first d) (rank second d) else pos 0) (λ d. low_weight a b (rank first d)) (λ d. high_weight a b (rank second d)) zs
-    (every _ (λ d. let s = sizes_at a b marks first second d h k in counted_between (biased_truth marks first second d) (low_share a b (rank first d) (rank second d)) (low_weight a b (rank first d)) (high_weight a b (rank second d)) s.low_least s.low_most) zs) in
+    (every _ (λ d. let s = sizes_at a b first second d h k in counted_between (biased_truth marks first second d) (low_share a b (rank first d) (rank second d)) (low_weight a b (rank first d)) (high_weight a b (rank second d)) s.low_least s.low_most) zs) in
     low_end (share_sum (low_share a b) marks first second) (high_power a b (length second)) (sum_by (λ d. low_weight a b (rank first d)) zs) (sum_by (λ d. high_weight a b (rank second d)) zs) (low_power a b (length first)) between (low_weights_most a b n first h k ra) (high_weights_most a b n second h k rb)
+
+-- the upper end of a completion
+pub upper_end_modest : (a b n : ℕ) (truth : ℕ → Bool) (first second : List ℕ) → 0 < b → a ≤ b → IsRanking n first → IsRanking n second →
+    (neg_ℤ (pos (2 * 10 ^ 18)) ≤ℤ biased_upper_end a b truth n first second) × (biased_upper_end a b truth n first second ≤ℤ pos (2 * 10 ^ 18))
+upper_end_modest a b n truth first second h k ra rb =
+    let zs = range_with_len 0 n in
+    let between = whole_between (λ d. if truth d then high_share a b (rank first d) (rank second d) else pos 0) (λ d. high_weight a b (rank first d)) (λ d. low_weight a b (rank second d)) zs
+    (every _ (λ d. let s = sizes_at a b first second d h k in counted_between (truth d) (high_share a b (rank first d) (rank second d)) (high_weight a b (rank first d)) (low_weight a b (rank second d)) s.high_least s.high_most) zs) in
+    high_end (share_sum_of truth n (high_share a b) first second) (low_power a b (length second)) (sum_by (λ d. low_weight a b (rank second d)) zs) (sum_by (λ d. high_weight a b (rank first d)) zs) (high_power a b (length first)) between (low_weights_most a b n second h k rb) (high_weights_most a b n first h k ra)
 
 pub least_hi_modest : (a b : ℕ) (marks : List Mark) (first second : List ℕ) → 0 < b → a ≤ b → IsRanking (length marks) first → IsRanking (length marks) second →
     (neg_ℤ (pos (2 * 10 ^ 18)) ≤ℤ biased_least_hi a b marks first second) × (biased_least_hi a b marks first second ≤ℤ pos (2 * 10 ^ 18))
-least_hi_modest a b marks first second h k ra rb =
-    let n = length marks in
-    let zs = range_with_len 0 n in
-    let between = whole_between (λ d. if biased_truth marks first second d then high_share a b (rank first d) (rank second d) else pos 0) (λ d. high_weight a b (rank first d)) (λ d. low_weight a b (rank second d)) zs
-    (every _ (λ d. let s = sizes_at a b marks first second d h k in counted_between (biased_truth marks first second d) (high_share a b (rank first d) (rank second d)) (high_weight a b (rank first d)) (low_weight a b (rank second d)) s.high_least s.high_most) zs) in
-    high_end (share_sum (high_share a b) marks first second) (low_power a b (length second)) (sum_by (λ d. low_weight a b (rank second d)) zs) (sum_by (λ d. high_weight a b (rank first d)) zs) (high_power a b (length first)) between (low_weights_most a b n second h k rb) (high_weights_most a b n first h k ra)
+least_hi_modest a b marks first second h k ra rb = upper_end_modest a b (length marks) (biased_truth marks first second) first second h k ra rb
 
 -- ---- widths
 whole_width : (f g : ℕ → ℤ) (h : ℕ → ℕ) (zs : List ℕ) → AllByRecursion (λ d. g d ≤ℤ (f d +ℤ pos (h d))) zs → whole_sum (map g zs) ≤ℤ (whole_sum (map f zs) +ℤ pos (sum_by h zs))
@@ -100,7 +104,7 @@ biased_width a b marks first second h k ra rb =
     let zs = range_with_len 0 n in
     let apart = λ (d : ℕ). 2 * rank_size (rank first d) + 2 * rank_size (rank second d) in
     let wide = whole_width (λ d. if biased_truth marks first second d then low_share a b (rank first d) (rank second d) else pos 0) (λ d. if biased_truth marks first second d then high_share a b (rank first d) (rank second d) else pos 0) apart zs
-    (every _ (λ d. counted_width (biased_truth marks first second d) (low_share a b (rank first d) (rank second d)) (high_share a b (rank first d) (rank second d)) (apart d) (sizes_at a b marks first second d h k).width) zs) in
+    (every _ (λ d. counted_width (biased_truth marks first second d) (low_share a b (rank first d) (rank second d)) (high_share a b (rank first d) (rank second d)) (apart d) (sizes_at a b first second d h k).width) zs) in
     let sums : sum_by apart zs ≡ length first * (length first + 1) + length second * (length second + 1) =
     omega (arith, sum_by-plus (λ d. 2 * rank_size (rank first d)) (λ d. 2 * rank_size (rank second d)) zs, ranks_by_document n first ra, ranks_by_document n second rb) in
     width_total (share_sum (low_share a b) marks first second) (share_sum (high_share a b) marks first second) (high_power a b (length second)) (low_power a b (length second)) (sum_by apart zs) (length first) (length second) wide sums (powers_apart a b (length second) h k)

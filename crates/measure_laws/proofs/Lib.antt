@@ -21,3 +21,5 @@ pub mod Ratios
 pub mod FirstRanks
 pub mod LeastDifferences
 pub mod ReciprocalDifferences
+pub mod CaseEnds
+pub mod Scores

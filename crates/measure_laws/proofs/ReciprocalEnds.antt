@@ -29,13 +29,13 @@ pub from_parts : (x y v w : Fraction) → IsAtMostOther x v → IsAtMostOther w 
 from_parts x y v w h k = omega (arith, mul-le-mul_left (y.den * w.den) h, mul-le-mul_left (v.den * x.den) k)
 
 -- a later rank has the smaller reciprocal
-rank_order : (r q : ℕ) → 0 < r → r ≤ q → IsAtMostOther (reciprocal (Some q)) (reciprocal (Some r))
+pub rank_order : (r q : ℕ) → 0 < r → r ≤ q → IsAtMostOther (reciprocal (Some q)) (reciprocal (Some r))
 rank_order r q h k = rw (over-pos 1 q (omega arith), over-pos 1 r h) (omega arith)
 
 pub same_order : (x : Fraction) → IsAtMostOther x x
 same_order x = omega arith
 
-zero_least : (x : Option ℕ) → IsAtMostOther (reciprocal None) (reciprocal x)
+pub zero_least : (x : Option ℕ) → IsAtMostOther (reciprocal None) (reciprocal x)
 zero_least x = omega arith
 
 later_step : (b : Bool) (r q : ℕ) (p : Option ℕ) → 0 < r → r ≤ q → IsAtMostOther (reciprocal p) (reciprocal (Some r)) → IsAtMostOther (reciprocal (cond b (Some q) p)) (reciprocal (Some r))

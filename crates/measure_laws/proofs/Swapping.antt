@@ -4,7 +4,7 @@ use Rattle.std.proofs.lemmas.Int.{ints}
 use borrow.Author.Differences.{up, down}
 use Rattle.desk_model.specs.Fraction.{Fraction, IsAtMost, IsAtLeast}
 use Rattle.desk_model.specs.Score.{score}
-use Rattle.desk_model.specs.Extremes.{IsGreatest, IsSmallest, InEvery, InSome, AreExtremes}
+use Rattle.desk_model.specs.Extremes.{IsGreatest, IsSmallest, InEvery, InSome, Ends, AreExtremes}
 use Rattle.desk_model.proofs.Fractions.{at_most_out, at_most_in, at_least_out, at_least_in}
 use Rattle.measure_laws.proofs.LeastEnds.{least_ends}
 use Rattle.measure_laws.specs.Differences.{IsLeastCase}
@@ -72,3 +72,23 @@ case_extremes m u marks a b truth truth' lo hi lo' hi' case case' floor ceiling 
     let other = least_ends m u marks b a truth' lo' hi' case' floor' ceiling' in
     let most = most_ends m u marks a b lo' hi' other.0 other.1 in
     record { least_lo = least.0; least_hi = least.1; most_hi = most.0; most_lo = most.1 }
+
+-- the ends of the swapped runs: least and greatest change places, and the ends of each are negated and change places
+abbrev pub swapped_ends : Ends → Ends
+swapped_ends e = record { least_lo = neg_ℤ e.most_hi; least_hi = neg_ℤ e.most_lo; most_lo = neg_ℤ e.least_hi; most_hi = neg_ℤ e.least_lo }
+
+pub extremes_swapped : (m : MeasureName) (u : ℕ) (marks : List Mark) (a b : List ℕ) (e : Ends) → AreExtremes m u marks a b e → AreExtremes m u marks b a (swapped_ends e)
+extremes_swapped m u marks a b e h =
+    let most = most_ends m u marks b a e.least_lo e.least_hi h.least_lo h.least_hi in
+    record {
+      least_lo = record {
+        so = every_swapped_back m u marks a b e.most_hi h.most_hi.so;
+        others = λ w k. swapped_order_up w e.most_hi (h.most_hi.others (neg_ℤ w) (every_swapped m u marks a b w k));
+      };
+      least_hi = record {
+        so = some_swapped_back m u marks a b e.most_lo h.most_lo.so;
+        others = λ w k. swapped_order w e.most_lo (h.most_lo.others (neg_ℤ w) (some_swapped m u marks a b w k));
+      };
+      most_hi = most.0;
+      most_lo = most.1;
+    }

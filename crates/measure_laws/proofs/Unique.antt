@@ -1,12 +1,13 @@
 -- A greatest and a smallest whole number are the only ones, and so are the ends of a topic.
-use Rattle.std.proofs.Common.{◌≡◌, ℕ, ◌<◌, List, length, ℤ, ap, ◌∙◌}
+use Rattle.std.proofs.Common.{◌≡◌, ℕ, ◌^◌, ◌<◌, List, length, ℤ, ap, sym, ◌∙◌}
 use Rattle.small_lemmas.proofs.Numbers.{both_ways}
 use Rattle.desk_model.specs.Ranking.{IsRanking}
 use Rattle.desk_model.specs.Extremes.{IsGreatest, IsSmallest, Ends, AreExtremes}
 use Rattle.desk_model.specs.Classes.{precision_ends}
 use Rattle.desk_model.specs.declared.types.Mark.{Mark}
 use Rattle.desk_model.specs.declared.types.MeasureName.{MeasureName}
-use Rattle.desk_model.specs.declared.types.MeasureName.TheVariants.{Precision}
+use Rattle.desk_model.specs.declared.types.MeasureName.TheVariants.{Precision, Recall, RPrecision, Reciprocal, Biased}
+use Rattle.measure_laws.specs.Ends.{HasEnds}
 use Rattle.desk_model.proofs.PrecisionEnds.{precision_extremes}
 
 pub greatest_unique : (P : ℤ → Type 0) (z w : ℤ) → IsGreatest P z → IsGreatest P w → z ≡ w
@@ -27,6 +28,14 @@ extremes_unique m unit marks a b e f h k =
     ends_same e.least_lo e.least_hi e.most_lo e.most_hi f.least_lo f.least_hi f.most_lo f.most_hi
     (greatest_unique _ e.least_lo f.least_lo h.least_lo k.least_lo) (smallest_unique _ e.least_hi f.least_hi h.least_hi k.least_hi)
     (greatest_unique _ e.most_lo f.most_lo h.most_lo k.most_lo) (smallest_unique _ e.most_hi f.most_hi h.most_hi k.most_hi)
+
+-- and so are those that a name has
+pub named_ends_unique : (m : MeasureName) (marks : List Mark) (a b : List ℕ) (e f : Ends) → HasEnds m marks a b e → HasEnds m marks a b f → e ≡ f
+named_ends_unique (Precision k) marks a b e f h g = extremes_unique (Precision k) k marks a b e f h g
+named_ends_unique (Recall k) marks a b e f h g = extremes_unique (Recall k) (10 ^ 18) marks a b e f h g
+named_ends_unique RPrecision marks a b e f h g = extremes_unique RPrecision (10 ^ 18) marks a b e f h g
+named_ends_unique Reciprocal marks a b e f h g = extremes_unique Reciprocal (10 ^ 18) marks a b e f h g
+named_ends_unique (Biased top bottom) marks a b e f h g = h ∙ sym g
 
 -- under precision they are counts of documents
 pub precision_ends_are : (k : ℕ) (marks : List Mark) (a b : List ℕ) (e : Ends) → 0 < k → IsRanking (length marks) a → IsRanking (length marks) b → AreExtremes (Precision k) k marks a b e → e ≡ precision_ends k marks a b

@@ -48,11 +48,14 @@ pub fn least_case_is_first()
         IsSmallestAttained marks a b (rprec_count marks a b) }
 {}
 
-/// The ends of a topic are determined, and under precision they are counts of documents: the two ends
-/// of the least difference are one number, and so are those of the greatest.
+/// The ends of a topic are determined, by completions and by the measure's name. Under precision they
+/// are counts of documents: the two ends of the least difference are one number, and so are those of
+/// the greatest.
 pub fn ends_are_determined()
     ensures unique { (measure : MeasureName) (unit : ℕ) (marks : List Mark) (a b : List ℕ) (e f : Ends) →
         AreExtremes measure unit marks a b e → AreExtremes measure unit marks a b f → e ≡ f }
+    ensures named { (measure : MeasureName) (marks : List Mark) (a b : List ℕ) (e f : Ends) →
+        HasEnds measure marks a b e → HasEnds measure marks a b f → e ≡ f }
     ensures precision { (k : ℕ) (marks : List Mark) (a b : List ℕ) (e : Ends) → 0 < k →
         IsRanking (length marks) a → IsRanking (length marks) b →
         AreExtremes (Precision k) k marks a b e → e ≡ precision_ends k marks a b }
@@ -176,4 +179,22 @@ pub fn ends_of_a_completion_hold()
         (tail_a tail_b : List Bool) → IsMeasure measure → IsRanking universe a → IsRanking universe b →
         IsLowerEnd measure universe truth a b z → HasLeastTails measure tail_b tail_a →
         IsAtMost z (unit_of measure) (score measure universe truth a tail_a) (score measure universe truth b tail_b) }
+{}
+
+/// The least case has the upper end of the least difference, and the most case, which is the least
+/// case of the swapped runs, the lower end of the greatest. An upper end looks at the truth values of
+/// the universe alone.
+pub fn cases_have_the_ends()
+    ensures least { (measure : MeasureName) (marks : List Mark) (a b : List ℕ) (ends : Ends) →
+        IsMeasure measure → IsRanking (length marks) a → IsRanking (length marks) b →
+        HasEnds measure marks a b ends →
+        IsUpperEnd measure (length marks) (least_truth measure marks a b) a b ends.least_hi }
+    ensures most { (measure : MeasureName) (marks : List Mark) (a b : List ℕ) (ends : Ends) →
+        IsMeasure measure → IsRanking (length marks) a → IsRanking (length marks) b →
+        HasEnds measure marks a b ends →
+        IsLowerEnd measure (length marks) (least_truth measure marks b a) a b ends.most_lo }
+    ensures universe { (measure : MeasureName) (universe : ℕ) (truth other : ℕ → Bool) (a b : List ℕ) (z : ℤ) →
+        IsRanking universe a → IsRanking universe b →
+        ((doc : ℕ) → doc < universe → truth doc ≡ other doc) →
+        IsUpperEnd measure universe truth a b z → IsUpperEnd measure universe other a b z }
 {}

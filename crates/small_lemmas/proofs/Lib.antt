@@ -1,2 +1,3 @@
 pub mod Tests
 pub mod Numbers
+pub mod Lists

@@ -1,4 +1,4 @@
-//! Small facts on tests and whole numbers that the standard library has not: lemmas for the proofs of
+//! Small facts on tests, whole numbers and lists that the standard library has not: lemmas for the proofs of
 //! the crates above.
 #![tactic(auto)]
 
