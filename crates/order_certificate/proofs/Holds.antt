@@ -157,7 +157,7 @@ plain_topics (b ∷ bs) [] e = absurd (omega (arith, e))
 plain_topics (b ∷ bs) (t ∷ ts) e = ap (λ zs. t ∷ zs) (plain_topics bs ts (omega (arith, e)))
 
 -- a place is within the list
-place_within : {X : Type 0} (p : X → Bool) (xs : List X) (n i : ℕ) → position_from p n xs ≡ Some i → i < n + length xs
+pub place_within : {X : Type 0} (p : X → Bool) (xs : List X) (n i : ℕ) → position_from p n xs ≡ Some i → i < n + length xs
 place_within p [] n i e = absurd (cc)
 place_within p (x ∷ xs) n i e = by (p x) (λ rest. place_within p xs (n + 1) i rest) e
   where

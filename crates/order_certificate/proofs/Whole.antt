@@ -19,7 +19,7 @@ use Rattle.order_certificate.specs.declared.places.Claim.{Claim}
 use Rattle.order_certificate.specs.declared.places.Claim.TheVariants as claimed
 use Rattle.order_certificate.specs.Certificate.{low_line, low_high_line, witness_lines, topics_line, evidence_lines, certificate_lines, certificate_text, opening_lines, IsNumber, IsLevel, IsTopicCount, AreTopics, AreDocuments, IsWritable, IsCertificate}
 use Rattle.order_certificate.proofs.Cuts.{AreAbove, above-append, same_lines}
-use Rattle.order_certificate.proofs.Forms.{IsPlain, bind_forth, bind_back, bind_plain, one_value, says_stands, stands_lines, one_bad, none_bad}
+use Rattle.order_certificate.proofs.Forms.{IsPlain, bind_forth, bind_back, bind_plain, one_value, says_stands, stands_lines, none_longer, one_bad, none_bad}
 use Rattle.order_certificate.proofs.Rows.{Kind, line_forth, made_forth, made_back, each_forth, each_back, each_plain, follow_names, names_follow, flat_single}
 use Rattle.order_certificate.proofs.Shown.{measure_above, measure_is_text}
 use Rattle.order_certificate.proofs.RowKinds.{low_kind, low_high_kind, witness_kind, name_in_line, decimal_in_line}
@@ -240,6 +240,10 @@ one_certificate unique bytes c d tc td =
     let lines_d = stands_lines certificate_places td.0 plain (says_stands certificate_places td.0 d td.2) in
     let same : tc.0 ≡ td.0 = same_lines tc.0 td.0 lines_c lines_d (sym tc.1 ∙ td.1) in
     one_value certificate_places td.0 c d plain (subst (λ ls. Says certificate_places ls c) same tc.2) td.2
+
+-- no text of a certificate begins with that of another
+pub none_begins : OneMeasure → (bytes more : List ℕ) (c d : Certificate) → IsText bytes c → IsText (bytes ++ more) d → (more ≡ []) × (c ≡ d)
+none_begins unique bytes more c d tc td = none_longer certificate_places tc.0 td.0 more c d (places_plain unique) tc.2 td.2 (ap (λ zs. zs ++ more) (sym tc.1) ∙ td.1)
 
 -- what is within the limits has the text that is written, and no other
 pub has_limits : (bytes : List ℕ) (c : Certificate) → IsText bytes c → IsCertificate c

@@ -1,5 +1,5 @@
 //! Laws of certificates, each the contract of a function that does nothing.
-ghost use Rattle.std.specs.Prelude.{◌≡◌, ◌≤◌, ◌⊎◌, ℕ, All, List, length, ℤ};
+ghost use Rattle.std.specs.Prelude.{◌≡◌, ◌≤◌, ◌⊎◌, ◌++◌, ℕ, All, List, [], length, ℤ};
 ghost use Rattle.desk_model.specs.Completion.{Completion};
 ghost use Rattle.desk_model.specs.Desk.{topics_under};
 ghost use Rattle.desk_model.specs.Fraction.{IsSame};
@@ -31,6 +31,14 @@ pub fn certificates_have_texts()
     ensures written { (bytes : List ℕ) (c : Certificate) → IsText bytes c → bytes ≡ certificate_text c }
     ensures text { (c : Certificate) → IsCertificate c → IsText (certificate_text c) c }
 {}
+
+/// No text of a certificate begins with the text of another.
+pub fn no_text_begins_another()
+    ensures { (bytes more : List ℕ) (c d : Certificate) → IsText bytes c → IsText (bytes ++ more) d →
+        (more ≡ []) × (c ≡ d) }
+{
+    measure_of_text_is_unique();
+}
 
 /// Bytes have one first bad line at most, and the text of a certificate has none.
 pub fn first_bad_line_is_unique()

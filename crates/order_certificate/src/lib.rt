@@ -11,8 +11,8 @@ mod writing;
 pub use certificate::{Bounds, Certificate, Evidence, Names, TopicBound, TopicWitness, Witnesses};
 pub use laws::{
     bad_line_exists, certificates_have_texts, evidence_holds_in_completions,
-    evidence_implies_claim, first_bad_line_is_unique, lines_are_short, open_sums_are_determined,
-    text_and_certificate_are_one,
+    evidence_implies_claim, first_bad_line_is_unique, lines_are_short, no_text_begins_another,
+    open_sums_are_determined, text_and_certificate_are_one,
 };
 pub use reading::{CertFault, read_certificate};
 pub use writing::write_certificate;
