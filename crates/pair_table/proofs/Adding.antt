@@ -7,6 +7,7 @@ use Rattle.std.proofs.lemmas.Int.{ints}
 use Rattle.std.proofs.lemmas.List.{map-append, take_all}
 use Rattle.std.proofs.lemmas.List.Elements.{recursion_from_All}
 use Rattle.std.proofs.lemmas.Option.{slice_get-map, slice_get_within}
+use Rattle.desk_model.proofs.Sums.{whole_sum-push}
 use Rattle.desk_model.proofs.Nested.{take-there}
 use Rattle.desk_model.proofs.PairPlace.{there}
 use Rattle.desk_model.specs.Extremes.{Ends}
@@ -37,10 +38,6 @@ modest_near z h = omega (arith, ints)
 
 pub modest_short : (s : Span) → SpanIsModest s → IsShort s
 modest_short s h = (modest_near s.lo h.0, modest_near s.hi h.1)
-
-whole_sum-push : (zs : List ℤ) (z : ℤ) → whole_sum (zs ++ z ∷ []) ≡ whole_sum zs +ℤ z
-whole_sum-push [] z = omega (arith, ints)
-whole_sum-push (y ∷ zs) z = let rest = whole_sum-push zs z in omega (arith, ints, rest)
 
 -- the sum of a number of each element before a place, and its size
 pub record IsSumTo {X : Type 0} (f : X → ℤ) (xs : List X) (t : ℕ) (z : ℤ) : Type 0 where

@@ -7,3 +7,9 @@ pub mod Named
 pub mod Swapped
 pub mod Filling
 pub mod PairNumbers
+pub mod Listing
+pub mod Documents
+pub mod Saying
+pub mod Certified
+pub mod Answered
+pub mod Evident

@@ -1,7 +1,6 @@
 -- The numbers of a name: a made measure has them, and they are determined.
-use Rattle.std.proofs.Common.{◌≡◌, ℕ, ◌^◌, List, length, ℤ, ◌≤ℤ◌, refl, ap, sym, ◌∙◌, arith}
+use Rattle.std.proofs.Common.{◌≡◌, ℕ, ◌^◌, List, length, refl, ap, sym, ◌∙◌, arith}
 use Rattle.std.specs.List.{AllByRecursion}
-use Rattle.std.proofs.lemmas.Int.{ints}
 use Rattle.small_lemmas.proofs.Numbers.{both_ways}
 use Rattle.desk_model.specs.Desk.{Desk, IsDesk, AreMarksOf, topics_under}
 use Rattle.desk_model.specs.Extremes.{Ends, AreBounds}
@@ -12,14 +11,14 @@ use Rattle.desk_model.specs.declared.types.Mark.{Mark}
 use Rattle.desk_model.specs.declared.types.MeasureName.{MeasureName}
 use Rattle.desk_model.specs.declared.types.MeasureName.TheVariants.{Precision, Recall, RPrecision, Reciprocal, Biased}
 use Rattle.desk_model.specs.declared.types.Totals.{Totals}
-use Rattle.measure_laws.proofs.Unique.{extremes_unique}
+use Rattle.measure_laws.proofs.Unique.{named_ends_unique}
 use Rattle.fractions.specs.declared.span.Span.{Span}
 use Rattle.fractions.proofs.Spans.{span_same}
 use Rattle.measure_core.specs.Laws.{IsMet}
 use Rattle.measure_core.specs.Made.{ends_of, HasEnds, HasBounds, AreNumbersOfName}
 use Rattle.measure_core.specs.declared.cell.Cell.{Cell}
 use Rattle.pair_table.specs.Sums.{run_numbers, cell_ends, pair_sums, run_spans, run_sums, span_sum, all_pair_sums, all_run_sums}
-use Rattle.pair_table.specs.Numbers.{ArePairNumbers, AreRunNumbers, AreNumbersIn}
+use Rattle.pair_table.specs.Numbers.{AreEndsOf, ArePairNumbers, AreRunNumbers, AreNumbersIn}
 use Rattle.pair_table.proofs.DeskTopics.{topics_met, topics_met_one}
 use Rattle.pair_table.proofs.Zips.{zip_made, zip_making, zip_unique, zip_unique_first, all_then, all_in_range, IsPairBelow, pairs_below}
 use Rattle.pair_table.proofs.Orders.{MetBy}
@@ -60,13 +59,6 @@ table_named name cell bounds desk marks numbers valid known =
     }
 
 -- ---- numbers of a name are determined
-ends_unique : (name : MeasureName) (marks : List Mark) (a b : List ℕ) (e f : Ends) → HasEnds name marks a b e → HasEnds name marks a b f → e ≡ f
-ends_unique (Precision k) marks a b e f h g = extremes_unique (Precision k) k marks a b e f h g
-ends_unique (Recall k) marks a b e f h g = extremes_unique (Recall k) (10 ^ 18) marks a b e f h g
-ends_unique RPrecision marks a b e f h g = extremes_unique RPrecision (10 ^ 18) marks a b e f h g
-ends_unique Reciprocal marks a b e f h g = extremes_unique Reciprocal (10 ^ 18) marks a b e f h g
-ends_unique (Biased top bottom) marks a b e f h g = h ∙ sym g
-
 exact_bounds_unique : (m : MeasureName) (u : ℕ) (marks : List Mark) (a : List ℕ) (s r : Span) → AreBounds m u marks a s.lo s.hi → AreBounds m u marks a r.lo r.hi → s ≡ r
 exact_bounds_unique m u marks a s r h g =
     span_same s.lo r.lo s.hi r.hi (both_ways s.lo r.lo (g.low.others s.lo h.low.so) (h.low.others r.lo g.low.so)) (both_ways s.hi r.hi (h.high.others r.hi g.high.so) (g.high.others s.hi h.high.so))
@@ -78,10 +70,12 @@ bounds_unique RPrecision marks a s r h g = exact_bounds_unique RPrecision (10 ^ 
 bounds_unique Reciprocal marks a s r h g = exact_bounds_unique Reciprocal (10 ^ 18) marks a s r h g
 bounds_unique (Biased top bottom) marks a s r h g = h ∙ sym g
 
-pair_unique : (name : MeasureName) (topics : List Topic) (a b : ℕ) (t u : Totals) → ArePairNumbers name topics a b t → ArePairNumbers name topics a b u → t ≡ u
-pair_unique name topics a b t u h g =
-    h.summed ∙ ap totals_of (zip_unique_first (λ (e : Ends) (topic : Topic). HasEnds name topic.marks (topic.ranking a) (topic.ranking b) e)
-    (λ e f topic x y. ends_unique name topic.marks (topic.ranking a) (topic.ranking b) e f x y) h.ends g.ends topics h.named g.named) ∙ sym g.summed
+pub ends_one : (name : MeasureName) (topics : List Topic) (a b : ℕ) (ends others : List Ends) → AreEndsOf name topics a b ends → AreEndsOf name topics a b others → ends ≡ others
+ends_one name topics a b ends others h g =
+    zip_unique_first (λ (e : Ends) (topic : Topic). HasEnds name topic.marks (topic.ranking a) (topic.ranking b) e) (λ e f topic x y. named_ends_unique name topic.marks (topic.ranking a) (topic.ranking b) e f x y) ends others topics h g
+
+pub pair_unique : (name : MeasureName) (topics : List Topic) (a b : ℕ) (t u : Totals) → ArePairNumbers name topics a b t → ArePairNumbers name topics a b u → t ≡ u
+pair_unique name topics a b t u h g = h.summed ∙ ap totals_of (ends_one name topics a b h.ends g.ends h.named g.named) ∙ sym g.summed
 
 run_unique : (name : MeasureName) (topics : List Topic) (run : ℕ) (s r : Span) → AreRunNumbers name topics run s → AreRunNumbers name topics run r → s ≡ r
 run_unique name topics run s r h g =

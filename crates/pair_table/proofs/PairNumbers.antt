@@ -7,6 +7,7 @@ use Rattle.std.proofs.lemmas.Bool.Decides.{nat_tests}
 use Rattle.std.proofs.lemmas.Option.{slice_get-map}
 use Rattle.std.proofs.lemmas.List.{length-map}
 use Rattle.std.proofs.lemmas.List.FromFn.{length-range_with_len}
+use Rattle.small_lemmas.proofs.Lists.{slice_get-append, slice_get-append_past}
 use Rattle.desk_model.specs.Desk.{pair_count}
 use Rattle.desk_model.specs.Pairs.{pairs_of, pairs_from, places_after}
 use Rattle.desk_model.specs.declared.pairs.PairPlaces.{PairPlaces}
@@ -64,15 +65,6 @@ length-pairs_of {X = X} (x ∷ xs) start =
     omega (arith, rest, first, joined, more)
 
 -- ---- the number of a pair
-get_past : {X : Type 0} (xs ys : List X) (i : ℕ) → slice_get (xs ++ ys) (length xs + i) ≡ slice_get ys i
-get_past [] ys i = let e : 0 + i ≡ i = omega arith in ap (slice_get ys) e
-get_past (x ∷ xs) ys i = let e : suc (length xs) + i ≡ suc (length xs + i) = omega arith in ap (slice_get (x ∷ xs ++ ys)) e ∙ get_past xs ys i
-
-get_first : {X : Type 0} (xs ys : List X) (i : ℕ) (x : X) → slice_get xs i ≡ Some x → slice_get (xs ++ ys) i ≡ Some x
-get_first [] ys i x e = absurd (cc)
-get_first (y ∷ xs) ys zero x e = e
-get_first (y ∷ xs) ys (suc i) x e = get_first xs ys i x e
-
 -- the pairs of the runs before one
 before : ℕ → ℕ → ℕ
 before n zero = 0
@@ -87,7 +79,7 @@ pair_there start (suc n) zero gap h =
     let first : start ≡ start + zero = omega arith in
     let second : start + 1 + gap ≡ start + zero + gap + 1 = omega arith in
     ap (slice_get (pairs_of (range_with_len start (suc n)))) place
-    ∙ get_first (map (λ (y : ℕ). (start, y)) (range_with_len (start + 1) n)) (pairs_of (range_with_len (start + 1) n)) gap (start, start + 1 + gap)
+    ∙ slice_get-append (map (λ (y : ℕ). (start, y)) (range_with_len (start + 1) n)) (pairs_of (range_with_len (start + 1) n)) gap (start, start + 1 + gap)
     (slice_get-map (λ (y : ℕ). (start, y)) (range_with_len (start + 1) n) gap ∙ ap (option_map (λ (y : ℕ). (start, y))) (numbered (start + 1) n gap (omega (arith, h))))
     ∙ ap (λ (m : ℕ). Some (m, start + 1 + gap)) first ∙ ap (λ (m : ℕ). Some (start + zero, m)) second
 pair_there start (suc n) (suc i) gap h =
@@ -97,7 +89,7 @@ pair_there start (suc n) (suc i) gap h =
     let place : n + before n i + gap ≡ length row + (before n i + gap) = omega (arith, long) in
     let first : start + 1 + i ≡ start + suc i = omega arith in
     let second : start + 1 + i + gap + 1 ≡ start + suc i + gap + 1 = omega arith in
-    ap (slice_get (row ++ rest)) place ∙ get_past row rest (before n i + gap) ∙ pair_there (start + 1) n i gap (omega (arith, h))
+    ap (slice_get (row ++ rest)) place ∙ slice_get-append_past row rest (before n i + gap) ∙ pair_there (start + 1) n i gap (omega (arith, h))
     ∙ ap (λ (m : ℕ). Some (m, start + 1 + i + gap + 1)) first ∙ ap (λ (m : ℕ). Some (start + suc i, m)) second
 
 before_twice : (i rest : ℕ) → before (i + suc rest) i * 2 ≡ i * (i + 2 * rest + 1)

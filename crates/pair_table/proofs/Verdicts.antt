@@ -1,5 +1,5 @@
 -- What a verdict says of four sums.
-use Rattle.std.proofs.Common.{◌≡◌, ℕ, ◌<◌, ◌≤◌, Bool, true, false, ℤ, pos, negsuc, ◌+ℤ◌, ◌≤ℤ◌, ◌<ℤ◌, inl, inr, refl, ap, arith}
+use Rattle.std.proofs.Common.{◌≡◌, ℕ, Bool, true, false, ℤ, pos, negsuc, ◌+ℤ◌, ◌≤ℤ◌, ◌<ℤ◌, inl, inr, refl, ap, arith}
 use Rattle.std.specs.Prelude.{int_lt, int_le, ◌&&◌, ◌||◌, if◌then◌else◌}
 use Rattle.std.specs.Ordering.{int_eq}
 use Rattle.std.proofs.lemmas.Int.{ints}
@@ -47,6 +47,14 @@ chosen_equal false false true o h = refl
 chosen_equal false false false true h = absurd (cc)
 chosen_equal false false false false h = absurd (cc)
 
+chosen_open : (a b e o : Bool) → choose a b e o ≡ Open → o ≡ true
+unfolding choose
+chosen_open true b e o h = absurd (cc)
+chosen_open false true e o h = absurd (cc)
+chosen_open false false true o h = absurd (cc)
+chosen_open false false false true h = refl
+chosen_open false false false false h = absurd (cc)
+
 chosen_close : (a b e o : Bool) → choose a b e o ≡ Close → (a ≡ false) × (b ≡ false) × (o ≡ false)
 unfolding choose
 chosen_close true b e o h = absurd (cc)
@@ -91,6 +99,10 @@ module _ (t : Totals) where
   equal_says h =
       let both = both_true (int_eq t.least_lo (pos 0)) (int_eq t.most_hi (pos 0)) (chosen_equal above_at below_at equal_at open_at h) in
       (zero_is t.least_lo both.0, zero_is t.most_hi both.1)
+
+  pub open_says : verdict t ≡ Open → differs t.least_hi t.most_lo ≡ true
+  unfolding choose
+  open_says h = chosen_open above_at below_at equal_at open_at h
 
   -- where the ends of the least sum, and those of the greatest, are that near to each other
   pub close_says : (width : ℕ) → t.least_hi ≤ℤ (t.least_lo +ℤ pos width) → t.most_hi ≤ℤ (t.most_lo +ℤ pos width) → verdict t ≡ Close → IsNearZero width t

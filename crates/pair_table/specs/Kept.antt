@@ -1,6 +1,7 @@
 -- What a table keeps.
-use Rattle.std.specs.Prelude.{◌≡◌, ℕ, ◌*◌, ◌^◌, ◌≤◌, List, All, length, map, take, ◌⊎◌, ℤ, pos, neg_ℤ, ◌≤ℤ◌}
+use Rattle.std.specs.Prelude.{◌≡◌, ℕ, ◌*◌, ◌≤◌, List, All, length, map, take, ◌⊎◌, ℤ, pos, neg_ℤ, ◌≤ℤ◌}
 use Rattle.std.specs.List.{Contains, zip}
+use Rattle.desk_model.specs.Desk.{Desk, topics_under}
 use Rattle.desk_model.specs.Limits.{PARTS_OF_ONE, RUN_LIMIT}
 use Rattle.desk_model.specs.Pairs.{pairs_of}
 use Rattle.desk_model.specs.Verdict.{verdict}
@@ -19,6 +20,11 @@ pub record Kept (M : Type 0) : Type 0 where
   pub runs : ℕ
   pub totals : List Totals
   pub bounds : List Span
+
+-- a table stands for a desk under marks: it has the desk's runs, and the sums of its measure's cells
+pub record StandsFor {M : Type 0} (cell : List Mark → List ℕ → List ℕ → Cell) (desk : Desk) (marks : List (List Mark)) (table : Kept M) : Type 0 where
+  pub runs : table.runs ≡ length desk.runs
+  pub totals : table.totals ≡ all_pair_sums cell (topics_under desk marks) (length desk.runs)
 
 -- the sums of two runs in either order: those beside their pair, or the same swapped_totals where the second run comes first
 abbrev pub AreSumsOf : ℕ → List Totals → ℕ → ℕ → Totals → Type 0

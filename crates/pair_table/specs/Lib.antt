@@ -2,3 +2,4 @@ pub mod Sums
 pub mod Kept
 pub mod Numbers
 pub mod Orders
+pub mod Evidence

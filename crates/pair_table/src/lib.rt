@@ -1,8 +1,11 @@
-//! The table of all pairs of runs, proved once for every measure.
+//! The table of all pairs of runs, and the certificates of its pairs, proved once for every measure.
 #![tactic(auto)]
 
+pub mod evidence;
+pub mod evidence_laws;
 pub mod laws;
 mod sums;
 pub mod table;
 
+pub use evidence::EvidenceFault;
 pub use table::Table;

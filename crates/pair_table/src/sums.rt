@@ -16,7 +16,7 @@ use std::sync::ledger::Ledger;
 const NOTHING: Span = Span { lo: 0, hi: 0 };
 
 /// The cell of two runs on a topic, by their numbers. It is one step.
-fn cell_at<M: Measure, L: Ledger>(
+pub fn cell_at<M: Measure, L: Ledger>(
     measure: &M,
     desk: &Desk,
     marks: &Marks,

@@ -1,0 +1,395 @@
+//! The certificate of two runs of a table.
+ghost use Rattle.std.specs.Prelude.{◌≡◌, ◌≢◌, ◌<◌, ◌&&◌, true, false, length, map, pos, slice_index_or, IfOk, if◌then◌else◌};
+ghost use Rattle.desk_model.specs.Desk.{AreMarksOf, topics_under};
+ghost use Rattle.desk_model.specs.Extremes.{Ends};
+ghost use Rattle.desk_model.specs.Mark.{is_unjudged};
+ghost use Rattle.desk_model.specs.MeasureText.{IsMeasure};
+ghost use Rattle.desk_model.specs.Name.{is_name};
+ghost use Rattle.measure_laws.specs.Cases.{least_truth};
+ghost use Rattle.measure_core.specs.Laws.{AreMet};
+ghost use Rattle.measure_core.specs.Made.{ends_of};
+ghost use Rattle.order_certificate.specs.Certificate.{IsLevel, IsCertificate};
+ghost use Rattle.pair_table.specs.Numbers.{HasCellEnds};
+ghost use Rattle.pair_table.specs.Sums.{cell_ends};
+ghost use Rattle.pair_table.specs.Kept.{StandsFor};
+ghost use Rattle.pair_table.specs.Evidence.{bounds_of, relevant_names, witnesses_of, Compares, SaysAbove, SaysEqual, SaysOpen, IsAnswered};
+
+use crate::sums::cell_at;
+use crate::table::Table;
+use desk_model::{Desk, Mark, Marks, Memory, Name, NameFault, Ranking, TopicBook, Totals, Verdict};
+use measure_core::{Cell, Measure, Steps};
+use order_certificate::{
+    Bounds, Certificate, Evidence, Names, TopicBound, TopicWitness, Witnesses,
+};
+use std::alloc::Global;
+use std::marker::Brand;
+use std::sync::ledger::{Blank, Ledger};
+
+/// Why two runs have no certificate.
+#[derive(Clone, Copy, PartialEq, Eq, Debug)]
+pub enum EvidenceFault {
+    /// The verdict is close: the four sums.
+    Close(Totals),
+    /// Memory ran out.
+    Memory,
+}
+
+// A copy of a name.
+fn copied(alloc: Global, name: &[u8]) -> Result<Name, Memory>
+    requires { is_name name.now ≡ true }
+    ensures { IfOk result (λ copy. copy ≡ name.now) }
+{
+    match Name::new(alloc, name) {
+        Ok(copy) => Ok(copy),
+        Err(NameFault::Memory) => Err(Memory),
+        Err(NameFault::BadName) => unreachable!(),
+    }
+}
+
+// The cell of two runs on each topic, counted by a ledger of its own.
+fn cells<M: Measure, L: Ledger>(
+    alloc: Global,
+    measure: &M,
+    desk: &Desk,
+    marks: &Marks,
+    first: u32,
+    second: u32,
+    blank: Blank,
+) -> Result<Vec<Cell>, Memory>
+    requires name { blank.name ≡ L.name }
+    requires parts { blank.parts ≡ L.parts }
+    requires some { 0 < blank.parts }
+    requires measure { IsMeasure (M.measured measure.now) }
+    requires marks { AreMarksOf desk.now marks.now }
+    requires first { first < length desk.now.runs }
+    requires second { second < length desk.now.runs }
+    ensures { IfOk result (λ cells. map ends_of cells.items ≡ cell_ends (M.cell_of measure.now) (topics_under desk.now marks.now) first second) }
+{
+    let mut steps: Steps<L> = Steps::new(blank);
+    let mut cells = Vec::new(alloc);
+    for topic in 0..desk.topic_count() {
+        let cell = cell_at(measure, desk, marks, first, second, topic, &mut steps);
+        let Ok(()) = cells.push(cell) else {
+            return Err(Memory);
+        };
+    }
+    Ok(cells)
+}
+
+// The bound of a topic by its cell: the lower end of the least difference, and, where it is wanted, the
+// upper end of the greatest.
+fn bound(alloc: Global, name: &[u8], cell: Cell, upper: bool) -> Result<TopicBound, Memory>
+    requires { is_name name.now ≡ true }
+    ensures { IfOk result (λ bound. bound ≡ record { topic = name.now; low = cell.least.lo; high = if upper then cell.most.hi else pos 0 }) }
+{
+    Ok(TopicBound {
+        topic: copied(alloc, name)?,
+        low: cell.least.lo,
+        high: if upper { cell.most.hi } else { 0 },
+    })
+}
+
+// The bound of each topic by its cell.
+fn bounds_of_cells(
+    alloc: Global,
+    desk: &Desk,
+    cells: &[Cell],
+    upper: bool,
+) -> Result<Bounds, Memory>
+    requires { length cells.now ≡ length desk.now.topics }
+    ensures { IfOk result (λ bounds. bounds ≡ bounds_of (λ (e : Ends). if upper then e.most_hi else pos 0) desk.now (map ends_of cells.now)) }
+{
+    let mut bounds = Vec::new(alloc);
+    for topic in 0..desk.topic_count() {
+        let name = desk.topic(topic).name();
+        let next = bound(alloc, name, cells[topic as usize], upper)?;
+        let Ok(()) = bounds.push(next) else {
+            return Err(Memory);
+        };
+    }
+    Ok(Bounds::new(bounds))
+}
+
+// The bound of each topic for two runs.
+fn bounds<M: Measure>(
+    alloc: Global,
+    measure: &M,
+    desk: &Desk,
+    marks: &Marks,
+    first: u32,
+    second: u32,
+    upper: bool,
+) -> Result<Bounds, Memory>
+    requires measure { IsMeasure (M.measured measure.now) }
+    requires marks { AreMarksOf desk.now marks.now }
+    requires first { first < length desk.now.runs }
+    requires second { second < length desk.now.runs }
+    ensures { IfOk result (λ bounds. bounds ≡ bounds_of (λ (e : Ends). if upper then e.most_hi else pos 0) desk.now (cell_ends (M.cell_of measure.now) (topics_under desk.now marks.now) first second)) }
+{
+    let cells = cells::<M, Brand>(alloc, measure, desk, marks, first, second, Blank::new(1))?;
+    bounds_of_cells(alloc, desk, &cells, upper)
+}
+
+// Whether a completion makes a document with this mark relevant though it is not judged.
+fn is_added(mark: Mark, relevant: bool) -> bool
+    ensures { result ≡ (is_unjudged mark && relevant) }
+{
+    mark == Mark::Unjudged && relevant
+}
+
+// The names of the unjudged documents that a completion makes relevant.
+fn relevant(
+    alloc: Global,
+    book: &TopicBook,
+    marks: &[Mark],
+    truth: &[bool],
+) -> Result<Names, Memory>
+    requires marks { length marks.now ≡ length book.now.docs }
+    requires truth { length truth.now ≡ length book.now.docs }
+    ensures { IfOk result (λ names. names ≡ relevant_names book.now.docs marks.now (λ doc. slice_index_or truth.now doc false)) }
+{
+    let mut names = Vec::new(alloc);
+    for doc in 0..book.doc_count() {
+        let place = doc as usize;
+        if is_added(marks[place], truth[place]) {
+            let name = copied(alloc, book.doc_name(doc))?;
+            let Ok(()) = names.push(name) else {
+                return Err(Memory);
+            };
+        }
+    }
+    Ok(Names::new(names))
+}
+
+// The names of the unjudged documents that the least case of two rankings makes relevant.
+fn least_names<M: Measure>(
+    alloc: Global,
+    measure: &M,
+    book: &TopicBook,
+    a: &Ranking,
+    b: &Ranking,
+    marks: &[Mark],
+) -> Result<Names, Memory>
+    requires met { AreMet marks.now a.now b.now }
+    requires count { length marks.now ≡ length book.now.docs }
+    ensures { IfOk result (λ names. names ≡ relevant_names book.now.docs marks.now (least_truth (M.measured measure.now) marks.now a.now b.now)) }
+{
+    let truth = measure.least_case(alloc, a, b, marks)?;
+    relevant(alloc, book, marks, &truth)
+}
+
+// Those that the most case makes relevant.
+fn most_names<M: Measure>(
+    alloc: Global,
+    measure: &M,
+    book: &TopicBook,
+    a: &Ranking,
+    b: &Ranking,
+    marks: &[Mark],
+) -> Result<Names, Memory>
+    requires met { AreMet marks.now a.now b.now }
+    requires count { length marks.now ≡ length book.now.docs }
+    ensures { IfOk result (λ names. names ≡ relevant_names book.now.docs marks.now (least_truth (M.measured measure.now) marks.now b.now a.now)) }
+{
+    let truth = measure.most_case(alloc, a, b, marks)?;
+    relevant(alloc, book, marks, &truth)
+}
+
+// The least and the most case of two rankings on a topic.
+fn witness<M: Measure>(
+    alloc: Global,
+    measure: &M,
+    book: &TopicBook,
+    a: &Ranking,
+    b: &Ranking,
+    marks: &[Mark],
+) -> Result<TopicWitness, Memory>
+    requires met { AreMet marks.now a.now b.now }
+    requires count { length marks.now ≡ length book.now.docs }
+    ensures topic { IfOk result (λ witness. witness.topic ≡ book.now.name) }
+    ensures low { IfOk result (λ witness. witness.low ≡ relevant_names book.now.docs marks.now (least_truth (M.measured measure.now) marks.now a.now b.now)) }
+    ensures high { IfOk result (λ witness. witness.high ≡ relevant_names book.now.docs marks.now (least_truth (M.measured measure.now) marks.now b.now a.now)) }
+{
+    let topic = copied(alloc, book.name())?;
+    let low = least_names(alloc, measure, book, a, b, marks)?;
+    let high = most_names(alloc, measure, book, a, b, marks)?;
+    Ok(TopicWitness { topic, low, high })
+}
+
+// The least and the most case of two runs on each topic.
+fn witnesses<M: Measure>(
+    alloc: Global,
+    measure: &M,
+    desk: &Desk,
+    marks: &Marks,
+    first: u32,
+    second: u32,
+) -> Result<Witnesses, Memory>
+    requires marks { AreMarksOf desk.now marks.now }
+    requires first { first < length desk.now.runs }
+    requires second { second < length desk.now.runs }
+    ensures { IfOk result (λ witnesses. witnesses ≡ witnesses_of (M.measured measure.now) desk.now marks.now first second) }
+{
+    let mut witnesses = Vec::new(alloc);
+    for topic in 0..desk.topic_count() {
+        let a = desk.ranking(first, topic);
+        let b = desk.ranking(second, topic);
+        let next = witness(alloc, measure, desk.topic(topic), a, b, marks.topic(topic))?;
+        let Ok(()) = witnesses.push(next) else {
+            return Err(Memory);
+        };
+    }
+    Ok(Witnesses::new(witnesses))
+}
+
+// The certificate of two runs with this evidence.
+fn certificate<M: Measure>(
+    alloc: Global,
+    measure: &M,
+    desk: &Desk,
+    level: u32,
+    first: u32,
+    second: u32,
+    evidence: Evidence,
+) -> Result<Certificate, Memory>
+    requires first { first < length desk.now.runs }
+    requires second { second < length desk.now.runs }
+    ensures compares { IfOk result (Compares (M.measured measure.now) desk.now level first second) }
+    ensures evidence { IfOk result (λ certificate. certificate.evidence ≡ evidence) }
+{
+    // The desk's names are names.
+    let _runs = desk.run_count();
+    Ok(Certificate {
+        measure: measure.name(),
+        level,
+        first: copied(alloc, desk.run_name(first))?,
+        second: copied(alloc, desk.run_name(second))?,
+        evidence,
+    })
+}
+
+// The certificate that the first of two runs is always above the second.
+fn above<M: Measure>(
+    alloc: Global,
+    measure: &M,
+    desk: &Desk,
+    marks: &Marks,
+    level: u32,
+    first: u32,
+    second: u32,
+) -> Result<Certificate, Memory>
+    requires measure { IsMeasure (M.measured measure.now) }
+    requires marks { AreMarksOf desk.now marks.now }
+    requires first { first < length desk.now.runs }
+    requires second { second < length desk.now.runs }
+    ensures { IfOk result (SaysAbove (HasCellEnds (M.cell_of measure.now)) (M.measured measure.now) desk.now marks.now level first second) }
+{
+    let bounds = bounds(alloc, measure, desk, marks, first, second, false)?;
+    certificate(
+        alloc,
+        measure,
+        desk,
+        level,
+        first,
+        second,
+        Evidence::Above(bounds),
+    )
+}
+
+// The certificate that two runs are always equal.
+fn equal<M: Measure>(
+    alloc: Global,
+    measure: &M,
+    desk: &Desk,
+    marks: &Marks,
+    level: u32,
+    first: u32,
+    second: u32,
+) -> Result<Certificate, Memory>
+    requires measure { IsMeasure (M.measured measure.now) }
+    requires marks { AreMarksOf desk.now marks.now }
+    requires first { first < length desk.now.runs }
+    requires second { second < length desk.now.runs }
+    ensures { IfOk result (SaysEqual (HasCellEnds (M.cell_of measure.now)) (M.measured measure.now) desk.now marks.now level first second) }
+{
+    let bounds = bounds(alloc, measure, desk, marks, first, second, true)?;
+    certificate(
+        alloc,
+        measure,
+        desk,
+        level,
+        first,
+        second,
+        Evidence::Equal(bounds),
+    )
+}
+
+// The certificate that the order of two runs is open.
+fn open<M: Measure>(
+    alloc: Global,
+    measure: &M,
+    desk: &Desk,
+    marks: &Marks,
+    level: u32,
+    first: u32,
+    second: u32,
+) -> Result<Certificate, Memory>
+    requires marks { AreMarksOf desk.now marks.now }
+    requires first { first < length desk.now.runs }
+    requires second { second < length desk.now.runs }
+    ensures { IfOk result (SaysOpen (M.measured measure.now) desk.now marks.now level first second) }
+{
+    let witnesses = witnesses(alloc, measure, desk, marks, first, second)?;
+    certificate(
+        alloc,
+        measure,
+        desk,
+        level,
+        first,
+        second,
+        Evidence::Open(witnesses),
+    )
+}
+
+impl<M: Measure> Table<M> {
+    /// The certificate of two different runs of a desk under marks, for which the table stands; runs are
+    /// numbered from 0 and the level is from 1 to 1,000.
+    ///
+    /// It claims what the verdict of the first run on the second says. Where that is `Below` it claims
+    /// `above` of the swapped runs. Its numbers are the ends of the cells, in units of the measure, and
+    /// its lists name the unjudged documents that the least and the most case make relevant, ascending.
+    /// `Close` comes exactly where the verdict is close, with the four sums of the two runs.
+    pub fn evidence(
+        &self,
+        alloc: Global,
+        desk: &Desk,
+        marks: &Marks,
+        level: u32,
+        i: u32,
+        j: u32,
+    ) -> Result<Certificate, EvidenceFault>
+        requires different { i ≢ j }
+        requires first { i < self.now.runs }
+        requires second { j < self.now.runs }
+        requires marks { AreMarksOf desk.now marks.now }
+        requires level { IsLevel level }
+        requires stands { StandsFor (M.cell_of self.now.measure) desk.now marks.now self.now }
+        ensures answer { IsAnswered (HasCellEnds (M.cell_of self.now.measure)) (M.measured self.now.measure) desk.now marks.now level i j result }
+        ensures certificate { IfOk result IsCertificate }
+    {
+        // The laws speak of desks, and of measures that have a name.
+        let measure = self.measure();
+        let (_name, _runs) = (measure.name(), desk.run_count());
+        let made = match self.verdict(i, j) {
+            Verdict::Above => above(alloc, measure, desk, marks, level, i, j),
+            Verdict::Below => above(alloc, measure, desk, marks, level, j, i),
+            Verdict::Equal => equal(alloc, measure, desk, marks, level, i, j),
+            Verdict::Open => open(alloc, measure, desk, marks, level, i, j),
+            Verdict::Close => return Err(EvidenceFault::Close(self.totals(i, j))),
+        };
+        match made {
+            Ok(certificate) => Ok(certificate),
+            Err(Memory) => Err(EvidenceFault::Memory),
+        }
+    }
+}
