@@ -1,0 +1,12 @@
+pub mod Whole
+pub mod Lows
+pub mod Smallest
+pub mod Choices
+pub mod Ceilings
+pub mod OwnSteps
+pub mod Numbers
+pub mod Walks
+pub mod Shares
+pub mod Named
+pub mod OneDocument
+pub mod OwnWalk

@@ -1,0 +1,24 @@
+ghost use Rattle.std.specs.Prelude.{◌≡◌, ℕ, ◌<◌, Bool};
+ghost use Rattle.desk_model.specs.Score.{true_count};
+
+/// Which documents of a topic are relevant in one completion. Documents are numbered from 0.
+pub trait Relevance {
+    /// How many documents the topic has.
+    ghost universe: { Self → ℕ };
+
+    /// Whether each of them is relevant.
+    ghost truth: { Self → ℕ → Bool };
+
+    /// How many documents the topic has.
+    fn document_count(&self) -> u32
+        ensures { result ≡ universe self.now };
+
+    /// How many of them are relevant.
+    fn relevant_count(&self) -> u32
+        ensures { result ≡ true_count (truth self.now) (universe self.now) };
+
+    /// Whether a document is relevant.
+    fn is_relevant(&self, doc: u32) -> bool
+        requires { doc < universe self.now }
+        ensures { result ≡ truth self.now doc };
+}
