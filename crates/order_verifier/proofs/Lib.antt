@@ -1,0 +1,9 @@
+pub mod Topics
+pub mod Unjudged
+pub mod OnLists
+pub mod Places
+pub mod NumbersOnTopics
+pub mod SameNames
+pub mod Lines
+pub mod Answers
+pub mod TextLines

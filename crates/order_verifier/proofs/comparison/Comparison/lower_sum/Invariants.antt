@@ -1,0 +1,22 @@
+use Rattle.std.proofs.Common.{◌≡◌, ◌*◌, ◌^◌, ◌≤◌, take, length, ℕ, List, ℤ}
+use Rattle.std.specs.Prelude.{unsigned_abs}
+use Rattle.std.specs.List.{zip}
+use Rattle.measure_laws.specs.Ends.{IsLowerEnd}
+use Rattle.order_certificate.specs.Claim.{NamedTopic}
+use Rattle.order_certificate.specs.Evidence.{listed_truth}
+use Rattle.order_certificate.specs.declared.certificate.TopicWitness.{TopicWitness}
+use Rattle.order_verifier.specs.Refusal.{Compared, topics_in}
+use Rattle.order_verifier.proofs.Places.{SumsTo}
+use Rattle.order_verifier.proofs.comparison.Comparison.lower_sum.Given as goal
+
+-- the lower end of a high completion
+abbrev pub IsEnd : Compared → ℤ → TopicWitness × NamedTopic → Type 0
+IsEnd c end p = IsLowerEnd c.measure (length p.1.topic.marks) (listed_truth p.1 p.0.high) (p.1.topic.ranking c.first) (p.1.topic.ranking c.second) end
+
+pub record Summed (c : Compared) (ws : List TopicWitness) (index topic : ℕ) (sum : ℤ) : Type 0 where
+  pub place : topic ≡ index
+  pub summed : SumsTo (IsEnd c) (take index (zip ws (topics_in c))) sum
+  pub within : unsigned_abs sum ≤ index * (2 * 10 ^ 18)
+
+abbrev pub invariant-loop-witness : goal.invariant-loop-witness
+invariant-loop-witness l = Summed l.self l.witnesses l.witness-index l.topic l.sum

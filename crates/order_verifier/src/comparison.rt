@@ -1,0 +1,144 @@
+// Two runs of a desk on its topics.
+ghost use Rattle.std.specs.Prelude.{◌≡◌, ◌↔◌, ◌<◌, ◌∷◌, [], length, IsTrue};
+ghost use Rattle.desk_model.specs.Mark.{is_unjudged};
+ghost use Rattle.desk_model.specs.Name.{AreAscending};
+ghost use Rattle.measure_laws.specs.Ends.{IsUpperEnd, IsLowerEnd};
+ghost use Rattle.measure_laws.specs.Shares.{IsModest};
+ghost use Rattle.order_certificate.specs.Evidence.{AreUnjudged, listed_truth};
+ghost use Rattle.order_verifier.specs.Checks.{IsComparison as IsOne, OfTopic};
+ghost use Rattle.order_verifier.specs.Refusal.{OfEnds, topics_in};
+
+use crate::listed::Listed;
+use crate::names::RunPair;
+use desk_model::{Desk, Mark, Marks, Name};
+use std::marker::Model;
+use topic_ends::TopicEnds;
+
+/// Two runs of a desk under its marks, and what their ends are computed by.
+#[derive(Drop)]
+pub struct Comparison<'a> {
+    ends: &'a TopicEnds,
+    desk: &'a Desk,
+    marks: &'a Marks,
+    runs: RunPair,
+}
+
+impl<'a> Model for Comparison<'a> {
+    ghost use Rattle.order_verifier.specs.Checks.{IsComparison};
+    ghost use Rattle.order_verifier.specs.Refusal.{Compared};
+
+    ghost Value = { Compared };
+
+    ghost view = { λ c. record { measure = c.ends.now; desk = c.desk.now; marks = c.marks.now; first = c.runs.first; second = c.runs.second } };
+
+    ghost invariant = { λ c. IsComparison c.desk.now c.marks.now c.runs.first c.runs.second };
+}
+
+/// The outer ends of the differences of two runs on a topic.
+#[derive(Clone, Copy)]
+pub struct OuterEnds {
+    /// The lower end of the least difference.
+    pub least_low: i128,
+    /// The upper end of the greatest.
+    pub most_high: i128,
+}
+
+/// Whether a mark leaves the document unjudged.
+fn is_open(mark: Mark) -> bool
+    ensures { result ≡ is_unjudged mark }
+{
+    matches!(mark, Mark::Unjudged)
+}
+
+impl<'a> Comparison<'a> {
+    /// Two runs of a desk by their numbers, under its marks.
+    pub fn new(
+        ends: &'a TopicEnds,
+        desk: &'a Desk,
+        marks: &'a Marks,
+        runs: RunPair,
+    ) -> Comparison<'a>
+        requires { IsOne desk.now marks.now runs.first runs.second }
+        ensures { result ≡ record { measure = ends.now; desk = desk.now; marks = marks.now; first = runs.first; second = runs.second } }
+    {
+        Comparison {
+            ends,
+            desk,
+            marks,
+            runs,
+        }
+    }
+
+    /// The lower end of the least difference of the two runs on a topic.
+    pub fn least_low(&self, topic: u32) -> i128
+        requires { topic < length (topics_in self.now) }
+        ensures { OfTopic (topics_in self.now) topic (λ t. OfEnds self.now t (λ ends. result ≡ ends.least_lo)) }
+    {
+        let first = self.desk.ranking(self.runs.first, topic);
+        let second = self.desk.ranking(self.runs.second, topic);
+        self.ends.least_low(first, second, self.marks.topic(topic))
+    }
+
+    /// The outer ends of the differences of the two runs on a topic.
+    pub fn outer_ends(&self, topic: u32) -> OuterEnds
+        requires { topic < length (topics_in self.now) }
+        ensures { OfTopic (topics_in self.now) topic (λ t. OfEnds self.now t (λ ends. result ≡ record { least_low = ends.least_lo; most_high = ends.most_hi })) }
+    {
+        let first = self.desk.ranking(self.runs.first, topic);
+        let second = self.desk.ranking(self.runs.second, topic);
+        let marks = self.marks.topic(topic);
+        OuterEnds {
+            least_low: self.ends.least_low(first, second, marks),
+            most_high: -self.ends.least_low(second, first, marks),
+        }
+    }
+
+    /// Whether a name is that of an unjudged document of a topic.
+    pub fn is_unjudged(&self, topic: u32, name: &[u8]) -> bool
+        requires { topic < length (topics_in self.now) }
+        ensures { OfTopic (topics_in self.now) topic (λ t. IsTrue result ↔ AreUnjudged t (name.now ∷ [])) }
+    {
+        match self.desk.topic(topic).find(name) {
+            Some(doc) => is_open(self.marks.topic(topic)[doc as usize]),
+            None => false,
+        }
+    }
+
+    /// The same two runs, swapped.
+    fn swapped(&self) -> Comparison<'a>
+        ensures { result ≡ record { measure = self.now.measure; desk = self.now.desk; marks = self.now.marks; first = self.now.second; second = self.now.first } }
+    {
+        Comparison {
+            ends: self.ends,
+            desk: self.desk,
+            marks: self.marks,
+            runs: RunPair {
+                first: self.runs.second,
+                second: self.runs.first,
+            },
+        }
+    }
+
+    /// The upper end of the difference on a topic in the completion that a list stands for.
+    pub fn upper_end(&self, topic: u32, names: &[Name]) -> i128
+        requires names { AreAscending names.now }
+        requires topic { OfTopic (topics_in self.now) topic (λ t. AreUnjudged t names.now) }
+        ensures upper { OfTopic (topics_in self.now) topic (λ t. IsUpperEnd self.now.measure (length t.topic.marks) (listed_truth t names.now) (t.topic.ranking self.now.first) (t.topic.ranking self.now.second) result) }
+        ensures modest { IsModest result }
+    {
+        let first = self.desk.ranking(self.runs.first, topic);
+        let second = self.desk.ranking(self.runs.second, topic);
+        let listed = Listed::new(self.desk.topic(topic), self.marks.topic(topic), names);
+        self.ends.upper_end(first, second, &listed)
+    }
+
+    /// The lower end of it.
+    pub fn lower_end(&self, topic: u32, names: &[Name]) -> i128
+        requires names { AreAscending names.now }
+        requires topic { OfTopic (topics_in self.now) topic (λ t. AreUnjudged t names.now) }
+        ensures lower { OfTopic (topics_in self.now) topic (λ t. IsLowerEnd self.now.measure (length t.topic.marks) (listed_truth t names.now) (t.topic.ranking self.now.first) (t.topic.ranking self.now.second) result) }
+        ensures modest { IsModest result }
+    {
+        -self.swapped().upper_end(topic, names)
+    }
+}
