@@ -1,6 +1,6 @@
 -- A topic is that of its rows.
-use Rattle.std.proofs.Common.{◌≡◌, ℕ, ◌<◌, ◌≤◌, Bool, true, false, cond, List, [], ◌∷◌, ◌++◌, length, get_or, map, Option, Some, None, refl, ap, sym, ◌∙◌, subst, length-append, arith}
-use Rattle.std.specs.Prelude.{Vec, Result, Ok, Err, IfOk, All, flat_map, slice_get, position, ℤ}
+use Rattle.std.proofs.Common.{◌≡◌, ℕ, ◌<◌, ◌≤◌, Bool, true, false, cond, List, [], ◌∷◌, ◌++◌, length, map, Some, None, refl, ap, sym, ◌∙◌, subst, length-append, arith}
+use Rattle.std.specs.Prelude.{Vec, Result, Ok, Err, IfOk, All, flat_map, position}
 use Rattle.std.specs.List.{list_any}
 use Rattle.std.specs.List.Sorted.{IsPermutation}
 use Rattle.std.specs.Str.{bytes_eq}
@@ -18,9 +18,11 @@ use Rattle.qrels_reader.proofs.Zipped.{part-le}
 use Rattle.run_reader.specs.Run as reader
 use Rattle.run_reader.specs.Run.{Run, RunTopic, Scored, rows_in, rows_on_topic}
 use Rattle.run_reader.specs.declared.limits.TheConstants.{MOST_RUN_ROWS}
-use Rattle.topics_pool.specs.Names.{Gathers}
-use Rattle.topics_pool.specs.Rows.{IsBookOf, listed, retrieved, grade_in, total_rows, names_on, topic_names}
-use Rattle.topics_pool.specs.Made.{AreBooksOf}
+use Rattle.topics_pool.specs.Rows.{IsBookOf, grade_in, total_rows, topic_names}
+use Rattle.topic_universe.specs.Universe.{listed, retrieved, IsUniverseOf}
+use Rattle.topic_universe.specs.Sorted.{Numbered}
+use Rattle.topic_universe.proofs.Placing.{name_of, same_count}
+use Rattle.topics_pool.specs.Made.{AreBooksOf, book_over}
 
 -- the topic that has a name is found where it stands
 pub at_number : (qrels : List JudgedTopic) (name : List ℕ) (t : ℕ) → position (bytes_eq name) (names_of qrels) ≡ Some t → (t < length qrels) × (documents_at qrels t ≡ documents_on name qrels)
@@ -44,50 +46,36 @@ all_rows_within (run ∷ runs) name =
     let joined = length-append (retrieved name run) (flat_map (retrieved name) runs) in
     omega (arith, first, within, rest, joined, sum_by-cons (λ (run : Run). reader.row_count run.topics) run runs)
 
-module _ (qrels : List JudgedTopic) (runs : List Run) (name : List ℕ) (t : ℕ) (set docs : List (List ℕ)) (grades : List (Option ℤ))
-    (place : position (bytes_eq name) (names_of qrels) ≡ Some t)
-    (gathered : Gathers (listed (documents_at qrels t)) (flat_map (retrieved name) runs) set) (moved : IsPermutation set docs)
-    (graded : grades ≡ map (grade_in (documents_at qrels t)) docs)
-  where
-    pub few_documents : row_count qrels ≤ MOST_QRELS_ROWS → total_rows runs ≤ MOST_RUN_ROWS → length docs ≤ 25000000
-    few_documents few rows =
-        let long = length_permutation set docs moved in
-        let parts = gathered.few in
-        let first = length-map (documents_at qrels t) (λ (d : Judged). d.document) in
-        let part = part-le judgements length qrels t refl in
-        let rest = all_rows_within runs name in
-        omega (arith, long, parts, first, part, rest, few, rows)
+module _ (qrels : List JudgedTopic) (runs : List Run) (name : List ℕ) (t : ℕ) (pairs : List Numbered) (numbers : List (List ℕ)) (universe : IsUniverseOf qrels t runs name pairs numbers) where
+  pub few_documents : row_count qrels ≤ MOST_QRELS_ROWS → total_rows runs ≤ MOST_RUN_ROWS → length pairs ≤ 25000000
+  few_documents few rows =
+      let long = same_count universe.names pairs universe.sorted in
+      let parts = universe.gathered.few in
+      let first = length-map (documents_at qrels t) (λ (d : Judged). d.document) in
+      let part = part-le judgements length qrels t refl in
+      let rest = all_rows_within runs name in
+      omega (arith, long, parts, first, part, rest, few, rows)
 
-    pub is_book : (copy : List ℕ) → copy ≡ name → is_name name ≡ true → AreAscending docs → row_count qrels ≤ MOST_QRELS_ROWS → total_rows runs ≤ MOST_RUN_ROWS → IsBook (record { name = copy; docs = docs; grades = grades })
-    is_book copy same named up few rows = record {
-      named = ap is_name same ∙ named;
-      documents = All-permutation (λ each. is_name each ≡ true) set docs moved gathered.names.named;
-      ascending = up;
-      small = few_documents few rows;
-      graded = ap length graded ∙ length-map docs (grade_in (documents_at qrels t));
-    }
+  pub is_book : is_name name ≡ true → row_count qrels ≤ MOST_QRELS_ROWS → total_rows runs ≤ MOST_RUN_ROWS → IsBook (book_over qrels t name (map name_of pairs))
+  is_book named few rows = record {
+    named = named;
+    documents = All-permutation (λ each. is_name each ≡ true) universe.names (map name_of pairs) universe.sorted.moved universe.gathered.names.named;
+    ascending = universe.sorted.ascending;
+    small = let long = length-map pairs name_of in let most = few_documents few rows in omega (arith, long, most);
+    graded = length-map (map name_of pairs) (grade_in (documents_at qrels t));
+  }
 
-    same_names : (m : List ℕ) → list_any (bytes_eq m) docs ≡ list_any (bytes_eq m) (names_on qrels runs name)
-    same_names m =
-        sym (list_any-IsPermutation (bytes_eq m) set docs moved)
-        ∙ gathered.same m
-        ∙ ap (λ documents. list_any (bytes_eq m) (listed documents ++ flat_map (retrieved name) runs)) ((at_number qrels name t place).1)
-
-    right_grades : (doc : ℕ) (each : List ℕ) → slice_get docs doc ≡ Some each → get_or grades doc None ≡ grade_in (documents_on name qrels) each
-    right_grades doc each got =
-        ap (λ gs. get_or gs doc None) graded
-        ∙ get_or-map (grade_in (documents_at qrels t)) docs doc [] None (slice_get_within docs doc each got)
-        ∙ ap (grade_in (documents_at qrels t)) (get_or_from_slice_get docs doc each [] got)
-        ∙ ap (λ documents. grade_in documents each) ((at_number qrels name t place).1)
-
-    pub is_book_of : (book : Book) → book.name ≡ name → book.docs ≡ docs → book.grades ≡ grades → IsBookOf qrels runs book
-    is_book_of book named has rated = record {
-      universe = λ m. ap (list_any (bytes_eq m)) has ∙ same_names m ∙ ap (λ n. list_any (bytes_eq m) (names_on qrels runs n)) (sym named);
-      grades = λ doc each got.
-          ap (λ gs. get_or gs doc None) rated
-          ∙ right_grades doc each (ap (λ ds. slice_get ds doc) (sym has) ∙ got)
-          ∙ ap (λ n. grade_in (documents_on n qrels) each) (sym named);
-    }
+  pub is_book_of : position (bytes_eq name) (names_of qrels) ≡ Some t → IsBookOf qrels runs (book_over qrels t name (map name_of pairs))
+  is_book_of place = record {
+    universe = λ m.
+        sym (list_any-IsPermutation (bytes_eq m) universe.names (map name_of pairs) universe.sorted.moved)
+        ∙ universe.gathered.same m
+        ∙ ap (λ documents. list_any (bytes_eq m) (listed documents ++ flat_map (retrieved name) runs)) ((at_number qrels name t place).1);
+    grades = λ doc each got.
+        get_or-map (grade_in (documents_at qrels t)) (map name_of pairs) doc [] None (slice_get_within (map name_of pairs) doc each got)
+        ∙ ap (grade_in (documents_at qrels t)) (get_or_from_slice_get (map name_of pairs) doc each [] got)
+        ∙ ap (λ documents. grade_in documents each) ((at_number qrels name t place).1);
+  }
 
 pub named_as : {T F : Type 0} (r : Result (Vec Book T) F) (xs ys : List (List ℕ)) → xs ≡ ys → IfOk r (λ books. topic_names books.items ≡ xs) → IfOk r (λ books. topic_names books.items ≡ ys)
 named_as (Ok books) xs ys same h = h ∙ same

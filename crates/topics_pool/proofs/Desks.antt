@@ -17,7 +17,7 @@ use Rattle.qrels_reader.proofs.Seen.{laws}
 use Rattle.run_reader.specs.Run.{Run}
 use Rattle.topics_pool.specs.Rows.{IsDeskOf, IsNoFault, run_names, first_repeated, is_repeated}
 use Rattle.topics_pool.specs.Made.{AreBooksOf, IsRankingOf, AreRankingsOf}
-use Rattle.topics_pool.proofs.Ranked.{zip-weaker}
+use Rattle.topic_universe.proofs.Zips.{zip-weaker}
 
 -- ---- names of which none is repeated differ
 none-passes : (p : ℕ → Bool) (a n k : ℕ) → find p (range_with_len a n) ≡ None → k < n → p (a + k) ≡ false

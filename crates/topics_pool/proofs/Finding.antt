@@ -11,7 +11,8 @@ use Rattle.qrels_reader.specs.Grouped.{Judged}
 use Rattle.small_lemmas.proofs.Tests.{neither}
 use Rattle.qrels_reader.proofs.Seen.{laws}
 use Rattle.qrels_reader.proofs.Places.{is_some-position}
-use Rattle.topics_pool.specs.Rows.{listed, grade_in, first_repeated, is_repeated}
+use Rattle.topic_universe.specs.Universe.{listed}
+use Rattle.topics_pool.specs.Rows.{grade_in, first_repeated, is_repeated}
 
 -- ---- the first number that passes
 pub find-first : (p : ℕ → Bool) (a n i : ℕ) → i < n → p (a + i) ≡ true → ((k : ℕ) → k < i → p (a + k) ≡ false) → find p (range_with_len a n) ≡ Some (a + i)

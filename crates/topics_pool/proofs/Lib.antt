@@ -1,10 +1,7 @@
-pub mod Sets
 pub mod Finding
-pub mod Sorting
-pub mod Placing
+pub mod Docs
 pub mod Books
 pub mod Ranked
 pub mod Desks
-pub mod Pools
 pub mod AddedUp
 pub mod OneDesk

@@ -1,32 +1,25 @@
 -- Rows make one desk.
-use Rattle.std.proofs.Common.{◌≡◌, ℕ, zero, suc, ◌<◌, Bool, true, false, true≢false, List, [], ◌∷◌, length, get_or, map, Some, None, refl, ap, sym, ◌∙◌, subst, arith}
+use Rattle.std.proofs.Common.{◌≡◌, ℕ, ◌<◌, Bool, true, false, true≢false, List, [], ◌∷◌, length, get_or, map, Some, None, refl, ap, sym, ◌∙◌, subst, arith}
 use Rattle.std.specs.Prelude.{◌||◌, All, slice_get}
 use Rattle.std.specs.List.{list_any, AllByRecursion}
-use Rattle.std.specs.List.Sorted.{IsStrictlySortedBy}
 use Rattle.std.specs.Str.{bytes_eq}
 use Rattle.std.specs.Ordering.{is_lt, ordering_reverse}
-use Rattle.std.specs.Cmp.{IsTotalOrder}
-use Rattle.std.specs.declared.cmp.Ordering.{Ordering}
-use Rattle.std.specs.declared.cmp.Ordering.TheVariants.{Less, Equal, Greater}
+use Rattle.std.specs.declared.cmp.Ordering.TheVariants.{Less}
 use Rattle.std.proofs.lemmas.Cmp.{nat_list_cmp_total}
 use Rattle.std.proofs.lemmas.Map.Keys.{sorted_head, sorted_tail}
-use Rattle.std.proofs.lemmas.Map.Lookups.{exact_bytes}
 use Rattle.std.proofs.lemmas.List.{same_lists, ext_get_or, length-map, get_or-map, map-id}
-use Rattle.std.proofs.lemmas.List.Elements.{All-head, All-tail, All-get_or}
 use Rattle.std.proofs.lemmas.Option.{slice_get-get_or}
 use Rattle.desk_model.specs.Name.{name_cmp, AreAscending}
-use Rattle.desk_model.specs.Book.{Book, IsBook, file_grade_of}
+use Rattle.desk_model.specs.Book.{Book, IsBook}
 use Rattle.desk_model.specs.Ranking.{IsRanking}
-use Rattle.desk_model.specs.Desk.{Desk, IsDesk, AreRankingsOver, ranking_of}
+use Rattle.desk_model.specs.Desk.{Desk, ranking_of}
 use Rattle.desk_model.proofs.Names.{ascending_far}
 use Rattle.desk_model.proofs.Nested.{length-rankings, ranking_over}
-use Rattle.qrels_reader.specs.Grouped.{JudgedTopic, documents_on, names_of}
-use Rattle.small_lemmas.proofs.Tests.{neither}
+use Rattle.qrels_reader.specs.Grouped.{JudgedTopic, documents_on}
 use Rattle.qrels_reader.proofs.Seen.{laws, same}
 use Rattle.run_reader.specs.Run.{Run, rows_on_topic}
-use Rattle.trec_order.specs.Order.{IsTrecOrder}
 use Rattle.trec_order.proofs.Unique.{one_order}
-use Rattle.topics_pool.specs.Names.{HaveSameNames}
+use Rattle.topic_universe.specs.Names.{HaveSameNames}
 use Rattle.topics_pool.specs.Rows.{IsDeskOf, IsBookOf, doc_names, topic_names, names_on, grade_in}
 
 -- ---- names that ascend are one list with the same names

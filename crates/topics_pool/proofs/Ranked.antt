@@ -1,13 +1,12 @@
 -- What a run ranks.
-use Rattle.std.proofs.Common.{◌≡◌, ◌≢◌, ℕ, suc, set, below_more, ◌+◌, ◌<◌, ◌≤◌, Bool, true, false, true≢false, nat_eq, List, [], ◌∷◌, ◌++◌, length, get_or, take, map, refl, ap, sym, ◌∙◌, subst, arith}
+use Rattle.std.proofs.Common.{◌≡◌, ◌≢◌, ℕ, suc, set, below_more, ◌+◌, ◌<◌, ◌≤◌, Bool, true, false, true≢false, nat_eq, List, [], ◌∷◌, ◌++◌, length, get_or, map, refl, ap, sym, ◌∙◌, subst, arith}
 use Rattle.std.specs.Prelude.{All, slice_get, Some}
 use Rattle.std.proofs.lemmas.Option.{slice_get_within, get_or_from_slice_get}
 use Rattle.std.specs.List.{AllZip, AllByRecursion, IsDistinct}
-use Rattle.std.specs.List.Sorted.{IsPermutation}
 use Rattle.std.specs.Str.{bytes_eq}
 use Rattle.std.proofs.lemmas.Bool.Decides.{nat_tests}
-use Rattle.std.proofs.lemmas.List.{take_more, length-map, get_or-set_other, get_or-set_same}
-use Rattle.std.proofs.lemmas.List.Sorted.{IsPermutation-map, length_permutation}
+use Rattle.std.proofs.lemmas.List.{length-map, get_or-set_other, get_or-set_same}
+use Rattle.std.proofs.lemmas.List.Sorted.{length_permutation}
 use Rattle.std.proofs.lemmas.Map.Keys.{IsDistinct-IsPermutation}
 use Rattle.desk_model.specs.Book.{Book}
 use Rattle.desk_model.specs.Ranking.{IsRanking}
@@ -15,16 +14,12 @@ use Rattle.qrels_reader.proofs.Seen.{laws}
 use Rattle.run_reader.specs.Run.{Run, Scored, rows_on_topic}
 use Rattle.run_reader.specs.declared.limits.TheConstants.{MOST_RANKS}
 use Rattle.trec_order.specs.Order.{IsTrecOrder}
-use Rattle.std.proofs.lemmas.List.Elements.{All-weaker}
-use Rattle.topics_pool.specs.Names.{Gathers}
-use Rattle.topics_pool.proofs.Sets.{renamed}
-use Rattle.topics_pool.specs.Rows.{retrieved, doc_names}
-use Rattle.topics_pool.specs.Made.{AreRankedNumbers, IsRankingOf, AreRankingsOf, IsOneMore, HaveOneMore}
+use Rattle.topic_universe.specs.Universe.{retrieved}
+use Rattle.topic_universe.proofs.Numbers.{ranked_documents}
+use Rattle.topic_universe.proofs.Zips.{AllZip-end}
+use Rattle.topics_pool.specs.Rows.{doc_names}
+use Rattle.topics_pool.specs.Made.{IsRankingOf, AreRankingsOf, IsOneMore, HaveOneMore}
 use Rattle.desk_model.proofs.Nested.{zipped_at, length-zipped}
-
--- the ranked names are the documents of the rows, in another order
-pub ranked_documents : (rows : List Scored) (names : List (List ℕ)) → IsTrecOrder rows names → IsPermutation (map (λ (row : Scored). row.document) rows) names
-ranked_documents rows names order = subst (IsPermutation (map (λ (row : Scored). row.document) rows)) (sym order.are_names) (IsPermutation-map (λ (row : Scored). row.document) rows order.ranked order.once)
 
 -- numbers whose names differ differ
 distinct_numbers : (f : ℕ → List ℕ) (docs : List ℕ) → IsDistinct bytes_eq (map f docs) → IsDistinct nat_eq docs
@@ -59,24 +54,6 @@ is_ranking run book names docs order named within distinct few =
       within = within;
       short = omega (arith, long, rows, numbers, same, few);
     }
-
-pub zip-weaker : {A B : Type 0} (R S : A → B → Type 0) (xs : List A) (ys : List B) → ((x : A) (y : B) → R x y → S x y) → AllZip R xs ys → AllZip S xs ys
-zip-weaker R S [] [] says h = tt
-zip-weaker R S [] (y ∷ ys) says h = absurd h
-zip-weaker R S (x ∷ xs) [] says h = absurd h
-zip-weaker R S (x ∷ xs) (y ∷ ys) says h = (says x y h.0, zip-weaker R S xs ys says h.1)
-
--- ---- steps of loops
-pub AllZip-end : {A B : Type 0} (R : A → B → Type 0) (xs : List A) (ys : List B) (x : A) (y : B) → AllZip R xs ys → R x y → AllZip R (xs ++ x ∷ []) (ys ++ y ∷ [])
-AllZip-end R [] [] x y h r = (r, tt)
-AllZip-end R [] (b ∷ ys) x y h r = absurd h
-AllZip-end R (a ∷ xs) [] x y h r = absurd h
-AllZip-end R (a ∷ xs) (b ∷ ys) x y h r = (h.0, AllZip-end R xs ys x y h.1 r)
-
-pub zip_step : {A B : Type 0} (R : A → B → Type 0) (xs : List A) (ys ys' : List B) (i : ℕ) (x : A) (y : B) → i < length xs → x ≡ get_or xs i x → AllZip R (take i xs) ys → R x y → ys' ≡ ys ++ y ∷ [] → AllZip R (take (i + 1) xs) ys'
-zip_step R xs ys ys' i x y lt is h r pushed =
-    let taken : take (i + 1) xs ≡ take i xs ++ x ∷ [] = take_more xs i x lt ∙ ap (λ z. take i xs ++ z ∷ []) (sym is) in
-    subst (λ zs. AllZip R zs ys') (sym taken) (subst (AllZip R (take i xs ++ x ∷ [])) (sym pushed) (AllZip-end R (take i xs) ys x y h r))
 
 -- ---- one more topic
 -- the runs before one have one more ranking, that of a topic, and the others have what they had
@@ -119,10 +96,3 @@ topic_step runs books book old new before long more =
     zipped_from (AreRankingsOf (books ++ book ∷ [])) runs new (long ∙ length-zipped (AreRankingsOf books) runs old before) (λ k run got.
     let one = more k run got in
     subst (AllZip (IsRankingOf run) (books ++ book ∷ [])) (sym one.added) (AllZip-end (IsRankingOf run) books (get_or old k []) book one.docs (zipped_at (AreRankingsOf books) runs old k run [] before got) one.ranking))
-
--- numbers stay those of the rows where more names are added
-pub still_numbers : (old more new : List (List ℕ)) (rows : List Scored) (numbers : List ℕ) → Gathers old more new → AreRankedNumbers old rows numbers → AreRankedNumbers new rows numbers
-still_numbers old more new rows numbers gathered are = record {
-  within = All-weaker (λ n. n < length old) (λ n. n < length new) (λ n lt. let longer = gathered.longer in omega (arith, lt, longer)) numbers are.within;
-  order = subst (IsTrecOrder rows) (sym (renamed old new numbers gathered.kept are.within)) are.order;
-}

@@ -1,5 +1,4 @@
-pub mod Names
 pub mod Rows
-pub mod Sorted
 pub mod Made
-pub mod Pool
+pub use Rattle.topic_universe.specs.Names
+pub use Rattle.judgement_pool.specs.Pool

@@ -4,11 +4,15 @@ use Rattle.std.specs.List.{AllZip}
 use Rattle.desk_model.specs.Book.{Book, IsBook}
 use Rattle.desk_model.specs.Name.{AreAscending}
 use Rattle.desk_model.specs.Ranking.{IsRanking}
-use Rattle.qrels_reader.specs.Grouped.{JudgedTopic, names_of}
-use Rattle.run_reader.specs.Run.{Run, Scored, rows_on_topic}
+use Rattle.qrels_reader.specs.Grouped.{JudgedTopic, names_of, documents_at}
+use Rattle.run_reader.specs.Run.{Run, rows_on_topic}
 use Rattle.trec_order.specs.Order.{IsTrecOrder}
-use Rattle.topics_pool.specs.Names.{HaveSameNames, numbered_names}
-use Rattle.topics_pool.specs.Rows.{IsBookOf, doc_names, topic_names}
+use Rattle.topic_universe.specs.Names.{HaveSameNames}
+use Rattle.topics_pool.specs.Rows.{IsBookOf, doc_names, grade_in, topic_names}
+
+-- a topic of this name over these documents, each with the grade that topic t of the qrels gives it
+abbrev pub book_over : List JudgedTopic → ℕ → List ℕ → List (List ℕ) → Book
+book_over qrels t name docs = record { name = name; docs = docs; grades = map (grade_in (documents_at qrels t)) docs }
 
 -- the topics of the qrels, ascending
 pub record AreBooksOf (qrels : List JudgedTopic) (runs : List Run) (books : List Book) : Type 0 where
@@ -17,11 +21,6 @@ pub record AreBooksOf (qrels : List JudgedTopic) (runs : List Run) (books : List
   pub ascending : AreAscending (topic_names books)
   pub topics : HaveSameNames (topic_names books) (names_of qrels)
   pub count : length books ≡ length qrels
-
--- numbers of names that rank the documents of rows
-pub record AreRankedNumbers (names : List (List ℕ)) (rows : List Scored) (numbers : List ℕ) : Type 0 where
-  pub within : All (λ n. n < length names) numbers
-  pub order : IsTrecOrder rows (numbered_names names numbers)
 
 -- document numbers that rank the documents of a run on a topic
 pub record IsRankingOf (run : Run) (book : Book) (docs : List ℕ) : Type 0 where

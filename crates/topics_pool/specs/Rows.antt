@@ -7,18 +7,11 @@ use Rattle.desk_model.specs.Desk.{Desk, IsDesk, ranking_of, pair_count}
 use Rattle.qrels_reader.specs.Grouped.{JudgedTopic, Judged, names_of, documents_on}
 use Rattle.run_reader.specs.Run.{Run, rows_on_topic, row_count}
 use Rattle.trec_order.specs.Order.{IsTrecOrder}
-use Rattle.topics_pool.specs.Names.{HaveSameNames}
+use Rattle.topic_universe.specs.Names.{HaveSameNames}
+use Rattle.topic_universe.specs.Universe.{listed, retrieved}
 use Rattle.topics_pool.specs.declared.fault.DeskFault.{DeskFault}
 use Rattle.topics_pool.specs.declared.fault.DeskFault.TheVariants.{SameName, TooManyCells, Memory}
 use Rattle.topics_pool.specs.declared.limits.TheConstants.{MOST_CELLS}
-
--- the documents that the qrels list of a topic
-abbrev pub listed : List Judged → List (List ℕ)
-listed documents = map (λ judged. judged.document) documents
-
--- the documents of a run's rows on a topic, in the order of its file
-abbrev pub retrieved : List ℕ → Run → List (List ℕ)
-retrieved topic run = map (λ scored. scored.document) (rows_on_topic run topic)
 
 -- the names of a topic's documents in the kept rows of all files
 abbrev pub names_on : List JudgedTopic → List Run → List ℕ → List (List ℕ)

@@ -6,18 +6,19 @@ ghost use Rattle.desk_model.specs.Name.{is_name};
 ghost use Rattle.desk_model.specs.Book.{IsBook};
 ghost use Rattle.qrels_reader.specs.Grouped.{documents_at, names_of};
 ghost use Rattle.run_reader.specs.declared.limits.TheConstants.{MOST_RUN_ROWS};
-ghost use Rattle.topics_pool.specs.Names.{AreNames, AreAmong};
-ghost use Rattle.topics_pool.specs.Rows.{listed, grade_in, total_rows, topic_names, IsBookOf};
-ghost use Rattle.topics_pool.specs.Made.{AreBooksOf, AreRankingsOf, HaveOneMore};
+ghost use Rattle.topic_universe.specs.Names.{AreNames, AreAmong};
+ghost use Rattle.topic_universe.specs.Universe.{listed};
+ghost use Rattle.topics_pool.specs.Rows.{grade_in, total_rows, topic_names, IsBookOf};
+ghost use Rattle.topics_pool.specs.Made.{AreBooksOf, AreRankingsOf, HaveOneMore, book_over};
 
-use crate::ascending::{ascending, copied, named, places, sorted};
-use crate::fault::OutOfMemory;
 use crate::rankings::rank_topic;
-use crate::universe::{add_runs, listed_names};
 use desk_model::{Name, Ranking, TopicBook};
 use qrels_reader::{NameIndex, Qrels};
 use run_reader::RunRows;
 use std::alloc::{AllocError, Global};
+use topic_universe::{
+    Numbered, OutOfMemory, ascending, copied, listed_names, named, places, universe_of,
+};
 
 // The grade that the qrels give a document of topic `t`, where they list it.
 fn listed_grade(qrels: &Qrels, t: usize, names: &NameIndex<'_>, doc: &[u8]) -> Option<i32>
@@ -47,6 +48,24 @@ fn listed_grades(
     Ok(grades)
 }
 
+// The topic of this name over the names of some pairs, with the grades of topic `t` of the qrels.
+fn graded_book(
+    alloc: Global,
+    qrels: &Qrels,
+    t: usize,
+    name: &[u8],
+    pairs: &[Numbered<'_>],
+) -> Result<TopicBook, OutOfMemory>
+    requires topic { t < length qrels.now }
+    requires names { All (λ pair. is_name pair.0.now ≡ true) pairs.now }
+    requires book { IsBook (book_over qrels.now t name.now (map (λ pair. pair.0.now) pairs.now)) }
+    ensures { IfOk result (λ book. book ≡ book_over qrels.now t name.now (map (λ pair. pair.0.now) pairs.now)) }
+{
+    let docs = copied(alloc, pairs)?;
+    let grades = listed_grades(alloc, qrels, t, &docs)?;
+    Ok(TopicBook::new(named(alloc, name)?, docs, grades))
+}
+
 // The topic of this name, which is topic `t` of the qrels. Each run gets its ranking.
 fn topic_book(
     alloc: Global,
@@ -67,14 +86,10 @@ fn topic_book(
 {
     // The number of rows is within its limit.
     let _ = qrels.rows();
-    let mut universe = listed_names(alloc, qrels, t)?;
-    let numbers = add_runs(alloc, &mut universe, runs, name)?;
-    let pairs = sorted(alloc, &universe)?;
-    let docs = copied(alloc, &pairs)?;
-    let grades = listed_grades(alloc, qrels, t, &docs)?;
-    let book = TopicBook::new(named(alloc, name)?, docs, grades);
-    let places = places(alloc, &pairs)?;
-    rank_topic(alloc, runs, &book, &numbers, &places, rankings)?;
+    let universe = universe_of(alloc, qrels, t, runs, name)?;
+    let book = graded_book(alloc, qrels, t, name, &universe.pairs)?;
+    let places = places(alloc, &universe.pairs)?;
+    rank_topic(alloc, runs, &book, &universe.numbers, &places, rankings)?;
     Ok(book)
 }
 

@@ -4,7 +4,7 @@ ghost use Rattle.run_reader.specs.declared.limits.TheConstants.{MOST_RUN_ROWS};
 ghost use Rattle.topics_pool.specs.Rows.{IsDeskOf, IsNoFault, IsFaultOf, total_rows};
 
 use crate::book::topic_books;
-use crate::fault::{DeskFault, OutOfMemory};
+use crate::fault::DeskFault;
 use crate::limits::MOST_CELLS;
 use crate::rankings::no_rankings;
 use crate::runs::{cell_count, names_of_runs, repeated_run};
@@ -12,6 +12,7 @@ use desk_model::Desk;
 use qrels_reader::Qrels;
 use run_reader::RunRows;
 use std::alloc::Global;
+use topic_universe::OutOfMemory;
 
 // The desk of rows that have no fault.
 fn desk_of(alloc: Global, qrels: &Qrels, runs: &[RunRows]) -> Result<Desk, OutOfMemory>

@@ -2,9 +2,8 @@
 ghost use Rattle.std.specs.Prelude.{◌≡◌};
 ghost use Rattle.topics_pool.specs.declared.fault.DeskFault.TheVariants.{Memory as NoMemory};
 
-use desk_model::Memory;
-use std::alloc::{AllocError, AllocFailed};
 use thiserror::Error;
+use topic_universe::OutOfMemory;
 
 /// Why rows make no desk.
 #[derive(Clone, Copy, Debug, PartialEq, Eq, Error)]
@@ -24,28 +23,6 @@ pub enum DeskFault {
     /// Memory runs out.
     #[error("out of memory")]
     Memory,
-}
-
-/// Memory runs out.
-#[derive(Clone, Copy, Debug, PartialEq, Eq)]
-pub(crate) struct OutOfMemory;
-
-impl From<AllocError> for OutOfMemory {
-    fn from(_: AllocError) -> OutOfMemory {
-        OutOfMemory
-    }
-}
-
-impl<T: Drop> From<AllocFailed<T>> for OutOfMemory {
-    fn from(_: AllocFailed<T>) -> OutOfMemory {
-        OutOfMemory
-    }
-}
-
-impl From<Memory> for OutOfMemory {
-    fn from(_: Memory) -> OutOfMemory {
-        OutOfMemory
-    }
 }
 
 impl From<OutOfMemory> for DeskFault {

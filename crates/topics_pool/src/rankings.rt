@@ -3,10 +3,10 @@ ghost use Rattle.std.specs.Prelude.{◌≡◌, ◌<◌, [], ◌∷◌, ◌++◌,
 ghost use Rattle.std.specs.List.{AllZip};
 ghost use Rattle.topics_pool.specs.Made.{AreDocsOf, IsRankingOf, AreRankingsOf, HaveOneMore};
 
-use crate::fault::OutOfMemory;
 use desk_model::{Ranking, TopicBook};
 use run_reader::RunRows;
 use std::alloc::{AllocError, Global};
+use topic_universe::OutOfMemory;
 
 // The places of numbers.
 fn placed(alloc: Global, numbers: &[usize], places: &[u32]) -> Result<Vec<u32>, AllocError>

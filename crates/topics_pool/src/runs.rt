@@ -3,12 +3,11 @@ ghost use Rattle.std.specs.Prelude.{◌≡◌, ◌<◌, ◌≤◌, true, All, If
 ghost use Rattle.desk_model.specs.Name.{is_name};
 ghost use Rattle.topics_pool.specs.Rows.{run_names, is_repeated, first_repeated, cells_of};
 
-use crate::ascending::named;
-use crate::fault::OutOfMemory;
 use desk_model::Name;
 use qrels_reader::Qrels;
 use run_reader::RunRows;
 use std::alloc::Global;
+use topic_universe::{OutOfMemory, named};
 
 // Whether an earlier run has the name of run `r`.
 fn has_earlier_name(runs: &[RunRows], r: usize) -> bool

@@ -3,7 +3,7 @@ use Rattle.std.specs.Prelude.{position}
 use Rattle.std.specs.Str.{bytes_eq}
 use Rattle.std.proofs.lemmas.Int.{to_z-of_z}
 use Rattle.qrels_reader.specs.Grouped.{documents_at}
-use Rattle.topics_pool.specs.Rows.{listed}
+use Rattle.topic_universe.specs.Universe.{listed}
 use Rattle.topics_pool.proofs.Finding.{grade_found, grade_none}
 use Rattle.topics_pool.proofs.book.listed_grade.Goals as goal
 

@@ -3,8 +3,8 @@ use Rattle.std.specs.List.{list_any}
 use Rattle.std.specs.Str.{bytes_eq}
 use Rattle.desk_model.proofs.Nested.{take-there}
 use Rattle.qrels_reader.specs.Grouped.{names_of}
-use Rattle.topics_pool.specs.Names.{AreNames}
-use Rattle.topics_pool.proofs.Sets.{AreNames-nil, AreNames-with_name, fresh, added_new}
+use Rattle.topic_universe.specs.Names.{AreNames}
+use Rattle.topic_universe.proofs.Sets.{AreNames-nil, AreNames-with_name, fresh, added_new}
 use Rattle.topics_pool.proofs.book.qrels_topics.Goals as goal
 
 pub loop-t-init : goal.loop-t-init

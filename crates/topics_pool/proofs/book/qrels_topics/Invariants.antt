@@ -1,6 +1,6 @@
 use Rattle.std.proofs.Common.{◌≡◌, take}
 use Rattle.qrels_reader.specs.Grouped.{names_of}
-use Rattle.topics_pool.specs.Names.{AreNames}
+use Rattle.topic_universe.specs.Names.{AreNames}
 use Rattle.topics_pool.proofs.book.qrels_topics.Given as goal
 
 abbrev pub invariant-loop-t : goal.invariant-loop-t

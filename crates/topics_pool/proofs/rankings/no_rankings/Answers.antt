@@ -3,7 +3,7 @@ use Rattle.std.specs.Prelude.{Vec}
 use Rattle.std.specs.declared.alloc.Global.{Global}
 use Rattle.std.proofs.lemmas.List.{map-append}
 use Rattle.topics_pool.specs.Made.{AreRankingsOf}
-use Rattle.topics_pool.proofs.Ranked.{zip_step}
+use Rattle.topic_universe.proofs.Zips.{zip_step}
 use Rattle.topics_pool.proofs.rankings.no_rankings.Goals as goal
 
 pub loop-run-preserved : goal.loop-run-preserved

@@ -6,7 +6,8 @@ use Rattle.desk_model.specs.Ranking.{IsRanking}
 use Rattle.run_reader.specs.Run.{rows_on_topic}
 use Rattle.run_reader.specs.declared.limits.TheConstants.{MOST_RANKS}
 use Rattle.trec_order.specs.Order.{IsTrecOrder}
-use Rattle.topics_pool.specs.Rows.{retrieved, doc_names}
+use Rattle.topic_universe.specs.Universe.{retrieved}
+use Rattle.topics_pool.specs.Rows.{doc_names}
 use Rattle.topics_pool.proofs.Ranked.{is_ranking}
 use Rattle.topics_pool.proofs.rankings.topic_ranking.Goals as goal
 

@@ -1,7 +1,5 @@
-use Rattle.std.proofs.Common.{◌≡◌, [], ◌∷◌, ◌++◌, None, Result, Ok, inl, inr, ap, sym, ◌∙◌, arith}
+use Rattle.std.proofs.Common.{[], ◌∷◌, ◌++◌, None, ap, ◌∙◌, arith}
 use Rattle.std.proofs.lemmas.List.Sums.{sum_by-cons}
-use Rattle.qrels_reader.specs.Reading.{IsUnlessMemory}
-use Rattle.qrels_reader.specs.declared.fault.FileFault.{FileFault}
 use Rattle.run_reader.specs.Run.{Run, run_of, row_count}
 use Rattle.run_reader.specs.declared.used.Used.{Used}
 use Rattle.topics_pool.specs.Rows.{total_rows}

@@ -1,0 +1,5 @@
+pub mod Sets
+pub mod Sorting
+pub mod Placing
+pub mod Zips
+pub mod Numbers

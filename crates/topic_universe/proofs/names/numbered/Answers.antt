@@ -1,0 +1,20 @@
+use Rattle.std.proofs.Common.{◌≡◌, List, ℕ, ◌+◌, map, ap, sym, ◌∙◌, ◌++◌, ◌∷◌, [], arith}
+use Rattle.std.specs.List.{range_with_len}
+use Rattle.std.proofs.lemmas.List.{map-append, map-id}
+use Rattle.std.proofs.lemmas.List.FromFn.{map-range_with_len_more}
+use Rattle.desk_model.proofs.Nested.{take-there}
+use Rattle.topic_universe.proofs.Placing.{name_of, number_of}
+use Rattle.topic_universe.proofs.names.numbered.Goals as goal
+
+one_more : (i : ℕ) → range_with_len 0 (i + 1) ≡ range_with_len 0 i ++ i ∷ []
+one_more i = sym (map-id (range_with_len 0 (i + 1))) ∙ map-range_with_len_more (λ k. k) 0 i i (omega arith) ∙ ap (λ ks. ks ++ i ∷ []) (map-id (range_with_len 0 i))
+
+pub loop-i-preserved : goal.loop-i-preserved
+loop-i-preserved c =
+    let i = c.loop-i.i in
+    let name = c.get.result.now in
+    let pushed = c.in_ok-push.ensures.items in
+    record {
+      names = ap (map name_of) pushed ∙ map-append name_of c.loop-i.pairs.items _ ∙ ap (λ (ns : List (List ℕ)). ns ++ name ∷ []) c.loop-i.invariant.names ∙ sym (take-there c.args.names.now i name c.get.ensures);
+      numbers = ap (map number_of) pushed ∙ map-append number_of c.loop-i.pairs.items _ ∙ ap (λ (ns : List ℕ). ns ++ i ∷ []) c.loop-i.invariant.numbers ∙ sym (one_more i);
+    }

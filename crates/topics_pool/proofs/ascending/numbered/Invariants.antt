@@ -1,6 +1,0 @@
-use Rattle.std.proofs.Common.{◌≡◌, take, map}
-use Rattle.std.specs.List.{range_with_len}
-use Rattle.topics_pool.proofs.ascending.numbered.Given as goal
-
-abbrev pub invariant-loop-i : goal.invariant-loop-i
-invariant-loop-i l = record { names : map (λ pair. pair.0.now) l.pairs.items ≡ take l.i l.names; numbers : map (λ pair. pair.1) l.pairs.items ≡ range_with_len 0 l.i }

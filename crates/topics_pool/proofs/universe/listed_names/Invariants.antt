@@ -1,8 +1,0 @@
-use Rattle.std.proofs.Common.{◌≡◌, [], take}
-use Rattle.qrels_reader.specs.Grouped.{documents_at}
-use Rattle.topics_pool.specs.Names.{with_names, AreNames}
-use Rattle.topics_pool.specs.Rows.{listed}
-use Rattle.topics_pool.proofs.universe.listed_names.Given as goal
-
-abbrev pub invariant-loop-i : goal.invariant-loop-i
-invariant-loop-i l = record { documents : l.names ≡ with_names [] (take l.i (listed (documents_at l.qrels l.t))); names : AreNames l.names }
