@@ -28,18 +28,18 @@ use Rattle.pair_table.specs.Orders.{HoldsOfPair, HoldsOfRun, ForEachPair, ForEac
 use Rattle.fractions.specs.Numbers.{floor_of, ceiling_of}
 use Rattle.desk_report.specs.Means.{decimal_text}
 use Rattle.desk_report.specs.Table.{word_of, run_line, pair_line, head_lines, run_lines, pair_lines, ended, table_lines, table_text}
-use Rattle.table_claims.specs.Received.{whole_lines}
-use Rattle.table_claims.specs.Claims.{HoldsByName, HoldsByNames, SaysExactly, EnclosesDifference, EnclosesMean, IsPairLine, IsRunLine, IsTrueLine, ForEachLine}
-use Rattle.table_claims.proofs.Spelling.{AreInk, AreInLine, IsWord, ink_in_line, in_line-append, in_line-spaced, fields_word, fields_last, whole_lines-take, whole_lines-of_ended}
-use Rattle.table_claims.proofs.Texts.{decimal_ink, decimal_text_word, measure_ink, name_word, verdict_word}
-use Rattle.table_claims.proofs.Rounding.{printed_low, printed_high}
-use Rattle.table_claims.proofs.Pairing.{all-append, all_prefix, all_weaker, both, each_line, AlikePairs, paired, numbered_from_0}
+use Rattle.printed_claims.specs.Received.{whole_lines}
+use Rattle.printed_claims.specs.Claims.{HoldsByName, HoldsByNames, SaysExactly, EnclosesDifference, EnclosesMean, IsPairLine, IsRunLine, IsTrueLine, ForEachLine}
+use Rattle.printed_claims.proofs.Spelling.{AreInk, AreInLine, IsWord, ink_in_line, in_line-append, in_line-spaced, fields_word, fields_last, whole_lines-take, whole_lines-of_ended}
+use Rattle.printed_claims.proofs.Texts.{decimal_ink, decimal_text_word, measure_ink, name_word, verdict_word}
+use Rattle.printed_claims.proofs.Rounding.{printed_low, printed_high}
+use Rattle.printed_claims.proofs.Pairing.{all-append, all_prefix, all_weaker, both, each_line, AlikePairs, paired, numbered_from_0}
 
 word : (w : List ℕ) (filled : 0 < length w) (ink : AreInk w) → IsWord w
 word w filled ink = record { filled = filled; ink = ink }
 
 -- a field of a line
-abbrev field : ℕ → List (List ℕ) → List ℕ
+abbrev pub field : ℕ → List (List ℕ) → List ℕ
 field i fields = get_or fields i []
 
 -- ---- what a verdict's word says
@@ -122,7 +122,7 @@ abbrev pub IsSound : MeasureName → Desk → List (List Mark) → List ℕ → 
 IsSound name desk marks line = AreInLine line × IsTrueLine name desk marks line
 
 -- a line that is no pair line is true where what it claims of one run is
-other_line : (name : MeasureName) (desk : Desk) (marks : List (List Mark)) (line : List ℕ) →
+pub other_line : (name : MeasureName) (desk : Desk) (marks : List (List Mark)) (line : List ℕ) →
     ((first said second low high : List ℕ) → IsPairLine line first said second low high → ⊥) →
     ((run low high : List ℕ) → IsRunLine line run low high → HoldsByName desk run (EnclosesMean name (topics_under desk marks) low high)) → IsTrueLine name desk marks line
 other_line name desk marks line none runs = record {
@@ -287,7 +287,7 @@ table_sound name desk marks level bounds totals measure valid marked runs pairs 
     (all-append (IsSound name desk marks) (head_lines name level (length desk.topics) (length desk.runs)) (run_lines parts desk.runs bounds) head each_run) each_pair
 
 -- the whole lines of any prefix of sound lines
-prefix_true : (name : MeasureName) (desk : Desk) (marks : List (List Mark)) (lines : List (List ℕ)) (n : ℕ) → AllByRecursion (IsSound name desk marks) lines →
+pub prefix_true : (name : MeasureName) (desk : Desk) (marks : List (List Mark)) (lines : List (List ℕ)) (n : ℕ) → AllByRecursion (IsSound name desk marks) lines →
     All (IsTrueLine name desk marks) (whole_lines (take n (flat_map ended lines)))
 prefix_true name desk marks lines n h =
     let cut = whole_lines-take (flat_map ended lines) n in

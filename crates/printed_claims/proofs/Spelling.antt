@@ -5,7 +5,7 @@ use Rattle.std.specs.List.{AllByRecursion}
 use Rattle.std.proofs.lemmas.Bool.{ne_eqb, lt-ltb}
 use Rattle.desk_text.specs.Lines.{onto_first, is_separator, pieces, is_filled, fields_of}
 use Rattle.desk_report.specs.Table.{ended}
-use Rattle.table_claims.specs.Received.{onto_whole, whole_lines}
+use Rattle.printed_claims.specs.Received.{onto_whole, whole_lines}
 
 -- bytes above the space
 abbrev pub AreInk : List ℕ → Type 0
@@ -43,7 +43,7 @@ ink_no_separator b h =
     ∙ ap (λ t. t || b == 13) (ne_eqb b 9 (λ e. omega arith))
     ∙ ne_eqb b 13 (λ e. omega arith)
 
-piece_on : (b : ℕ) (bs : List ℕ) → 32 < b → pieces (b ∷ bs) ≡ onto_first b (pieces bs)
+pub piece_on : (b : ℕ) (bs : List ℕ) → 32 < b → pieces (b ∷ bs) ≡ onto_first b (pieces bs)
 piece_on b bs h = ap (λ t. cond t ([] ∷ pieces bs) (onto_first b (pieces bs))) (ink_no_separator b h)
 
 pieces_word : (w rest : List ℕ) → AreInk w → pieces (w ++ 32 ∷ rest) ≡ w ∷ pieces rest
@@ -54,7 +54,7 @@ pieces_last : (w : List ℕ) → AreInk w → pieces w ≡ w ∷ []
 pieces_last [] h = refl
 pieces_last (b ∷ bs) h = piece_on b bs h.0 ∙ ap (onto_first b) (pieces_last bs h.1)
 
-kept : (w : List ℕ) (ps : List (List ℕ)) → 0 < length w → filter is_filled (w ∷ ps) ≡ w ∷ filter is_filled ps
+pub kept : (w : List ℕ) (ps : List (List ℕ)) → 0 < length w → filter is_filled (w ∷ ps) ≡ w ∷ filter is_filled ps
 kept w ps h = ap (λ t. cond t (w ∷ filter is_filled ps) (filter is_filled ps)) (lt-ltb 0 (length w) h)
 
 -- the first word of a line, and the others

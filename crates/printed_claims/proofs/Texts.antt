@@ -12,7 +12,7 @@ use Rattle.desk_model.specs.declared.types.Verdict.{Verdict}
 use Rattle.desk_model.specs.declared.types.Verdict.TheVariants.{Above, Below, Equal, Open, Close}
 use Rattle.desk_report.specs.Means.{six_digits, millionths, decimal_text}
 use Rattle.desk_report.specs.Table.{word_of}
-use Rattle.table_claims.proofs.Spelling.{AreInk, IsWord, ink-append}
+use Rattle.printed_claims.proofs.Spelling.{AreInk, IsWord, ink-append}
 
 glyph_ink : (d : ℕ) → 32 < digit_glyph false d
 glyph_ink d = by_test (nat_lt d 10)

@@ -3,3 +3,5 @@ pub mod Texts
 pub mod Rounding
 pub mod Pairing
 pub mod Lines
+pub mod Others
+pub mod Truths

@@ -1,5 +1,6 @@
--- What the lines of a printed table claim.
-use Rattle.std.specs.Prelude.{◌≡◌, ◌≢◌, ◌↔◌, ℕ, List, [], ◌∷◌, slice_get, Some, codes, ℤ, All, take, pos}
+-- What printed texts claim.
+use Rattle.std.specs.Prelude.{◌≡◌, ◌≢◌, ◌↔◌, ◌⊎◌, ◌≤◌, ℕ, List, [], ◌∷◌, ◌++◌, slice_get, Some, true, codes, ℤ, All, take, pos}
+use Rattle.std.specs.List.{AllByRecursion}
 use Rattle.desk_text.specs.Lines.{fields_of}
 use Rattle.desk_model.specs.Completion.{Completion}
 use Rattle.desk_model.specs.Desk.{Desk, IsDesk, AreMarksOf, topics_under}
@@ -15,8 +16,15 @@ use Rattle.fractions.specs.declared.span.Span.{Span}
 use Rattle.measure_laws.specs.Measures.{unit_of}
 use Rattle.pair_table.specs.Numbers.{AreNumbersIn}
 use Rattle.desk_report.specs.Means.{decimal_text}
-use Rattle.desk_report.specs.Table.{table_text}
-use Rattle.table_claims.specs.Received.{whole_lines}
+use Rattle.desk_model.specs.Name.{is_name}
+use Rattle.desk_report.specs.Table.{table_text, ended}
+use Rattle.desk_report.specs.Close.{close_line}
+use Rattle.order_certificate.specs.Certificate.{IsCertificate, certificate_text}
+use Rattle.order_certificate.specs.Places.{IsText}
+use Rattle.order_certificate.specs.Claim.{ClaimHolds}
+use Rattle.order_certificate.specs.Evidence.{IsEvidence}
+use Rattle.order_certificate.specs.declared.certificate.Certificate.{Certificate}
+use Rattle.printed_claims.specs.Received.{whole_lines}
 
 -- the desk has a run of this name, and a fact holds of its number
 pub record HoldsByName (desk : Desk) (name : List ℕ) (fact : ℕ → Type 0) : Type 0 where
@@ -87,3 +95,41 @@ ForEachLine fact =
     (name : MeasureName) (desk : Desk) (marks : List (List Mark)) (level received : ℕ) (bounds : List Span) (totals : List Totals) →
     IsMeasure name → IsDesk desk → AreMarksOf desk marks → AreNumbersIn name desk marks bounds totals →
     All (fact name desk marks) (whole_lines (take received (table_text desk name level (pos (unit_of name)) bounds totals)))
+
+-- what received bytes claim of a desk under marks is true: each whole line, and where they are a certificate, that too
+pub record IsTrueText (name : MeasureName) (desk : Desk) (marks : List (List Mark)) (received : List ℕ) : Type 0 where
+  pub lines : All (IsTrueLine name desk marks) (whole_lines received)
+  pub claim : (c : Certificate) → IsText received c → (c.measure ≡ name) × ClaimHolds c desk marks
+
+-- whatever was received of a table is true
+abbrev pub TablesAreTrue : Type 0
+TablesAreTrue =
+    (name : MeasureName) (desk : Desk) (marks : List (List Mark)) (level received : ℕ) (bounds : List Span) (totals : List Totals) →
+    IsMeasure name → IsDesk desk → AreMarksOf desk marks → AreNumbersIn name desk marks bounds totals →
+    IsTrueText name desk marks (take received (table_text desk name level (pos (unit_of name)) bounds totals))
+
+-- whatever was received of a certificate that is evidence is true
+abbrev pub CertificatesAreTrue : Type 0
+CertificatesAreTrue =
+    (c : Certificate) (desk : Desk) (marks : List (List Mark)) (received : ℕ) → IsCertificate c → IsDesk desk → AreMarksOf desk marks → IsEvidence c desk marks →
+    IsTrueText c.measure desk marks (take received (certificate_text c))
+
+-- a close line claims nothing that could be false
+abbrev pub CloseLinesAreTrue : Type 0
+CloseLinesAreTrue =
+    (name : MeasureName) (desk : Desk) (marks : List (List Mark)) (first second : List ℕ) (totals : Totals) (received : ℕ) → is_name first ≡ true → is_name second ≡ true →
+    IsTrueText name desk marks (take received (ended (close_line first second totals)))
+
+-- the words that tell what checking a certificate answered
+abbrev pub IsAnswerWord : List ℕ → Type 0
+IsAnswerWord word = (word ≡ codes "accepted") ⊎ (word ≡ codes "rejected ")
+
+-- bytes that end no line
+abbrev pub IsInLine : List ℕ → Type 0
+IsInLine bytes = AllByRecursion (λ b. 32 ≤ b) bytes
+
+-- such a line is neither one of a table nor a certificate
+abbrev pub AnswerLinesAreTrue : Type 0
+AnswerLinesAreTrue =
+    (name : MeasureName) (desk : Desk) (marks : List (List Mark)) (word rest : List ℕ) (received : ℕ) → IsAnswerWord word → IsInLine rest →
+    IsTrueText name desk marks (take received (word ++ rest ++ codes "\n"))
