@@ -1,0 +1,99 @@
+-- A desk, and then a certificate.
+use Rattle.std.proofs.Common.{◌≡◌, ℕ, List, [], ◌∷◌, ◌++◌, refl, ap, sym, subst, ◌∙◌, append_assoc, append-nil, inl, inr}
+use Rattle.std.specs.Prelude.{Option, Some, None, Result, Ok, Err}
+use Rattle.desk_outside.specs.Outside.{Files}
+use Rattle.desk_words.specs.declared.command.Check.{Check}
+use Rattle.order_certificate.specs.Form.{IsFirstBad}
+use Rattle.order_certificate.specs.Places.{certificate_places, IsText}
+use Rattle.order_certificate.specs.declared.certificate.Certificate.{Certificate}
+use Rattle.desk_files.specs.Files.{Halt, Refused, BadCertificate, whole_file}
+use Rattle.desk_files.specs.Certificates.{CertificateComes}
+use Rattle.desk_files.specs.Load.{Loaded, Reads, loaded, paths_of, if_read, DeskMayOpen, Opens}
+use Rattle.desk_files.specs.Checks.{sources_of, CheckComes, CheckMayOpen}
+use Rattle.desk_files.proofs.Opening.{may_open_qrels, loaded_opens_all}
+
+-- a desk's names may be opened for a check
+pub opens_for_desk : (known : Option Files) (check : Check) (had has : List (List ℕ)) → Opens (DeskMayOpen known (sources_of check)) had has → Opens (CheckMayOpen known check) had has
+opens_for_desk None check had has opens = record {
+  names = opens.names;
+  allowed = (opens.allowed.0 ++ check.cert ∷ [], ap (λ xs. xs ++ check.cert ∷ []) opens.allowed.1 ∙ append_assoc opens.names opens.allowed.0 (check.cert ∷ []));
+  added = opens.added;
+}
+opens_for_desk (Some files) check had has opens =
+    let more : List (List ℕ) = if_read (loaded files (sources_of check)) (λ rows. check.cert ∷ []) in
+    record {
+      names = opens.names;
+      allowed = (opens.allowed.0 ++ more, ap (λ xs. xs ++ more) opens.allowed.1 ∙ append_assoc opens.names opens.allowed.0 more);
+      added = opens.added;
+    }
+
+-- the judgements' path alone may be opened
+pub check_opens_qrels : (known : Option Files) (check : Check) → CheckMayOpen known check (check.qrels ∷ [])
+check_opens_qrels None check = (paths_of check.runs ++ check.cert ∷ [], refl)
+check_opens_qrels (Some files) check =
+    let desk = may_open_qrels (Some files) (sources_of check) in
+    let more : List (List ℕ) = if_read (loaded files (sources_of check)) (λ rows. check.cert ∷ []) in
+    (desk.0 ++ more, ap (λ xs. xs ++ more) desk.1 ∙ append_assoc (check.qrels ∷ []) desk.0 more)
+
+-- all of them, and then the certificate's
+pub opens_all_and_certificate : (known : Option Files) (check : Check) (rows : Loaded) (had between has : List (List ℕ)) → Reads known (sources_of check) rows → between ≡ had ++ check.qrels ∷ paths_of check.runs → has ≡ between ++ check.cert ∷ [] →
+    Opens (CheckMayOpen known check) had has
+opens_all_and_certificate known check rows had between has read all last = record {
+  names = check.qrels ∷ paths_of check.runs ++ check.cert ∷ [];
+  allowed = allowed known read;
+  added = last ∙ ap (λ xs. xs ++ check.cert ∷ []) all ∙ append_assoc had (check.qrels ∷ paths_of check.runs) (check.cert ∷ []);
+}
+  where
+    allowed : (known : Option Files) → Reads known (sources_of check) rows → CheckMayOpen known check (check.qrels ∷ paths_of check.runs ++ check.cert ∷ [])
+    allowed None read = ([], sym (append-nil (check.qrels ∷ paths_of check.runs ++ check.cert ∷ [])))
+    allowed (Some files) read = (
+      [],
+      ap (λ xs. xs ++ if_read (loaded files (sources_of check)) (λ rows. check.cert ∷ [])) (loaded_opens_all files (sources_of check) rows read)
+          ∙ ap (λ r. (check.qrels ∷ paths_of check.runs) ++ if_read r (λ rows. check.cert ∷ [])) read
+          ∙ sym (append-nil (check.qrels ∷ paths_of check.runs ++ check.cert ∷ [])),
+    )
+
+-- ---- a certificate's file comes to one thing alone
+abbrev OneCertificate : Type 0
+OneCertificate = (bytes : List ℕ) (c d : Certificate) → IsText bytes c → IsText bytes d → c ≡ d
+
+abbrev OneBadLine : Type 0
+OneBadLine = (bytes : List ℕ) (m n : ℕ) → IsFirstBad certificate_places bytes m → IsFirstBad certificate_places bytes n → m ≡ n
+
+abbrev NoBadLine : Type 0
+NoBadLine = (bytes : List ℕ) (c : Certificate) (n : ℕ) → IsText bytes c → IsFirstBad certificate_places bytes n → ⊥
+
+same_halt : {X : Type 0} (h k : Halt) (r : Result X Halt) → r ≡ Err h → r ≡ Err k → h ≡ k
+same_halt {X} h k r e f = let both : ◌≡◌ {A = Result X Halt} (Err h) (Err k) = sym e ∙ f in cc
+
+module _ (one : OneCertificate) (one_line : OneBadLine) (none : NoBadLine) where
+  same_bytes : {r : Result (List ℕ) Halt} (a b : List ℕ) → r ≡ Ok a → r ≡ Ok b → a ≡ b
+  same_bytes a b e f = let both : Ok a ≡ Ok b = sym e ∙ f in cc
+
+  one_file : (files : Files) (path : List ℕ) (x y : Result Certificate Halt) → CertificateComes files path x → CertificateComes files path y → x ≡ y
+  one_file files path (Ok c) (Ok d) (a, read, text) (b, again, other) = ap Ok (one b c d (subst (λ z. IsText z c) (same_bytes a b read again) text) other)
+  one_file files path (Ok c) (Err h) (a, read, text) (inl halts) = let bad : Ok a ≡ Err h = sym read ∙ halts in absurd (cc)
+  one_file files path (Ok c) (Err h) (a, read, text) (inr (b, again, (line, bad, is))) = absurd (none b c line (subst (λ z. IsText z c) (same_bytes a b read again) text) bad)
+  one_file files path (Err h) (Ok d) (inl halts) (b, again, other) = let bad : Ok b ≡ Err h = sym again ∙ halts in absurd (cc)
+  one_file files path (Err h) (Ok d) (inr (a, read, (line, bad, is))) (b, again, other) = absurd (none b d line other (subst (λ z. IsFirstBad certificate_places z line) (same_bytes a b read again) bad))
+  one_file files path (Err h) (Err k) (inl halts) (inl also) = ap Err (same_halt h k (whole_file path (files path)) halts also)
+  one_file files path (Err h) (Err k) (inl halts) (inr (b, again, (line, bad, is))) = let no : Ok b ≡ Err h = sym again ∙ halts in absurd (cc)
+  one_file files path (Err h) (Err k) (inr (a, read, (line, bad, is))) (inl also) = let no : Ok a ≡ Err k = sym read ∙ also in absurd (cc)
+  one_file files path (Err h) (Err k) (inr (a, read, (line, bad, is))) (inr (b, again, (number, other, also))) =
+      let same : line ≡ number = one_line b line number (subst (λ z. IsFirstBad certificate_places z line) (same_bytes a b read again) bad) other in
+      ap Err (is ∙ ap (λ n. Refused (BadCertificate path n)) same ∙ sym also)
+
+  -- so do the files of a check
+  pub one_check : (check : Check) (files : Files) (x y : Result (Loaded × Certificate) Halt) → CheckComes files check x → CheckComes files check y → x ≡ y
+  one_check check files (Ok (p, c)) (Ok (q, d)) (read, text) (again, other) =
+      let rows : Ok p ≡ Ok q = sym read ∙ again in
+      let file : Ok c ≡ Ok d = one_file files check.cert (Ok c) (Ok d) text other in
+      cc
+  one_check check files (Ok (p, c)) (Err h) (read, text) (inl halts) = let no : Ok p ≡ Err h = sym read ∙ halts in absurd (cc)
+  one_check check files (Ok (p, c)) (Err h) (read, text) (inr (rows, again, halts)) = let no : Ok c ≡ Err h = one_file files check.cert (Ok c) (Err h) text halts in absurd (cc)
+  one_check check files (Err h) (Ok (q, d)) (inl halts) (again, other) = let no : Ok q ≡ Err h = sym again ∙ halts in absurd (cc)
+  one_check check files (Err h) (Ok (q, d)) (inr (rows, read, halts)) (again, other) = let no : Err h ≡ Ok d = one_file files check.cert (Err h) (Ok d) halts other in absurd (cc)
+  one_check check files (Err h) (Err k) (inl halts) (inl also) = ap Err (same_halt h k (loaded files (sources_of check)) halts also)
+  one_check check files (Err h) (Err k) (inl halts) (inr (rows, read, also)) = let no : Ok rows ≡ Err h = sym read ∙ halts in absurd (cc)
+  one_check check files (Err h) (Err k) (inr (rows, read, halts)) (inl also) = let no : Ok rows ≡ Err k = sym read ∙ also in absurd (cc)
+  one_check check files (Err h) (Err k) (inr (rows, read, halts)) (inr (others, again, also)) = ap Err (same_halt h k (Err k) (sym (one_file files check.cert (Err h) (Err k) halts also)) refl)

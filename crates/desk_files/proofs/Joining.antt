@@ -1,0 +1,73 @@
+-- The rows of files together.
+use Rattle.std.proofs.Common.{◌≡◌, ℕ, zero, suc, ◌+◌, ◌<◌, ◌≤◌, Bool, true, false, List, [], length, cond, slice_index_or, ap, sym, subst, ◌∙◌, arith}
+use Rattle.std.specs.List.{find, range_with_len}
+use Rattle.std.proofs.lemmas.Bool.{lt-leb}
+use Rattle.std.specs.Prelude.{Option, Some, None, Result, Ok, Err, IfSome}
+use Rattle.desk_outside.specs.Outside.{Files}
+use Rattle.qrels_reader.specs.Grouped.{JudgedTopic, qrels_of}
+use Rattle.run_reader.specs.Run.{Run}
+use Rattle.desk_model.specs.Desk.{Desk}
+use Rattle.topics_pool.specs.Rows.{IsNoFault, run_names, first_repeated, is_repeated, cells_of}
+use Rattle.topics_pool.specs.declared.limits.TheConstants.{MOST_CELLS}
+use Rattle.desk_files.specs.declared.stop.Stop.{Stop}
+use Rattle.desk_files.specs.declared.stop.Stop.TheVariants as stops
+use Rattle.desk_files.specs.Files.{Halt, ◌>>=◌, file_as, Refused, Repeated, Excessive}
+use Rattle.desk_files.specs.Load.{Sources, Loaded, loaded, loaded_from, runs_of, used_by, within}
+use Rattle.desk_files.specs.Joined.{joined, Joins, Makes}
+use Rattle.desk_files.specs.Outcome.{Stops}
+use Rattle.desk_files.proofs.Stopping.{stops_too}
+
+-- what is found among the numbers from a on is one of them
+found_in_range : (p : ℕ → Bool) (a n r : ℕ) → find p (range_with_len a n) ≡ Some r → r < a + n
+found_in_range p a zero r e = absurd (cc)
+found_in_range p a (suc n) r e = at (p a) (found_in_range p (a + 1) n r) e
+  where
+    at : (b : Bool) → (find p (range_with_len (a + 1) n) ≡ Some r → r < (a + 1) + n) → cond b (Some a) (find p (range_with_len (a + 1) n)) ≡ Some r → r < a + suc n
+    at true more e = let same : a ≡ r = cc in omega (arith, same)
+    at false more e = omega (arith, more e)
+
+-- the number of a repeated name is that of a run
+pub repeated_in : (names : List (List ℕ)) (r : ℕ) → first_repeated names ≡ Some r → r < length names
+repeated_in names r e = omega (arith, found_in_range (is_repeated names) 0 (length names) r e)
+
+pub is_within : (qrels : List JudgedTopic) (runs : List Run) → IsNoFault qrels runs → joined qrels runs ≡ Ok (record { qrels = qrels; runs = runs })
+is_within qrels runs none =
+    let loaded : Loaded = record { qrels = qrels; runs = runs } in
+    let cells = cells_of qrels runs in
+    let refused : Result Loaded Halt = Err (Refused (Excessive cells)) in
+    ap (within qrels runs) none.names ∙ ap (λ b. cond b refused (Ok loaded)) (lt-leb (suc MOST_CELLS) cells (omega (arith, none.cells)))
+
+pub is_repeated_at : (qrels : List JudgedTopic) (runs : List Run) (r : ℕ) (name : List ℕ) → first_repeated (run_names runs) ≡ Some r → name ≡ slice_index_or (run_names runs) r [] → joined qrels runs ≡ Err (Refused (Repeated name))
+is_repeated_at qrels runs r name e is = ap (within qrels runs) e ∙ ap (λ n. Err (Refused (Repeated n))) (sym is)
+
+-- what the files come to where the qrels and the runs are read
+loads : (held : Files) (sources : Sources) (qrels : List JudgedTopic) (runs : List Run) → file_as qrels_of held sources.qrels ≡ Ok qrels → runs_of held qrels (used_by qrels) sources.runs ≡ Ok runs → loaded held sources ≡ joined qrels runs
+unfolding loaded_from
+loads held sources qrels runs e f =
+    ap (λ q. q >>= (λ qrels. runs_of held qrels (used_by qrels) sources.runs >>= (λ runs. joined qrels runs))) e ∙ ap (λ r. r >>= (λ runs. joined qrels runs)) f
+
+module _ (sources : Sources) (qrels : List JudgedTopic) (runs : List Run) where
+  -- a desk of the rows is one of the files
+  pub makes_joined : (told : Option Files) (before now : ℕ) (result : Result Desk Stop) → IfSome told (λ held. file_as qrels_of held sources.qrels ≡ Ok qrels) → IfSome told (λ held. runs_of held qrels (used_by qrels) sources.runs ≡ Ok runs) → Joins qrels runs result → Makes told before now sources result
+  makes_joined None before now (Ok desk) e f joins = (record { qrels = qrels; runs = runs }, tt, joins.1)
+  makes_joined (Some held) before now (Ok desk) e f joins = (record { qrels = qrels; runs = runs }, loads held sources qrels runs e f ∙ joins.0, joins.1)
+  makes_joined None before now (Err (stops.Refused refusal)) e f joins = tt
+  makes_joined (Some held) before now (Err (stops.Refused refusal)) e f joins = loads held sources qrels runs e f ∙ joins
+  makes_joined told before now (Err stops.Outside) e f joins = absurd joins
+  makes_joined told before now (Err stops.Memory) e f joins = tt
+
+-- what stops at the qrels
+pub stops_at_qrels : (held : Files) (sources : Sources) (halt : Halt) → file_as qrels_of held sources.qrels ≡ Err halt → loaded held sources ≡ Err halt
+unfolding loaded_from
+stops_at_qrels held sources halt e = ap (λ q. q >>= (λ qrels. runs_of held qrels (used_by qrels) sources.runs >>= (λ runs. joined qrels runs))) e
+
+-- what stops at a run
+pub stops_at_runs : (held : Files) (sources : Sources) (qrels : List JudgedTopic) (halt : Halt) → file_as qrels_of held sources.qrels ≡ Ok qrels → runs_of held qrels (used_by qrels) sources.runs ≡ Err halt → loaded held sources ≡ Err halt
+unfolding loaded_from
+stops_at_runs held sources qrels halt e f =
+    ap (λ q. q >>= (λ qrels. runs_of held qrels (used_by qrels) sources.runs >>= (λ runs. joined qrels runs))) e ∙ ap (λ r. r >>= (λ runs. joined qrels runs)) f
+
+pub makes_err : {Y : Type 0} (told : Option Files) (first before now : ℕ) (sources : Sources) (r : Result Desk Stop) (stop : Stop) (g : Files → Result Y Halt) → r ≡ Err stop → first ≤ before → Stops told before now stop g → ((files : Files) (halt : Halt) → told ≡ Some files → g files ≡ Err halt → loaded files sources ≡ Err halt) → Makes told first now sources r
+makes_err told first before now sources r stop g is le s f =
+    let P : Result Desk Stop → Type 0 = λ r. Makes told first now sources r in
+    subst P (sym is) (stops_too told first before now stop g (λ held. loaded held sources) le s f)

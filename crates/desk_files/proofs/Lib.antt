@@ -1,0 +1,7 @@
+pub mod Reading
+pub mod Stopping
+pub mod Faults
+pub mod Runs
+pub mod Opening
+pub mod Joining
+pub mod Checking

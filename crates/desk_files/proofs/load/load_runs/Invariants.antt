@@ -1,0 +1,18 @@
+use Rattle.std.proofs.Common.{◌≡◌, ◌≤◌, drop, vec_len}
+use Rattle.run_reader.specs.Run.{IsWithinLimits}
+use Rattle.topics_pool.specs.Rows.{total_rows}
+use Rattle.desk_files.specs.Load.{used_by}
+use Rattle.desk_files.proofs.Opening.{OpensSoFar}
+use Rattle.desk_files.proofs.Runs.{Reaches}
+use Rattle.desk_files.proofs.load.load_runs.Given as goal
+
+abbrev pub invariant-loop-word : goal.invariant-loop-word
+invariant-loop-word g l = record {
+  files : g.F.Shelf.files l.files ≡ g.F.Shelf.files l.fn.files;
+  later : g.F.Shelf.faults l.fn.files ≤ g.F.Shelf.faults l.files;
+  within : IsWithinLimits l.used;
+  count : vec_len l.runs ≡ l.word-index;
+  rows : l.used.rows ≡ total_rows l.runs.items;
+  opened : OpensSoFar (g.F.Shelf.files l.fn.files) l.qrels (used_by l.qrels) l.words l.used (drop l.word-index l.words) (g.F.Shelf.opened l.fn.files) (g.F.Shelf.opened l.files);
+  left : Reaches (g.F.Shelf.files l.fn.files) l.qrels (used_by l.qrels) l.words l.used l.runs.items (drop l.word-index l.words);
+}

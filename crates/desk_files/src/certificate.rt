@@ -1,0 +1,34 @@
+//! The certificate of a file.
+ghost use Rattle.std.specs.Prelude.{◌≡◌, ◌≤◌, ◌++◌, ◌∷◌, [], IfOk};
+ghost use Rattle.order_certificate.specs.Certificate.{IsCertificate};
+ghost use Rattle.desk_files.specs.Certificates.{ReadsCertificate};
+
+use crate::files::read_file;
+use crate::stop::{Refusal, Stop};
+use desk_outside::Shelf;
+use desk_words::Path;
+use order_certificate::{CertFault, Certificate, certificates_have_texts, read_certificate};
+use std::alloc::Global;
+
+/// The certificate of a file; or why there is none: a line that is none of a certificate at its place, a file that is too
+/// long, one that is missing or a shelf that failed, or memory that ran out.
+pub fn load_certificate<'a, F: Shelf>(
+    alloc: Global,
+    files: &mut F,
+    path: &'a Path,
+) -> Result<Certificate, Stop<'a>>
+    ensures reads { ReadsCertificate (F.files files.old) (F.faults files.old) (F.faults files.new) path.now result }
+    ensures certificate { IfOk result IsCertificate }
+    ensures files { F.files files.new ≡ F.files files.old }
+    ensures opened { F.opened files.new ≡ F.opened files.old ++ path.now ∷ [] }
+    ensures later { F.faults files.old ≤ F.faults files.new }
+{
+    certificates_have_texts();
+    let path = path.as_str();
+    let bytes = read_file(alloc, files, path)?;
+    match read_certificate(alloc, &bytes) {
+        Ok(certificate) => Ok(certificate),
+        Err(CertFault::BadLine { line }) => Err(Stop::Refused(Refusal::BadCertificate(path, line))),
+        Err(CertFault::Memory) => Err(Stop::Memory),
+    }
+}

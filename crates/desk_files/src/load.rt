@@ -1,0 +1,121 @@
+// What the files of a job say.
+ghost use Rattle.std.specs.Prelude.{◌≡◌, ◌≤◌, ◌++◌, ◌∷◌, [], ◌+◌, true, length, vec_len, IfSome, IfOk, OnOk};
+ghost use Rattle.std.specs.Option.{option_copied};
+ghost use Rattle.desk_model.specs.Name.{is_name};
+ghost use Rattle.run_reader.specs.Run.{run_of, row_count, IsWithinLimits};
+ghost use Rattle.qrels_reader.specs.Grouped.{qrels_of};
+ghost use Rattle.run_reader.specs.declared.limits.TheConstants.{MOST_RUN_ROWS};
+ghost use Rattle.topics_pool.specs.Rows.{total_rows};
+ghost use Rattle.desk_files.specs.Files.{file_as, halt_at};
+ghost use Rattle.desk_files.specs.Load.{runs_of, used_by, runs_to_open, paths_of, MayOpen, Opens};
+ghost use Rattle.desk_files.specs.Outcome.{Gives};
+ghost use Rattle.desk_files.specs.Stopped.{IsStopOf};
+
+use crate::files::read_file;
+use crate::stop::{Refusal, Stop};
+use desk_outside::Shelf;
+use desk_words::RunWord;
+use qrels_reader::{FileFault, Qrels, read_qrels};
+use run_reader::{RunRows, Used, read_run};
+use std::alloc::{AllocError, Global};
+
+// Why a command stops at a file whose reading ended so.
+fn stop_of<'a>(path: &'a str, fault: FileFault) -> Stop<'a>
+    ensures { IsStopOf (halt_at path.entry.now fault) result }
+{
+    match fault {
+        FileFault::Line { line, fault } => Stop::Refused(Refusal::BadLine(path, line, fault)),
+        FileFault::NoTopics => Stop::Refused(Refusal::LacksTopics(path)),
+        FileFault::NoTag => Stop::Refused(Refusal::LacksTag(path)),
+        FileFault::Memory => Stop::Memory,
+    }
+}
+
+/// The rows of the qrels file.
+pub fn load_qrels<'a, F: Shelf>(
+    alloc: Global,
+    files: &mut F,
+    path: &'a str,
+) -> Result<Qrels, Stop<'a>>
+    ensures gives { Gives (F.files files.old) (F.faults files.old) (F.faults files.new) (λ qrels. qrels) result (λ held. file_as qrels_of held path.now) }
+    ensures files { F.files files.new ≡ F.files files.old }
+    ensures opened { F.opened files.new ≡ F.opened files.old ++ path.now ∷ [] }
+    ensures later { F.faults files.old ≤ F.faults files.new }
+{
+    let bytes = read_file(alloc, files, path)?;
+    match read_qrels(alloc, &bytes) {
+        Ok(qrels) => Ok(qrels),
+        Err(fault) => Err(stop_of(path, fault)),
+    }
+}
+
+// The name that a RUN word gives.
+fn given_name(word: &RunWord) -> Option<&[u8]>
+    ensures name { option_copied result ≡ word.now.name }
+    ensures is_name { IfSome result (λ name. is_name name.now ≡ true) }
+{
+    match &word.name {
+        Some(name) => Some(name.as_bytes()),
+        None => None,
+    }
+}
+
+/// The rows of a run file, beside the qrels and what the files before it used.
+pub fn load_run<'a, F: Shelf>(
+    alloc: Global,
+    files: &mut F,
+    word: &'a RunWord,
+    qrels: &Qrels,
+    used: Used,
+) -> Result<RunRows, Stop<'a>>
+    requires { IsWithinLimits used }
+    ensures gives { Gives (F.files files.old) (F.faults files.old) (F.faults files.new) (λ run. run) result (λ held. file_as (run_of word.now.name qrels.now used) held word.now.path) }
+    ensures rows { IfOk result (λ run. run.used.rows ≡ used.rows + row_count run.topics) }
+    ensures files { F.files files.new ≡ F.files files.old }
+    ensures opened { F.opened files.new ≡ F.opened files.old ++ word.now.path ∷ [] }
+    ensures later { F.faults files.old ≤ F.faults files.new }
+{
+    let path = word.path.as_str();
+    let bytes = read_file(alloc, files, path)?;
+    match read_run(alloc, &bytes, given_name(word), qrels, used) {
+        Ok(run) => Ok(run),
+        Err(fault) => Err(stop_of(path, fault)),
+    }
+}
+
+/// The rows of all run files, in order.
+pub fn load_runs<'a, F: Shelf>(
+    alloc: Global,
+    files: &mut F,
+    words: &'a [RunWord],
+    qrels: &Qrels,
+) -> Result<Vec<RunRows>, Stop<'a>>
+    ensures gives { Gives (F.files files.old) (F.faults files.old) (F.faults files.new) (λ runs. runs.items) result (λ held. runs_of held qrels.now (used_by qrels.now) words.now) }
+    ensures count { IfOk result (λ runs. vec_len runs ≡ length words.now) }
+    ensures rows { IfOk result (λ runs. total_rows runs.items ≤ MOST_RUN_ROWS) }
+    ensures files { F.files files.new ≡ F.files files.old }
+    ensures opened { Opens (MayOpen (F.files files.old) (λ held. runs_to_open held qrels.now (used_by qrels.now) words.now) (paths_of words.now)) (F.opened files.old) (F.opened files.new) }
+    ensures all { OnOk result (F.opened files.new ≡ F.opened files.old ++ paths_of words.now) }
+    ensures later { F.faults files.old ≤ F.faults files.new }
+{
+    let mut runs = Vec::new(alloc);
+    let mut used = Used {
+        rows: 0,
+        name_bytes: qrels.name_bytes(),
+    };
+    for word in words {
+        let run = load_run(alloc, files, word, qrels, used)?;
+        used = run.used();
+        push_run(&mut runs, run)?;
+    }
+    Ok(runs)
+}
+
+fn push_run(runs: &mut Vec<RunRows>, run: RunRows) -> Result<(), AllocError>
+    ensures { OnOk result (runs.new.items ≡ runs.old.items ++ run ∷ []) }
+{
+    match runs.push(run) {
+        Ok(()) => Ok(()),
+        Err(_) => Err(AllocError),
+    }
+}

@@ -1,0 +1,53 @@
+// Why a command stops before it prints.
+ghost use Rattle.std.specs.Prelude.{◌≡◌};
+ghost use Rattle.desk_files.specs.declared.stop.Stop.TheVariants.{Memory};
+
+use desk_model::Memory as NoMemory;
+use qrels_reader::LineFault;
+use std::alloc::AllocError;
+
+/// Why files are refused.
+#[derive(Drop)]
+pub enum Refusal<'a> {
+    /// The file of this path has more bytes than it may.
+    TooLong(&'a str),
+    /// This line of the file of this path, from 1, has a fault.
+    BadLine(&'a str, u64, LineFault),
+    /// The file of this path has no topic.
+    LacksTopics(&'a str),
+    /// The file of this path has no name for its run.
+    LacksTag(&'a str),
+    /// This line of the file of this path, from 1, is none of a certificate at its place.
+    BadCertificate(&'a str, u64),
+    /// A run has this name, and an earlier one too.
+    Repeated(Vec<u8>),
+    /// Pairs times topics are this many, and too many.
+    Excessive(u64),
+}
+
+/// Why a command stops before it prints.
+#[derive(Drop)]
+pub enum Stop<'a> {
+    /// Files are refused.
+    Refused(Refusal<'a>),
+    /// A file is missing, or the outside failed.
+    Outside,
+    /// Memory ran out.
+    Memory,
+}
+
+impl From<AllocError> for Stop<'_> {
+    ghost from_gives = { λ _ e. e ≡ Memory };
+
+    fn from(_: AllocError) -> Self {
+        Stop::Memory
+    }
+}
+
+impl From<NoMemory> for Stop<'_> {
+    ghost from_gives = { λ _ e. e ≡ Memory };
+
+    fn from(_: NoMemory) -> Self {
+        Stop::Memory
+    }
+}
