@@ -1,13 +1,10 @@
-pub mod Reading
-pub mod Stopping
-pub mod Faults
-pub mod Runs
-pub mod Opening
-pub mod Joining
-pub mod Tables
+pub mod Marking
+pub mod Asking
 pub mod Telling
 pub mod Nonempty
 pub mod Meeting
 pub mod Printed
+pub mod Reporting
+pub mod Checks
 pub mod Truth
 pub mod Statuses

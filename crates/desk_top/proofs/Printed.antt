@@ -1,96 +1,93 @@
--- What became of a table meets its meaning.
+-- What became of a text that a command prints meets its meaning.
 use Rattle.std.proofs.Common.{◌≡◌, ℕ, ◌<◌, List, [], ◌∷◌, length, refl, sym, subst, ◌∙◌, arith, append-nil, inl, inr}
-use Rattle.std.specs.Prelude.{Option, Some, None, Ok, Err, IfSome, IsSomeAnd, ◌⊎◌}
+use Rattle.std.specs.Prelude.{Option, Some, None, Result, Ok, Err, IfSome, IsSomeAnd, ◌⊎◌}
 use Rattle.std.specs.Io.KnownBytes.{prepend_known}
 use Rattle.desk_outside.specs.Outside.{Files}
-use Rattle.desk_words.specs.declared.command.Job.{Job}
-use Rattle.desk_model.specs.Desk.{Desk}
-use Rattle.desk_top.specs.Files.{Missing, Refused, Refusal}
-use Rattle.desk_top.specs.Load.{Loaded, loaded, JobMayOpen, Opens}
-use Rattle.desk_top.specs.Table.{Reads, HasTable, CountsSteps, cells_in}
+use Rattle.desk_files.specs.Files.{Halt, Missing, Refused, Refusal}
 use Rattle.desk_top.specs.Told.{Writes, status_line, refusal_line}
 use Rattle.desk_top.specs.Seen.{Shelf, Source, Sink, ReceivedNothing, ReceivedAll, ReceivedPrefix}
-use Rattle.desk_top.specs.Answer.{Answer, Saying, done, halted}
-use Rattle.desk_top.specs.Meaning.{Cut, MayCome, AnswersFiles, IsTableOf, file_moment, table_meaning}
-use Rattle.desk_top.specs.Meets.{HasAnswer, IsPart, Gives, OutputFailed, FilesFailed, EvaluatesWithin, Meets}
-use Rattle.desk_top.specs.Ends.{IsBroken, IsUnread}
-use Rattle.desk_top.proofs.Opening.{may_open_qrels}
-use Rattle.desk_top.proofs.Meeting.{no_text, given, meets_given, meets_outside, meets_memory}
+use Rattle.desk_files.specs.declared.stop.Stop.{Stop}
+use Rattle.desk_files.specs.declared.stop.Stop.TheVariants as stops
+use Rattle.desk_top.specs.Answer.{Answer, Moment, said_with, halted}
+use Rattle.desk_top.specs.Printing.{Printing, HasPrinted, IsPrinted, IsBroken, IsUnread, Ends, IsPut}
+use Rattle.desk_top.specs.Meaning.{Input, Cut, Meaning, MayCome, AnswersFiles}
+use Rattle.desk_top.specs.Meets.{HasAnswer, IsPart, Gives, OutputFailed, FilesFailed, EvaluatesWithin, OpensWithin, Meets}
+use Rattle.desk_top.proofs.Meeting.{no_text, given, meets_given, meets_outside}
 
-prepend_known-nil : (o : Option (List ℕ)) → o ≡ prepend_known [] o
+pub prepend_known-nil : (o : Option (List ℕ)) → o ≡ prepend_known [] o
 prepend_known-nil None = refl
 prepend_known-nil (Some xs) = refl
 
--- what a table says
-abbrev table_said : Job → Desk → List ℕ → List Saying
-table_said job desk text = record { moment = file_moment job desk; text = text } ∷ []
+module _ {X : Type 0} (comes : Files → Result X Halt → Type 0) where
+  found_may_come : (known : Option Files) (found : X) → IfSome known (λ files. comes files (Ok found)) → MayCome known comes (Ok found)
+  found_may_come None found read = tt
+  found_may_come (Some files) found read = read
 
-rows_may_come : (known : Option Files) (job : Job) (rows : Loaded) → Reads known job rows → MayCome known (λ files. loaded files job) (Ok rows)
-rows_may_come None job rows read = tt
-rows_may_come (Some files) job rows read = read
+  refusal_may_come : (known : Option Files) (refusal : Refusal) → IfSome known (λ files. comes files (Err (Refused refusal))) → MayCome known comes (Err (Refused refusal))
+  refusal_may_come None refusal read = tt
+  refusal_may_come (Some files) refusal read = read
 
-refusal_may_come : (known : Option Files) (job : Job) (refusal : Refusal) → IfSome known (λ files. loaded files job ≡ Err (Refused refusal)) → MayCome known (λ files. loaded files job) (Err (Refused refusal))
-refusal_may_come None job refusal read = tt
-refusal_may_come (Some files) job refusal read = read
+  missing_may_come : (known : Option Files) → IsSomeAnd known (λ files. comes files (Err Missing)) → MayCome known comes (Err Missing)
+  missing_may_come None is = is
+  missing_may_come (Some files) is = is
 
-missing_may_come : (known : Option Files) (job : Job) → IsSomeAnd known (λ files. loaded files job ≡ Err Missing) → MayCome known (λ files. loaded files job) (Err Missing)
-missing_may_come None job is = is
-missing_may_come (Some files) job is = is
+-- a command answers with the text that it prints on its files
+pub record Answers {X : Type 0} (command : Printing X) (meaning : Meaning) : Type 0 where
+  pub answers : (known : Option Files) (input : Input) (answer : Answer) → AnswersFiles command known answer → meaning.answers known input answer
+  pub opens_one : (known : Option Files) → (name : List ℕ) × meaning.opens known (name ∷ [])
+  pub status : (found : X) (moment : _) (status : ℕ) (text : List ℕ) → command.prints found moment status text → (status ≡ 3 → ⊥) × (status ≡ 4 → ⊥)
 
--- the table of the files is the answer
-table_is_answer : (known : Option Files) (job : Job) (P : List ℕ → Type 0) (has : HasTable known job P) → AnswersFiles known (λ files. loaded files job) (IsTableOf job) (done (table_said job has.desk has.holds.text))
-table_is_answer known job P has = (Ok has.rows, rows_may_come known job has.rows has.read, record { desk = has.desk; ranked = has.ranked; text = has.holds.text; printed = has.holds.printed; is = refl })
+module _ {X : Type 0} (command : Printing X) (meaning : Meaning) (by : Answers command meaning) (shelf : Shelf) (input : Source) (out err : Sink) where
+  module _ (P : ℕ → List ℕ → Type 0) (has : HasPrinted command shelf.files P) where
+    -- the answer that a text is
+    abbrev answer_of : Answer
+    answer_of = said_with has.status (record { moment = has.moment; text = has.text } ∷ [])
 
--- it is an answer over any part of the input
-table_at_part : (known : Option Files) (job : Job) (input : Source) (P : List ℕ → Type 0) (fact : Answer → Type 0) (has : HasTable known job P) →
-    (P has.holds.text → fact (done (table_said job has.desk has.holds.text))) → HasAnswer (table_meaning job) known (IsPart input) fact
-table_at_part known job input P fact has f = record {
-  input = Cut [];
-  met = (input.rest, prepend_known-nil input.rest);
-  answer = done (table_said job has.desk has.holds.text);
-  is = table_is_answer known job P has;
-  holds = f has.holds.holds;
-}
+    text_is_answer : (i : Input) → meaning.answers shelf.files i answer_of
+    text_is_answer i = by.answers shelf.files i answer_of (Ok has.found, found_may_come command.comes shelf.files has.found has.read, record { moment = has.moment; status = has.status; text = has.text; printed = has.printed; is = refl })
 
-module _ (job : Job) (shelf : Shelf) (input : Source) (out err : Sink) where
-  -- the steps of a table, where nothing of the input was taken
-  steps_within : (before after : ℕ) → input.rest ≡ input.left → CountsSteps shelf.files job before after → EvaluatesWithin (table_meaning job) shelf input before after
-  steps_within before after same (inl none) = inl none
-  steps_within before after same (inr has) =
-      inr (Cut [], same ∙ prepend_known-nil input.left, cells_in has.desk, record { rows = has.rows; read = has.read; desk = has.desk; ranked = has.ranked; holds = refl }, has.holds)
+    -- it is an answer over any part of the input
+    text_at_part : (fact : Answer → Type 0) → fact answer_of → HasAnswer meaning shelf.files (IsPart input) fact
+    text_at_part fact f = record {
+      input = Cut [];
+      met = (input.rest, prepend_known-nil input.rest);
+      answer = answer_of;
+      is = text_is_answer (Cut []);
+      holds = f;
+    }
 
-  -- the whole table was printed
-  pub meets_printed : (before after status : ℕ) → input.rest ≡ input.left → status ≡ 0 → HasTable shelf.files job (ReceivedAll out) → Writes err.had err.has err.before err.after [] → CountsSteps shelf.files job before after → Opens (JobMayOpen shelf.files job) shelf.had shelf.has → Meets (table_meaning job) shelf input out err before after status
-  meets_printed before after status same zero has line steps opened =
-      let text = has.holds.text in
-      meets_given (table_meaning job) shelf input out err before after status (λ three. omega (arith, zero, three)) (λ four. omega (arith, zero, four))
-      (given (table_meaning job) shelf input out err status (done (table_said job has.desk text)) (λ i. table_is_answer shelf.files job (ReceivedAll out) has) zero (subst (ReceivedAll out) (sym (append-nil text)) has.holds.holds) line)
-      (steps_within before after same steps) (inr opened)
+  -- the whole text was printed
+  pub meets_printed : (before after status : ℕ) → IsPrinted command shelf out status → Writes err.had err.has err.before err.after [] → EvaluatesWithin meaning shelf input before after → OpensWithin meaning shelf → Meets meaning shelf input out err before after status
+  meets_printed before after status has line cells opened =
+      let ends = by.status has.found has.moment has.status has.text has.printed in
+      meets_given meaning shelf input out err before after status (λ three. ends.0 (sym has.holds.0 ∙ three)) (λ four. ends.1 (sym has.holds.0 ∙ four))
+      (given meaning shelf input out err status (answer_of _ has) (text_is_answer _ has) has.holds.0 (subst (ReceivedAll out) (sym (append-nil has.text)) has.holds.1) line) cells opened
 
   -- the files are refused
-  pub meets_refused : (before after status : ℕ) (refusal : Refusal) → input.rest ≡ input.left → status ≡ 1 → ReceivedNothing out → IfSome shelf.files (λ files. loaded files job ≡ Err (Refused refusal)) → Writes err.had err.has err.before err.after (refusal_line refusal) → CountsSteps shelf.files job before after → Opens (JobMayOpen shelf.files job) shelf.had shelf.has → Meets (table_meaning job) shelf input out err before after status
-  meets_refused before after status refusal same one nothing read line steps opened =
-      meets_given (table_meaning job) shelf input out err before after status (λ three. omega (arith, one, three)) (λ four. omega (arith, one, four))
-      (given (table_meaning job) shelf input out err status (halted (Refused refusal)) (λ i. (Err (Refused refusal), refusal_may_come shelf.files job refusal read, refl)) one (no_text out nothing) line)
-      (steps_within before after same steps) (inr opened)
+  pub meets_refused : (before after status : ℕ) (refusal : Refusal) → status ≡ 1 → ReceivedNothing out → IfSome shelf.files (λ files. command.comes files (Err (Refused refusal))) → Writes err.had err.has err.before err.after (refusal_line refusal) →
+      EvaluatesWithin meaning shelf input before after → OpensWithin meaning shelf → Meets meaning shelf input out err before after status
+  meets_refused before after status refusal one nothing read line cells opened =
+      meets_given meaning shelf input out err before after status (λ three. omega (arith, one, three)) (λ four. omega (arith, one, four))
+      (given meaning shelf input out err status (halted (Refused refusal)) (λ i. by.answers shelf.files i _ (Err (Refused refusal), refusal_may_come command.comes shelf.files refusal read, refl)) one (no_text out nothing) line) cells opened
 
-  -- no memory for the table, or for the line of a refusal
-  pub meets_no_memory : (before after status : ℕ) → input.rest ≡ input.left → status ≡ 4 → ReceivedNothing out → Writes err.had err.has err.before err.after (status_line 4) → CountsSteps shelf.files job before after → Opens (JobMayOpen shelf.files job) shelf.had shelf.has → Meets (table_meaning job) shelf input out err before after status
-  meets_no_memory before after status same four nothing line steps opened = meets_memory (table_meaning job) shelf input out err before after status four nothing line (steps_within before after same steps) (inr opened)
-
-  -- why a table was not printed, or in part alone
-  why_outside : (status : ℕ) → status ≡ 3 → IsBroken shelf job out ⊎ (ReceivedNothing out × IsUnread shelf job) → Writes err.had err.has err.before err.after (status_line 3) →
-      Gives (table_meaning job) shelf input out err status ⊎ OutputFailed (table_meaning job) shelf input out ⊎ FilesFailed (table_meaning job) shelf out
+  -- why a text was not printed, or in part alone
+  why_outside : (status : ℕ) → status ≡ 3 → IsBroken command shelf out ⊎ (ReceivedNothing out × IsUnread command shelf) → Writes err.had err.has err.before err.after (status_line 3) →
+      Gives meaning shelf input out err status ⊎ OutputFailed meaning shelf input out ⊎ FilesFailed meaning shelf out
   why_outside status three (inl broken) line =
-      inr (inl (
-        broken.0,
-        table_at_part shelf.files job input (λ text. (0 < length text) × ReceivedPrefix out text) _ broken.1
-            (λ is. subst (λ text. (0 < length text) × ReceivedPrefix out text) (sym (append-nil broken.1.holds.text)) is),
-      ))
-  why_outside status three (inr (nothing, inl rose)) line = inr (inr ((job.qrels, may_open_qrels shelf.files job), rose, nothing))
+      inr (inl (broken.0, text_at_part _ broken.1 _ (subst (λ text. (0 < length text) × ReceivedPrefix out text) (sym (append-nil broken.1.text)) broken.1.holds)))
+  why_outside status three (inr (nothing, inl rose)) line = inr (inr (by.opens_one shelf.files, rose, nothing))
   why_outside status three (inr (nothing, inr missing)) line =
-      inl (given (table_meaning job) shelf input out err status (halted Missing) (λ i. (Err Missing, missing_may_come shelf.files job missing, refl)) three (no_text out nothing) line)
+      inl (given meaning shelf input out err status (halted Missing) (λ i. by.answers shelf.files i _ (Err Missing, missing_may_come command.comes shelf.files missing, refl)) three (no_text out nothing) line)
 
-  pub meets_failure : (before after status : ℕ) → input.rest ≡ input.left → status ≡ 3 → IsBroken shelf job out ⊎ (ReceivedNothing out × IsUnread shelf job) → Writes err.had err.has err.before err.after (status_line 3) → CountsSteps shelf.files job before after → Opens (JobMayOpen shelf.files job) shelf.had shelf.has → Meets (table_meaning job) shelf input out err before after status
-  meets_failure before after status same three stopped line steps opened =
-      meets_outside (table_meaning job) shelf input out err before after status three (why_outside status three stopped line) line (steps_within before after same steps) (inr opened)
+  pub meets_failure : (before after status : ℕ) → status ≡ 3 → IsBroken command shelf out ⊎ (ReceivedNothing out × IsUnread command shelf) → Writes err.had err.has err.before err.after (status_line 3) →
+      EvaluatesWithin meaning shelf input before after → OpensWithin meaning shelf → Meets meaning shelf input out err before after status
+  meets_failure before after status three stopped line cells opened = meets_outside meaning shelf input out err before after status three (why_outside status three stopped line) line cells opened
+
+-- how the printing of a text ends
+pub ends_put : {X : Type 0} (command : Printing X) (shelf : Shelf) (out : Sink) (found : X) (moment : Moment) (status : ℕ) (text : List ℕ) (result : Result ℕ Stop) →
+    IfSome shelf.files (λ files. command.comes files (Ok found)) → command.prints found moment status text → 0 < length text → IsPut out status text result → Ends command shelf out result
+ends_put command shelf out found moment status text (Ok ended) read printed some put = record { found = found; read = read; moment = moment; status = status; text = text; printed = printed; holds = put }
+ends_put command shelf out found moment status text (Err (stops.Refused refusal)) read printed some put = absurd put
+ends_put command shelf out found moment status text (Err stops.Outside) read printed some put =
+    inl (put.0, record { found = found; read = read; moment = moment; status = status; text = text; printed = printed; holds = (some, put.1) })
+ends_put command shelf out found moment status text (Err stops.Memory) read printed some put = absurd put

@@ -1,48 +1,116 @@
 -- What follows for every call that meets what its words mean.
 use Rattle.std.proofs.Common.{◌≡◌, ℕ, List, [], ◌∷◌, ◌++◌, length, refl, ap, sym, subst, ◌∙◌, arith, inl, inr, append-nil}
-use Rattle.std.specs.Prelude.{Option, Some, None, Ok, Err, ◌⊎◌}
+use Rattle.std.specs.Prelude.{Option, Some, None, Result, Ok, Err, ◌⊎◌}
 use Rattle.std.specs.Io.KnownBytes.{append_known}
 use Rattle.desk_outside.specs.Outside.{Files}
 use Rattle.desk_outside.proofs.Told.{append_known-nil}
 use Rattle.desk_words.specs.Words.{IsCommandOf}
 use Rattle.desk_words.specs.Laws.{CommandIsUnique}
+use Rattle.desk_words.specs.declared.command.Check.{Check}
 use Rattle.desk_words.specs.declared.command.Job.{Job}
 use Rattle.desk_words.specs.declared.command.Command.{Command}
-use Rattle.desk_words.specs.declared.command.Command.TheVariants.{Table}
-use Rattle.desk_top.specs.Files.{Halt, Missing, NoMemory, Refused}
-use Rattle.desk_top.specs.Load.{Loaded, loaded}
+use Rattle.desk_words.specs.declared.command.Command.TheVariants.{Table, Certify, Session, Verify, Demo}
+use Rattle.desk_model.specs.Desk.{Desk}
+use Rattle.order_certificate.specs.declared.certificate.Certificate.{Certificate}
+use Rattle.order_verifier.specs.declared.rejected.Rejected.{Rejected}
+use Rattle.desk_files.specs.Load.{Loaded}
+use Rattle.desk_files.specs.Checks.{CheckComes}
+use Rattle.desk_files.specs.Files.{Halt, Missing, NoMemory, Refused}
+use Rattle.desk_top.specs.declared.report.Report.TheVariants as reports
+use Rattle.desk_top.specs.Report.{IsReportOf}
+use Rattle.desk_top.specs.Verification.{verification_status}
 use Rattle.desk_top.specs.Told.{Writes, refusal_line}
 use Rattle.desk_top.specs.Seen.{Shelf, Source, Sink, ReceivedNothing}
 use Rattle.desk_top.specs.Answer.{Answer, text_of, usage, halted}
-use Rattle.desk_top.specs.Meaning.{Input, Meaning, meaning_of, table_meaning, words_meaning}
+use Rattle.desk_top.specs.Printing.{Printing}
+use Rattle.desk_top.specs.Meaning.{Input, Meaning, AnswersFiles, meaning_of, report_printing, check_printing, words_meaning}
 use Rattle.desk_top.specs.Meets.{Gives, OutputFailed, FilesFailed, Meets, Stopped, OpensWithin}
-use Rattle.desk_top.specs.Laws.{IsTableCall, OtherWordsAreUsage, TableIsNoUsage, GoodFilesAreAnswered, MissingFileIsOutside, RefusalIsTold}
+use Rattle.desk_top.specs.Laws.{AreGood, HaltAt, IsStatusOf, IsCallOver, OtherWordsAreUsage, GoodFilesAreAnswered, MissingFileIsOutside, RefusalIsTold, StatusesAreFew}
 
--- the answers of words that ask for a table are those of the table
-table_answers : CommandIsUnique → (words : List (List ℕ)) (job : Job) → IsCommandOf words (Table job) → (known : Option Files) (input : Input) (answer : Answer) → (words_meaning words).answers known input answer → (table_meaning job).answers known input answer
-table_answers unique words job asks known input answer (inl (command, said, is)) =
-    let P : Command → Type 0 = λ c. (meaning_of c).answers known input answer in subst P (unique words command (Table job) said asks) is
-table_answers unique words job asks known input answer (inr (nobody, is)) = absurd (nobody (Table job) asks)
+-- the answers of words that ask for a command are those of the command
+command_answers : CommandIsUnique → (words : List (List ℕ)) (command : Command) → IsCommandOf words command → (known : Option Files) (input : Input) (answer : Answer) → (words_meaning words).answers known input answer → (meaning_of command).answers known input answer
+command_answers unique words command asks known input answer (inl (other, said, is)) = subst (λ c. (meaning_of c).answers known input answer) (unique words other command said asks) is
+command_answers unique words command asks known input answer (inr (nobody, is)) = absurd (nobody command asks)
 
--- no word that asks for a table reads the input
-table_reads : CommandIsUnique → (words : List (List ℕ)) (job : Job) → IsCommandOf words (Table job) → (words_meaning words).reads → ⊥
-table_reads unique words job asks (inl (command, said, reads)) = let P : Command → Type 0 = λ c. (meaning_of c).reads in subst P (unique words command (Table job) said asks) reads
-table_reads unique words job asks (inr (nobody, reads)) = reads
+-- no command that is built reads the input
+none_reads : (command : Command) → (meaning_of command).reads → ⊥
+none_reads (Table job) reads = reads
+none_reads (Certify job) reads = reads
+none_reads (Session job) reads = reads
+none_reads (Verify check) reads = reads
+none_reads (Demo seed) reads = reads
 
--- where known files come to something, the answer is that to it
-answer_to_rows : (job : Job) (files : Files) (rows : Loaded) → loaded files job ≡ Ok rows → (o : Option Files) (i : Input) (answer : Answer) → o ≡ Some files → (table_meaning job).answers o i answer → answer.status ≡ 0
-answer_to_rows job files rows read None i answer e is = absurd (cc)
-answer_to_rows job files rows read (Some held) i answer e (Ok other, come, is) = ap (λ (a : Answer). a.status) is.is
-answer_to_rows job files rows read (Some held) i answer e (Err halt, come, is) = let same : held ≡ files = cc in let both : loaded held job ≡ Ok rows = ap (λ f. loaded f job) same ∙ read in absurd (cc)
+words_read_nothing : (words : List (List ℕ)) → (words_meaning words).reads → ⊥
+words_read_nothing words (inl (command, said, reads)) = none_reads command reads
+words_read_nothing words (inr (nobody, reads)) = reads
 
-answer_to_halt : (job : Job) (files : Files) (halt : Halt) → loaded files job ≡ Err halt → (o : Option Files) (i : Input) (answer : Answer) → o ≡ Some files → (table_meaning job).answers o i answer → answer ≡ halted halt
-answer_to_halt job files halt read None i answer e is = absurd (cc)
-answer_to_halt job files halt read (Some held) i answer e (Ok rows, come, is) = let same : held ≡ files = cc in let both : loaded held job ≡ Err halt = ap (λ f. loaded f job) same ∙ read in absurd (cc)
-answer_to_halt job files halt read (Some held) i answer e (Err other, come, is) =
-    let same : held ≡ files = cc in
-    let both : loaded held job ≡ Err halt = ap (λ f. loaded f job) same ∙ read in
-    let one : other ≡ halt = cc in
-    is ∙ ap halted one
+-- the files of a check come to one thing alone
+abbrev pub OneCheck : Type 0
+OneCheck = (check : Check) (files : Files) (x y : Result (Loaded × Certificate) Halt) → CheckComes files check x → CheckComes files check y → x ≡ y
+
+verification_ends : (answer : Result (Unit {0}) Rejected) (status : ℕ) → status ≡ verification_status answer → (status ≡ 0) ⊎ (status ≡ 5)
+verification_ends (Ok _) status is = inl is
+verification_ends (Err why) status is = inr is
+
+-- ---- what a command answers where the files are known
+module _ {X : Type 0} (command : Printing X) (one : (files : Files) (x y : Result X Halt) → command.comes files x → command.comes files y → x ≡ y) (IsEnd : ℕ → Type 0)
+    (ends : (found : X) (moment : _) (status : ℕ) (text : List ℕ) → command.prints found moment status text → IsEnd status) (files : Files) where
+  good_status : (known : Option Files) (answer : Answer) (x : X) → known ≡ Some files → command.comes files (Ok x) → AnswersFiles command known answer → IsEnd answer.status
+  good_status None answer x e comes is = absurd (cc)
+  good_status (Some held) answer x e comes (Ok found, come, is) = subst (λ (a : Answer). IsEnd a.status) (sym is.is) (ends found is.moment is.status is.text is.printed)
+  good_status (Some held) answer x e comes (Err halt, come, is) = let same : held ≡ files = cc in let bad : Ok x ≡ Err halt = one files (Ok x) (Err halt) comes (subst (λ f. command.comes f (Err halt)) same come) in absurd (cc)
+
+  halted_there : (known : Option Files) (answer : Answer) (halt : Halt) → known ≡ Some files → command.comes files (Err halt) → AnswersFiles command known answer → answer ≡ halted halt
+  halted_there None answer halt e comes is = absurd (cc)
+  halted_there (Some held) answer halt e comes (Ok found, come, is) = let same : held ≡ files = cc in let bad : Ok found ≡ Err halt = one files (Ok found) (Err halt) (subst (λ f. command.comes f (Ok found)) same come) comes in absurd (cc)
+  halted_there (Some held) answer halt e comes (Err other, come, is) =
+      let same : held ≡ files = cc in
+      let both : Err other ≡ Err halt = one files (Err other) (Err halt) (subst (λ f. command.comes f (Err other)) same come) comes in
+      let halts : other ≡ halt = cc in
+      is ∙ ap halted halts
+
+few_statuses : {X : Type 0} (command : Printing X) (IsEnd : ℕ → Type 0) → ((found : X) (moment : _) (status : ℕ) (text : List ℕ) → command.prints found moment status text → IsEnd status) → (known : Option Files) (answer : Answer) → AnswersFiles command known answer →
+    IsEnd answer.status ⊎ (answer.status ≡ 1) ⊎ (answer.status ≡ 3) ⊎ (answer.status ≡ 4)
+few_statuses command IsEnd ends known answer (Ok found, come, is) = inl (subst (λ (a : Answer). IsEnd a.status) (sym is.is) (ends found is.moment is.status is.text is.printed))
+few_statuses command IsEnd ends known answer (Err Missing, come, is) = inr (inr (inl (ap (λ (a : Answer). a.status) is)))
+few_statuses command IsEnd ends known answer (Err NoMemory, come, is) = inr (inr (inr (ap (λ (a : Answer). a.status) is)))
+few_statuses command IsEnd ends known answer (Err (Refused refusal), come, is) = inr (inl (ap (λ (a : Answer). a.status) is))
+
+table_ends : (job : Job) (found : _) (moment : _) (status : ℕ) (text : List ℕ) → (report_printing reports.Table job).prints found moment status text → IsStatusOf (Table job) status
+table_ends job found moment status text is = is.printed.0
+
+certificate_status : (job : Job) (desk : Desk) (status : ℕ) (text : List ℕ) → IsReportOf reports.Certificate job desk status text → (status ≡ 0) ⊎ (status ≡ 6)
+certificate_status job desk status text (inl certified) = inl certified.0
+certificate_status job desk status text (inr close) = inr close.0
+
+certificate_ends : (job : Job) (found : _) (moment : _) (status : ℕ) (text : List ℕ) → (report_printing reports.Certificate job).prints found moment status text → IsStatusOf (Certify job) status
+certificate_ends job found moment status text is = certificate_status job is.desk status text is.printed
+
+check_ends : (check : Check) (found : _) (moment : _) (status : ℕ) (text : List ℕ) → (check_printing check).prints found moment status text → IsStatusOf (Verify check) status
+check_ends check found moment status text is = verification_ends is.printed.answer status is.printed.ends
+
+-- good files have an answer with one of the command's statuses
+good_answer : OneCheck → (command : Command) (files : Files) (known : Option Files) (input : Input) (answer : Answer) → known ≡ Some files → AreGood command files → (meaning_of command).answers known input answer → IsStatusOf command answer.status
+good_answer one (Table job) files known input answer e good is = good_status (report_printing reports.Table job) (λ files x y a b. sym a ∙ b) (IsStatusOf (Table job)) (table_ends job) files known answer good.0 e good.1 is
+good_answer one (Certify job) files known input answer e good is = good_status (report_printing reports.Certificate job) (λ files x y a b. sym a ∙ b) (IsStatusOf (Certify job)) (certificate_ends job) files known answer good.0 e good.1 is
+good_answer one (Session job) files known input answer e good is = absurd good
+good_answer one (Verify check) files known input answer e good is = good_status (check_printing check) (one check) (IsStatusOf (Verify check)) (check_ends check) files known answer good.0 e good.1 is
+good_answer one (Demo seed) files known input answer e good is = absurd good
+
+-- files that halt have that answer
+halted_answer : OneCheck → (command : Command) (files : Files) (halt : Halt) (known : Option Files) (input : Input) (answer : Answer) → known ≡ Some files → HaltAt command files halt → (meaning_of command).answers known input answer → answer ≡ halted halt
+halted_answer one (Table job) files halt known input answer e at is = halted_there (report_printing reports.Table job) (λ files x y a b. sym a ∙ b) (IsStatusOf (Table job)) (table_ends job) files known answer halt e at is
+halted_answer one (Certify job) files halt known input answer e at is = halted_there (report_printing reports.Certificate job) (λ files x y a b. sym a ∙ b) (IsStatusOf (Certify job)) (certificate_ends job) files known answer halt e at is
+halted_answer one (Session job) files halt known input answer e at is = absurd at
+halted_answer one (Verify check) files halt known input answer e at is = halted_there (check_printing check) (one check) (IsStatusOf (Verify check)) (check_ends check) files known answer halt e at is
+halted_answer one (Demo seed) files halt known input answer e at is = absurd at
+
+few_answers : (command : Command) (known : Option Files) (input : Input) (answer : Answer) → (meaning_of command).answers known input answer → IsStatusOf command answer.status ⊎ (answer.status ≡ 1) ⊎ (answer.status ≡ 3) ⊎ (answer.status ≡ 4)
+few_answers (Table job) known input answer is = few_statuses (report_printing reports.Table job) (IsStatusOf (Table job)) (table_ends job) known answer is
+few_answers (Certify job) known input answer is = few_statuses (report_printing reports.Certificate job) (IsStatusOf (Certify job)) (certificate_ends job) known answer is
+few_answers (Session job) known input answer is = inl (ap (λ (a : Answer). a.status) is)
+few_answers (Verify check) known input answer is = few_statuses (check_printing check) (IsStatusOf (Verify check)) (check_ends check) known answer is
+few_answers (Demo seed) known input answer is = inl (ap (λ (a : Answer). a.status) is)
 
 module _ (meaning : Meaning) (shelf : Shelf) (input : Source) (out err : Sink) (before after status : ℕ) (meets : Meets meaning shelf input out err before after status) where
   -- a call gave its answer, or something failed, or memory ran out
@@ -87,33 +155,27 @@ other_words words shelf input out err before after status call none = (at (ways 
     at (inr (inr (inl failed))) = let bad : failed.0.0 ∷ [] ≡ [] = opens_nothing words none shelf.files (failed.0.0 ∷ []) failed.0.1 in absurd (omega (arith, ap length bad))
     at (inr (inr (inr four))) = inr four
 
--- the statuses of a table's answers
-table_status : (job : Job) (known : Option Files) (i : Input) (answer : Answer) → (table_meaning job).answers known i answer → answer.status ≡ 2 → ⊥
-table_status job known i answer (Ok rows, come, is) two = let zero : answer.status ≡ 0 = ap (λ (a : Answer). a.status) is.is in omega (arith, zero, two)
-table_status job known i answer (Err Missing, come, is) two = let three : answer.status ≡ 3 = ap (λ (a : Answer). a.status) is in omega (arith, three, two)
-table_status job known i answer (Err NoMemory, come, is) two = let four : answer.status ≡ 4 = ap (λ (a : Answer). a.status) is in omega (arith, four, two)
-table_status job known i answer (Err (Refused refusal), come, is) two = let one : answer.status ≡ 1 = ap (λ (a : Answer). a.status) is in omega (arith, one, two)
-
-pub no_usage : CommandIsUnique → TableIsNoUsage
-no_usage unique words job shelf input out err before after status call asks two = at call.meets.answered
+pub statuses_few : CommandIsUnique → StatusesAreFew
+statuses_few unique words command shelf input out err before after status call asks = at call.meets.answered
   where
-    at : Gives (words_meaning words) shelf input out err status ⊎ (status ≡ 3) ⊎ (status ≡ 4) → ⊥
-    at (inl gives) = table_status job shelf.files gives.input gives.answer (table_answers unique words job asks shelf.files gives.input gives.answer gives.is) (sym gives.holds.ended ∙ two)
-    at (inr (inl three)) = omega (arith, two, three)
-    at (inr (inr four)) = omega (arith, two, four)
+    at : Gives (words_meaning words) shelf input out err status ⊎ (status ≡ 3) ⊎ (status ≡ 4) → IsStatusOf command status ⊎ (status ≡ 1) ⊎ (status ≡ 3) ⊎ (status ≡ 4)
+    at (inl gives) =
+        subst (λ n. IsStatusOf command n ⊎ (n ≡ 1) ⊎ (n ≡ 3) ⊎ (n ≡ 4)) (sym gives.holds.ended) (few_answers command shelf.files gives.input gives.answer (command_answers unique words command asks shelf.files gives.input gives.answer gives.is))
+    at (inr other) = inr (inr other)
 
-pub good_files : CommandIsUnique → GoodFilesAreAnswered
-good_files unique words job files shelf input out err before after status call rows read calm still = at (ways (words_meaning words) shelf input out err before after status call.meets)
+pub good_files : CommandIsUnique → OneCheck → GoodFilesAreAnswered
+good_files unique one words command files shelf input out err before after status call good calm still = at (ways (words_meaning words) shelf input out err before after status call.meets)
   where
-    at : Ways (words_meaning words) shelf input out err before after status call.meets → (status ≡ 0) ⊎ (status ≡ 4)
-    at (inl gives) = inl (gives.holds.ended ∙ answer_to_rows job files rows read shelf.files gives.input gives.answer call.known (table_answers unique words job call.asks shelf.files gives.input gives.answer gives.is))
+    at : Ways (words_meaning words) shelf input out err before after status call.meets → IsStatusOf command status ⊎ (status ≡ 4)
+    at (inl gives) =
+        inl (subst (IsStatusOf command) (sym gives.holds.ended) (good_answer one command files shelf.files gives.input gives.answer call.known good (command_answers unique words command call.asks shelf.files gives.input gives.answer gives.is)))
     at (inr (inl failed)) = absurd (still failed.0)
     at (inr (inr (inl failed))) = absurd (calm failed.1)
     at (inr (inr (inr four))) = inr four
 
-module _ (unique : CommandIsUnique) (words : List (List ℕ)) (job : Job) (files : Files) (shelf : Shelf) (input : Source) (out err : Sink) (before after status : ℕ) (call : IsTableCall words job files shelf input out err before after status) (halt : Halt) (read : loaded files job ≡ Err halt) where
+module _ (unique : CommandIsUnique) (one : OneCheck) (words : List (List ℕ)) (command : Command) (files : Files) (shelf : Shelf) (input : Source) (out err : Sink) (before after status : ℕ) (call : IsCallOver words command files shelf input out err before after status) (halt : Halt) (read : HaltAt command files halt) where
   halts : (i : Input) (answer : Answer) → (words_meaning words).answers shelf.files i answer → answer ≡ halted halt
-  halts i answer is = answer_to_halt job files halt read shelf.files i answer call.known (table_answers unique words job call.asks shelf.files i answer is)
+  halts i answer is = halted_answer one command files halt shelf.files i answer call.known read (command_answers unique words command call.asks shelf.files i answer is)
 
   silent : text_of (halted halt) ≡ [] → OutputFailed (words_meaning words) shelf input out → ⊥
   silent none failed =
@@ -124,26 +186,26 @@ module _ (unique : CommandIsUnique) (words : List (List ℕ)) (job : Job) (files
   given_nothing : text_of (halted halt) ≡ [] → Gives (words_meaning words) shelf input out err status → ReceivedNothing out
   given_nothing none gives = gives.holds.text ∙ ap (λ a. append_known out.had (text_of a)) (halts gives.input gives.answer gives.is) ∙ ap (append_known out.had) none ∙ append_known-nil out.had
 
-pub missing_file : CommandIsUnique → MissingFileIsOutside
-missing_file unique words job files shelf input out err before after status call read = at call.meets.answered
+pub missing_file : CommandIsUnique → OneCheck → MissingFileIsOutside
+missing_file unique one words command files shelf input out err before after status call read = at call.meets.answered
   where
     at : Gives (words_meaning words) shelf input out err status ⊎ (status ≡ 3) ⊎ (status ≡ 4) → (status ≡ 3) ⊎ (status ≡ 4)
-    at (inl gives) = inl (gives.holds.ended ∙ ap (λ (a : Answer). a.status) (halts unique words job files shelf input out err before after status call Missing read gives.input gives.answer gives.is))
+    at (inl gives) = inl (gives.holds.ended ∙ ap (λ (a : Answer). a.status) (halts unique one words command files shelf input out err before after status call Missing read gives.input gives.answer gives.is))
     at (inr other) = other
 
-pub refusal_told : CommandIsUnique → RefusalIsTold
-refusal_told unique words job files shelf input out err before after status call refusal read calm = at (ways (words_meaning words) shelf input out err before after status call.meets)
+pub refusal_told : CommandIsUnique → OneCheck → RefusalIsTold
+refusal_told unique one words command files shelf input out err before after status call refusal read calm = at (ways (words_meaning words) shelf input out err before after status call.meets)
   where
     stopped : status ≡ 4 → Stopped (words_meaning words) shelf input out → ReceivedNothing out
     stopped four (inl nothing) = nothing
-    stopped four (inr part) = absurd (table_reads unique words job call.asks part.0)
+    stopped four (inr part) = absurd (words_read_nothing words part.0)
 
     at : Ways (words_meaning words) shelf input out err before after status call.meets → (((status ≡ 1) × Writes err.had err.has err.before err.after (refusal_line refusal)) ⊎ (status ≡ 4)) × ReceivedNothing out
     at (inl gives) =
-        let is = halts unique words job files shelf input out err before after status call (Refused refusal) read gives.input gives.answer gives.is in (
+        let is = halts unique one words command files shelf input out err before after status call (Refused refusal) read gives.input gives.answer gives.is in (
           inl (gives.holds.ended ∙ ap (λ (a : Answer). a.status) is, subst (λ (a : Answer). Writes err.had err.has err.before err.after a.told) is gives.holds.line),
-          given_nothing unique words job files shelf input out err before after status call (Refused refusal) read refl gives,
+          given_nothing unique one words command files shelf input out err before after status call (Refused refusal) read refl gives,
         )
-    at (inr (inl failed)) = absurd (silent unique words job files shelf input out err before after status call (Refused refusal) read refl failed)
+    at (inr (inl failed)) = absurd (silent unique one words command files shelf input out err before after status call (Refused refusal) read refl failed)
     at (inr (inr (inl failed))) = absurd (calm failed.1)
     at (inr (inr (inr four))) = (inr four, stopped four (call.meets.memory four))

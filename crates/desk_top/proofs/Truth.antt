@@ -1,46 +1,71 @@
 -- What is received is true.
-use Rattle.std.proofs.Common.{◌≡◌, ℕ, ◌≤◌, ◌+◌, ◌-◌, List, [], ◌∷◌, ◌++◌, length, take, drop, flat_map, ap, sym, subst, ◌∙◌, arith, length-take, inl, inr}
+use Rattle.std.proofs.Common.{◌≡◌, ◌≢◌, ℕ, ◌<◌, ◌≤◌, ◌+◌, ◌-◌, List, [], ◌∷◌, ◌++◌, length, take, drop, flat_map, ap, sym, subst, ◌∙◌, arith, length-take, inl, inr, zero, suc, get_or, refl}
 use Rattle.std.proofs.Math.Seq.{take-append-add, take-append_seam, drop-append_seam}
 use Rattle.std.proofs.lemmas.List.{take_all, drop_all, take-append-le}
 use Rattle.std.proofs.lemmas.Bool.{cases_lt}
-use Rattle.std.specs.Prelude.{Ok, Err, ◌⊎◌}
+use Rattle.std.proofs.lemmas.Option.{slice_get_within, unwrap_or-slice_get}
+use Rattle.std.specs.Prelude.{Option, Result, codes, Ok, Err, Some, slice_get, unwrap_or, true, ◌⊎◌}
 use Rattle.desk_outside.proofs.Told.{append_known-nil, prefix_whole}
+use Rattle.desk_outside.specs.Outside.{Files}
 use Rattle.desk_words.specs.Words.{IsCommandOf}
+use Rattle.desk_words.specs.declared.command.Check.{Check}
 use Rattle.desk_words.specs.declared.command.Job.{Job}
 use Rattle.desk_words.specs.declared.command.Command.{Command}
 use Rattle.desk_words.specs.declared.command.Command.TheVariants.{Table, Certify, Session, Verify, Demo}
 use Rattle.desk_model.specs.MeasureText.{IsMeasure}
-use Rattle.table_claims.specs.Claims.{IsTrueLine, ForEachLine}
-use Rattle.desk_top.specs.Files.{Missing, NoMemory, Refused}
-use Rattle.desk_top.specs.Table.{marks_in}
+use Rattle.desk_model.specs.Desk.{Desk, IsDesk, AreMarksOf}
+use Rattle.desk_model.specs.Name.{is_name}
+use Rattle.desk_model.specs.Verdict.{verdict}
+use Rattle.desk_model.specs.declared.types.Mark.{Mark}
+use Rattle.desk_model.specs.declared.types.MeasureName.{MeasureName}
+use Rattle.desk_model.specs.declared.types.Verdict.{Verdict}
+use Rattle.desk_model.specs.declared.types.Verdict.TheVariants as verdicts
+use Rattle.measure_laws.specs.Ends.{HasEnds}
+use Rattle.order_certificate.specs.Certificate.{certificate_text}
+use Rattle.order_certificate.specs.Claim.{ClaimHolds}
+use Rattle.order_certificate.specs.Evidence.{IsEvidence, ForEvidence}
+use Rattle.order_verifier.specs.Verified.{IsVerified}
+use Rattle.order_verifier.specs.declared.rejected.Rejected.{Rejected}
+use Rattle.order_certificate.specs.declared.certificate.Certificate.{Certificate}
+use Rattle.pair_table.specs.Numbers.{HaveEnds}
+use Rattle.pair_table.specs.Evidence.{Says, IsCertificateOf}
+use Rattle.printed_claims.specs.Claims.{IsTrueText, TablesAreTrue, CertificatesAreTrue, CloseLinesAreTrue, AnswerLinesAreTrue}
+use Rattle.desk_files.specs.Files.{Missing, NoMemory, Refused}
+use Rattle.desk_top.specs.declared.report.Report.{Report}
+use Rattle.desk_top.specs.declared.report.Report.TheVariants as reports
+use Rattle.desk_top.specs.Report.{IsTableText, IsCertificateText, IsCloseText, IsReportOf, marks_in}
 use Rattle.desk_top.specs.Seen.{Shelf, Source, Sink, ReceivedPrefix}
-use Rattle.desk_top.specs.Answer.{Answer, Saying, text_of, IsTrueOf, AreTrue, AreAlwaysTrue}
-use Rattle.desk_top.specs.Meaning.{Input, Whole, Cut, Meaning, file_moment, table_meaning, usage_meaning, meaning_of, words_meaning}
+use Rattle.desk_top.specs.Answer.{Answer, Saying, Moment, text_of, IsTrueOf, AreTrue, AreAlwaysTrue}
+use Rattle.desk_top.specs.Verification.{reason_text, verification_text, marks_for}
+use Rattle.desk_top.specs.Printing.{Printing}
+use Rattle.desk_top.specs.Meaning.{Input, Whole, Cut, Meaning, AnswersFiles, report_printing, check_printing, usage_meaning, meaning_of, words_meaning}
 use Rattle.desk_top.specs.Meets.{HasAnswer, IsInput, IsPart, Gives, OutputFailed, FilesFailed, Stopped, Meets, ReceivesPart, SaysTruth, IsTruthful}
-use Rattle.desk_top.proofs.Tables.{marks_known}
+use Rattle.desk_top.proofs.Marking.{marks_known}
+use Rattle.desk_top.proofs.Checks.{reason_in_line}
+use Rattle.desk_top.proofs.Asking.{table_asked, certificate_asked}
 use Rattle.desk_top.proofs.Meeting.{sent_is}
 
 -- texts that are always true are true as far as they were received
-pub true_so_far : (said : List Saying) → AreAlwaysTrue said → (n : ℕ) → AreTrue said (take n (flat_map (λ (saying : Saying). saying.text) said))
+pub true_so_far : (said : List Saying) → AreAlwaysTrue said → (n : ℕ) → AreTrue said (take n (flat_map (λ (one : Saying). one.text) said))
 true_so_far [] always n = tt
 true_so_far (saying ∷ more) always n = elim (cases_lt (length saying.text) n) [
   | inl lt ↦ beyond (n - length saying.text) (omega (arith, lt)) (true_so_far more always.1 (n - length saying.text))
   | inr le ↦ within le (true_so_far more always.1 0)
 ]
   where
-    beyond : (m : ℕ) → n ≡ length saying.text + m → AreTrue more (take m (flat_map (λ (saying : Saying). saying.text) more)) → AreTrue (saying ∷ more) (take n (saying.text ++ flat_map (λ (saying : Saying). saying.text) more))
+    beyond : (m : ℕ) → n ≡ length saying.text + m → AreTrue more (take m (flat_map (λ (one : Saying). one.text) more)) → AreTrue (saying ∷ more) (take n (saying.text ++ flat_map (λ (one : Saying). one.text) more))
     beyond m e next =
         let t = saying.text in
-        let r = flat_map (λ (saying : Saying). saying.text) more in
+        let r = flat_map (λ (one : Saying). one.text) more in
         let split : take n (t ++ r) ≡ t ++ take m r = ap (λ k. take k (t ++ r)) e ∙ take-append-add t r m in
         let first : take (length t) (take n (t ++ r)) ≡ take (length t) t = ap (take (length t)) split ∙ take-append_seam t (take m r) ∙ sym (take_all (length t) t (omega arith)) in
         let second : drop (length t) (take n (t ++ r)) ≡ take m r = ap (drop (length t)) split ∙ drop-append_seam t (take m r) in
         (subst (IsTrueOf saying.moment) (sym first) (always.0 (length t)), subst (AreTrue more) (sym second) next)
 
-    within : n ≤ length saying.text → AreTrue more [] → AreTrue (saying ∷ more) (take n (saying.text ++ flat_map (λ (saying : Saying). saying.text) more))
+    within : n ≤ length saying.text → AreTrue more [] → AreTrue (saying ∷ more) (take n (saying.text ++ flat_map (λ (one : Saying). one.text) more))
     within le next =
         let t = saying.text in
-        let r = flat_map (λ (saying : Saying). saying.text) more in
+        let r = flat_map (λ (one : Saying). one.text) more in
         let same : take n (t ++ r) ≡ take n t = take-append-le n t r le in
         let short : length (take n t) ≤ length t = omega (arith, length-take n t) in
         let first : take (length t) (take n (t ++ r)) ≡ take n t = ap (take (length t)) same ∙ take_all (length t) (take n t) short in
@@ -90,35 +115,115 @@ module _ (meaning : Meaning) (shelf : Shelf) (input : Source) (out err : Sink) (
             holds = (has.holds, subst (AreTrue has.answer.said) (sym same) (true_so_far has.answer.said (truthful shelf.files has.input has.answer has.is) count));
           }
 
--- a table is true
-table_is_truthful : ForEachLine IsTrueLine → (job : Job) → IsMeasure job.measure → IsTruthful (table_meaning job)
-table_is_truthful each job m known input answer (Err Missing, come, is) = subst (λ (a : Answer). AreAlwaysTrue a.said) (sym is) tt
-table_is_truthful each job m known input answer (Err NoMemory, come, is) = subst (λ (a : Answer). AreAlwaysTrue a.said) (sym is) tt
-table_is_truthful each job m known input answer (Err (Refused refusal), come, is) = subst (λ (a : Answer). AreAlwaysTrue a.said) (sym is) tt
-table_is_truthful each job m known input answer (Ok rows, come, is) =
-    let desk = is.desk in
-    let printed = is.printed in
-    let Claims : List ℕ → Type 0 = λ text. (n : ℕ) → IsTrueOf (file_moment job desk) (take n text) in
-    let true_text : Claims is.text = subst Claims (sym printed.is) (λ n. record { lines = each job.measure desk (marks_in job desk) job.level n printed.bounds printed.totals m printed.valid (marks_known job.level desk printed.valid) printed.numbers }) in
-    subst (λ (a : Answer). AreAlwaysTrue a.said) (sym is.is) (true_text, tt)
+-- whatever a command prints is true of what it speaks of
+abbrev pub PrintsOnlyTruth : {X : Type 0} → Printing X → Type 0
+PrintsOnlyTruth {X} command = (found : X) (moment : Moment) (status : ℕ) (text : List ℕ) → command.prints found moment status text → (n : ℕ) → IsTrueOf moment (take n text)
 
--- the measure that words say has a text
-measure_said : (words : List (List ℕ)) (job : Job) → IsCommandOf words (Table job) → IsMeasure job.measure
-measure_said [] job h = absurd h
-measure_said (word ∷ rest) job h = h.1.measure.2
+-- then all its answers are
+answers_are_true : {X : Type 0} (command : Printing X) → PrintsOnlyTruth command → (known : Option Files) (answer : Answer) → AnswersFiles command known answer → AreAlwaysTrue answer.said
+answers_are_true command truth known answer (Err Missing, come, is) = subst (λ (a : Answer). AreAlwaysTrue a.said) (sym is) tt
+answers_are_true command truth known answer (Err NoMemory, come, is) = subst (λ (a : Answer). AreAlwaysTrue a.said) (sym is) tt
+answers_are_true command truth known answer (Err (Refused refusal), come, is) = subst (λ (a : Answer). AreAlwaysTrue a.said) (sym is) tt
+answers_are_true command truth known answer (Ok found, come, is) = subst (λ (a : Answer). AreAlwaysTrue a.said) (sym is.is) (truth found is.moment is.status is.text is.printed, tt)
+
+-- certificates of two runs are evidence
+abbrev pub CertificatesAreEvidence : Type 0
+CertificatesAreEvidence =
+    (name : MeasureName) (desk : Desk) (marks : List (List Mark)) (level a b : ℕ) (c : Certificate) → IsMeasure name → IsDesk desk → AreMarksOf desk marks → a ≢ b → a < length desk.runs → b < length desk.runs →
+    IsCertificateOf (HasEnds name) name desk marks level a b c → IsEvidence c desk marks
+
+-- what is printed is true
+pub record PrintsTruth : Type 0 where
+  pub tables : TablesAreTrue
+  pub certificates : CertificatesAreTrue
+  pub close_lines : CloseLinesAreTrue
+  pub evidence : CertificatesAreEvidence
+  pub answers : AnswerLinesAreTrue
+  pub claims : ForEvidence (λ c desk marks. ClaimHolds c desk marks)
+
+module _ (laws : PrintsTruth) where
+  run_named : (desk : Desk) (run : ℕ) (name : List ℕ) → IsDesk desk → slice_get desk.runs run ≡ Some name → is_name name ≡ true
+  run_named desk run name valid is =
+      subst (λ n. is_name n ≡ true) (sym (unwrap_or-slice_get desk.runs run []) ∙ ap (λ o. unwrap_or o []) is) (valid.named run [] (slice_get_within desk.runs run name is))
+
+  measure_answered : (Has : HaveEnds) (name : MeasureName) (desk : Desk) (marks : List (List Mark)) (level a b : ℕ) (c : Certificate) (v : Verdict) → Says Has name desk marks level a b c v → c.measure ≡ name
+  measure_answered Has name desk marks level a b c verdicts.Above says = says.compares.by_measure
+  measure_answered Has name desk marks level a b c verdicts.Below says = says.compares.by_measure
+  measure_answered Has name desk marks level a b c verdicts.Equal says = says.compares.by_measure
+  measure_answered Has name desk marks level a b c verdicts.Open says = says.compares.by_measure
+  measure_answered Has name desk marks level a b c verdicts.Close says = absurd says
+
+  -- a prefix of a report's text
+  abbrev ReportIsTrue : Job → Desk → ℕ → List ℕ → Type 0
+  ReportIsTrue job desk n text = IsTrueText job.measure desk (marks_in job desk) (take n text)
+
+  table_is_true : (job : Job) (desk : Desk) (text : List ℕ) (n : ℕ) → IsMeasure job.measure → IsTableText job desk text → ReportIsTrue job desk n text
+  table_is_true job desk text n m is =
+      subst (ReportIsTrue job desk n) (sym is.is) (laws.tables job.measure desk (marks_in job desk) job.level n is.bounds is.totals m is.valid (marks_known job.level desk is.valid) is.numbers)
+
+  certificate_is_true : (job : Job) (desk : Desk) (text : List ℕ) (n : ℕ) → IsMeasure job.measure → IsCertificateText job desk text → ReportIsTrue job desk n text
+  certificate_is_true job desk text n m is =
+      let c = is.certificate in
+      let known = marks_known job.level desk is.valid in
+      let shown = laws.evidence job.measure desk (marks_in job desk) job.level 0 1 c m is.valid known (λ e. omega (arith, e)) (omega (arith, is.two)) (omega (arith, is.two)) is.of_pair in
+      let named : c.measure ≡ job.measure = measure_answered (HasEnds job.measure) job.measure desk (marks_in job desk) job.level 0 1 c (verdict is.of_pair.sums) is.of_pair.says in
+      subst (ReportIsTrue job desk n) (sym is.is) (subst (λ m. IsTrueText m desk (marks_in job desk) (take n (certificate_text c))) named (laws.certificates c desk (marks_in job desk) n is.within is.valid known shown))
+
+  close_is_true : (job : Job) (desk : Desk) (text : List ℕ) (n : ℕ) → IsCloseText job desk text → ReportIsTrue job desk n text
+  close_is_true job desk text n is =
+      subst (ReportIsTrue job desk n) (sym is.is)
+      (laws.close_lines job.measure desk (marks_in job desk) is.first is.second is.totals n (run_named desk 0 is.first is.valid is.named_first) (run_named desk 1 is.second is.valid is.named_second))
+
+  report_is_true : (report : Report) (job : Job) (desk : Desk) (status : ℕ) (text : List ℕ) (n : ℕ) → IsMeasure job.measure → IsReportOf report job desk status text → ReportIsTrue job desk n text
+  report_is_true reports.Table job desk status text n m is = table_is_true job desk text n m is.1
+  report_is_true reports.Certificate job desk status text n m (inl certified) = certificate_is_true job desk text n m certified.1
+  report_is_true reports.Certificate job desk status text n m (inr close) = close_is_true job desk text n close.1
+
+  -- a report checks no certificate
+  report_says_truth : (report : Report) (job : Job) → IsMeasure job.measure → PrintsOnlyTruth (report_printing report job)
+  report_says_truth report job m found moment status text is n =
+      subst (λ at. IsTrueOf at (take n text)) (sym is.at) (record { text = report_is_true report job is.desk status text n m is.printed; accepted = λ c more none e. absurd (cc) })
+
+  some_certificate : (c d : Certificate) → Some c ≡ Some d → c ≡ d
+  some_certificate c d e = cc
+
+  -- no prefix of a rejection begins as an acceptance does
+  accepted_is_evidence : (c : Certificate) (desk : Desk) (marks : List (List Mark)) (answer : Result (Unit {0}) Rejected) (n : ℕ) (more : List ℕ) → take n (verification_text desk answer) ≡ codes "accepted\n" ++ more → IsVerified c desk marks answer → IsEvidence c desk marks
+  accepted_is_evidence c desk marks (Ok _) n more e is = is
+  accepted_is_evidence c desk marks (Err why) zero more e is = absurd (let bad : 0 ≡ 97 = ap (λ t. get_or t 0 0) e in omega (arith, bad))
+  accepted_is_evidence c desk marks (Err why) (suc n) more e is = absurd (let bad : 114 ≡ 97 = ap (λ t. get_or t 0 0) e in omega (arith, bad))
+
+  answer_text : (answer : Result (Unit {0}) Rejected) (name : MeasureName) (desk : Desk) (marks : List (List Mark)) (n : ℕ) → IsDesk desk → IsTrueText name desk marks (take n (verification_text desk answer))
+  answer_text (Ok _) name desk marks n valid = laws.answers name desk marks (codes "accepted") [] n (inl refl) tt
+  answer_text (Err why) name desk marks n valid = laws.answers name desk marks (codes "rejected ") (reason_text desk why) n (inr refl) (reason_in_line desk valid why)
+
+  -- the line of a check says the truth: where it is `accepted`, the claim holds
+  check_says_truth : (check : Check) → PrintsOnlyTruth (check_printing check)
+  check_says_truth check found moment status text is n =
+      let c = found.1 in
+      let desk = is.desk in
+      let valid = is.printed.valid in
+      let marks = marks_for c desk in
+      let known = marks_known c.level desk valid in
+      let answer = is.printed.answer in
+      subst (λ at. IsTrueOf at (take n text)) (sym is.at) (record {
+        text = subst (λ t. IsTrueText c.measure desk marks (take n t)) (sym is.printed.is) (answer_text answer c.measure desk marks n valid);
+        accepted = λ d more same e. subst (λ z. ClaimHolds z desk marks) (some_certificate c d same)
+            (laws.claims c desk marks is.within.measure valid known (accepted_is_evidence c desk marks answer n more (sym (ap (take n) is.printed.is) ∙ e) is.printed.verified));
+      })
 
 usage_is_truthful : IsTruthful usage_meaning
 usage_is_truthful known input answer is = subst (λ (a : Answer). AreAlwaysTrue a.said) (sym is) tt
 
 -- each command is truthful
-command_is_truthful : ForEachLine IsTrueLine → (words : List (List ℕ)) (command : Command) → IsCommandOf words command → IsTruthful (meaning_of command)
-command_is_truthful each words (Table job) said = table_is_truthful each job (measure_said words job said)
-command_is_truthful each words (Certify job) said = usage_is_truthful
-command_is_truthful each words (Session job) said = usage_is_truthful
-command_is_truthful each words (Verify check) said = usage_is_truthful
-command_is_truthful each words (Demo seed) said = usage_is_truthful
+command_is_truthful : PrintsTruth → (words : List (List ℕ)) (command : Command) → IsCommandOf words command → IsTruthful (meaning_of command)
+command_is_truthful laws words (Table job) said = λ known input answer is. answers_are_true (report_printing reports.Table job) (report_says_truth laws reports.Table job (table_asked words job said).measure) known answer is
+command_is_truthful laws words (Certify job) said = λ known input answer is. answers_are_true (report_printing reports.Certificate job) (report_says_truth laws reports.Certificate job (certificate_asked words job said).measure) known answer is
+command_is_truthful laws words (Session job) said = usage_is_truthful
+command_is_truthful laws words (Verify check) said = λ known input answer is. answers_are_true (check_printing check) (check_says_truth laws check) known answer is
+command_is_truthful laws words (Demo seed) said = usage_is_truthful
 
 -- what words mean is truthful
-pub words_are_truthful : ForEachLine IsTrueLine → (words : List (List ℕ)) → IsTruthful (words_meaning words)
-words_are_truthful each words known input answer (inl (command, said, is)) = command_is_truthful each words command said known input answer is
-words_are_truthful each words known input answer (inr (nobody, is)) = usage_is_truthful known input answer is
+pub words_are_truthful : PrintsTruth → (words : List (List ℕ)) → IsTruthful (words_meaning words)
+words_are_truthful laws words known input answer (inl (command, said, is)) = command_is_truthful laws words command said known input answer is
+words_are_truthful laws words known input answer (inr (nobody, is)) = usage_is_truthful known input answer is

@@ -1,18 +1,20 @@
 -- What a call answers.
-use Rattle.std.specs.Prelude.{ℕ, List, [], ◌∷◌, flat_map, length, take, drop, All}
+use Rattle.std.specs.Prelude.{◌≡◌, ℕ, List, [], ◌∷◌, ◌++◌, flat_map, length, take, drop, Option, Some, codes}
 use Rattle.desk_model.specs.Desk.{Desk}
 use Rattle.desk_model.specs.declared.types.Mark.{Mark}
 use Rattle.desk_model.specs.declared.types.MeasureName.{MeasureName}
-use Rattle.table_claims.specs.Claims.{IsTrueLine}
-use Rattle.table_claims.specs.Received.{whole_lines}
-use Rattle.desk_top.specs.Files.{Halt, Missing, NoMemory, Refused}
+use Rattle.order_certificate.specs.Claim.{ClaimHolds}
+use Rattle.order_certificate.specs.declared.certificate.Certificate.{Certificate}
+use Rattle.printed_claims.specs.Claims.{IsTrueText}
+use Rattle.desk_files.specs.Files.{Halt, Missing, NoMemory, Refused}
 use Rattle.desk_top.specs.Told.{refusal_line, status_line}
 
--- what a text speaks of: a desk under a measure, with the marks that its documents have at that time
+-- what a text speaks of: a desk under a measure, with the marks that its documents have at that time, and the certificate that is checked
 pub record Moment : Type 0 where
   pub measure : MeasureName
   pub desk : Desk
   pub marks : List (List Mark)
+  pub checked : Option Certificate
 
 -- a text, and what it speaks of
 pub record Saying : Type 0 where
@@ -27,11 +29,11 @@ pub record Answer : Type 0 where
 
 -- the whole text on the output
 abbrev pub text_of : Answer → List ℕ
-text_of answer = flat_map (λ (saying : Saying). saying.text) answer.said
+text_of answer = flat_map (λ (one : Saying). one.text) answer.said
 
--- all went well
-abbrev pub done : List Saying → Answer
-done said = record { status = 0; said = said; told = [] }
+-- texts are said, and no line is told
+abbrev pub said_with : ℕ → List Saying → Answer
+said_with status said = record { status = status; said = said; told = [] }
 
 -- the words are of no command
 abbrev pub usage : Answer
@@ -43,16 +45,17 @@ halted Missing = record { status = 3; said = []; told = status_line 3 }
 halted NoMemory = record { status = 4; said = []; told = status_line 4 }
 halted (Refused refusal) = record { status = 1; said = []; told = refusal_line refusal }
 
--- what was received of a text is true of what it speaks of: each whole line claims the truth
+-- what was received of a text is true of what it speaks of; where it begins with the line `accepted`, the checked certificate's claim holds
 pub record IsTrueOf (moment : Moment) (received : List ℕ) : Type 0 where
-  pub lines : All (IsTrueLine moment.measure moment.desk moment.marks) (whole_lines received)
+  pub text : IsTrueText moment.measure moment.desk moment.marks received
+  pub accepted : (c : Certificate) (more : List ℕ) → moment.checked ≡ Some c → received ≡ codes "accepted\n" ++ more → ClaimHolds c moment.desk moment.marks
 
 -- what was received of each text is true
 abbrev pub AreTrue : List Saying → List ℕ → Type 0
 AreTrue [] received = Unit {0}
-AreTrue (saying ∷ more) received = IsTrueOf saying.moment (take (length saying.text) received) × AreTrue more (drop (length saying.text) received)
+AreTrue (one ∷ more) received = IsTrueOf one.moment (take (length one.text) received) × AreTrue more (drop (length one.text) received)
 
 -- every prefix of each text is true of what the text speaks of
 abbrev pub AreAlwaysTrue : List Saying → Type 0
 AreAlwaysTrue [] = Unit {0}
-AreAlwaysTrue (saying ∷ more) = ((n : ℕ) → IsTrueOf saying.moment (take n saying.text)) × AreAlwaysTrue more
+AreAlwaysTrue (one ∷ more) = ((n : ℕ) → IsTrueOf one.moment (take n one.text)) × AreAlwaysTrue more

@@ -1,14 +1,9 @@
-pub mod Files
-pub mod Load
-pub mod Views
-pub mod Outcome
-pub mod Stopped
-pub mod Table
-pub mod Joined
 pub mod Told
 pub mod Seen
 pub mod Answer
+pub mod Report
+pub mod Verification
+pub mod Printing
 pub mod Meaning
 pub mod Meets
-pub mod Ends
 pub mod Laws

@@ -2,15 +2,23 @@
 use Rattle.std.specs.Prelude.{◌≡◌, ◌⊎◌, ℕ, List, [], ◌∷◌, Option, Some, None, Result, Ok, Err}
 use Rattle.desk_outside.specs.Outside.{Files}
 use Rattle.desk_words.specs.Words.{IsCommandOf}
+use Rattle.desk_words.specs.declared.command.Check.{Check}
 use Rattle.desk_words.specs.declared.command.Job.{Job}
 use Rattle.desk_words.specs.declared.command.Command.{Command}
-use Rattle.desk_words.specs.declared.command.Command.TheVariants.{Table}
+use Rattle.desk_words.specs.declared.command.Command.TheVariants.{Table, Certify, Verify}
 use Rattle.desk_model.specs.Desk.{Desk}
 use Rattle.topics_pool.specs.Rows.{IsDeskOf}
-use Rattle.desk_top.specs.Files.{Halt, Missing, NoMemory}
-use Rattle.desk_top.specs.Load.{Loaded, loaded, JobMayOpen}
-use Rattle.desk_top.specs.Table.{IsTextOf, HasDesk, marks_in, cells_in}
-use Rattle.desk_top.specs.Answer.{Answer, Moment, usage, halted, done}
+use Rattle.desk_files.specs.Files.{Halt, Missing, NoMemory}
+use Rattle.order_certificate.specs.Certificate.{IsCertificate}
+use Rattle.order_certificate.specs.declared.certificate.Certificate.{Certificate}
+use Rattle.desk_files.specs.Load.{Loaded, loaded, DeskMayOpen, HasDesk}
+use Rattle.desk_files.specs.Checks.{CheckComes, CheckMayOpen}
+use Rattle.desk_top.specs.declared.report.Report.{Report}
+use Rattle.desk_top.specs.declared.report.Report.TheVariants as reports
+use Rattle.desk_top.specs.Report.{IsReportOf, sources_of, marks_in, cells_in}
+use Rattle.desk_top.specs.Verification.{IsVerificationOf, marks_for}
+use Rattle.desk_top.specs.Printing.{Printing}
+use Rattle.desk_top.specs.Answer.{Answer, Moment, usage, halted, said_with}
 
 -- an input as a call meets it: these are all its bytes; or it gave these bytes, and no more can be had
 pub data Input : Type 0 where
@@ -28,41 +36,75 @@ pub record Meaning : Type 1 where
   -- the most cells that it evaluates, where these are the files, if they are known, and this was taken of the input
   pub cells : Option Files → Input → ℕ → Type 0
 
--- what files come to; files that are not known may come to any rows or refusal, but none of them is called missing
-abbrev pub MayCome : {X : Type 0} → Option Files → (Files → Result X Halt) → Result X Halt → Type 0
-MayCome None says (Err Missing) = ⊥
-MayCome None says (Err NoMemory) = ⊥
-MayCome None says found = Unit {0}
-MayCome (Some files) says found = says files ≡ found
+-- files that are not known may come to anything, but none of them is called missing
+abbrev pub MayCome : {X : Type 0} → Option Files → (Files → Result X Halt → Type 0) → Result X Halt → Type 0
+MayCome None comes (Err Missing) = ⊥
+MayCome None comes (Err NoMemory) = ⊥
+MayCome None comes found = Unit {0}
+MayCome (Some files) comes found = comes files found
 
--- the answer to what files came to: that of their halt, or one over what they say
-abbrev pub IsAnswerTo : {X : Type 0} → (X → Answer → Type 0) → Result X Halt → Answer → Type 0
-IsAnswerTo over (Ok x) answer = over x answer
-IsAnswerTo over (Err halt) answer = answer ≡ halted halt
+-- the answer is a text that is printed on what the files came to
+pub record IsPrintedOn {X : Type 0} (command : Printing X) (found : X) (answer : Answer) : Type 0 where
+  pub moment : Moment
+  pub status : ℕ
+  pub text : List ℕ
+  pub printed : command.prints found moment status text
+  pub is : answer ≡ said_with status (record { moment = moment; text = text } ∷ [])
 
--- the answer of a command that opens files
-abbrev pub AnswersFiles : {X : Type 0} → Option Files → (Files → Result X Halt) → (X → Answer → Type 0) → Answer → Type 0
-AnswersFiles known says over answer = (found : Result _ Halt) × MayCome known says found × IsAnswerTo over found answer
+-- the answer to what files came to: that of their halt, or a text on them
+abbrev pub IsAnswerTo : {X : Type 0} → Printing X → Result X Halt → Answer → Type 0
+IsAnswerTo command (Ok found) answer = IsPrintedOn command found answer
+IsAnswerTo command (Err halt) answer = answer ≡ halted halt
+
+-- the answer of a command that prints one text on its files
+abbrev pub AnswersFiles : {X : Type 0} → Printing X → Option Files → Answer → Type 0
+AnswersFiles {X} command known answer = (found : Result X Halt) × MayCome known command.comes found × IsAnswerTo command found answer
 
 -- the desk as the files have it
 abbrev pub file_moment : Job → Desk → Moment
-file_moment job desk = record { measure = job.measure; desk = desk; marks = marks_in job desk }
+file_moment job desk = record { measure = job.measure; desk = desk; marks = marks_in job desk; checked = None }
 
--- the answer is the table of a desk of these rows
-pub record IsTableOf (job : Job) (rows : Loaded) (answer : Answer) : Type 0 where
+-- the same, and a certificate that is checked
+abbrev pub check_moment : Certificate → Desk → Moment
+check_moment c desk = record { measure = c.measure; desk = desk; marks = marks_for c desk; checked = Some c }
+
+-- a report on the desk that rows make
+pub record IsReportOn (report : Report) (job : Job) (rows : Loaded) (moment : Moment) (status : ℕ) (text : List ℕ) : Type 0 where
   pub desk : Desk
   pub ranked : IsDeskOf rows.qrels rows.runs desk
-  pub text : List ℕ
-  pub printed : IsTextOf job desk text
-  pub is : answer ≡ done (record { moment = file_moment job desk; text = text } ∷ [])
+  pub at : moment ≡ file_moment job desk
+  pub printed : IsReportOf report job desk status text
 
--- the table of a job: pairs times topics are evaluated
-abbrev pub table_meaning : Job → Meaning
-table_meaning job = record {
-  opens = λ known names. JobMayOpen known job names;
+abbrev pub report_printing : Report → Job → Printing Loaded
+report_printing report job = record { comes = λ files found. loaded files (sources_of job) ≡ found; prints = IsReportOn report job }
+
+-- the check of a certificate against the desk that rows make
+pub record IsCheckOn (found : Loaded × Certificate) (moment : Moment) (status : ℕ) (text : List ℕ) : Type 0 where
+  pub desk : Desk
+  pub ranked : IsDeskOf found.0.qrels found.0.runs desk
+  pub at : moment ≡ check_moment found.1 desk
+  pub within : IsCertificate found.1
+  pub printed : IsVerificationOf found.1 desk status text
+
+abbrev pub check_printing : Check → Printing (Loaded × Certificate)
+check_printing check = record { comes = λ files found. CheckComes files check found; prints = IsCheckOn }
+
+-- a report on the files of a job: pairs times topics are evaluated
+abbrev pub report_meaning : Report → Job → Meaning
+report_meaning report job = record {
+  opens = λ known names. DeskMayOpen known (sources_of job) names;
   reads = ⊥;
-  answers = λ known input answer. AnswersFiles known (λ files. loaded files job) (IsTableOf job) answer;
-  cells = λ known taken most. HasDesk known job (λ desk. most ≡ cells_in desk);
+  answers = λ known input answer. AnswersFiles (report_printing report job) known answer;
+  cells = λ known taken most. HasDesk known (sources_of job) (λ desk. most ≡ cells_in desk);
+}
+
+-- the check of a certificate: nothing is evaluated
+abbrev pub check_meaning : Check → Meaning
+check_meaning check = record {
+  opens = λ known names. CheckMayOpen known check names;
+  reads = ⊥;
+  answers = λ known input answer. AnswersFiles (check_printing check) known answer;
+  cells = λ known taken most. most ≡ 0;
 }
 
 -- usage: no file is opened, and nothing is read or evaluated
@@ -76,7 +118,9 @@ usage_meaning = record {
 
 -- what a command means; one that is not built means usage
 abbrev pub meaning_of : Command → Meaning
-meaning_of (Table job) = table_meaning job
+meaning_of (Table job) = report_meaning reports.Table job
+meaning_of (Certify job) = report_meaning reports.Certificate job
+meaning_of (Verify check) = check_meaning check
 meaning_of command = usage_meaning
 
 -- something holds of the meaning of words: of their command's, or of usage, where they are of no command

@@ -2,7 +2,7 @@
 use Rattle.std.specs.Prelude.{◌≡◌, ◌⊎◌, ℕ, ◌<◌, ◌≤◌, ◌+◌, List, [], ◌∷◌, length, Option, Some, IfSome, ◌++◌}
 use Rattle.std.specs.Io.KnownBytes.{prepend_known, IsAtEnd}
 use Rattle.desk_outside.specs.Outside.{Files, Rose}
-use Rattle.desk_top.specs.Load.{Opens}
+use Rattle.desk_files.specs.Load.{Opens}
 use Rattle.desk_top.specs.Told.{Writes, status_line}
 use Rattle.desk_top.specs.Seen.{Shelf, Source, Sink, ReceivedNothing, ReceivedAll, ReceivedPrefix}
 use Rattle.desk_top.specs.Answer.{Answer, text_of, AreTrue, AreAlwaysTrue}

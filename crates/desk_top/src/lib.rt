@@ -1,18 +1,14 @@
 //! The desk's top call.
 #![tactic(auto)]
 
-mod desk;
-mod files;
 pub mod laws;
-mod limits;
-mod load;
-mod stop;
-mod table;
+mod output;
+mod report;
 mod tell;
 mod top;
+mod verify;
 
-pub use limits::limits_in_numbers;
-pub use stop::{Refusal, Stop};
+pub use report::Report;
 pub use tell::{tell_memory, tell_outside};
 pub use top::run_desk;
 

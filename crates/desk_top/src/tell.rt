@@ -1,9 +1,9 @@
 // What is told on the error output. A failure there changes nothing.
 ghost use Rattle.std.specs.Prelude.{◌≡◌, ◌⊎◌, ℕ, ◌++◌, OnOk, IfOk, codes, decimal};
 ghost use Rattle.desk_top.specs.Told.{Writes, fault_word, fault_text, refusal_text, refusal_line, status_line};
-ghost use Rattle.desk_top.specs.Views.{refusal_of};
+ghost use Rattle.desk_files.specs.Views.{refusal_of};
 
-use crate::stop::Refusal;
+use desk_files::Refusal;
 use desk_outside::{Sink, put_all};
 use itoa::Buffer;
 use qrels_reader::LineFault;
@@ -73,7 +73,8 @@ fn word_of(fault: LineFault) -> &'static str
     }
 }
 
-fn push_number(line: &mut Vec<u8>, number: u64) -> Result<(), AllocError>
+/// A number in digits.
+pub fn push_number(line: &mut Vec<u8>, number: u64) -> Result<(), AllocError>
     ensures { OnOk result (line.new.items ≡ line.old.items ++ decimal number) }
 {
     line.extend_from_slice(Buffer::new().format(number).as_bytes())
@@ -107,6 +108,12 @@ fn push_refusal(line: &mut Vec<u8>, refusal: &Refusal) -> Result<(), AllocError>
         Refusal::LacksTag(path) => {
             line.extend_from_slice(path.as_bytes())?;
             line.extend_from_slice(b": NoTag")
+        }
+        Refusal::BadCertificate(path, number) => {
+            line.extend_from_slice(path.as_bytes())?;
+            line.extend_from_slice(b" line ")?;
+            push_number(line, *number)?;
+            line.extend_from_slice(b": BadLine")
         }
         Refusal::Repeated(name) => {
             line.extend_from_slice(name)?;

@@ -10,7 +10,7 @@ use std::marker::Brand;
 use std::sync::ledger::{Blank, Ledger};
 use std::test::Fail;
 
-const FILES: [(&str, &str); 10] = [
+const FILES: [(&str, &str); 15] = [
     ("q", "401 0 d1 1\n401 0 d2 0\n"),
     ("p", "401 0 d9 0\n401 0 d1 1\n"),
     ("o", "401 0 d1 1\n"),
@@ -21,6 +21,20 @@ const FILES: [(&str, &str); 10] = [
     ("f", "401 Q0 d2 1 1 B\n"),
     ("g", "401 Q0 d1 1 2 A\n401 Q0 u 2 1 A\n"),
     ("h", "401 Q0 u 1 2 B\n401 Q0 d1 2 1 B\n"),
+    (
+        "v",
+        "desk-certificate 1\nmeasure P_2\nlevel 1\nfirst A\nsecond B\nclaim above\ntopics 1\ntopic 401 1\nend\n",
+    ),
+    (
+        "w",
+        "desk-certificate 1\nmeasure P_2\nlevel 1\nfirst A\nsecond B\nclaim above\ntopics 1\ntopic 401 2\nend\n",
+    ),
+    (
+        "s",
+        "401 0 d1 1\n401 0 d2 1\n401 0 d3 1\n401 0 n1 0\n402 0 d1 1\n402 0 d2 1\n402 0 d3 1\n402 0 n1 0\n",
+    ),
+    ("k", "401 Q0 d1 1 1 A\n402 Q0 n1 1 1 A\n"),
+    ("l", "401 Q0 n1 1 1 B\n402 Q0 d1 1 1 B\n"),
 ];
 
 fn words_of(alloc: Global, line: &str) -> Result<Vec<String>, AllocError> {
@@ -123,6 +137,32 @@ fn each_line_has_its_answer(rt: HostRuntime) -> Result<(), Fail> {
             "pair X open Y -0.000001 0.000001\n",
         ),
         (
+            "certify --qrels q --measure P_2 b a",
+            0,
+            "first A\nsecond B\nclaim above\ntopics 1\ntopic 401 1\nend\n",
+        ),
+        (
+            "certify --qrels q --measure recall_1 e c",
+            0,
+            "claim open\ntopics 1\nlow 401 1\ndoc z1\nhigh 401 0\nend\n",
+        ),
+        (
+            "certify --qrels s --measure recall_1 k l",
+            6,
+            "close A B -1 1 -1 1\n",
+        ),
+        ("verify --qrels q --cert v a b", 0, "accepted\n"),
+        (
+            "verify --qrels q --cert w a b",
+            5,
+            "rejected BoundTooGreat topic 401\n",
+        ),
+        (
+            "verify --qrels q --cert a a b",
+            1,
+            "refused: a line 1: BadLine\n",
+        ),
+        (
             "table --qrels q --measure P_2 a a",
             1,
             "refused: A: SameName\n",
@@ -142,7 +182,11 @@ fn each_line_has_its_answer(rt: HostRuntime) -> Result<(), Fail> {
     for (line, status, ending) in cases {
         let words = words_of(alloc, line)?;
         let (ended, out, err) = answer(alloc, &words, &mut shelf(alloc, &[])?, 1000)?;
-        let said = if status == 0 { &out } else { &err };
+        let said = if matches!(status, 0 | 5 | 6) {
+            &out
+        } else {
+            &err
+        };
         assert_eq!(rt; ended, status, "{line}");
         assert!(rt; said.ends_with(ending.as_bytes()), "{line}");
         assert!(rt; out.is_empty() || err.is_empty(), "{line}");

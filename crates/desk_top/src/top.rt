@@ -1,24 +1,30 @@
 // The top call.
 ghost use Rattle.std.specs.Prelude.{◌≡◌, ◌<◌, ◌≤◌, length, map, string_bytes};
-ghost use Rattle.desk_model.specs.MeasureText.{IsMeasure};
-ghost use Rattle.desk_model.specs.declared.types.MeasureName.{MeasureName as N};
+ghost use Rattle.desk_top.specs.Report.{IsAsked};
 ghost use Rattle.desk_top.specs.Seen.{shelf, source, sink};
-ghost use Rattle.desk_top.specs.Meaning.{table_meaning, words_meaning};
+ghost use Rattle.desk_top.specs.Meaning.{report_meaning, check_meaning, words_meaning};
 ghost use Rattle.desk_top.specs.Meets.{Meets, SaysTruth, LeavesInput};
 
-use crate::stop::Stop;
-use crate::table::print_table;
+use crate::report::{Report, print_report};
 use crate::tell::{tell_memory, tell_outside, tell_refused, tell_usage};
+use crate::verify::print_verification;
+use desk_files::Stop;
 use desk_outside::{Shelf, Sink, Source};
-use desk_words::{Command, Job, WordsFault, read_words};
+use desk_words::{Check, Command, Job, WordsFault, read_words};
 use measure_core::{Maker, Steps};
+use order_certificate::evidence_implies_claim;
+use pair_table::evidence_laws::certificates_are_evidence;
+use printed_claims::laws::{
+    answer_lines_are_true, close_lines_are_true, printed_certificates_are_true,
+    printed_tables_are_true,
+};
 use std::alloc::Global;
 use std::sync::ledger::Ledger;
-use table_claims::laws::printed_lines_are_true;
 
-// The table of a job, and the status that tells how it ended.
-fn run_table<F: Shelf, S: Source, K: Sink, E: Sink, P: Maker, L: Ledger>(
+// The report on the files of a job, and the status that tells how it ended.
+fn run_report<F: Shelf, S: Source, K: Sink, E: Sink, P: Maker, L: Ledger>(
     alloc: Global,
+    report: Report,
     job: &Job,
     files: &mut F,
     input: &mut S,
@@ -27,19 +33,47 @@ fn run_table<F: Shelf, S: Source, K: Sink, E: Sink, P: Maker, L: Ledger>(
     maker: &P,
     steps: &mut Steps<L>,
 ) -> u8
-    requires { IsMeasure job.now.measure }
+    requires { IsAsked report job.now }
     ensures known { result ≤ 6 }
-    ensures meets { Meets (table_meaning job.now)
+    ensures meets { Meets (report_meaning report job.now)
         (shelf (F.files files.old) (F.opened files.old) (F.opened files.new) (F.faults files.old) (F.faults files.new))
         (source (S.rest input.old) (S.rest input.new) (S.faults input.old) (S.faults input.new))
         (sink (K.received out.old) (K.received out.new) (K.faults out.old) (K.faults out.new))
         (sink (E.received err.old) (E.received err.new) (E.faults err.old) (E.faults err.new))
         steps.old steps.new result }
-    ensures input { LeavesInput (table_meaning job.now) input.old input.new }
+    ensures input { LeavesInput (report_meaning report job.now) input.old input.new }
     ensures files { F.files files.new ≡ F.files files.old }
 {
-    match print_table(alloc, files, out, job, maker, steps) {
-        Ok(()) => 0,
+    match print_report(alloc, files, out, report, job, maker, steps) {
+        Ok(status) => status,
+        Err(Stop::Refused(refusal)) => tell_refused(alloc, err, &refusal),
+        Err(Stop::Outside) => tell_outside(err),
+        Err(Stop::Memory) => tell_memory(err),
+    }
+}
+
+// The check of a certificate, and the status that tells how it ended.
+fn run_check<F: Shelf, S: Source, K: Sink, E: Sink, L: Ledger>(
+    alloc: Global,
+    check: &Check,
+    files: &mut F,
+    input: &mut S,
+    out: &mut K,
+    err: &mut E,
+    steps: &mut Steps<L>,
+) -> u8
+    ensures known { result ≤ 6 }
+    ensures meets { Meets (check_meaning check.now)
+        (shelf (F.files files.old) (F.opened files.old) (F.opened files.new) (F.faults files.old) (F.faults files.new))
+        (source (S.rest input.old) (S.rest input.new) (S.faults input.old) (S.faults input.new))
+        (sink (K.received out.old) (K.received out.new) (K.faults out.old) (K.faults out.new))
+        (sink (E.received err.old) (E.received err.new) (E.faults err.old) (E.faults err.new))
+        steps.old steps.new result }
+    ensures input { LeavesInput (check_meaning check.now) input.old input.new }
+    ensures files { F.files files.new ≡ F.files files.old }
+{
+    match print_verification(alloc, files, out, check) {
+        Ok(status) => status,
         Err(Stop::Refused(refusal)) => tell_refused(alloc, err, &refusal),
         Err(Stop::Outside) => tell_outside(err),
         Err(Stop::Memory) => tell_memory(err),
@@ -73,10 +107,30 @@ fn run_words<F: Shelf, S: Source, K: Sink, E: Sink, P: Maker, L: Ledger>(
         Err(WordsFault::Memory) => return tell_memory(err),
     };
     match &command {
-        Command::Table(job) => run_table(alloc, job, files, input, out, err, maker, steps),
-        Command::Certify(_) => tell_usage(err),
+        Command::Table(job) => run_report(
+            alloc,
+            Report::Table,
+            job,
+            files,
+            input,
+            out,
+            err,
+            maker,
+            steps,
+        ),
+        Command::Certify(job) => run_report(
+            alloc,
+            Report::Certificate,
+            job,
+            files,
+            input,
+            out,
+            err,
+            maker,
+            steps,
+        ),
         Command::Session(_) => tell_usage(err),
-        Command::Verify(_) => tell_usage(err),
+        Command::Verify(check) => run_check(alloc, check, files, input, out, err, steps),
         Command::Demo { .. } => tell_usage(err),
     }
 }
@@ -85,9 +139,11 @@ fn run_words<F: Shelf, S: Source, K: Sink, E: Sink, P: Maker, L: Ledger>(
 ///
 /// What a command answers over files and input, its status, what the output receives and the line that the error output
 /// is told, is said by `words_meaning`, one case a command; words of no command mean usage, status 2. The call gives that
-/// answer, or the status is 3, since the shelf, the input or the output failed, or 4, since memory ran out; `table` ends
-/// with 0 and its text, with 1 where its files are refused, or with 3 where a path is not held. No file is opened but those
-/// of the words, in their order, up to the first that is missing or refused.
+/// answer, or the status is 3, since the shelf, the input or the output failed, or 4, since memory ran out. `table` ends
+/// with 0 and its text, `certify` with 0 and the certificate of the first two runs or with 6 and their close line, `verify`
+/// with 0 and `accepted` or with 5 and the reason; they end with 1 where their files are refused, and with 3 where a path is
+/// not held. No file is opened but those of the words, in
+/// their order; where the files are known, none after the first that is missing or refused.
 pub fn run_desk<F: Shelf, S: Source, K: Sink, E: Sink, P: Maker, L: Ledger>(
     alloc: Global,
     words: &[String],
@@ -112,6 +168,11 @@ pub fn run_desk<F: Shelf, S: Source, K: Sink, E: Sink, P: Maker, L: Ledger>(
     ensures input { LeavesInput (words_meaning (map string_bytes words.now)) input.old input.new }
     ensures files { F.files files.new ≡ F.files files.old }
 {
-    printed_lines_are_true();
+    printed_tables_are_true();
+    printed_certificates_are_true();
+    close_lines_are_true();
+    answer_lines_are_true();
+    certificates_are_evidence();
+    evidence_implies_claim();
     run_words(alloc, words, files, input, out, err, maker, steps)
 }

@@ -1,23 +1,16 @@
--- What the files of a job come to. The job compares the runs `a` and `b` on the judgements `q`.
+-- What the files of a desk come to: the runs `a` and `b` on the judgements `q`.
 use Rattle.std.proofs.Common.{◌≡◌, ◌^◌, List, [], ◌∷◌, ◌++◌, refl, Option, Some, None, pos, cond}
 use Rattle.std.specs.Prelude.{ℕ, codes, Ok, Err}
 use Rattle.std.specs.Str.{bytes_eq}
 use Rattle.decimal_score.specs.Reading.{score_of, zeros_of}
-use Rattle.desk_model.specs.declared.types.MeasureName.TheVariants.{Precision}
 use Rattle.desk_outside.specs.Outside.{Files}
-use Rattle.desk_words.specs.declared.command.Job.{Job}
 use Rattle.qrels_reader.specs.declared.fault.LineFault.TheVariants.{RepeatedDocument}
 use Rattle.run_reader.specs.declared.used.Used.{Used}
-use Rattle.desk_top.specs.Files.{Missing, Refused, BadLine, LacksTopics, LacksTag, Repeated}
-use Rattle.desk_top.specs.Load.{loaded, loaded_from}
+use Rattle.desk_files.specs.Files.{Missing, Refused, BadLine, LacksTopics, LacksTag, Repeated}
+use Rattle.desk_files.specs.Load.{Sources, sources, loaded, loaded_from}
 
-abbrev job : Job
-job = record {
-  qrels = codes "q";
-  measure = Precision 1;
-  level = 1;
-  runs = record { name = None; path = codes "a" } ∷ record { name = None; path = codes "b" } ∷ [];
-}
+abbrev from : Sources
+from = sources (codes "q") (record { name = None; path = codes "a" } ∷ record { name = None; path = codes "b" } ∷ [])
 
 -- what is held under these three paths; nothing else is held
 abbrev holding : Option (List ℕ) → Option (List ℕ) → Option (List ℕ) → Files
@@ -33,7 +26,7 @@ abbrev run_B : Option (List ℕ)
 run_B = Some (codes "401 Q0 d2 1 1 B")
 
 -- both runs count what the files before them used
-pub files_without_a_fault : loaded (holding judgements run_A run_B) job ≡ Ok (record {
+pub files_without_a_fault : loaded (holding judgements run_A run_B) from ≡ Ok (record {
   qrels = record { name = codes "401"; documents = record { document = codes "d1"; grade = pos 1 } ∷ [] } ∷ [];
   runs = record {
     name = codes "A";
@@ -48,33 +41,33 @@ pub files_without_a_fault : loaded (holding judgements run_A run_B) job ≡ Ok (
 unfolding loaded_from score_of zeros_of
 files_without_a_fault = refl
 
-pub nothing_is_held : loaded (holding None None None) job ≡ Err Missing
+pub nothing_is_held : loaded (holding None None None) from ≡ Err Missing
 unfolding loaded_from
 nothing_is_held = refl
 
-pub second_run_is_not_held : loaded (holding judgements run_A None) job ≡ Err Missing
+pub second_run_is_not_held : loaded (holding judgements run_A None) from ≡ Err Missing
 unfolding loaded_from score_of zeros_of
 second_run_is_not_held = refl
 
 -- what comes first is told: a fault of the first run, where the second is not held
-pub fault_before_a_path_that_is_not_held : loaded (holding judgements (Some (codes "401 Q0 d1 1 2 A" ++ 10 ∷ codes "401 Q0 d1 2 1 A")) None) job ≡ Err (Refused (BadLine (codes "a") 2 RepeatedDocument))
+pub fault_before_a_path_that_is_not_held : loaded (holding judgements (Some (codes "401 Q0 d1 1 2 A" ++ 10 ∷ codes "401 Q0 d1 2 1 A")) None) from ≡ Err (Refused (BadLine (codes "a") 2 RepeatedDocument))
 unfolding loaded_from score_of zeros_of
 fault_before_a_path_that_is_not_held = refl
 
 -- and a first run that is not held, where the second has a fault
-pub path_that_is_not_held_before_a_fault : loaded (holding judgements None (Some [])) job ≡ Err Missing
+pub path_that_is_not_held_before_a_fault : loaded (holding judgements None (Some [])) from ≡ Err Missing
 unfolding loaded_from score_of zeros_of
 path_that_is_not_held_before_a_fault = refl
 
-pub judgements_without_a_row : loaded (holding (Some []) None None) job ≡ Err (Refused (LacksTopics (codes "q")))
+pub judgements_without_a_row : loaded (holding (Some []) None None) from ≡ Err (Refused (LacksTopics (codes "q")))
 unfolding loaded_from
 judgements_without_a_row = refl
 
-pub empty_second_run : loaded (holding judgements run_A (Some [])) job ≡ Err (Refused (LacksTag (codes "b")))
+pub empty_second_run : loaded (holding judgements run_A (Some [])) from ≡ Err (Refused (LacksTag (codes "b")))
 unfolding loaded_from score_of zeros_of
 empty_second_run = refl
 
 -- names are compared when all files were read
-pub two_runs_of_one_name : loaded (holding judgements run_A run_A) job ≡ Err (Refused (Repeated (codes "A")))
+pub two_runs_of_one_name : loaded (holding judgements run_A run_A) from ≡ Err (Refused (Repeated (codes "A")))
 unfolding loaded_from score_of zeros_of
 two_runs_of_one_name = refl

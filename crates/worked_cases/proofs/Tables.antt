@@ -18,7 +18,7 @@ use Rattle.measure_core.specs.Made.{HasEnds, HasBounds, width_of}
 use Rattle.pair_table.specs.Sums.{run_numbers, pair_sums, run_sums, span_sum, swapped_totals}
 use Rattle.pair_table.specs.Numbers.{AreNumbersIn}
 use Rattle.pair_table.specs.Orders.{IsNearZero, total_width}
-use Rattle.table_claims.specs.Claims.{HoldsByNames, IsPairLine, IsRunLine, SaysExactly, EnclosesDifference, IsTrueLine}
+use Rattle.printed_claims.specs.Claims.{HoldsByNames, IsPairLine, IsRunLine, SaysExactly, EnclosesDifference, IsTrueLine}
 use Rattle.worked_cases.specs.Example.{two_runs, two_topics, one_topic, marks_401, a, b, sums, ends}
 use Rattle.worked_cases.proofs.Names.{different}
 use Rattle.worked_cases.proofs.Completions.{precision_of_two, a_is_always_above_b, b_is_not_always_above_a, example_is_not_always_equal}

@@ -8,4 +8,4 @@ pub returns-in_ok-extend_from_slice-in-Excessive :
 returns-in_ok-extend_from_slice-in-Excessive c =
     let cells = decimal c.in-Excessive.cells in
     let head = c.in_ok-extend_from_slice-in-Excessive.ensures.items in
-    rw c.in-Excessive.is (on_ok_weaker c.push_number.result (λ is. is ∙ ap (λ xs. xs ++ cells) head ∙ append_assoc c.args.line.now.items (codes "desk: TooManyCells ") cells) c.push_number.ensures)
+    rw c.in-Excessive.is (on_ok_weaker c.push_number-in-Excessive.result (λ is. is ∙ ap (λ xs. xs ++ cells) head ∙ append_assoc c.args.line.now.items (codes "desk: TooManyCells ") cells) c.push_number-in-Excessive.ensures)

@@ -3,6 +3,7 @@ use Rattle.std.specs.Prelude.{map, string_bytes, Err}
 use Rattle.desk_words.specs.Words.{IsCommandOf}
 use Rattle.desk_words.specs.declared.command.Command.TheVariants.{Table, Certify, Session, Verify, Demo}
 use Rattle.desk_top.specs.Meaning.{words_meaning}
+use Rattle.desk_top.proofs.Asking.{table_asked, certificate_asked}
 use Rattle.desk_top.proofs.Meeting.{meets_words, meets_no_command, meets_memory, meets_usage}
 use Rattle.desk_top.proofs.top.run_words.Goals as goal
 
@@ -17,12 +18,18 @@ returns-in-Err-Memory-clause-meets g c =
 pub returns-in-Table-clause-meets : goal.returns-in-Table-clause-meets
 returns-in-Table-clause-meets g c =
     let words = map string_bytes c.args.words.now in
-    meets_words words (Table c.in-Table.job) _ _ _ _ _ _ _ (subst (IsCommandOf words) c.in-Table.is c.in-Ok.ensures.ok) c.run_table.ensures.meets
+    meets_words words (Table c.in-Table.job) _ _ _ _ _ _ _ (subst (IsCommandOf words) c.in-Table.is c.in-Ok.ensures.ok) c.run_report.ensures.meets
+
+pub run_report-requires : goal.run_report-requires
+run_report-requires g c = table_asked (map string_bytes c.args.words.now) c.in-Table.job (subst (IsCommandOf (map string_bytes c.args.words.now)) c.in-Table.is c.in-Ok.ensures.ok)
+
+pub run_report-requires-in-Certify : goal.run_report-requires-in-Certify
+run_report-requires-in-Certify g c = certificate_asked (map string_bytes c.args.words.now) c.in-Certify.job (subst (IsCommandOf (map string_bytes c.args.words.now)) c.in-Certify.is c.in-Ok.ensures.ok)
 
 pub returns-in-Certify-clause-meets : goal.returns-in-Certify-clause-meets
 returns-in-Certify-clause-meets g c =
     let words = map string_bytes c.args.words.now in
-    meets_words words (Certify c.in-Certify.field-0) _ _ _ _ _ _ _ (subst (IsCommandOf words) c.in-Certify.is c.in-Ok.ensures.ok) (meets_usage _ _ _ _ _ _ c.tell_usage-in-Certify.ensures.status refl refl c.tell_usage-in-Certify.ensures.line)
+    meets_words words (Certify c.in-Certify.job) _ _ _ _ _ _ _ (subst (IsCommandOf words) c.in-Certify.is c.in-Ok.ensures.ok) c.run_report-in-Certify.ensures.meets
 
 pub returns-in-Session-clause-meets : goal.returns-in-Session-clause-meets
 returns-in-Session-clause-meets g c =
@@ -32,7 +39,7 @@ returns-in-Session-clause-meets g c =
 pub returns-in-Verify-clause-meets : goal.returns-in-Verify-clause-meets
 returns-in-Verify-clause-meets g c =
     let words = map string_bytes c.args.words.now in
-    meets_words words (Verify c.in-Verify.field-0) _ _ _ _ _ _ _ (subst (IsCommandOf words) c.in-Verify.is c.in-Ok.ensures.ok) (meets_usage _ _ _ _ _ _ c.tell_usage-in-Verify.ensures.status refl refl c.tell_usage-in-Verify.ensures.line)
+    meets_words words (Verify c.in-Verify.check) _ _ _ _ _ _ _ (subst (IsCommandOf words) c.in-Verify.is c.in-Ok.ensures.ok) c.run_check.ensures.meets
 
 pub returns-clause-meets : goal.returns-clause-meets
 returns-clause-meets g c =

@@ -1,0 +1,123 @@
+-- The meaning of a check.
+use Rattle.std.proofs.Common.{◌≡◌, ℕ, zero, suc, ◌<◌, ◌≤◌, true, rules, List, [], ◌∷◌, ◌++◌, length, refl, ap, sym, subst, ◌∙◌, arith, inl, inr}
+use Rattle.std.specs.Prelude.{◌⊎◌, Result, Ok, Err, IfErr, IfSome, slice_get, unwrap_or, Some, codes, decimal, slice_index_or}
+use Rattle.std.specs.List.{AllByRecursion, zip}
+use Rattle.std.proofs.Math.Nat.{min-le_left, min-le_right}
+use Rattle.desk_words.specs.declared.command.Check.{Check}
+use Rattle.desk_model.specs.Book.{Book, IsBook}
+use Rattle.desk_model.specs.Desk.{Desk, IsDesk}
+use Rattle.desk_model.specs.Name.{is_name}
+use Rattle.order_certificate.specs.declared.certificate.Certificate.{Certificate}
+use Rattle.order_verifier.specs.declared.rejected.Rejected.{Rejected}
+use Rattle.order_verifier.specs.declared.rejected.Rejected.TheVariants.{WrongNames, BoundTooGreat, NoSum, NotCompletion, NoDifference}
+use Rattle.std.proofs.lemmas.List.Elements.{recursion_from_All}
+use Rattle.topics_pool.specs.Rows.{topic_names}
+use Rattle.printed_claims.specs.Claims.{IsInLine}
+use Rattle.printed_claims.proofs.Spelling.{AreInLine, ink_in_line, in_line-append}
+use Rattle.printed_claims.proofs.Texts.{decimal_ink, name_word}
+use Rattle.printed_claims.proofs.Others.{in_line_back}
+use Rattle.std.proofs.lemmas.List.{length-map}
+use Rattle.std.proofs.lemmas.Option.{slice_get_within, unwrap_or-slice_get}
+use Rattle.std.proofs.lemmas.Slice.Zip.{length-zip}
+use Rattle.small_lemmas.proofs.Lists.{map_there}
+use Rattle.desk_model.specs.Desk.{topics_under}
+use Rattle.desk_model.specs.declared.types.Mark.{Mark}
+use Rattle.order_certificate.specs.Claim.{named_topics}
+use Rattle.order_certificate.specs.declared.certificate.Evidence.{Evidence}
+use Rattle.order_certificate.specs.declared.certificate.Evidence.TheVariants.{Above, Equal, Open}
+use Rattle.order_verifier.specs.Refusal.{Compared, topics_in, HasBoundTooGreat}
+use Rattle.order_verifier.specs.Verified.{IsVerified}
+use Rattle.desk_files.specs.Files.{Refused, Refusal}
+use Rattle.desk_files.specs.Checks.{CheckComes, CheckMayOpen}
+use Rattle.desk_files.specs.Load.{Opens}
+use Rattle.desk_files.proofs.Checking.{check_opens_qrels}
+use Rattle.desk_top.specs.Verification.{IsReasonOn, reason_text, verification_text, verification_status, IsVerificationOf}
+use Rattle.desk_top.specs.Told.{Writes, status_line, refusal_line}
+use Rattle.desk_top.specs.Seen.{Shelf, Source, Sink, ReceivedNothing}
+use Rattle.desk_top.specs.Printing.{IsPrinted, IsBroken, IsUnread}
+use Rattle.desk_top.specs.Meaning.{check_printing, check_meaning}
+use Rattle.desk_top.specs.Meets.{Meets}
+use Rattle.desk_top.proofs.Meeting.{meets_memory}
+use Rattle.desk_top.proofs.Printed.{Answers, meets_printed, meets_refused, meets_failure}
+
+-- a check has some text
+some_text : (desk : Desk) (answer : Result (Unit {0}) Rejected) → 0 < length (verification_text desk answer)
+some_text desk (Ok _) = omega arith
+some_text desk (Err why) = omega arith
+
+pub verification_is_some : (c : Certificate) (desk : Desk) (status : ℕ) (text : List ℕ) → IsVerificationOf c desk status text → 0 < length text
+verification_is_some c desk status text is = subst (λ t. 0 < length t) (sym is.is) (some_text desk is.answer)
+
+neither : (answer : Result (Unit {0}) Rejected) (status : ℕ) → status ≡ verification_status answer → (status ≡ 3 → ⊥) × (status ≡ 4 → ⊥)
+neither (Ok _) status is = (λ three. omega (arith, is, three), λ four. omega (arith, is, four))
+neither (Err why) status is = (λ three. omega (arith, is, three), λ four. omega (arith, is, four))
+
+check_answers : (check : Check) → Answers (check_printing check) (check_meaning check)
+check_answers check = record {
+  answers = λ known input answer is. is;
+  opens_one = λ known. (check.qrels, check_opens_qrels known check);
+  status = λ found moment status text is. neither is.printed.answer status is.printed.ends;
+}
+
+module _ (check : Check) (shelf : Shelf) (input : Source) (out err : Sink) where
+  pub check_printed : (steps status : ℕ) → IsPrinted (check_printing check) shelf out status → Writes err.had err.has err.before err.after [] → Opens (CheckMayOpen shelf.files check) shelf.had shelf.has → Meets (check_meaning check) shelf input out err steps steps status
+  check_printed steps status has line opened = meets_printed (check_printing check) (check_meaning check) (check_answers check) shelf input out err steps steps status has line (inl refl) (inr opened)
+
+  pub check_refused : (steps status : ℕ) (refusal : Refusal) → status ≡ 1 → ReceivedNothing out → IfSome shelf.files (λ files. CheckComes files check (Err (Refused refusal))) → Writes err.had err.has err.before err.after (refusal_line refusal) →
+      Opens (CheckMayOpen shelf.files check) shelf.had shelf.has → Meets (check_meaning check) shelf input out err steps steps status
+  check_refused steps status refusal one nothing read line opened =
+      meets_refused (check_printing check) (check_meaning check) (check_answers check) shelf input out err steps steps status refusal one nothing read line (inl refl) (inr opened)
+
+  pub check_no_memory : (steps status : ℕ) → status ≡ 4 → ReceivedNothing out → Writes err.had err.has err.before err.after (status_line 4) → Opens (CheckMayOpen shelf.files check) shelf.had shelf.has → Meets (check_meaning check) shelf input out err steps steps status
+  check_no_memory steps status four nothing line opened = meets_memory (check_meaning check) shelf input out err steps steps status four nothing line (inl refl) (inr opened)
+
+  pub check_failed : (steps status : ℕ) → status ≡ 3 → IsBroken (check_printing check) shelf out ⊎ (ReceivedNothing out × IsUnread (check_printing check) shelf) → Writes err.had err.has err.before err.after (status_line 3) → Opens (CheckMayOpen shelf.files check) shelf.had shelf.has →
+      Meets (check_meaning check) shelf input out err steps steps status
+  check_failed steps status three stopped line opened = meets_failure (check_printing check) (check_meaning check) (check_answers check) shelf input out err steps steps status three stopped line (inl refl) (inr opened)
+
+-- ---- a reason in a line
+name_there : (names : List (List ℕ)) (i : ℕ) → AllByRecursion (λ name. is_name name ≡ true) names → IsInLine (slice_index_or names i [])
+name_there [] i h = tt
+name_there (x ∷ names) zero h = in_line_back x (ink_in_line x (name_word x h.0).ink)
+name_there (x ∷ names) (suc i) h = name_there names i h.1
+
+topics_named : (books : List Book) → AllByRecursion IsBook books → AllByRecursion (λ name. is_name name ≡ true) (topic_names books)
+topics_named [] h = tt
+topics_named (b ∷ books) h = (h.0.named, topics_named books h.1)
+
+number_in_line : (word : List ℕ) (n : ℕ) → AreInLine word → IsInLine (word ++ decimal n)
+number_in_line word n w = in_line_back (word ++ decimal n) (in_line-append word (decimal n) w (ink_in_line (decimal n) (decimal_ink n)))
+
+joined_in_line : (word name : List ℕ) → AreInLine word → IsInLine name → IsInLine (word ++ name)
+joined_in_line [] name w h = h
+joined_in_line (b ∷ bs) name w h = (w.0, joined_in_line bs name w.1 h)
+
+pub reason_in_line : (desk : Desk) → IsDesk desk → (why : Rejected) → IsInLine (reason_text desk why)
+reason_in_line desk valid (WrongNames line) = number_in_line (codes "WrongNames line ") line (search rules)
+reason_in_line desk valid (BoundTooGreat topic) = joined_in_line (codes "BoundTooGreat topic ") _ (search rules) (name_there (topic_names desk.topics) topic (topics_named desk.topics (recursion_from_All IsBook desk.topics valid.books)))
+reason_in_line desk valid NoSum = search rules
+reason_in_line desk valid (NotCompletion line) = number_in_line (codes "NotCompletion line ") line (search rules)
+reason_in_line desk valid NoDifference = search rules
+
+-- ---- the topic of a reason
+pub topic_name_there : (books : List Book) (t : ℕ) (book : Book) → slice_get books t ≡ Some book → slice_index_or (topic_names books) t [] ≡ book.name
+topic_name_there books t book e = sym (unwrap_or-slice_get (topic_names books) t []) ∙ ap (λ o. unwrap_or o []) (map_there (λ (b : Book). b.name) books t book e)
+
+bound_within : (c : Compared) (evidence : Evidence) (topic : ℕ) → HasBoundTooGreat c evidence topic → topic < length (topics_in c)
+bound_within c (Above bounds) topic h = omega (arith, slice_get_within (zip bounds (topics_in c)) topic h.item h.there, length-zip bounds (topics_in c), min-le_right (length bounds) (length (topics_in c)))
+bound_within c (Equal bounds) topic h = omega (arith, slice_get_within (zip bounds (topics_in c)) topic h.item h.there, length-zip bounds (topics_in c), min-le_right (length bounds) (length (topics_in c)))
+bound_within c (Open witnesses) topic h = absurd h
+
+topics_within : (desk : Desk) (marks : List (List Mark)) → length (named_topics desk marks) ≤ length desk.topics
+topics_within desk marks =
+    let pairs = zip desk.topics (topics_under desk marks) in
+    let same : length (named_topics desk marks) ≡ length pairs = length-map pairs _ in
+    omega (arith, same, length-zip desk.topics (topics_under desk marks), min-le_left (length desk.topics) (length (topics_under desk marks)))
+
+pub reason_on_desk : (c : Certificate) (desk : Desk) (marks : List (List Mark)) (answer : Result (Unit {0}) Rejected) → IsVerified c desk marks answer → IfErr answer (IsReasonOn desk)
+reason_on_desk c desk marks (Ok _) is = tt
+reason_on_desk c desk marks (Err (WrongNames line)) is = tt
+reason_on_desk c desk marks (Err (BoundTooGreat topic)) is = let within = bound_within (record { measure = c.measure; desk = desk; marks = marks; first = is.0; second = is.1 }) c.evidence topic is.4 in omega (arith, within, topics_within desk marks)
+reason_on_desk c desk marks (Err NoSum) is = tt
+reason_on_desk c desk marks (Err (NotCompletion line)) is = tt
+reason_on_desk c desk marks (Err NoDifference) is = tt

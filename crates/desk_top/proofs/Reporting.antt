@@ -1,0 +1,62 @@
+-- The meaning of a report.
+use Rattle.std.proofs.Common.{◌≡◌, ℕ, List, [], refl, ◌∙◌, arith, inl, inr}
+use Rattle.std.specs.Prelude.{◌⊎◌, Err, IfSome}
+use Rattle.desk_words.specs.declared.command.Job.{Job}
+use Rattle.desk_model.specs.Desk.{Desk}
+use Rattle.desk_files.specs.Files.{Refused, Refusal}
+use Rattle.desk_files.specs.Load.{loaded, DeskMayOpen, Opens}
+use Rattle.desk_files.proofs.Opening.{may_open_qrels}
+use Rattle.desk_top.specs.declared.report.Report.{Report}
+use Rattle.desk_top.specs.declared.report.Report.TheVariants.{Table, Certificate}
+use Rattle.desk_top.specs.Report.{IsReportOf, CountsSteps, sources_of, cells_in}
+use Rattle.desk_top.specs.Told.{Writes, status_line, refusal_line}
+use Rattle.desk_top.specs.Seen.{Shelf, Source, Sink, ReceivedNothing}
+use Rattle.desk_top.specs.Printing.{IsPrinted, IsBroken, IsUnread}
+use Rattle.desk_top.specs.Meaning.{Cut, report_printing, report_meaning}
+use Rattle.desk_top.specs.Meets.{EvaluatesWithin, Meets}
+use Rattle.desk_top.proofs.Meeting.{meets_memory}
+use Rattle.desk_top.proofs.Printed.{Answers, prepend_known-nil, meets_printed, meets_refused, meets_failure}
+
+-- a report comes with status 0 or 6
+report_status : (report : Report) (job : Job) (desk : Desk) (status : ℕ) (text : List ℕ) → IsReportOf report job desk status text → (status ≡ 0) ⊎ (status ≡ 6)
+report_status Table job desk status text is = inl is.0
+report_status Certificate job desk status text (inl certified) = inl certified.0
+report_status Certificate job desk status text (inr close) = inr close.0
+
+neither : (status : ℕ) → (status ≡ 0) ⊎ (status ≡ 6) → (status ≡ 3 → ⊥) × (status ≡ 4 → ⊥)
+neither status (inl zero) = (λ three. omega (arith, zero, three), λ four. omega (arith, zero, four))
+neither status (inr six) = (λ three. omega (arith, six, three), λ four. omega (arith, six, four))
+
+pub report_answers : (report : Report) (job : Job) → Answers (report_printing report job) (report_meaning report job)
+report_answers report job = record {
+  answers = λ known input answer is. is;
+  opens_one = λ known. (job.qrels, may_open_qrels known (sources_of job));
+  status = λ found moment status text is. neither status (report_status report job is.desk status text is.printed);
+}
+
+-- the steps of a report, where nothing of the input was taken
+report_cells : (report : Report) (job : Job) (shelf : Shelf) (input : Source) (before after : ℕ) → input.rest ≡ input.left → CountsSteps shelf.files job before after → EvaluatesWithin (report_meaning report job) shelf input before after
+report_cells report job shelf input before after same (inl none) = inl none
+report_cells report job shelf input before after same (inr has) =
+    inr (Cut [], same ∙ prepend_known-nil input.left, cells_in has.desk, record { rows = has.rows; read = has.read; desk = has.desk; ranked = has.ranked; holds = refl }, has.holds)
+
+module _ (report : Report) (job : Job) (shelf : Shelf) (input : Source) (out err : Sink) where
+  pub report_printed : (before after status : ℕ) → input.rest ≡ input.left → IsPrinted (report_printing report job) shelf out status → Writes err.had err.has err.before err.after [] → CountsSteps shelf.files job before after → Opens (DeskMayOpen shelf.files (sources_of job)) shelf.had shelf.has →
+      Meets (report_meaning report job) shelf input out err before after status
+  report_printed before after status same has line steps opened =
+      meets_printed (report_printing report job) (report_meaning report job) (report_answers report job) shelf input out err before after status has line (report_cells report job shelf input before after same steps) (inr opened)
+
+  pub report_refused : (before after status : ℕ) (refusal : Refusal) → input.rest ≡ input.left → status ≡ 1 → ReceivedNothing out → IfSome shelf.files (λ files. loaded files (sources_of job) ≡ Err (Refused refusal)) → Writes err.had err.has err.before err.after (refusal_line refusal) →
+      CountsSteps shelf.files job before after → Opens (DeskMayOpen shelf.files (sources_of job)) shelf.had shelf.has → Meets (report_meaning report job) shelf input out err before after status
+  report_refused before after status refusal same one nothing read line steps opened =
+      meets_refused (report_printing report job) (report_meaning report job) (report_answers report job) shelf input out err before after status refusal one nothing read line (report_cells report job shelf input before after same steps) (inr opened)
+
+  pub report_no_memory : (before after status : ℕ) → input.rest ≡ input.left → status ≡ 4 → ReceivedNothing out → Writes err.had err.has err.before err.after (status_line 4) → CountsSteps shelf.files job before after → Opens (DeskMayOpen shelf.files (sources_of job)) shelf.had shelf.has →
+      Meets (report_meaning report job) shelf input out err before after status
+  report_no_memory before after status same four nothing line steps opened =
+      meets_memory (report_meaning report job) shelf input out err before after status four nothing line (report_cells report job shelf input before after same steps) (inr opened)
+
+  pub report_failed : (before after status : ℕ) → input.rest ≡ input.left → status ≡ 3 → IsBroken (report_printing report job) shelf out ⊎ (ReceivedNothing out × IsUnread (report_printing report job) shelf) → Writes err.had err.has err.before err.after (status_line 3) →
+      CountsSteps shelf.files job before after → Opens (DeskMayOpen shelf.files (sources_of job)) shelf.had shelf.has → Meets (report_meaning report job) shelf input out err before after status
+  report_failed before after status same three stopped line steps opened =
+      meets_failure (report_printing report job) (report_meaning report job) (report_answers report job) shelf input out err before after status three stopped line (report_cells report job shelf input before after same steps) (inr opened)
