@@ -3,3 +3,4 @@ pub mod Digits
 pub mod FieldLemmas
 pub mod Marking
 pub mod DigitLists
+pub mod WholeLines

@@ -1,12 +1,19 @@
-//! Lines of a text, fields of a line, and numbers in digits. No call of this crate takes memory.
+//! Lines of a text, fields of a line, and numbers in digits. Only `Lines::new` takes memory.
 #![tactic(auto)]
 
+mod arriving;
 mod field;
+mod laws;
 mod line;
 mod number;
 mod places;
 
+pub use arriving::{Lines, Memory, Pushed};
 pub use field::{fields, is_blank};
+pub use laws::{
+    a_line_feed_ends_a_line, bytes_of_a_line_end_none, lines_are_whole_or_last,
+    pieces_do_not_matter, pushes_keep_the_line,
+};
 pub use line::{LONGEST_LINE, Line, next_line};
 pub use number::{plain, plain_is_decimal, whole};
 pub use places::{BadByte, Fields};

@@ -7,7 +7,7 @@ use memchr::memchr;
 /// The most bytes that a line may hold, without its line feed.
 pub const LONGEST_LINE: usize = 4096;
 
-const LINE_FEED: u8 = b'\n';
+pub(crate) const LINE_FEED: u8 = b'\n';
 
 /// Where a line stands in its text, and where the next one begins. Places are numbered from 0.
 #[derive(Clone, Copy, Debug, PartialEq, Eq)]

@@ -1,5 +1,6 @@
 // What is meant by lines, fields and digits, by examples.
 use super::*;
+use std::test::Fail;
 
 #[test]
 fn cuts_lines(rt: HostRuntime) {
@@ -40,4 +41,21 @@ fn reads_numbers(rt: HostRuntime) {
     assert_eq!(rt; whole(b"9223372036854775808", i64::MIN, i64::MAX), None);
     assert_eq!(rt; plain(b"0", 10), Some(0));
     assert_eq!(rt; plain(b"010", 10), None);
+}
+
+#[test]
+fn takes_lines_in_pieces(rt: HostRuntime) -> Result<(), Fail> {
+    let mut lines = Lines::new(rt.alloc())?;
+    let (used, ended) = (2, false);
+    assert_eq!(rt; lines.push(b"on"), Pushed { used, ended });
+    let (used, ended) = (2, true);
+    assert_eq!(rt; lines.push(b"e\ntwo"), Pushed { used, ended });
+    assert_eq!(rt; lines.line(), Some(b"one".as_slice()));
+    lines.clear();
+    let (used, ended) = (4097, false);
+    assert_eq!(rt; lines.push(&[b'x'; 4097]), Pushed { used, ended });
+    assert!(rt; lines.line().is_none());
+    lines.clear();
+    assert!(rt; lines.line().is_some_and(|line| line.is_empty()));
+    Ok(())
 }
