@@ -1,0 +1,9 @@
+pub mod Names
+pub mod Grades
+pub mod Undoing
+pub mod Sessions
+pub mod Finding
+pub mod Turns
+pub mod Numbers
+pub mod Lookups
+pub mod OneDocument

@@ -1,0 +1,17 @@
+//! Sessions of judging: a list of changes by several callers, each of whom can correct, undo and redo their own.
+#![tactic(auto)]
+
+mod answers;
+mod change;
+mod counts;
+mod force;
+pub mod laws;
+mod marking;
+mod session;
+mod steps;
+mod tally;
+#[cfg(test)]
+mod tests;
+
+pub use answers::{Changed, JudgeFault, NothingToRedo, NothingToUndo};
+pub use session::Session;
