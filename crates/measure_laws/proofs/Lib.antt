@@ -23,3 +23,6 @@ pub mod LeastDifferences
 pub mod ReciprocalDifferences
 pub mod CaseEnds
 pub mod Scores
+pub mod Refined
+pub mod RefinedShares
+pub mod RefinedEnds

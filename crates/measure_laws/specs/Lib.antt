@@ -11,3 +11,4 @@ pub mod Cases
 pub mod Weights
 pub mod Ends
 pub mod LeastDifference
+pub mod Refinement

@@ -1,6 +1,6 @@
 -- Powers of a persistence a / b below 1, in whole parts of S = 10^18, and the weights of ranks.
 use Rattle.desk_model.specs.Limits.{PARTS_OF_ONE}
-use Rattle.std.specs.Prelude.{ℕ, zero, suc, ◌+◌, ◌-◌, ◌*◌, ◌/◌, ◌^◌, Option, Some, None}
+use Rattle.std.specs.Prelude.{ℕ, zero, suc, ◌+◌, ◌-◌, ◌*◌, ◌/◌, Option, Some, None}
 
 -- n over d, rounded up
 abbrev pub ceil_div : ℕ → ℕ → ℕ

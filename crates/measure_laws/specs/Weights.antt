@@ -1,5 +1,5 @@
 -- The weight of a document in a pair: how much it tells of the difference of the two runs.
-use Rattle.std.specs.Prelude.{ℕ, ◌/◌, ◌^◌, max, ◌||◌, if◌then◌else◌, List, Option, Some, None}
+use Rattle.std.specs.Prelude.{ℕ, ◌/◌, max, ◌||◌, if◌then◌else◌, List, Option, Some, None}
 use Rattle.std.specs.Int.{abs_diff}
 use Rattle.desk_model.specs.Limits.{PARTS_OF_ONE}
 use Rattle.desk_model.specs.Ranking.{rank}

@@ -13,3 +13,4 @@ pub mod Saying
 pub mod Certified
 pub mod Answered
 pub mod Evident
+pub mod Refining

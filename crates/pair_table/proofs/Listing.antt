@@ -1,11 +1,10 @@
 -- Lists that are made topic by topic and document by document, and the numbers of names.
-use Rattle.std.proofs.Common.{◌≡◌, ℕ, zero, suc, ◌+◌, ◌<◌, Bool, true, false, cond, List, [], ◌∷◌, ◌++◌, map, map-id, length, take, get_or, Some, refl, ap, sym, subst, ◌∙◌, arith}
+use Rattle.std.proofs.Common.{◌≡◌, ℕ, zero, suc, ◌+◌, ◌<◌, Bool, true, false, cond, List, [], ◌∷◌, ◌++◌, map, map-id, length, take, get_or, Some, refl, ap, sym, ◌∙◌, arith}
 use Rattle.std.specs.Prelude.{slice_get, filter, ◌&&◌, ℤ}
-use Rattle.std.specs.List.{AllByRecursion, IsDistinct, range_with_len, position_from, zip}
-use Rattle.std.specs.Option.{option_map}
+use Rattle.std.specs.List.{IsDistinct, range_with_len, position_from, zip}
 use Rattle.std.proofs.lemmas.List.{get_or_default, length-map, map-append}
 use Rattle.std.proofs.lemmas.List.FromFn.{filter_of_map_range_with_len_more}
-use Rattle.std.proofs.lemmas.Option.{slice_get-map, get_or_from_slice_get}
+use Rattle.std.proofs.lemmas.Option.{get_or_from_slice_get}
 use Rattle.std.proofs.lemmas.Slice.Eq.{bytes_eq-Decides}
 use Rattle.desk_model.specs.Book.{Book}
 use Rattle.desk_model.specs.Desk.{Desk, AreMarksOf, ranking_of, topics_under}

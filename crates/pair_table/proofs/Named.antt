@@ -25,7 +25,7 @@ use Rattle.pair_table.proofs.Orders.{MetBy}
 
 -- ---- a table of a measure with a name's numbers
 module _ (name : MeasureName) (cell : List Mark → List ℕ → List ℕ → Cell) (bounds : List Mark → List ℕ → Span) (numbers : AreNumbersOfName name cell bounds) where
-  pair_named : (topics : List Topic) (a b : ℕ) → AllByRecursion (MetBy a b) topics → ArePairNumbers name topics a b (pair_sums cell topics a b)
+  pub pair_named : (topics : List Topic) (a b : ℕ) → AllByRecursion (MetBy a b) topics → ArePairNumbers name topics a b (pair_sums cell topics a b)
   unfolding pair_sums
   pair_named topics a b met = record {
     ends = cell_ends cell topics a b;

@@ -29,7 +29,7 @@ use Rattle.measure_core.specs.declared.cell.Cell.{Cell}
 use Rattle.measure_core.proofs.Narrow.{ends_narrow, precision_whole}
 use Rattle.pair_table.specs.Sums.{run_numbers, cell_ends, pair_sums, span_sum, run_spans, run_sums}
 use Rattle.pair_table.specs.Numbers.{AreEndsOf, ArePairNumbers, AreRunNumbers}
-use Rattle.pair_table.specs.Orders.{HoldsOfPair, HoldsOfRun, total_width, IsNearZero, ForEachPair, ForEachRun}
+use Rattle.pair_table.specs.Orders.{HoldsOfPair, HoldsOfRun, total_width, IsNearZero, ForEachPair, ForTwoRuns, ForEachRun}
 use Rattle.pair_table.proofs.DeskTopics.{topics_met, topics_met_one}
 use Rattle.pair_table.proofs.Zips.{zip_then, zip_by, zip_made, zip_mapped, all_then, all_first, all_in_range, IsPairBelow, pairs_below}
 use Rattle.pair_table.proofs.Verdicts.{above_says, below_says, equal_says, close_says}
@@ -219,20 +219,48 @@ pub whole_cells_decide : (name : MeasureName) (unit : ℕ) (cell : List Mark →
 unfolding pair_sums
 whole_cells_decide name unit cell topics a b some apart h = exact_verdict name unit a b topics (cell_ends cell topics a b) some apart h
 
--- ---- all pairs and all runs
-for_each_pair : (fact : MeasureName → List Topic → ℕ → ℕ → Totals → Type 0) →
-    ((name : MeasureName) (topics : List Topic) (a b : ℕ) (ends : List Ends) → IsMeasure name → a ≢ b → AllByRecursion (MetBy a b) topics → AreEndsOf name topics a b ends → fact name topics a b (totals_of ends)) →
-    ForEachPair fact
+-- ---- two runs, all pairs and all runs
+-- a fact of the sums of two different runs on topics, by the ends that the name has
+abbrev OfEnds : (MeasureName → List Topic → ℕ → ℕ → Totals → Type 0) → Type 0
+OfEnds fact =
+    (name : MeasureName) (topics : List Topic) (a b : ℕ) (ends : List Ends) → IsMeasure name → a ≢ b → AllByRecursion (MetBy a b) topics → AreEndsOf name topics a b ends → fact name topics a b (totals_of ends)
+
+for_two_runs : (fact : MeasureName → List Topic → ℕ → ℕ → Totals → Type 0) → OfEnds fact → ForTwoRuns fact
+for_two_runs fact f name desk marks a b totals valid is_desk known in_a in_b apart h =
+    let topics = topics_under desk marks in
+    subst (fact name topics a b) (sym h.summed) (f name topics a b h.ends valid apart (topics_met desk marks is_desk known a b in_a in_b) h.named)
+
+for_each_pair : (fact : MeasureName → List Topic → ℕ → ℕ → Totals → Type 0) → OfEnds fact → ForEachPair fact
 for_each_pair fact f name desk marks bounds totals valid is_desk known h =
     let topics = topics_under desk marks in
     let n = length desk.runs in
     zip_by (λ (pair : ℕ × ℕ) (t : Totals). ArePairNumbers name topics pair.0 pair.1 t) (λ (pair : ℕ × ℕ) (t : Totals). fact name topics pair.0 pair.1 t) (IsPairBelow n)
-    (λ pair t p k. subst (fact name topics pair.0 pair.1) (sym k.summed)
-    (f name topics pair.0 pair.1 k.ends valid (λ e. omega (arith, p.order, e)) (topics_met desk marks is_desk known pair.0 pair.1 (omega (arith, p.order, p.below)) p.below) k.named))
+    (λ pair t p k. for_two_runs fact f name desk marks pair.0 pair.1 t valid is_desk known (omega (arith, p.order, p.below)) p.below (λ e. omega (arith, p.order, e)) k)
     (pairs_of (run_numbers n)) totals (pairs_below n) h.pairs
 
+sums_hold : OfEnds HoldsOfPair
+sums_hold name topics a b ends valid apart met named = ends_hold name valid topics a b met ends named
+
+-- under precision the verdict says exactly what always holds
+abbrev IsExactUnderPrecision : MeasureName → List Topic → ℕ → ℕ → Totals → Type 0
+IsExactUnderPrecision name topics a b sums = (k : ℕ) → name ≡ Precision k → IsExactVerdict name topics a b (verdict sums)
+
+sums_exact : OfEnds IsExactUnderPrecision
+sums_exact name topics a b ends valid apart met named k e =
+    subst (λ (m : MeasureName). IsMeasure m → AreEndsOf m topics a b ends → IsExactVerdict m topics a b (verdict (totals_of ends))) (sym e)
+    (λ v h. ends_exact k v topics a b apart met ends h) valid named
+
+pub two_runs_hold : ForTwoRuns HoldsOfPair
+two_runs_hold = for_two_runs HoldsOfPair sums_hold
+
+pub two_runs_exact : ForTwoRuns IsExactUnderPrecision
+two_runs_exact = for_two_runs IsExactUnderPrecision sums_exact
+
 pub pairs_hold : ForEachPair HoldsOfPair
-pairs_hold = for_each_pair HoldsOfPair (λ name topics a b ends valid apart met named. ends_hold name valid topics a b met ends named)
+pairs_hold = for_each_pair HoldsOfPair sums_hold
+
+pub pairs_exact : ForEachPair IsExactUnderPrecision
+pairs_exact = for_each_pair IsExactUnderPrecision sums_exact
 
 pub runs_hold : ForEachRun HoldsOfRun
 runs_hold name desk marks bounds totals valid is_desk known h =
@@ -241,12 +269,6 @@ runs_hold name desk marks bounds totals valid is_desk known h =
     zip_by (λ (run : ℕ) (s : Span). AreRunNumbers name topics run s) (λ (run : ℕ) (s : Span). HoldsOfRun name topics run s) (λ run. run < n)
     (λ run s lt k. bounds_hold name valid topics run (topics_met_one desk marks is_desk known run lt) s k)
     (run_numbers n) bounds (all_in_range (λ run. run < n) 0 n (λ t _ lt. omega (arith, lt))) h.runs
-
-pub pairs_exact : ForEachPair (λ name topics a b sums. (k : ℕ) → name ≡ Precision k → IsExactVerdict name topics a b (verdict sums))
-pairs_exact = for_each_pair (λ name topics a b sums. (k : ℕ) → name ≡ Precision k → IsExactVerdict name topics a b (verdict sums))
-    (λ name topics a b ends valid apart met named k e.
-    subst (λ (m : MeasureName). IsMeasure m → AreEndsOf m topics a b ends → IsExactVerdict m topics a b (verdict (totals_of ends))) (sym e)
-    (λ v h. ends_exact k v topics a b apart met ends h) valid named)
 
 pub pairs_close : ForEachPair (λ name topics a b sums. verdict sums ≡ Close → IsNearZero (total_width name topics a b) sums)
 pairs_close = for_each_pair (λ name topics a b sums. verdict sums ≡ Close → IsNearZero (total_width name topics a b) sums)

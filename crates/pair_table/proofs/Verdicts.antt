@@ -1,5 +1,5 @@
 -- What a verdict says of four sums.
-use Rattle.std.proofs.Common.{◌≡◌, ℕ, Bool, true, false, ℤ, pos, negsuc, ◌+ℤ◌, ◌≤ℤ◌, ◌<ℤ◌, inl, inr, refl, ap, arith}
+use Rattle.std.proofs.Common.{◌≡◌, ℕ, ◌<◌, ◌≤◌, Bool, true, false, ℤ, pos, negsuc, ◌+ℤ◌, ◌≤ℤ◌, ◌<ℤ◌, inl, inr, refl, ap, ◌∙◌, arith}
 use Rattle.std.specs.Prelude.{int_lt, int_le, ◌&&◌, ◌||◌, if◌then◌else◌}
 use Rattle.std.specs.Ordering.{int_eq}
 use Rattle.std.proofs.lemmas.Int.{ints}
@@ -120,3 +120,33 @@ module _ (t : Totals) where
       go false e low high shut =
           let over : pos 0 ≤ℤ t.least_hi = not_negative t.least_hi e in
           inl (omega (arith, ints), low)
+
+-- ---- the tests of a verdict, the other way
+is_positive : (z : ℤ) → pos 0 <ℤ z → int_lt (pos 0) z ≡ true
+is_positive (pos n) h = let k : 0 < n = omega (arith, ints, h) in grind (arith, nat_tests)
+is_positive (negsuc n) h = absurd (omega (arith, ints, h))
+
+is_not_positive : (z : ℤ) → z ≤ℤ pos 0 → int_lt (pos 0) z ≡ false
+is_not_positive (pos n) h = let k : n ≤ 0 = omega (arith, ints, h) in grind (arith, nat_tests)
+is_not_positive (negsuc n) h = refl
+
+is_negative : (z : ℤ) → z <ℤ pos 0 → int_lt z (pos 0) ≡ true
+is_negative (pos n) h = absurd (omega (arith, ints, h))
+is_negative (negsuc n) h = refl
+
+module _ (t : Totals) where
+  pub verdict_above : pos 0 <ℤ t.least_lo → verdict t ≡ Above
+  unfolding choose
+  verdict_above h = ap (λ x. choose x (below_at t) (equal_at t) (open_at t)) (is_positive t.least_lo h)
+
+  pub verdict_below : t.least_lo ≤ℤ pos 0 → t.most_hi <ℤ pos 0 → verdict t ≡ Below
+  unfolding choose
+  verdict_below h k =
+      ap (λ x. choose x (below_at t) (equal_at t) (open_at t)) (is_not_positive t.least_lo h)
+      ∙ ap (λ x. choose false x (equal_at t) (open_at t)) (is_negative t.most_hi k)
+
+  pub verdict_equal : t.least_lo ≡ pos 0 → t.most_hi ≡ pos 0 → verdict t ≡ Equal
+  unfolding choose
+  verdict_equal h k =
+      ap (λ z. choose (int_lt (pos 0) z) (below_at t) (int_eq z (pos 0) && int_eq t.most_hi (pos 0)) (open_at t)) h
+      ∙ ap (λ z. choose false (int_lt z (pos 0)) (int_eq z (pos 0)) (open_at t)) k

@@ -3,3 +3,4 @@ pub mod Kept
 pub mod Numbers
 pub mod Orders
 pub mod Evidence
+pub mod Refined

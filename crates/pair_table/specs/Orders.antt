@@ -1,5 +1,5 @@
 -- What the numbers of a table say of the means of its runs.
-use Rattle.std.specs.Prelude.{◌≡◌, ℕ, ◌*◌, List, length, pos, neg_ℤ, ◌≤ℤ◌, ◌⊎◌}
+use Rattle.std.specs.Prelude.{◌≡◌, ◌≢◌, ℕ, ◌*◌, ◌<◌, List, length, pos, neg_ℤ, ◌≤ℤ◌, ◌⊎◌}
 use Rattle.std.specs.List.{AllZip, sum_by}
 use Rattle.desk_model.specs.Completion.{Completion}
 use Rattle.desk_model.specs.Desk.{Desk, IsDesk, AreMarksOf, topics_under}
@@ -17,7 +17,7 @@ use Rattle.desk_model.specs.MeasureText.{IsMeasure}
 use Rattle.measure_laws.specs.Measures.{unit_of}
 use Rattle.measure_core.specs.Made.{width_of}
 use Rattle.pair_table.specs.Sums.{run_numbers}
-use Rattle.pair_table.specs.Numbers.{AreNumbersIn}
+use Rattle.pair_table.specs.Numbers.{ArePairNumbers, AreNumbersIn}
 
 -- in every completion the order of two means is that of the verdict, and unit times topics times their difference lies from least_lo to most_hi
 pub record HoldsOfPair (measure : MeasureName) (topics : List Topic) (a b : ℕ) (t : Totals) : Type 0 where
@@ -47,6 +47,12 @@ abbrev pub ForEachPair : (MeasureName → List Topic → ℕ → ℕ → Totals 
 ForEachPair fact =
     (name : MeasureName) (desk : Desk) (marks : List (List Mark)) (bounds : List Span) (totals : List Totals) → IsMeasure name → IsDesk desk → AreMarksOf desk marks → AreNumbersIn name desk marks bounds totals →
     AllZip (λ pair sums. fact name (topics_under desk marks) pair.0 pair.1 sums) (pairs_of (run_numbers (length desk.runs))) totals
+
+-- a fact of the sums of any two different runs of a desk, in either order, where these are the numbers of a measure's name
+abbrev pub ForTwoRuns : (MeasureName → List Topic → ℕ → ℕ → Totals → Type 0) → Type 0
+ForTwoRuns fact =
+    (name : MeasureName) (desk : Desk) (marks : List (List Mark)) (a b : ℕ) (totals : Totals) → IsMeasure name → IsDesk desk → AreMarksOf desk marks → a < length desk.runs → b < length desk.runs → a ≢ b →
+    ArePairNumbers name (topics_under desk marks) a b totals → fact name (topics_under desk marks) a b totals
 
 -- a fact of the summed bounds of each run
 abbrev pub ForEachRun : (MeasureName → List Topic → ℕ → Span → Type 0) → Type 0

@@ -18,7 +18,7 @@ ghost use Rattle.measure_core.specs.declared.cell.Cell.{Cell};
 ghost use Rattle.pair_table.specs.Sums.{cell_ends, pair_sums, run_sums, all_pair_sums, all_run_sums};
 ghost use Rattle.pair_table.specs.Kept.{AreSumsOf};
 ghost use Rattle.pair_table.specs.Numbers.{AreNumbersIn};
-ghost use Rattle.pair_table.specs.Orders.{HoldsOfPair, HoldsOfRun, total_width, IsNearZero, ForEachPair, ForEachRun};
+ghost use Rattle.pair_table.specs.Orders.{HoldsOfPair, HoldsOfRun, total_width, IsNearZero, ForEachPair, ForTwoRuns, ForEachRun};
 
 /// A table of a measure whose cells and bounds are a name's has the numbers of that name.
 pub fn tables_have_named_numbers()
@@ -40,6 +40,14 @@ pub fn numbers_are_one()
 pub fn numbers_hold_in_every_completion()
     ensures pairs { ForEachPair HoldsOfPair }
     ensures runs { ForEachRun HoldsOfRun }
+{}
+
+/// The same of the numbers of any two different runs, in either order: they hold in every completion,
+/// and under precision their verdict says exactly what always holds.
+pub fn numbers_of_two_runs_hold()
+    ensures sums { ForTwoRuns HoldsOfPair }
+    ensures exact { ForTwoRuns (λ name topics a b sums.
+        (k : ℕ) → name ≡ Precision k → IsExactVerdict name topics a b (verdict sums)) }
 {}
 
 /// The same of the sums of a measure that meets its laws, for any two runs and for each run.

@@ -4,6 +4,7 @@
 pub mod evidence;
 pub mod evidence_laws;
 pub mod laws;
+pub mod settled;
 mod sums;
 pub mod table;
 
