@@ -1,3 +1,4 @@
 pub mod Means
 pub mod Table
 pub mod Close
+pub mod Judging

@@ -4,7 +4,7 @@ ghost use Rattle.desk_report.specs.Table.{ended};
 ghost use Rattle.desk_report.specs.Close.{sum_text, sums_text, close_line};
 
 use desk_model::{Memory, Totals};
-use itoa::Buffer;
+use number_texts::push_signed;
 use std::alloc::{AllocError, Global};
 
 // A sum, after a space.
@@ -12,7 +12,7 @@ fn push_sum(out: &mut Vec<u8>, sum: i128) -> Result<(), AllocError>
     ensures { OnOk result (out.new.items ≡ out.old.items ++ sum_text sum) }
 {
     out.push(b' ')?;
-    out.extend_from_slice(Buffer::new().format(sum).as_bytes())
+    push_signed(out, sum)
 }
 
 fn push_sums(out: &mut Vec<u8>, totals: &Totals) -> Result<(), AllocError>

@@ -1,41 +1,16 @@
 // Means with six digits after the point, rounded outward.
 ghost use Rattle.desk_model.specs.Limits.{TOPIC_LIMIT};
-ghost use Rattle.std.specs.Prelude.{◌≡◌, ◌+◌, ◌*◌, ◌<◌, ◌≤◌, ◌^◌, ◌++◌, ◌∷◌, [], drop, decimal, pos, neg_ℤ, ◌≤ℤ◌, ◌*ℤ◌, OnOk};
+ghost use Rattle.std.specs.Prelude.{◌≡◌, ◌+◌, ◌*◌, ◌<◌, ◌≤◌, ◌^◌, ◌++◌, decimal, pos, neg_ℤ, ◌≤ℤ◌, ◌*ℤ◌, OnOk};
 ghost use Rattle.std.specs.Prelude.{unsigned_abs};
 ghost use Rattle.fractions.specs.Ends.{IsShort};
 ghost use Rattle.fractions.specs.Numbers.{floor_of, ceiling_of};
 ghost use Rattle.desk_report.specs.Means.{six_digits, millionths, decimal_text, ends_text};
 
 use fractions::Span;
-use itoa::Buffer;
+use number_texts::{push_digits_after_first, push_whole};
 use std::alloc::AllocError;
 
 const MILLION: i128 = 1_000_000;
-
-fn push_whole(out: &mut Vec<u8>, number: u128) -> Result<(), AllocError>
-    ensures { OnOk result (out.new.items ≡ out.old.items ++ decimal number) }
-{
-    out.extend_from_slice(Buffer::new().format(number).as_bytes())
-}
-
-// The text without its first byte.
-fn rest(text: &[u8]) -> &[u8]
-    ensures { result.now ≡ drop 1 text.now }
-{
-    match text {
-        [_, rest @ ..] => rest,
-        [] => text,
-    }
-}
-
-/// Puts the digits of a number but for the first.
-pub fn push_digits_after_first(out: &mut Vec<u8>, number: u64) -> Result<(), AllocError>
-    ensures { OnOk result (out.new.items ≡ out.old.items ++ drop 1 (decimal number)) }
-{
-    let mut buffer = Buffer::new();
-    let text = buffer.format(number).as_bytes();
-    out.extend_from_slice(rest(text))
-}
 
 fn push_six_digits(out: &mut Vec<u8>, number: u32) -> Result<(), AllocError>
     requires { number < 1000000 }

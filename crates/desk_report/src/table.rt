@@ -2,48 +2,21 @@
 ghost use Rattle.std.specs.Prelude.{◌≡◌, ◌<◌, ◌≤◌, ◌^◌, ◌++◌, ◌∷◌, [], All, length, codes, decimal, pos, neg_ℤ, ◌≤ℤ◌, ◌*◌, flat_map, IfOk, OnOk};
 ghost use Rattle.std.specs.Prelude.{unsigned_abs};
 ghost use Rattle.desk_model.specs.Limits.{TOPIC_LIMIT};
-ghost use Rattle.desk_model.specs.MeasureText.{measure_text, persistence_digits};
+ghost use Rattle.desk_model.specs.MeasureText.{measure_text};
 ghost use Rattle.desk_model.specs.Pairs.{pairs_of};
 ghost use Rattle.fractions.specs.Ends.{IsShort};
 ghost use Rattle.desk_report.specs.Table.{AreNearTotals, ended, word_of, head_lines, run_line, run_lines, pair_line, pair_lines, table_text};
 
-use crate::means::{parts, push_digits_after_first, push_ends};
+use crate::means::{parts, push_ends};
 use desk_model::{Desk, MeasureName, Memory, PairPlaces, Totals, Verdict, verdict_of};
 use fractions::Span;
-use itoa::Buffer;
+use number_texts::{push_measure, push_number};
 use std::alloc::{AllocError, Global};
-
-fn push_number(out: &mut Vec<u8>, number: u32) -> Result<(), AllocError>
-    ensures { OnOk result (out.new.items ≡ out.old.items ++ decimal number) }
-{
-    out.extend_from_slice(Buffer::new().format(number).as_bytes())
-}
 
 fn push_line_feed(out: &mut Vec<u8>) -> Result<(), AllocError>
     ensures { OnOk result (out.new.items ≡ out.old.items ++ 10 ∷ []) }
 {
     out.extend_from_slice(b"\n")
-}
-
-fn push_measure(out: &mut Vec<u8>, measure: &MeasureName) -> Result<(), AllocError>
-    ensures { OnOk result (out.new.items ≡ out.old.items ++ measure_text measure.now) }
-{
-    match measure {
-        MeasureName::Precision(k) => {
-            out.extend_from_slice(b"P_")?;
-            push_number(out, *k)
-        }
-        MeasureName::Recall(k) => {
-            out.extend_from_slice(b"recall_")?;
-            push_number(out, *k)
-        }
-        MeasureName::RPrecision => out.extend_from_slice(b"Rprec"),
-        MeasureName::Reciprocal => out.extend_from_slice(b"recip_rank"),
-        MeasureName::Biased { top, bottom } => {
-            out.extend_from_slice(b"rbp_0.")?;
-            push_digits_after_first(out, *bottom as u64 + *top as u64)
-        }
-    }
 }
 
 fn push_measure_line(out: &mut Vec<u8>, measure: &MeasureName) -> Result<(), AllocError>

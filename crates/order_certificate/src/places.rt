@@ -11,9 +11,9 @@ ghost use Rattle.order_certificate.specs.declared.certificate.TopicBound.{TopicB
 
 use crate::certificate::TopicBound;
 use crate::lines::{LineFault, Lines, after, cut};
-use crate::writing::push_measure;
 use desk_model::{MeasureName, Name, NameFault, measure_of_text_is_unique, read_measure};
 use desk_text::plain;
+use number_texts::push_measure;
 use std::alloc::{AllocError, Global};
 use std::cmp::Ordering;
 

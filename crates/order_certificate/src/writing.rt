@@ -1,7 +1,7 @@
 // The text of a certificate.
-ghost use Rattle.std.specs.Prelude.{◌≡◌, ◌++◌, ◌∷◌, [], ◌+◌, All, length, drop, codes, decimal, map, flat_map, pos, IfOk, OnOk};
+ghost use Rattle.std.specs.Prelude.{◌≡◌, ◌++◌, ◌∷◌, [], ◌+◌, All, length, codes, decimal, map, flat_map, pos, IfOk, OnOk};
 ghost use Rattle.std.specs.Fmt.{signed_decimal};
-ghost use Rattle.desk_model.specs.MeasureText.{measure_text, persistence_digits};
+ghost use Rattle.desk_model.specs.MeasureText.{measure_text};
 ghost use Rattle.order_certificate.specs.Form.{ended, text_of};
 ghost use Rattle.order_certificate.specs.Certificate.{IsCertificate, IsNumber, IsWritable, certificate_text, certificate_lines, opening_lines, low_line, low_high_line, count_line, document_line, witness_lines, topics_line, evidence_lines};
 ghost use Rattle.order_certificate.specs.Places.{IsText};
@@ -10,6 +10,7 @@ ghost use Rattle.order_certificate.specs.declared.certificate.TopicBound.{TopicB
 use crate::certificate::{Certificate, Evidence, TopicBound, TopicWitness};
 use desk_model::{MeasureName, Memory, Name};
 use itoa::Buffer;
+use number_texts::push_measure;
 use std::alloc::{AllocError, Global};
 
 fn push_number(out: &mut Vec<u8>, number: usize) -> Result<(), AllocError>
@@ -23,45 +24,6 @@ fn push_signed(out: &mut Vec<u8>, number: i128) -> Result<(), AllocError>
     ensures { OnOk result (out.new.items ≡ out.old.items ++ signed_decimal number) }
 {
     out.extend_from_slice(Buffer::new().format(number).as_bytes())
-}
-
-// The text without its first byte.
-fn rest(text: &[u8]) -> &[u8]
-    ensures { result.now ≡ drop 1 text.now }
-{
-    match text {
-        [_, rest @ ..] => rest,
-        [] => text,
-    }
-}
-
-fn push_digits_after_first(out: &mut Vec<u8>, number: u64) -> Result<(), AllocError>
-    ensures { OnOk result (out.new.items ≡ out.old.items ++ drop 1 (decimal number)) }
-{
-    let mut buffer = Buffer::new();
-    let text = buffer.format(number).as_bytes();
-    out.extend_from_slice(rest(text))
-}
-
-pub(crate) fn push_measure(out: &mut Vec<u8>, measure: &MeasureName) -> Result<(), AllocError>
-    ensures { OnOk result (out.new.items ≡ out.old.items ++ measure_text measure.now) }
-{
-    match measure {
-        MeasureName::Precision(k) => {
-            out.extend_from_slice(b"P_")?;
-            push_number(out, *k as usize)
-        }
-        MeasureName::Recall(k) => {
-            out.extend_from_slice(b"recall_")?;
-            push_number(out, *k as usize)
-        }
-        MeasureName::RPrecision => out.extend_from_slice(b"Rprec"),
-        MeasureName::Reciprocal => out.extend_from_slice(b"recip_rank"),
-        MeasureName::Biased { top, bottom } => {
-            out.extend_from_slice(b"rbp_0.")?;
-            push_digits_after_first(out, *bottom as u64 + *top as u64)
-        }
-    }
 }
 
 fn push_line(out: &mut Vec<u8>, word: &[u8], rest: &[u8]) -> Result<(), AllocError>

@@ -1,0 +1,135 @@
+// The lines of a change and of a pool.
+ghost use Rattle.std.specs.Prelude.{◌≡◌, ◌<◌, ◌++◌, ◌∷◌, [], decimal, length, slice_index_or, IfOk, OnOk};
+ghost use Rattle.judge_session.specs.InForce.{book_at};
+ghost use Rattle.desk_report.specs.Table.{ended};
+ghost use Rattle.desk_report.specs.Judging.{grade_text, changed_line, pool_line};
+
+use desk_model::{Desk, Memory};
+use judge_session::Changed;
+use judgement_pool::PoolCount;
+use number_texts::{push_grade, push_number};
+use std::alloc::{AllocError, Global};
+
+// A grade in force, or `-`.
+fn push_in_force(out: &mut Vec<u8>, grade: Option<i32>) -> Result<(), AllocError>
+    ensures { OnOk result (out.new.items ≡ out.old.items ++ grade_text grade) }
+{
+    match grade {
+        Some(grade) => push_grade(out, grade),
+        None => out.extend_from_slice(b"-"),
+    }
+}
+
+fn push_names(out: &mut Vec<u8>, word: &[u8], topic: &[u8], doc: &[u8]) -> Result<(), AllocError>
+    ensures { OnOk result (out.new.items ≡ out.old.items ++ (word.now ++ 32 ∷ topic.now ++ 32 ∷ doc.now)) }
+{
+    out.extend_from_slice(word)?;
+    out.extend_from_slice(b" ")?;
+    out.extend_from_slice(topic)?;
+    out.extend_from_slice(b" ")?;
+    out.extend_from_slice(doc)
+}
+
+fn push_changed(
+    out: &mut Vec<u8>,
+    word: &[u8],
+    topic: &[u8],
+    doc: &[u8],
+    grade: Option<i32>,
+) -> Result<(), AllocError>
+    ensures { OnOk result (out.new.items ≡ out.old.items ++ ended (changed_line word.now topic.now doc.now grade)) }
+{
+    push_names(out, word, topic, doc)?;
+    out.extend_from_slice(b" ")?;
+    push_in_force(out, grade)?;
+    out.extend_from_slice(b"\n")
+}
+
+/// The line `WORD TOPIC DOC NOW` with its line feed: the names of the topic and the document of a change, whose
+/// numbers are from 0, and the document's grade in force after it, `-` where it is unjudged.
+///
+/// # Errors
+/// `Memory`: out of memory.
+pub fn changed_line(
+    alloc: Global,
+    word: &[u8],
+    desk: &Desk,
+    changed: &Changed,
+) -> Result<Vec<u8>, Memory>
+    requires topic { changed.now.topic < length desk.now.topics }
+    requires doc { changed.now.doc < length (book_at desk.now changed.now.topic).docs }
+    ensures { IfOk result (λ line. line.items
+        ≡ ended (changed_line word.now (book_at desk.now changed.now.topic).name (slice_index_or (book_at desk.now changed.now.topic).docs changed.now.doc []) changed.now.grade)) }
+{
+    let book = desk.topic(changed.topic);
+    let doc = book.doc_name(changed.doc);
+    let mut out = Vec::new(alloc);
+    match push_changed(&mut out, word, book.name(), doc, changed.grade) {
+        Ok(()) => Ok(out),
+        Err(_) => Err(Memory),
+    }
+}
+
+// A number after a space.
+fn push_next(out: &mut Vec<u8>, number: u32) -> Result<(), AllocError>
+    ensures { OnOk result (out.new.items ≡ out.old.items ++ 32 ∷ decimal number) }
+{
+    out.extend_from_slice(b" ")?;
+    push_number(out, number)
+}
+
+fn push_pool(out: &mut Vec<u8>, count: &PoolCount) -> Result<(), AllocError>
+    ensures { OnOk result (out.new.items ≡ out.old.items ++ ended (pool_line count.now)) }
+{
+    out.extend_from_slice(b"pool")?;
+    push_next(out, count.size)?;
+    push_next(out, count.judged)?;
+    push_next(out, count.relevant)?;
+    push_next(out, count.unjudged)?;
+    out.extend_from_slice(b"\n")
+}
+
+/// The line `pool SIZE JUDGED RELEVANT UNJUDGED` with its line feed.
+///
+/// # Errors
+/// `Memory`: out of memory.
+pub fn pool_line(alloc: Global, count: &PoolCount) -> Result<Vec<u8>, Memory>
+    ensures { IfOk result (λ line. line.items ≡ ended (pool_line count.now)) }
+{
+    let mut out = Vec::new(alloc);
+    match push_pool(&mut out, count) {
+        Ok(()) => Ok(out),
+        Err(_) => Err(Memory),
+    }
+}
+
+#[cfg(test)]
+mod tests {
+    use super::*;
+    use std::test::Fail;
+
+    #[test]
+    fn an_unjudged_document_has_a_minus(rt: HostRuntime) -> Result<(), Fail> {
+        let mut out = Vec::new(rt.alloc());
+        push_changed(&mut out, b"undone", b"401", b"d3", None)?;
+        push_changed(&mut out, b"judged", b"401", b"d3", Some(0))?;
+        assert_eq!(rt;
+            out.as_slice(),
+            b"undone 401 d3 -\njudged 401 d3 0\n".as_slice()
+        );
+        Ok(())
+    }
+
+    #[test]
+    fn a_pool_shows_its_four_counts(rt: HostRuntime) -> Result<(), Fail> {
+        let count = PoolCount {
+            size: 3,
+            judged: 2,
+            relevant: 1,
+            unjudged: 1,
+        };
+        let line = pool_line(rt.alloc(), &count).map_err(|_| AllocError)?;
+        assert_eq!(rt; line.as_slice(), b"pool 3 2 1 1\n".as_slice());
+        Ok(())
+    }
+}

@@ -1,0 +1,94 @@
+// The judgements in force on a topic, as lines of a judgements file.
+ghost use Rattle.std.specs.Prelude.{◌≡◌, ◌<◌, ◌++◌, flat_map, length, IfOk, OnOk};
+ghost use Rattle.judge_session.specs.InForce.{book_at};
+ghost use Rattle.desk_report.specs.Table.{ended};
+ghost use Rattle.desk_report.specs.Judging.{qrels_line, qrels_lines_of, topic_qrels_text};
+
+use desk_model::{Desk, Memory, TopicBook};
+use number_texts::push_grade;
+use std::alloc::{AllocError, Global};
+
+const UNJUDGED: i32 = -1;
+
+fn push_line(out: &mut Vec<u8>, topic: &[u8], doc: &[u8], grade: i32) -> Result<(), AllocError>
+    ensures { OnOk result (out.new.items ≡ out.old.items ++ ended (qrels_line topic.now doc.now grade)) }
+{
+    out.extend_from_slice(topic)?;
+    out.extend_from_slice(b" 0 ")?;
+    out.extend_from_slice(doc)?;
+    out.extend_from_slice(b" ")?;
+    push_grade(out, grade)?;
+    out.extend_from_slice(b"\n")
+}
+
+// The line of a document, if it has one, by its grade in the judgements file and its grade in force.
+fn push_document(
+    out: &mut Vec<u8>,
+    topic: &[u8],
+    doc: &[u8],
+    file: Option<i32>,
+    grade: Option<i32>,
+) -> Result<(), AllocError>
+    ensures { OnOk result (out.new.items ≡ out.old.items ++ flat_map ended (qrels_lines_of topic.now doc.now file grade)) }
+{
+    match (file, grade) {
+        (_, Some(grade)) => push_line(out, topic, doc, grade),
+        (Some(_), None) => push_line(out, topic, doc, UNJUDGED),
+        (None, None) => Ok(()),
+    }
+}
+
+fn push_topic(out: &mut Vec<u8>, book: &TopicBook, grades: &[Option<i32>]) -> Result<(), AllocError>
+    requires { length grades.now ≡ length book.now.docs }
+    ensures { OnOk result (out.new.items ≡ out.old.items ++ topic_qrels_text book.now grades.now) }
+{
+    for doc in 0..book.doc_count() {
+        push_document(
+            out,
+            book.name(),
+            book.doc_name(doc),
+            book.file_grade(doc),
+            grades[doc as usize],
+        )?;
+    }
+    Ok(())
+}
+
+/// The judgements in force on a topic as lines `TOPIC 0 DOC GRADE`, the documents ascending: a line for each document
+/// that the judgements file lists or whose grade in force is given, with `-1` where it is unjudged. Topics are numbered
+/// from 0, and the grades in force are by document, `None` for an unjudged one.
+///
+/// # Errors
+/// `Memory`: out of memory.
+pub fn qrels_text(
+    alloc: Global,
+    desk: &Desk,
+    topic: u32,
+    grades: &[Option<i32>],
+) -> Result<Vec<u8>, Memory>
+    requires topic { topic < length desk.now.topics }
+    requires count { length grades.now ≡ length (book_at desk.now topic).docs }
+    ensures { IfOk result (λ text. text.items ≡ topic_qrels_text (book_at desk.now topic) grades.now) }
+{
+    let mut out = Vec::new(alloc);
+    match push_topic(&mut out, desk.topic(topic), grades) {
+        Ok(()) => Ok(out),
+        Err(_) => Err(Memory),
+    }
+}
+
+#[cfg(test)]
+mod tests {
+    use super::*;
+    use std::test::Fail;
+
+    #[test]
+    fn a_listed_document_has_a_line(rt: HostRuntime) -> Result<(), Fail> {
+        let mut out = Vec::new(rt.alloc());
+        push_document(&mut out, b"401", b"d1", Some(1), None)?;
+        push_document(&mut out, b"401", b"d2", None, None)?;
+        push_document(&mut out, b"401", b"d3", None, Some(2))?;
+        assert_eq!(rt; out.as_slice(), b"401 0 d1 -1\n401 0 d3 2\n".as_slice());
+        Ok(())
+    }
+}

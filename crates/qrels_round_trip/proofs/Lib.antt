@@ -1,0 +1,10 @@
+pub mod Words
+pub mod Line
+pub mod Reading
+pub mod Text
+pub mod OneTopic
+pub mod AllTopics
+pub mod Listed
+pub mod Runs
+pub mod Universes
+pub mod Again

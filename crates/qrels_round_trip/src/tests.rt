@@ -1,0 +1,73 @@
+// A desk whose judgements are printed and read again, by hand.
+ghost use Rattle.std.specs.Prelude.{◌≡◌, ◌<◌, ◌≤◌, length, IfOk};
+ghost use Rattle.run_reader.specs.declared.limits.TheConstants.{MOST_RUN_ROWS};
+ghost use Rattle.topics_pool.specs.Rows.{total_rows};
+
+use desk_model::Desk;
+use desk_report::{changed_line, qrels_text};
+use judge_session::Changed;
+use qrels_reader::{Qrels, read_qrels};
+use run_reader::{RunRows, Used, read_run};
+use std::alloc::Global;
+use std::test::Fail;
+use topics_pool::build_desk;
+
+fn read_runs(alloc: Global, qrels: &Qrels, run: &[u8]) -> Result<Vec<RunRows>, Fail>
+    ensures one { IfOk result (λ runs. length runs.items ≡ 1) }
+    ensures rows { IfOk result (λ runs. total_rows runs.items ≤ MOST_RUN_ROWS) }
+{
+    let none = Used {
+        rows: 0,
+        name_bytes: 0,
+    };
+    let first = read_run(alloc, run, None, qrels, none)?;
+    let _ = first.used();
+    let mut runs = Vec::new(alloc);
+    runs.push(first)?;
+    Ok(runs)
+}
+
+fn desk_of(alloc: Global, qrels: &[u8], run: &[u8]) -> Result<Desk, Fail> {
+    let qrels = read_qrels(alloc, qrels)?;
+    let runs = read_runs(alloc, &qrels, run)?;
+    Ok(build_desk(alloc, qrels, runs)?)
+}
+
+// The judgements of the file on the first topic.
+fn printed(alloc: Global, desk: &Desk) -> Result<Vec<u8>, Fail> {
+    let _ = desk.topic_count();
+    let book = desk.topic(0);
+    let _ = book.doc_count();
+    Ok(qrels_text(alloc, desk, 0, book.grades())?)
+}
+
+#[test]
+fn a_printed_text_is_read_again(rt: HostRuntime) -> Result<(), Fail> {
+    let alloc = rt.alloc();
+    let run = b"401 Q0 d3 1 3.0 A\n401 Q0 d1 2 2.0 A\n402 Q0 x 1 1.0 A\n";
+    let desk = desk_of(alloc, b"401 0 d4 -1\n401 0 d1 +1\n401 0 d2 00\n", run)?;
+    let text = printed(alloc, &desk)?;
+    assert_eq!(rt;
+        text.as_slice(),
+        b"401 0 d1 1\n401 0 d2 0\n401 0 d4 -1\n".as_slice()
+    );
+    let again = desk_of(alloc, &text, run)?;
+    assert_eq!(rt; printed(alloc, &again)?.as_slice(), text.as_slice());
+    Ok(())
+}
+
+#[test]
+fn a_change_is_told_by_names(rt: HostRuntime) -> Result<(), Fail> {
+    let alloc = rt.alloc();
+    let desk = desk_of(alloc, b"401 0 d1 1\n401 0 d2 0\n", b"401 Q0 d3 1 3.0 A\n")?;
+    let _ = desk.topic_count();
+    assert!(rt; 2 < desk.topic(0).doc_count());
+    let changed = Changed {
+        topic: 0,
+        doc: 2,
+        grade: Some(2),
+    };
+    let line = changed_line(alloc, b"judged", &desk, &changed)?;
+    assert_eq!(rt; line.as_slice(), b"judged 401 d3 2\n".as_slice());
+    Ok(())
+}
