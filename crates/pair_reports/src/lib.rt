@@ -1,0 +1,6 @@
+//! A table of pairs by the name of a measure, and what is printed of it.
+#![tactic(auto)]
+
+mod reports;
+
+pub use reports::{Certified, certified_report, pair_report, table_on, table_report};
