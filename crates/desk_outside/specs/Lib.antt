@@ -1,3 +1,5 @@
 pub mod Outside
 pub mod InMemory
 pub mod Names
+pub mod Seen
+pub mod Inputs

@@ -1,0 +1,47 @@
+-- What is seen of the objects outside, before a call and after it.
+use Rattle.std.specs.Prelude.{◌≡◌, ℕ, List, Option}
+use Rattle.std.specs.Io.KnownBytes.{append_known}
+use Rattle.desk_outside.specs.Outside.{Files, AppendsPrefix}
+
+-- a shelf: its files, where they are known, the names that had been opened and those that have, and its two counts of failures
+pub record Shelf : Type 0 where
+  pub files : Option Files
+  pub had : List (List ℕ)
+  pub has : List (List ℕ)
+  pub before : ℕ
+  pub after : ℕ
+
+-- an input: what was left of it and what is, where that is known, and its two counts of failures
+pub record Source : Type 0 where
+  pub rest : Option (List ℕ)
+  pub left : Option (List ℕ)
+  pub before : ℕ
+  pub after : ℕ
+
+-- an output: what it had received and what it has, where that is known, and its two counts of failures
+pub record Sink : Type 0 where
+  pub had : Option (List ℕ)
+  pub has : Option (List ℕ)
+  pub before : ℕ
+  pub after : ℕ
+
+abbrev pub shelf : Option Files → List (List ℕ) → List (List ℕ) → ℕ → ℕ → Shelf
+shelf files had has before after = record { files = files; had = had; has = has; before = before; after = after }
+
+abbrev pub source : Option (List ℕ) → Option (List ℕ) → ℕ → ℕ → Source
+source rest left before after = record { rest = rest; left = left; before = before; after = after }
+
+abbrev pub sink : Option (List ℕ) → Option (List ℕ) → ℕ → ℕ → Sink
+sink had has before after = record { had = had; has = has; before = before; after = after }
+
+-- an output received nothing
+abbrev pub ReceivedNothing : Sink → Type 0
+ReceivedNothing out = out.has ≡ out.had
+
+-- an output received the whole text
+abbrev pub ReceivedAll : Sink → List ℕ → Type 0
+ReceivedAll out text = out.has ≡ append_known out.had text
+
+-- an output received a prefix of the text
+abbrev pub ReceivedPrefix : Sink → List ℕ → Type 0
+ReceivedPrefix out text = AppendsPrefix out.had out.has text

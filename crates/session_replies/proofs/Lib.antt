@@ -1,0 +1,6 @@
+pub mod Elsewhere
+pub mod Marks
+pub mod Following
+pub mod Tables
+pub mod Judgements
+pub mod Unique

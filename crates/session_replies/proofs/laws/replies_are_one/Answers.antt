@@ -1,0 +1,5 @@
+use Rattle.session_replies.proofs.Unique.{one_reply}
+use Rattle.session_replies.proofs.laws.replies_are_one.Goals as goal
+
+pub returns : goal.returns
+returns c = one_reply

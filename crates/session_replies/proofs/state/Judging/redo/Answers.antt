@@ -1,0 +1,46 @@
+use Rattle.std.proofs.Common.{◌≡◌, ap, sym, ◌∙◌}
+use Rattle.std.specs.Prelude.{codes}
+use Rattle.std.proofs.lemmas.Result.{IfOk-weaker}
+use Rattle.judge_session.specs.Session.{first_that, is_undone_by, redone}
+use Rattle.judge_session.specs.InForce.{grade_after, told_of, grade_in_force}
+use Rattle.judge_session.specs.declared.answers.Changed.{Changed}
+use Rattle.session_lines.specs.Request.{Asked, Redo}
+use Rattle.session_replies.specs.Replies.{change_reply, redo_reply}
+use Rattle.session_replies.specs.State.{setting_of}
+use Rattle.session_replies.proofs.Elsewhere.{not_both, redone_elsewhere}
+use Rattle.session_replies.proofs.Following.{topic_there, doc_there, followed, mapped_some}
+use Rattle.session_replies.proofs.state.Judging.redo.Goals as goal
+
+pub follow-requires-clause-topic : goal.follow-requires-clause-topic
+follow-requires-clause-topic g c = topic_there (setting_of c.args.given.now) c.topic_count-topics.ensures.desk c.args.self.now.marks c.args.self.now.session c.requires.marked c.in-Ok.changed c.in-Ok.ensures.document
+
+pub follow-requires-clause-doc : goal.follow-requires-clause-doc
+follow-requires-clause-doc g c = doc_there (setting_of c.args.given.now) c.topic_count-topics.ensures.desk c.args.self.now.marks c.args.self.now.session c.requires.marked c.in-Ok.changed c.in-Ok.ensures.document
+
+pub returns-in-Ok-clause-answers : goal.returns-in-Ok-clause-answers
+returns-in-Ok-clause-answers g c =
+    let s = setting_of c.args.given.now in
+    let old = c.args.self.now in
+    let who = c.args.who.now in
+    let told = c.in-Ok.changed in
+    let heard = Asked (Redo who) in
+    let now = c.redo.new.self in
+    let found = mapped_some (told_of s.desk now) (first_that (is_undone_by who) old.session) told c.in-Ok.ensures.told in
+    let change = found.0 in
+    let topic : change.topic ≡ told.topic = sym (ap (λ (k : Changed). k.topic) found.2) in
+    let doc : change.doc ≡ told.doc = sym (ap (λ (k : Changed). k.doc) found.2) in
+    let grade : told.grade ≡ grade_in_force s.desk told.topic told.doc now =
+    ap (λ (k : Changed). k.grade) found.2 ∙ ap (λ t. grade_in_force s.desk t change.doc now) topic ∙ ap (λ d. grade_in_force s.desk told.topic d now) doc in
+    let changes : now ≡ redone who old.session = c.in-Ok.ensures.redone in
+    IfOk-weaker c.follow.result _ _
+    (λ text line.
+    followed _ s c.topic_count-topics.ensures.desk heard old c.follow.new.self now told c.requires.marked c.in-Ok.ensures.document c.in-Ok.ensures.desk grade
+    (λ file t d apart. ap (grade_after file t d) changes ∙ redone_elsewhere t d change (not_both change.topic t change.doc d (λ e f. apart (sym topic ∙ e) (sym doc ∙ f))) who old.session file found.1)
+    c.follow.ensures.session c.follow.ensures.marks c.follow.ensures.table changes (codes "redone") text.items
+    (λ is. is
+    ∙ ap (λ t. change_reply s.desk (codes "redone") t told.doc now) (sym topic)
+    ∙ ap (λ d. change_reply s.desk (codes "redone") change.topic d now) (sym doc)
+    ∙ ap (change_reply s.desk (codes "redone") change.topic change.doc) changes
+    ∙ sym (ap (redo_reply s.desk (redone who old.session)) found.1))
+    line)
+    c.follow.ensures.line

@@ -1,0 +1,75 @@
+-- What a session keeps between its lines.
+use Rattle.std.specs.Prelude.{◌≡◌, ℕ, ◌*◌, ◌+◌, ◌≤◌, List, length, codes, Option, None, Some, IfSome}
+use Rattle.desk_model.specs.Desk.{Desk, pair_count}
+use Rattle.desk_model.specs.MeasureText.{IsMeasure}
+use Rattle.desk_model.specs.declared.types.Mark.{Mark}
+use Rattle.desk_model.specs.declared.types.MeasureName.{MeasureName}
+use Rattle.fractions.specs.declared.span.Span.{Span}
+use Rattle.measure_core.specs.declared.cell.Cell.{Cell}
+use Rattle.order_certificate.specs.Certificate.{IsLevel}
+use Rattle.judge_session.specs.InForce.{IsSessionOf}
+use Rattle.pair_reports.specs.Reports.{IsTableOn}
+use Rattle.pair_reports.specs.declared.reports.Certified.{Certified}
+use Rattle.pair_reports.specs.declared.reports.Certified.TheVariants as certified
+use Rattle.session_lines.specs.Request.{Heard, Asked, Quit}
+use Rattle.session_replies.specs.Replies.{Setting, marks_after, subject_after, changes_after, accepted, IsReply}
+use Rattle.session_replies.specs.declared.state.Judging.{Judging}
+use Rattle.session_replies.specs.declared.state.Given.{Given}
+use Rattle.session_replies.specs.declared.comparing.RunFault.{RunFault}
+use Rattle.session_replies.specs.declared.comparing.RunFault.TheVariants.{UnknownRun, SameRun}
+use Rattle.session_replies.specs.declared.replies.Reply.{Reply}
+use Rattle.session_replies.specs.declared.replies.Reply.TheVariants as replies
+
+-- what is given to a session
+abbrev pub setting_of : Given → Setting
+setting_of given = record { measure = given.measure.now; level = given.level; desk = given.desk.now }
+
+abbrev pub word_of : RunFault → List ℕ
+word_of UnknownRun = codes "UnknownRun"
+word_of SameRun = codes "SameRun"
+
+-- the text of a certificate or of a close line
+abbrev pub shown_text : Certified → List ℕ
+shown_text (certified.Certificate text) = text.items
+shown_text (certified.Close text) = text.items
+
+-- a measure that can be made and a level in range
+pub record IsSetting (s : Setting) : Type 0 where
+  pub measure : IsMeasure s.measure
+  pub level : IsLevel s.level
+
+-- the numbers of a measure: its name, its cells and its bounds
+pub record Numbers (M : Type 0) : Type 0 where
+  pub name : M → MeasureName
+  pub cell : M → List Mark → List ℕ → List ℕ → Cell
+  pub bound : M → List Mark → List ℕ → Span
+
+-- the changes are of the desk, the marks are those by the judgements in force, and a table that is there is one of these marks
+pub record IsReady {M : Type 0} (n : Numbers M) (s : Setting) (kept : Judging M) : Type 0 where
+  pub on_desk : IsSessionOf s.desk kept.session
+  pub marked : kept.marks ≡ marks_after s kept.session
+  pub table : IfSome kept.table (λ table. IsTableOn (n.name table.measure) (n.cell table.measure) (n.bound table.measure) (subject_after s kept.session) table)
+
+-- pairs times topics
+abbrev pub cells_of : Desk → ℕ
+cells_of desk = pair_count (length desk.runs) * length desk.topics
+
+-- the cells that a table costs, where none is there
+abbrev pub owed : {T : Type 0} → Desk → Option T → ℕ
+owed desk None = cells_of desk
+owed desk (Some table) = 0
+
+-- the cells that were evaluated, with those that are owed, are at most those that were owed before, and those of one table where a change was accepted
+abbrev pub CountsLine : {M : Type 0} → Setting → Heard → Judging M → Judging M → ℕ → ℕ → Type 0
+CountsLine s heard old new before after = after + owed s.desk new.table ≤ before + owed s.desk old.table + accepted s.desk heard old.session * cells_of s.desk
+
+-- a line was answered: the session is ready for the next one, the changes are those after the line, and the text is its reply
+pub record Answers {M : Type 0} (n : Numbers M) (s : Setting) (heard : Heard) (old new : Judging M) (text : List ℕ) : Type 0 where
+  pub ready : IsReady n s new
+  pub changes : new.session ≡ changes_after s.desk heard old.session
+  pub is : IsReply s old.session heard text
+
+-- the same, with the end of the session
+abbrev pub IsAnswered : {M : Type 0} → Numbers M → Setting → Heard → Judging M → Judging M → Reply → Type 0
+IsAnswered n s heard old new (replies.Text text) = Answers n s heard old new text.items × (heard ≡ Asked Quit → ⊥)
+IsAnswered n s heard old new replies.Quit = (heard ≡ Asked Quit) × IsReady n s new × (new.session ≡ old.session)

@@ -1,0 +1,108 @@
+// The reply of a session to a line.
+ghost use Rattle.std.specs.Prelude.{◌≤◌, ◌+◌, IfOk, OnErr};
+ghost use Rattle.session_lines.specs.Forms.{IsWithin};
+ghost use Rattle.session_lines.specs.Request as lines;
+ghost use Rattle.session_lines.specs.Request.{heard_of};
+ghost use Rattle.session_lines.specs.Said.{request_said};
+ghost use Rattle.session_replies.specs.State.{setting_of, IsSetting, IsReady, Answers, IsAnswered, CountsLine, owed};
+
+use crate::comparing::{certify_reply, pair_reply, table_reply};
+use crate::state::{Given, Judging};
+use crate::telling::{pool, qrels, refused};
+use desk_model::Memory;
+use measure_core::{Maker, Steps};
+use session_lines::{Heard, Request, hear};
+use std::alloc::Global;
+use std::sync::ledger::Ledger;
+
+/// What a session replies to a line.
+#[derive(Drop)]
+pub enum Reply {
+    /// This text: lines with their line feeds, and none for a line that is passed over.
+    Text(Vec<u8>),
+    /// Nothing: the line ends the session.
+    Quit,
+}
+
+// The reply to a line that asks something. The line that ends a session has an empty one.
+fn answer<P: Maker, L: Ledger>(
+    alloc: Global,
+    judging: &mut Judging<P::Made>,
+    given: &Given<'_>,
+    request: Request<'_>,
+    maker: &P,
+    steps: &mut Steps<L>,
+) -> Result<Vec<u8>, Memory>
+    requires setting { IsSetting (setting_of given.now) }
+    requires ready { IsReady (record { name = P.Made.measured; cell = P.Made.cell_of; bound = P.Made.bounds_of }) (setting_of given.now) judging.old }
+    requires within { IsWithin (request_said request) }
+    ensures answers { IfOk result (λ text. Answers (record { name = P.Made.measured; cell = P.Made.cell_of; bound = P.Made.bounds_of }) (setting_of given.now)
+        (lines.Asked (request_said request.entry)) judging.old judging.new text.items) }
+    ensures counts { CountsLine (setting_of given.now) (lines.Asked (request_said request.entry)) judging.old judging.new steps.old steps.new }
+    ensures stopped { OnErr result (steps.new ≤ steps.old + owed given.now.desk.now judging.old.table) }
+{
+    // The marks of a valid desk are one for each document.
+    let _topics = given.desk.topic_count();
+    match request {
+        Request::Judge {
+            who,
+            topic,
+            doc,
+            grade,
+        } => judging.judge(alloc, given, who, topic, doc, grade),
+        Request::Undo { who } => judging.undo(alloc, given, who),
+        Request::Redo { who } => judging.redo(alloc, given, who),
+        Request::Table => table_reply(alloc, judging, given, maker, steps),
+        Request::Pair { first, second } => {
+            pair_reply(alloc, judging, given, first, second, maker, steps)
+        }
+        Request::Certify { first, second } => {
+            certify_reply(alloc, judging, given, first, second, maker, steps)
+        }
+        Request::Pool { topic, depth } => pool(alloc, given, &judging.marks, topic, depth),
+        Request::Qrels => qrels(alloc, given.desk, &judging.session),
+        Request::Quit => Ok(Vec::new(alloc)),
+    }
+}
+
+/// The reply of a session to one line, without its line feed, by the judgements in force before it. It leaves the
+/// session ready for the next line.
+///
+/// A judgement, an undo or a redo that is accepted sets the mark of its document and gives up the table. A table is made
+/// at the first line after it that needs one: one step for each pair and topic. A line that is refused changes nothing.
+///
+/// # Errors
+/// `Memory`: out of memory. The reply is lost, and the session may stand before or after the line.
+pub fn reply_to<P: Maker, L: Ledger>(
+    alloc: Global,
+    judging: &mut Judging<P::Made>,
+    given: &Given<'_>,
+    line: &[u8],
+    maker: &P,
+    steps: &mut Steps<L>,
+) -> Result<Reply, Memory>
+    requires setting { IsSetting (setting_of given.now) }
+    requires ready { IsReady (record { name = P.Made.measured; cell = P.Made.cell_of; bound = P.Made.bounds_of }) (setting_of given.now) judging.old }
+    ensures answered { IfOk result (IsAnswered (record { name = P.Made.measured; cell = P.Made.cell_of; bound = P.Made.bounds_of }) (setting_of given.now)
+        (heard_of line.now) judging.old judging.new) }
+    ensures counts { CountsLine (setting_of given.now) (heard_of line.now) judging.old judging.new steps.old steps.new }
+    // Where memory runs out, at most the cells that were owed are evaluated.
+    ensures stopped { OnErr result (steps.new ≤ steps.old + owed given.now.desk.now judging.old.table) }
+{
+    match hear(line) {
+        Heard::Blank => Ok(Reply::Text(Vec::new(alloc))),
+        Heard::TooLong => {
+            let text = refused(alloc, b"LineTooLong")?;
+            Ok(Reply::Text(text))
+        }
+        Heard::Bad => {
+            let text = refused(alloc, b"BadLine")?;
+            Ok(Reply::Text(text))
+        }
+        Heard::Asked(Request::Quit) => Ok(Reply::Quit),
+        Heard::Asked(request) => {
+            let text = answer(alloc, judging, given, request, maker, steps)?;
+            Ok(Reply::Text(text))
+        }
+    }
+}

@@ -1,0 +1,52 @@
+// What a session is over, and what it keeps between its lines.
+ghost use Rattle.std.specs.Prelude.{◌≡◌, [], None, IfOk};
+ghost use Rattle.desk_model.specs.declared.types.MeasureName.{MeasureName as N};
+ghost use Rattle.session_replies.specs.Replies.{Setting};
+ghost use Rattle.session_replies.specs.State.{IsReady};
+
+use desk_model::{Desk, Marks, MeasureName, Memory};
+use judge_session::Session;
+use measure_core::Measure;
+use pair_table::Table;
+use std::alloc::Global;
+
+/// What a session is over.
+#[derive(Clone, Copy)]
+pub struct Given<'a> {
+    pub desk: &'a Desk,
+    pub measure: &'a MeasureName,
+    /// The least grade that is relevant, 1 to 1,000.
+    pub level: u32,
+}
+
+/// What a session keeps between its lines: the changes so far, the marks of the documents by the judgements in force,
+/// and a table of these marks, where one was asked for since the last change.
+#[derive(Drop)]
+pub struct Judging<M: Measure> {
+    pub session: Session,
+    pub marks: Marks,
+    pub table: Option<Table<M>>,
+}
+
+impl<M: Measure> Judging<M> {
+    /// A session before its first line: nothing was judged, and the marks are those of the judgements file. The level
+    /// is the least grade that is relevant.
+    ///
+    /// # Errors
+    /// `Memory`: out of memory.
+    pub fn new(alloc: Global, desk: &Desk, level: u32) -> Result<Judging<M>, Memory>
+        ensures session { IfOk result (λ judging. judging.session ≡ []) }
+        ensures table { IfOk result (λ judging. judging.table ≡ None) }
+        ensures ready { IfOk result (λ judging. (measure : N) →
+            IsReady (record { name = M.measured; cell = M.cell_of; bound = M.bounds_of }) (record { measure = measure; level = level; desk = desk.now }) judging) }
+    {
+        // The grades of a valid desk are one for each document.
+        let _topics = desk.topic_count();
+        let marks = Marks::of_file(alloc, desk, level)?;
+        Ok(Judging {
+            session: Session::new(alloc),
+            marks,
+            table: None,
+        })
+    }
+}
