@@ -4,4 +4,5 @@ pub mod Rounding
 pub mod Pairing
 pub mod Lines
 pub mod Others
+pub mod Qrels
 pub mod Truths

@@ -1,11 +1,12 @@
 -- Each line of a table is true.
 use Rattle.std.proofs.Common.{◌≡◌, ℕ, ◌*◌, ◌<◌, List, [], ◌∷◌, ◌++◌, length, take, get_or, refl, ap, sym, subst, ◌∙◌, arith, rules, append_assoc, pos, ◌*ℤ◌, Some}
-use Rattle.std.specs.Prelude.{◌==◌, if◌then◌else◌, codes, decimal, slice_get, All, flat_map, true}
+use Rattle.std.specs.Prelude.{◌==◌, if◌then◌else◌, codes, decimal, slice_get, slice_index_or, All, flat_map, true}
 use Rattle.std.specs.List.{AllZip, AllByRecursion}
 use Rattle.std.proofs.lemmas.Bool.{eqb-false}
-use Rattle.std.proofs.lemmas.List.Elements.{All-from_recursion, recursion_from_All}
+use Rattle.std.proofs.lemmas.List.Elements.{All-get_or, All-from_recursion, recursion_from_All}
+use Rattle.std.proofs.lemmas.Option.{slice_get-get_or}
 use Rattle.std.proofs.Math.Nat.{mul-pos}
-use Rattle.desk_text.specs.Lines.{fields_of}
+use Rattle.desk_text.specs.Lines.{fields_of, whole_lines}
 use Rattle.desk_model.specs.Name.{is_name}
 use Rattle.desk_model.specs.Desk.{Desk, IsDesk, AreMarksOf, topics_under}
 use Rattle.desk_model.specs.Extremes.{IsAtMostScore, IsAtLeastScore}
@@ -28,14 +29,13 @@ use Rattle.pair_table.specs.Orders.{HoldsOfPair, HoldsOfRun, ForEachPair, ForEac
 use Rattle.fractions.specs.Numbers.{floor_of, ceiling_of}
 use Rattle.desk_report.specs.Means.{decimal_text}
 use Rattle.desk_report.specs.Table.{word_of, run_line, pair_line, head_lines, run_lines, pair_lines, ended, table_lines, table_text}
-use Rattle.printed_claims.specs.Received.{whole_lines}
 use Rattle.printed_claims.specs.Claims.{HoldsByName, HoldsByNames, SaysExactly, EnclosesDifference, EnclosesMean, IsPairLine, IsRunLine, IsTrueLine, ForEachLine}
 use Rattle.printed_claims.proofs.Spelling.{AreInk, AreInLine, IsWord, ink_in_line, in_line-append, in_line-spaced, fields_word, fields_last, whole_lines-take, whole_lines-of_ended}
 use Rattle.printed_claims.proofs.Texts.{decimal_ink, decimal_text_word, measure_ink, name_word, verdict_word}
 use Rattle.printed_claims.proofs.Rounding.{printed_low, printed_high}
 use Rattle.printed_claims.proofs.Pairing.{all-append, all_prefix, all_weaker, both, each_line, AlikePairs, paired, numbered_from_0}
 
-word : (w : List ℕ) (filled : 0 < length w) (ink : AreInk w) → IsWord w
+pub word : (w : List ℕ) (filled : 0 < length w) (ink : AreInk w) → IsWord w
 word w filled ink = record { filled = filled; ink = ink }
 
 -- a field of a line
@@ -139,25 +139,29 @@ pair_not_run : codes "pair" ≡ codes "run" → ⊥
 pair_not_run e = eqb-false 112 114 refl (ap (λ w. get_or w 0 0) e)
 
 module _ (name : MeasureName) (desk : Desk) (marks : List (List Mark)) where
-  head_line : (first rest : List ℕ) → IsWord first → AreInk rest → (first ≡ codes "pair" → ⊥) → (first ≡ codes "run" → ⊥) → IsSound name desk marks (first ++ 32 ∷ rest)
-  head_line first rest w ink no_pair no_run =
+  -- a line whose first word is neither claims nothing of runs
+  pub worded_line : (first rest : List ℕ) → IsWord first → AreInLine rest → (first ≡ codes "pair" → ⊥) → (first ≡ codes "run" → ⊥) → IsSound name desk marks (first ++ 32 ∷ rest)
+  worded_line first rest w line no_pair no_run =
       let own = fields_word first rest w in (
-        in_line-spaced first rest (ink_in_line first w.ink) (ink_in_line rest ink),
-        other_line name desk marks (first ++ 32 ∷ rest) (λ f s g l h e. no_pair (ap (field 0) (sym own ∙ e))) (λ r l h e. absurd (no_run (ap (field 0) (sym own ∙ e)))),
+        in_line-spaced first rest (ink_in_line first w.ink) line,
+        other_line name desk marks (first ++ 32 ∷ rest) (λ f s g l h e. no_pair (ap (field 0) (sym own ∙ e))) (λ r l h e. absurd (no_run (ap (field 0) (sym own ∙ e.0)))),
       )
+
+  number_in_line : (n : ℕ) → AreInLine (decimal n)
+  number_in_line n = ink_in_line (decimal n) (decimal_ink n)
 
   head_sound : (level topics runs : ℕ) → AllByRecursion (IsSound name desk marks) (head_lines name level topics runs)
   head_sound level topics runs = (
-    head_line (codes "measure") (measure_text name) (word _ (omega arith) (search rules)) (measure_ink name)
+    worded_line (codes "measure") (measure_text name) (word _ (omega arith) (search rules)) (ink_in_line (measure_text name) (measure_ink name))
         (λ e. eqb-false 109 112 refl (ap (λ w. get_or w 0 0) e)) (λ e. eqb-false 109 114 refl (ap (λ w. get_or w 0 0) e)),
     (
-      head_line (codes "level") (decimal level) (word _ (omega arith) (search rules)) (decimal_ink level)
+      worded_line (codes "level") (decimal level) (word _ (omega arith) (search rules)) (number_in_line level)
           (λ e. eqb-false 108 112 refl (ap (λ w. get_or w 0 0) e)) (λ e. eqb-false 108 114 refl (ap (λ w. get_or w 0 0) e)),
       (
-        head_line (codes "topics") (decimal topics) (word _ (omega arith) (search rules)) (decimal_ink topics)
+        worded_line (codes "topics") (decimal topics) (word _ (omega arith) (search rules)) (number_in_line topics)
             (λ e. eqb-false 116 112 refl (ap (λ w. get_or w 0 0) e)) (λ e. eqb-false 116 114 refl (ap (λ w. get_or w 0 0) e)),
         (
-          head_line (codes "runs") (decimal runs) (word _ (omega arith) (search rules)) (decimal_ink runs)
+          worded_line (codes "runs") (decimal runs) (word _ (omega arith) (search rules)) (number_in_line runs)
               (λ e. eqb-false 114 112 refl (ap (λ w. get_or w 0 0) e)) (λ e. eqb-false 115 0 refl (ap (λ w. get_or w 3 0) e)),
           tt,
         ),
@@ -194,7 +198,7 @@ module _ (name : MeasureName) (desk : Desk) (marks : List (List Mark)) where
       let bounds = in_line-spaced lo hi (ink_in_line lo wl.ink) (ink_in_line hi wh.ink) in (
         in_line-spaced (codes "run " ++ text) (lo ++ 32 ∷ hi) (in_line-append (codes "run ") text (search rules) (ink_in_line text named.1.ink)) bounds,
         other_line name desk marks (run_line parts text s) (λ f w g l k e. pair_not_run (sym (ap (field 0) (sym own ∙ e))))
-            (λ r l k e. let both_are = sym own ∙ e in
+            (λ r l k e. let both_are = sym own ∙ e.0 in
             record {
               run = run;
               named = named.0 ∙ ap Some (ap (field 1) both_are);
@@ -254,11 +258,11 @@ module _ (name : MeasureName) (desk : Desk) (marks : List (List Mark)) where
           pair_bounds = λ f w s l u e. let is = sym own ∙ e in
               named_runs a b x y f s _ na.0 nb.0 (ap (field 1) is) (ap (field 3) is)
               (subst (λ v. EnclosesDifference name topics v u a b) (ap (field 4) is) (subst (λ v. EnclosesDifference name topics lo v a b) (ap (field 5) is) (encloses_difference parts a b t some same h.0)));
-          run_bounds = λ r l u e. absurd (pair_not_run (ap (field 0) (sym own ∙ e)));
+          run_bounds = λ r l u e. absurd (pair_not_run (ap (field 0) (sym own ∙ e.0)));
         },
       )
 
--- ---- all lines
+-- ---- the line of two runs
 unit_positive : (name : MeasureName) → IsMeasure name → 0 < unit_of name
 unit_positive (Precision k) h = omega (arith, h.0)
 unit_positive (Recall k) h = omega arith
@@ -266,6 +270,22 @@ unit_positive RPrecision h = omega arith
 unit_positive Reciprocal h = omega arith
 unit_positive (Biased top bottom) h = omega arith
 
+parts_under : (name : MeasureName) (desk : Desk) (marks : List (List Mark)) → AreMarksOf desk marks → unit_of name * length desk.topics ≡ unit_of name * length (topics_under desk marks)
+parts_under name desk marks marked = ap (λ n. unit_of name * n) (sym (length-topics_under desk marks marked))
+
+some_parts : (name : MeasureName) (desk : Desk) → IsMeasure name → IsDesk desk → 0 < unit_of name * length desk.topics
+some_parts name desk measure valid = mul-pos (unit_positive name measure) valid.some_topic
+
+named_at : (name : MeasureName) (desk : Desk) (marks : List (List Mark)) (run : ℕ) → IsDesk desk → run < length desk.runs → IsNamed name desk marks run (slice_index_or desk.runs run [])
+named_at name desk marks run valid within = (slice_get-get_or desk.runs run [] within, name_word (slice_index_or desk.runs run []) (All-get_or (λ text. is_name text ≡ true) desk.runs run [] within valid.named))
+
+pub two_runs_sound : (name : MeasureName) (desk : Desk) (marks : List (List Mark)) (a b : ℕ) (totals : Totals) → IsMeasure name → IsDesk desk → AreMarksOf desk marks → a < length desk.runs → b < length desk.runs →
+    HoldsOnLine name desk marks a b totals → IsSound name desk marks (pair_line (unit_of name * length desk.topics) (slice_index_or desk.runs a []) (slice_index_or desk.runs b []) totals)
+two_runs_sound name desk marks a b totals measure valid marked in_a in_b h =
+    pair_sound name desk marks (unit_of name * length desk.topics) a b (slice_index_or desk.runs a []) (slice_index_or desk.runs b []) totals
+    (some_parts name desk measure valid) (parts_under name desk marks marked) (named_at name desk marks a valid in_a) (named_at name desk marks b valid in_b) h
+
+-- ---- all lines
 pub table_sound : (name : MeasureName) (desk : Desk) (marks : List (List Mark)) (level : ℕ) (bounds : List Span) (totals : List Totals) → IsMeasure name → IsDesk desk → AreMarksOf desk marks →
     AllZip (λ run s. HoldsOfRun name (topics_under desk marks) run s) (run_numbers (length desk.runs)) bounds →
     AllZip (λ pair t. HoldsOnLine name desk marks pair.0 pair.1 t) (pairs_of (run_numbers (length desk.runs))) totals →
@@ -273,8 +293,8 @@ pub table_sound : (name : MeasureName) (desk : Desk) (marks : List (List Mark)) 
 unfolding table_lines
 table_sound name desk marks level bounds totals measure valid marked runs pairs =
     let parts : ℕ = unit_of name * length desk.topics in
-    let same : parts ≡ unit_of name * length (topics_under desk marks) = ap (λ n. unit_of name * n) (sym (length-topics_under desk marks marked)) in
-    let some : 0 < parts = mul-pos (unit_positive name measure) valid.some_topic in
+    let same : parts ≡ unit_of name * length (topics_under desk marks) = parts_under name desk marks marked in
+    let some : 0 < parts = some_parts name desk measure valid in
     let words = all_weaker (λ run. is_name run ≡ true) IsWord desk.runs name_word (recursion_from_All (λ run. is_name run ≡ true) desk.runs valid.named) in
     let names = numbered_from_0 IsWord desk.runs words in
     let head = head_sound name desk marks level (length desk.topics) (length desk.runs) in
@@ -286,15 +306,18 @@ table_sound name desk marks level bounds totals measure valid marked runs pairs 
     all-append (IsSound name desk marks) (head_lines name level (length desk.topics) (length desk.runs) ++ run_lines parts desk.runs bounds) (pair_lines parts desk.runs totals)
     (all-append (IsSound name desk marks) (head_lines name level (length desk.topics) (length desk.runs)) (run_lines parts desk.runs bounds) head each_run) each_pair
 
+-- what holds of lines holds of the whole lines of any prefix of their text
+pub prefix_all : (P : List ℕ → Type 0) (lines : List (List ℕ)) (n : ℕ) → AllByRecursion AreInLine lines → AllByRecursion P lines → AllByRecursion P (whole_lines (take n (flat_map ended lines)))
+prefix_all P lines n in_line h =
+    let cut = whole_lines-take (flat_map ended lines) n in
+    all_prefix P (whole_lines (take n (flat_map ended lines))) cut.0 (subst (AllByRecursion P) (sym (whole_lines-of_ended lines in_line) ∙ cut.1) h)
+
 -- the whole lines of any prefix of sound lines
 pub prefix_true : (name : MeasureName) (desk : Desk) (marks : List (List Mark)) (lines : List (List ℕ)) (n : ℕ) → AllByRecursion (IsSound name desk marks) lines →
     All (IsTrueLine name desk marks) (whole_lines (take n (flat_map ended lines)))
 prefix_true name desk marks lines n h =
-    let cut = whole_lines-take (flat_map ended lines) n in
-    let whole = whole_lines-of_ended lines (all_weaker (IsSound name desk marks) AreInLine lines (λ line s. s.0) h) in
-    let true_lines = all_weaker (IsSound name desk marks) (IsTrueLine name desk marks) lines (λ line s. s.1) h in
     All-from_recursion (IsTrueLine name desk marks) (whole_lines (take n (flat_map ended lines)))
-    (all_prefix (IsTrueLine name desk marks) (whole_lines (take n (flat_map ended lines))) cut.0 (subst (AllByRecursion (IsTrueLine name desk marks)) (sym whole ∙ cut.1) true_lines))
+    (prefix_all (IsTrueLine name desk marks) lines n (all_weaker (IsSound name desk marks) AreInLine lines (λ line s. s.0) h) (all_weaker (IsSound name desk marks) (IsTrueLine name desk marks) lines (λ line s. s.1) h))
 
 pub printed_lines : ForEachPair HoldsOfPair → ForEachRun HoldsOfRun → ForEachPair (λ name topics a b t. (k : ℕ) → name ≡ Precision k → IsExactVerdict name topics a b (verdict t)) → ForEachLine IsTrueLine
 unfolding table_text

@@ -1,4 +1,4 @@
--- Lines that are none of a table: those of a certificate, and the close line.
+-- Lines that are none of a table: those of a certificate, the close line, the answer of a check, and replies of a session.
 use Rattle.std.proofs.Common.{◌≡◌, ℕ, suc, ◌<◌, List, [], ◌∷◌, ◌++◌, length, get_or, refl, ap, sym, subst, inl, inr, ◌∙◌, arith, rules, ℤ, pos, negsuc}
 use Rattle.std.specs.Prelude.{codes, decimal, filter, map, flat_map, true}
 use Rattle.std.specs.List.{AllByRecursion}
@@ -19,11 +19,11 @@ use Rattle.order_certificate.specs.declared.certificate.Evidence.{Evidence}
 use Rattle.order_certificate.specs.declared.certificate.Evidence.TheVariants.{Above, Equal, Open}
 use Rattle.order_certificate.specs.declared.certificate.TopicBound.{TopicBound}
 use Rattle.order_certificate.specs.declared.certificate.TopicWitness.{TopicWitness}
-use Rattle.printed_claims.specs.Claims.{IsAnswerWord, IsInLine}
-use Rattle.printed_claims.proofs.Spelling.{AreInLine, fields_word, piece_on, kept, ink_in_line, in_line-append, in_line-spaced}
+use Rattle.printed_claims.specs.Claims.{IsAnswerWord, IsInLine, IsReplyWord}
+use Rattle.printed_claims.proofs.Spelling.{AreInLine, IsWord, piece_on, kept, ink_in_line, in_line-append, in_line-spaced}
 use Rattle.printed_claims.proofs.Texts.{decimal_ink, measure_ink, name_word}
 use Rattle.printed_claims.proofs.Pairing.{all-append}
-use Rattle.printed_claims.proofs.Lines.{IsSound, other_line, field}
+use Rattle.printed_claims.proofs.Lines.{IsSound, word, other_line, worded_line, field}
 
 -- ---- a line's first byte is that of its first field
 first_kept : (b : ℕ) (ps : List (List ℕ)) → get_or (field 0 (filter is_filled (onto_first b ps))) 0 0 ≡ b
@@ -45,7 +45,7 @@ module _ (name : MeasureName) (desk : Desk) (marks : List (List Mark)) where
     line,
     other_line name desk marks (b ∷ bs)
         (λ f s g l h e. no_pair (sym (first_byte b bs ink) ∙ ap (λ fs. get_or (field 0 fs) 0 0) e))
-        (λ r l h e. absurd (no_run (sym (first_byte b bs ink) ∙ ap (λ fs. get_or (field 0 fs) 0 0) e))),
+        (λ r l h e. absurd (no_run (sym (first_byte b bs ink) ∙ ap (λ fs. get_or (field 0 fs) 0 0) e.0))),
   )
 
   -- ---- numbers and names in a line
@@ -138,18 +138,14 @@ module _ (name : MeasureName) (desk : Desk) (marks : List (List Mark)) where
       (in_line-append ((codes "close " ++ first) ++ 32 ∷ second) (sums_text t) (in_line-spaced (codes "close " ++ first) second (in_line-append (codes "close ") first (search rules) (name_in_line first f)) (name_in_line second s)) (sums_in_line t))
 
   -- ---- the answer of a check
-  rejected_sound : (rest : List ℕ) → AreInLine rest → IsSound name desk marks (codes "rejected" ++ 32 ∷ rest)
-  rejected_sound rest line =
-      let own = fields_word (codes "rejected") rest (record { filled = omega arith; ink = search rules }) in (
-        in_line-spaced (codes "rejected") rest (search rules) line,
-        other_line name desk marks (codes "rejected" ++ 32 ∷ rest)
-            (λ f s g l h e. eqb-false 114 112 refl (ap (λ fs. get_or (field 0 fs) 0 0) (sym own ∙ e)))
-            (λ r l h e. absurd (eqb-false 101 117 refl (ap (λ fs. get_or (field 0 fs) 1 0) (sym own ∙ e)))),
-      )
-
   in_line_of : (bytes : List ℕ) → IsInLine bytes → AreInLine bytes
   in_line_of [] h = tt
   in_line_of (b ∷ bs) h = (h.0, in_line_of bs h.1)
+
+  rejected_sound : (rest : List ℕ) → AreInLine rest → IsSound name desk marks (codes "rejected" ++ 32 ∷ rest)
+  rejected_sound rest line =
+      worded_line name desk marks (codes "rejected") rest (word _ (omega arith) (search rules)) line
+      (λ e. eqb-false 114 112 refl (ap (λ w. get_or w 0 0) e)) (λ e. eqb-false 101 117 refl (ap (λ w. get_or w 1 0) e))
 
   accepted_more : (rest : List ℕ) → AreInLine rest → IsSound name desk marks (codes "accepted" ++ rest)
   accepted_more rest line = other_sound 97 _ (omega arith) (λ e. omega (arith, e)) (λ e. omega (arith, e)) (in_line-append (codes "accepted") rest (search rules) line)
@@ -157,3 +153,38 @@ module _ (name : MeasureName) (desk : Desk) (marks : List (List Mark)) where
   pub answer_sound : (word rest : List ℕ) → IsAnswerWord word → IsInLine rest → IsSound name desk marks (word ++ rest)
   answer_sound word rest (inl is) line = subst (λ w. IsSound name desk marks (w ++ rest)) (sym is) (accepted_more rest (in_line_of rest line))
   answer_sound word rest (inr is) line = subst (λ w. IsSound name desk marks (w ++ rest)) (sym is) (rejected_sound rest (in_line_of rest line))
+
+  -- ---- the reply of a session
+  -- a word that begins neither a pair line nor a run line
+  abbrev IsOtherWord : List ℕ → Type 0
+  IsOtherWord w = IsWord w × (w ≡ codes "pair" → ⊥) × (w ≡ codes "run" → ⊥)
+
+  reply_word : (w : List ℕ) → IsReplyWord w → IsOtherWord w
+  reply_word w (inl is) = subst IsOtherWord (sym is) (
+    word (codes "judged") (omega arith) (search rules),
+    λ e. eqb-false 106 112 refl (ap (λ w. get_or w 0 0) e),
+    λ e. eqb-false 106 114 refl (ap (λ w. get_or w 0 0) e),
+  )
+  reply_word w (inr (inl is)) = subst IsOtherWord (sym is) (
+    word (codes "undone") (omega arith) (search rules),
+    λ e. eqb-false 117 112 refl (ap (λ w. get_or w 0 0) e),
+    λ e. eqb-false 117 114 refl (ap (λ w. get_or w 0 0) e),
+  )
+  reply_word w (inr (inr (inl is))) = subst IsOtherWord (sym is) (
+    word (codes "redone") (omega arith) (search rules),
+    λ e. eqb-false 114 112 refl (ap (λ w. get_or w 0 0) e),
+    λ e. eqb-false 101 117 refl (ap (λ w. get_or w 1 0) e),
+  )
+  reply_word w (inr (inr (inr (inl is)))) = subst IsOtherWord (sym is) (
+    word (codes "pool") (omega arith) (search rules),
+    λ e. eqb-false 111 97 refl (ap (λ w. get_or w 1 0) e),
+    λ e. eqb-false 112 114 refl (ap (λ w. get_or w 0 0) e),
+  )
+  reply_word w (inr (inr (inr (inr is)))) = subst IsOtherWord (sym is) (
+    word (codes "no") (omega arith) (search rules),
+    λ e. eqb-false 110 112 refl (ap (λ w. get_or w 0 0) e),
+    λ e. eqb-false 110 114 refl (ap (λ w. get_or w 0 0) e),
+  )
+
+  pub reply_sound : (w rest : List ℕ) → IsReplyWord w → IsInLine rest → IsSound name desk marks (w ++ 32 ∷ rest)
+  reply_sound w rest is line = let other = reply_word w is in worded_line name desk marks w rest other.0 (in_line_of rest line) other.1 other.2

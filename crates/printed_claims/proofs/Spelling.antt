@@ -3,9 +3,8 @@ use Rattle.std.proofs.Common.{◌≡◌, ℕ, zero, suc, ◌<◌, ◌≤◌, Lis
 use Rattle.std.specs.Prelude.{Bool, ◌||◌, ◌==◌, filter, flat_map}
 use Rattle.std.specs.List.{AllByRecursion}
 use Rattle.std.proofs.lemmas.Bool.{ne_eqb, lt-ltb}
-use Rattle.desk_text.specs.Lines.{onto_first, is_separator, pieces, is_filled, fields_of}
+use Rattle.desk_text.specs.Lines.{onto_first, is_separator, pieces, is_filled, fields_of, onto_whole, whole_lines}
 use Rattle.desk_report.specs.Table.{ended}
-use Rattle.printed_claims.specs.Received.{onto_whole, whole_lines}
 
 -- bytes above the space
 abbrev pub AreInk : List ℕ → Type 0
@@ -77,7 +76,7 @@ whole_lines-take (b ∷ bs) (suc n) = by_test (b == 10) (whole_lines (take n bs)
     by_test false [] h = (onto_whole b (whole_lines bs), refl)
     by_test false (l ∷ ls) h = (h.0, ap (onto_whole b) h.1)
 
-whole_lines-ended : (l rest : List ℕ) → AreInLine l → whole_lines (ended l ++ rest) ≡ l ∷ whole_lines rest
+pub whole_lines-ended : (l rest : List ℕ) → AreInLine l → whole_lines (ended l ++ rest) ≡ l ∷ whole_lines rest
 whole_lines-ended [] rest h = refl
 whole_lines-ended (b ∷ bs) rest h =
     ap (λ t. cond t ([] ∷ whole_lines (ended bs ++ rest)) (onto_whole b (whole_lines (ended bs ++ rest)))) (ne_eqb b 10 (λ e. omega (arith, h.0)))

@@ -1,14 +1,16 @@
 -- What was received of a printed text is true.
-use Rattle.std.proofs.Common.{◌≡◌, ℕ, zero, suc, List, [], ◌∷◌, ◌++◌, take, drop, get_or, refl, ap, sym, subst, ◌∙◌, arith, append-nil, append_assoc, inl, inr, ℤ, pos}
-use Rattle.std.specs.Prelude.{All, codes}
+use Rattle.std.proofs.Common.{◌≡◌, ℕ, zero, suc, List, [], ◌∷◌, ◌++◌, take, drop, get_or, refl, ap, sym, subst, ◌∙◌, arith, ◌*◌, length, append-nil, inl, inr, rules, ℤ, pos}
+use Rattle.std.specs.Prelude.{All, codes, flat_map, slice_index_or}
+use Rattle.std.specs.List.{AllByRecursion}
 use Rattle.std.proofs.lemmas.List.{take-append-drop}
 use Rattle.desk_model.specs.Desk.{Desk}
 use Rattle.desk_model.specs.Verdict.{verdict, IsExactVerdict}
+use Rattle.desk_model.specs.declared.types.Mark.{Mark}
 use Rattle.desk_model.specs.declared.types.MeasureName.{MeasureName}
 use Rattle.desk_model.specs.declared.types.MeasureName.TheVariants.{Precision}
 use Rattle.desk_model.specs.declared.types.Totals.{Totals}
 use Rattle.desk_report.specs.Close.{close_line}
-use Rattle.desk_report.specs.Table.{table_text, table_lines, ended}
+use Rattle.desk_report.specs.Table.{pair_line, table_text, table_lines, ended}
 use Rattle.order_certificate.specs.Certificate.{IsCertificate, certificate_lines, certificate_text}
 use Rattle.order_certificate.specs.Claim.{ClaimHolds}
 use Rattle.order_certificate.specs.Evidence.{ForEvidence}
@@ -16,11 +18,14 @@ use Rattle.order_certificate.specs.Places.{IsText}
 use Rattle.order_certificate.specs.declared.certificate.Certificate.{Certificate}
 use Rattle.fractions.specs.declared.span.Span.{Span}
 use Rattle.measure_laws.specs.Measures.{unit_of}
-use Rattle.pair_table.specs.Orders.{HoldsOfPair, HoldsOfRun, ForEachPair, ForEachRun}
-use Rattle.printed_claims.specs.Received.{whole_lines}
-use Rattle.printed_claims.specs.Claims.{IsTrueLine, TablesAreTrue, CertificatesAreTrue, CloseLinesAreTrue, IsAnswerWord, AnswerLinesAreTrue}
-use Rattle.printed_claims.proofs.Lines.{printed_lines, prefix_true}
-use Rattle.printed_claims.proofs.Others.{certificate_sound, close_sound, answer_sound}
+use Rattle.pair_table.specs.Orders.{HoldsOfPair, HoldsOfRun, ForEachPair, ForTwoRuns, ForEachRun}
+use Rattle.desk_text.specs.Lines.{whole_lines}
+use Rattle.printed_claims.specs.Claims.{IsTrueLine, IsTrueText, TablesAreTrue, PairLinesAreTrue, CertificatesAreTrue, CloseLinesAreTrue, IsAnswerWord, AnswerLinesAreTrue, IsReplyWord, ReplyLinesAreTrue, QrelsTextsAreTrue, NoTextIsTrue}
+use Rattle.printed_claims.proofs.Spelling.{AreInLine, whole_lines-ended}
+use Rattle.printed_claims.proofs.Pairing.{all_weaker}
+use Rattle.printed_claims.proofs.Lines.{IsSound, two_runs_sound, printed_lines, prefix_all, prefix_true}
+use Rattle.printed_claims.proofs.Others.{certificate_sound, close_sound, answer_sound, reply_sound}
+use Rattle.printed_claims.proofs.Qrels.{HasFourFields, qrels_lines, text_of_lines, IsQrelsLine, qrels_sound}
 
 -- a text is written as its certificate is
 abbrev AreWritten : Type 0
@@ -63,21 +68,75 @@ certificates_true written texts holds alone c desk marks received is valid marke
         let same : d ≡ c = (alone (take received (certificate_text c)) (drop received (certificate_text c)) d c t joined).1 in
         (ap (λ (z : Certificate). z.measure) same, subst (λ z. ClaimHolds z desk marks) (sym same) (holds c desk marks is.measure valid marked evidence))
 
-pub close_true : AreWritten → CloseLinesAreTrue
-close_true written name desk marks first second totals received f s = record {
-  lines = subst (λ text. All (IsTrueLine name desk marks) (whole_lines (take received text))) (append-nil (ended (close_line first second totals)))
-      (prefix_true name desk marks (close_line first second totals ∷ []) received (close_sound name desk marks first second totals f s, tt));
-  claim = λ c t. absurd (no_certificate written (ended (close_line first second totals)) received c (λ e. let two : 99 ≡ 100 = e in omega (arith, two)) t);
-}
+-- a line of its own that begins with another byte than a certificate
+module _ (written : AreWritten) (name : MeasureName) (desk : Desk) (marks : List (List Mark)) where
+  line_true : (line : List ℕ) (received : ℕ) → IsSound name desk marks line → (get_or (ended line) 0 0 ≡ 100 → ⊥) → IsTrueText name desk marks (take received (ended line))
+  line_true line received sound other = record {
+    lines = subst (λ text. All (IsTrueLine name desk marks) (whole_lines (take received text))) (append-nil (ended line)) (prefix_true name desk marks (line ∷ []) received (sound, tt));
+    claim = λ c t. absurd (no_certificate written (ended line) received c other t);
+  }
 
--- the line of an answer begins with another byte than a certificate
-answer_begins : (word rest : List ℕ) → IsAnswerWord word → get_or (word ++ rest) 0 0 ≡ 100 → ⊥
-answer_begins word rest (inl is) e = let first : 97 ≡ 100 = ap (λ w. get_or (w ++ rest) 0 0) (sym is) ∙ e in omega (arith, first)
-answer_begins word rest (inr is) e = let first : 114 ≡ 100 = ap (λ w. get_or (w ++ rest) 0 0) (sym is) ∙ e in omega (arith, first)
+pub pairs_true : ForTwoRuns HoldsOfPair → ForTwoRuns (λ name topics a b t. (k : ℕ) → name ≡ Precision k → IsExactVerdict name topics a b (verdict t)) → AreWritten → PairLinesAreTrue
+pairs_true sums exact written name desk marks a b totals received measure valid marked in_a in_b apart numbers =
+    line_true written name desk marks (pair_line (unit_of name * length desk.topics) (slice_index_or desk.runs a []) (slice_index_or desk.runs b []) totals) received
+    (two_runs_sound name desk marks a b totals measure valid marked in_a in_b
+    (sums name desk marks a b totals measure valid marked in_a in_b apart numbers, exact name desk marks a b totals measure valid marked in_a in_b apart numbers))
+    (λ e. let two : 112 ≡ 100 = e in omega (arith, two))
+
+pub close_true : AreWritten → CloseLinesAreTrue
+close_true written name desk marks first second totals received f s =
+    line_true written name desk marks (close_line first second totals) received (close_sound name desk marks first second totals f s) (λ e. let two : 99 ≡ 100 = e in omega (arith, two))
+
+-- the lines of an answer and of a reply begin with another byte than a certificate
+answer_begins : (word rest : List ℕ) → IsAnswerWord word → get_or (ended (word ++ rest)) 0 0 ≡ 100 → ⊥
+answer_begins word rest (inl is) e = let first : 97 ≡ 100 = ap (λ w. get_or (ended (w ++ rest)) 0 0) (sym is) ∙ e in omega (arith, first)
+answer_begins word rest (inr is) e = let first : 114 ≡ 100 = ap (λ w. get_or (ended (w ++ rest)) 0 0) (sym is) ∙ e in omega (arith, first)
 
 pub answer_true : AreWritten → AnswerLinesAreTrue
-answer_true written name desk marks word rest received is line = record {
-  lines = subst (λ text. All (IsTrueLine name desk marks) (whole_lines (take received text))) (append-nil ((word ++ rest) ++ codes "\n"))
-      (prefix_true name desk marks ((word ++ rest) ∷ []) received (answer_sound name desk marks word rest is line, tt));
-  claim = λ c t. absurd (no_certificate written ((word ++ rest) ++ codes "\n") received c (λ e. answer_begins word (rest ++ codes "\n") is (ap (λ t. get_or t 0 0) (sym (append_assoc word rest (codes "\n"))) ∙ e)) t);
+answer_true written name desk marks word rest received is line = line_true written name desk marks (word ++ rest) received (answer_sound name desk marks word rest is line) (answer_begins word rest is)
+
+reply_begins : (word rest : List ℕ) → IsReplyWord word → get_or (ended (word ++ rest)) 0 0 ≡ 100 → ⊥
+reply_begins word rest (inl is) e = let first : 106 ≡ 100 = ap (λ w. get_or (ended (w ++ rest)) 0 0) (sym is) ∙ e in omega (arith, first)
+reply_begins word rest (inr (inl is)) e = let first : 117 ≡ 100 = ap (λ w. get_or (ended (w ++ rest)) 0 0) (sym is) ∙ e in omega (arith, first)
+reply_begins word rest (inr (inr (inl is))) e = let first : 114 ≡ 100 = ap (λ w. get_or (ended (w ++ rest)) 0 0) (sym is) ∙ e in omega (arith, first)
+reply_begins word rest (inr (inr (inr (inl is)))) e = let first : 112 ≡ 100 = ap (λ w. get_or (ended (w ++ rest)) 0 0) (sym is) ∙ e in omega (arith, first)
+reply_begins word rest (inr (inr (inr (inr is)))) e = let first : 110 ≡ 100 = ap (λ w. get_or (ended (w ++ rest)) 0 0) (sym is) ∙ e in omega (arith, first)
+
+pub reply_true : AreWritten → ReplyLinesAreTrue
+reply_true written name desk marks word rest received is line =
+    line_true written name desk marks (word ++ 32 ∷ rest) received (reply_sound name desk marks word rest is line) (reply_begins word (32 ∷ rest) is)
+
+-- ---- the judgements in force
+-- the first line of a certificate, which has two fields
+certificate_first : (c : Certificate) → (more : List (List ℕ)) × (whole_lines (certificate_text c) ≡ codes "desk-certificate 1" ∷ more)
+unfolding certificate_text
+certificate_first c =
+    let rest : List ℕ = flat_map ended (drop 1 (certificate_lines c)) in
+    (whole_lines rest, whole_lines-ended (codes "desk-certificate 1") rest (search rules))
+
+-- no prefix of lines of four fields is a certificate
+no_certificate_of_four : AreWritten → (lines : List (List ℕ)) (n : ℕ) (c : Certificate) → AllByRecursion AreInLine lines → AllByRecursion HasFourFields lines → IsText (take n (flat_map ended lines)) c → ⊥
+no_certificate_of_four written lines n c in_line four t =
+    let first = certificate_first c in
+    let own : whole_lines (take n (flat_map ended lines)) ≡ codes "desk-certificate 1" ∷ first.0 = ap whole_lines (written (take n (flat_map ended lines)) c t) ∙ first.1 in
+    let all : AllByRecursion HasFourFields (codes "desk-certificate 1" ∷ first.0) = subst (AllByRecursion HasFourFields) own (prefix_all HasFourFields lines n in_line four) in
+    let two : 2 ≡ 4 = all.0 in
+    omega (arith, two)
+
+pub qrels_true : AreWritten → QrelsTextsAreTrue
+qrels_true written name desk marks grades received valid =
+    let lines = qrels_lines desk grades in
+    let all = qrels_sound name desk marks grades valid in
+    let sound = all_weaker (IsQrelsLine name desk marks) (IsSound name desk marks) lines (λ line s. s.0) all in
+    let in_line = all_weaker (IsQrelsLine name desk marks) AreInLine lines (λ line s. s.0.0) all in
+    let four = all_weaker (IsQrelsLine name desk marks) HasFourFields lines (λ line s. s.1) all in
+    subst (λ text. IsTrueText name desk marks (take received text)) (sym (text_of_lines desk grades)) (record {
+      lines = prefix_true name desk marks lines received sound;
+      claim = λ c t. absurd (no_certificate_of_four written lines received c in_line four t);
+    })
+
+pub nothing_true : AreWritten → NoTextIsTrue
+nothing_true written name desk marks received = record {
+  lines = prefix_true name desk marks [] received tt;
+  claim = λ c t. absurd (no_certificate written [] received c (λ e. let two : 0 ≡ 100 = e in omega (arith, two)) t);
 }

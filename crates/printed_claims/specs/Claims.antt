@@ -1,7 +1,7 @@
 -- What printed texts claim.
-use Rattle.std.specs.Prelude.{◌≡◌, ◌≢◌, ◌↔◌, ◌⊎◌, ◌≤◌, ℕ, List, [], ◌∷◌, ◌++◌, slice_get, Some, true, codes, ℤ, All, take, pos}
+use Rattle.std.specs.Prelude.{◌≡◌, ◌≢◌, ◌↔◌, ◌⊎◌, ◌*◌, ◌<◌, ◌≤◌, ℕ, List, [], ◌∷◌, ◌++◌, length, slice_get, slice_index_or, Option, Some, true, codes, ℤ, All, take, pos}
 use Rattle.std.specs.List.{AllByRecursion}
-use Rattle.desk_text.specs.Lines.{fields_of}
+use Rattle.desk_text.specs.Lines.{fields_of, whole_lines}
 use Rattle.desk_model.specs.Completion.{Completion}
 use Rattle.desk_model.specs.Desk.{Desk, IsDesk, AreMarksOf, topics_under}
 use Rattle.desk_model.specs.Extremes.{IsAtMostScore, IsAtLeastScore}
@@ -14,17 +14,17 @@ use Rattle.desk_model.specs.declared.types.MeasureName.TheVariants.{Precision}
 use Rattle.desk_model.specs.declared.types.Totals.{Totals}
 use Rattle.fractions.specs.declared.span.Span.{Span}
 use Rattle.measure_laws.specs.Measures.{unit_of}
-use Rattle.pair_table.specs.Numbers.{AreNumbersIn}
+use Rattle.pair_table.specs.Numbers.{ArePairNumbers, AreNumbersIn}
 use Rattle.desk_report.specs.Means.{decimal_text}
 use Rattle.desk_model.specs.Name.{is_name}
-use Rattle.desk_report.specs.Table.{table_text, ended}
+use Rattle.desk_report.specs.Table.{pair_line, table_text, ended}
 use Rattle.desk_report.specs.Close.{close_line}
+use Rattle.desk_report.specs.Judging.{qrels_text}
 use Rattle.order_certificate.specs.Certificate.{IsCertificate, certificate_text}
 use Rattle.order_certificate.specs.Places.{IsText}
 use Rattle.order_certificate.specs.Claim.{ClaimHolds}
 use Rattle.order_certificate.specs.Evidence.{IsEvidence}
 use Rattle.order_certificate.specs.declared.certificate.Certificate.{Certificate}
-use Rattle.printed_claims.specs.Received.{whole_lines}
 
 -- the desk has a run of this name, and a fact holds of its number
 pub record HoldsByName (desk : Desk) (name : List ℕ) (fact : ℕ → Type 0) : Type 0 where
@@ -70,9 +70,13 @@ pub record EnclosesMean (name : MeasureName) (topics : List Topic) (low high : L
 abbrev pub IsPairLine : List ℕ → List ℕ → List ℕ → List ℕ → List ℕ → List ℕ → Type 0
 IsPairLine line first word second low high = fields_of line ≡ codes "pair" ∷ first ∷ word ∷ second ∷ low ∷ high ∷ []
 
--- the line is `run NAME LOW HIGH`
+-- a printed number, with a point and six digits
+abbrev pub IsDecimal : List ℕ → Type 0
+IsDecimal text = (millionths : ℤ) × (text ≡ decimal_text millionths)
+
+-- the line is `run NAME LOW HIGH`, where LOW and HIGH are printed numbers
 abbrev pub IsRunLine : List ℕ → List ℕ → List ℕ → List ℕ → Type 0
-IsRunLine line run low high = fields_of line ≡ codes "run" ∷ run ∷ low ∷ high ∷ []
+IsRunLine line run low high = (fields_of line ≡ codes "run" ∷ run ∷ low ∷ high ∷ []) × IsDecimal low × IsDecimal high
 
 -- what a line claims of two runs or of one is true
 pub record IsTrueLine (name : MeasureName) (desk : Desk) (marks : List (List Mark)) (line : List ℕ) : Type 0 where
@@ -114,7 +118,14 @@ CertificatesAreTrue =
     (c : Certificate) (desk : Desk) (marks : List (List Mark)) (received : ℕ) → IsCertificate c → IsDesk desk → AreMarksOf desk marks → IsEvidence c desk marks →
     IsTrueText c.measure desk marks (take received (certificate_text c))
 
--- a close line claims nothing that could be false
+-- whatever was received of the line of two different runs, in either order, is true where its sums are the numbers of the name
+abbrev pub PairLinesAreTrue : Type 0
+PairLinesAreTrue =
+    (name : MeasureName) (desk : Desk) (marks : List (List Mark)) (a b : ℕ) (totals : Totals) (received : ℕ) →
+    IsMeasure name → IsDesk desk → AreMarksOf desk marks → a < length desk.runs → b < length desk.runs → a ≢ b → ArePairNumbers name (topics_under desk marks) a b totals →
+    IsTrueText name desk marks (take received (ended (pair_line (unit_of name * length desk.topics) (slice_index_or desk.runs a []) (slice_index_or desk.runs b []) totals)))
+
+-- whatever was received of a close line claims nothing false
 abbrev pub CloseLinesAreTrue : Type 0
 CloseLinesAreTrue =
     (name : MeasureName) (desk : Desk) (marks : List (List Mark)) (first second : List ℕ) (totals : Totals) (received : ℕ) → is_name first ≡ true → is_name second ≡ true →
@@ -128,8 +139,28 @@ IsAnswerWord word = (word ≡ codes "accepted") ⊎ (word ≡ codes "rejected ")
 abbrev pub IsInLine : List ℕ → Type 0
 IsInLine bytes = AllByRecursion (λ b. 32 ≤ b) bytes
 
--- such a line is neither one of a table nor a certificate
+-- whatever was received of such a line claims nothing false
 abbrev pub AnswerLinesAreTrue : Type 0
 AnswerLinesAreTrue =
     (name : MeasureName) (desk : Desk) (marks : List (List Mark)) (word rest : List ℕ) (received : ℕ) → IsAnswerWord word → IsInLine rest →
     IsTrueText name desk marks (take received (word ++ rest ++ codes "\n"))
+
+-- the words that begin the replies of a session to a judgement, to `undo`, to `redo` and to `pool`, and to what it refuses
+abbrev pub IsReplyWord : List ℕ → Type 0
+IsReplyWord word = (word ≡ codes "judged") ⊎ (word ≡ codes "undone") ⊎ (word ≡ codes "redone") ⊎ (word ≡ codes "pool") ⊎ (word ≡ codes "no")
+
+-- whatever was received of such a reply claims nothing false
+abbrev pub ReplyLinesAreTrue : Type 0
+ReplyLinesAreTrue =
+    (name : MeasureName) (desk : Desk) (marks : List (List Mark)) (word rest : List ℕ) (received : ℕ) → IsReplyWord word → IsInLine rest →
+    IsTrueText name desk marks (take received (word ++ 32 ∷ rest ++ codes "\n"))
+
+-- whatever was received of the judgements in force, as a judgements file, claims nothing false
+abbrev pub QrelsTextsAreTrue : Type 0
+QrelsTextsAreTrue =
+    (name : MeasureName) (desk : Desk) (marks : List (List Mark)) (grades : List (List (Option ℤ))) (received : ℕ) → IsDesk desk →
+    IsTrueText name desk marks (take received (qrels_text desk grades))
+
+-- a text without bytes claims nothing false
+abbrev pub NoTextIsTrue : Type 0
+NoTextIsTrue = (name : MeasureName) (desk : Desk) (marks : List (List Mark)) (received : ℕ) → IsTrueText name desk marks (take received [])

@@ -1,14 +1,22 @@
 //! The laws of what is printed, each the contract of a function that does nothing.
-ghost use Rattle.printed_claims.specs.Claims.{TablesAreTrue, CertificatesAreTrue, CloseLinesAreTrue, AnswerLinesAreTrue};
+//!
+//! What was received of a text claims nothing false, under a measure's name and marks of a desk, where
+//! two things hold. Each whole line received claims nothing false of the runs: a line claims something
+//! only where it is `pair FIRST WORD SECOND LOW HIGH`, or `run NAME LOW HIGH` with LOW and HIGH printed
+//! with a point and six digits. And where what was received is a certificate, it is one of that measure
+//! and its claim holds.
+ghost use Rattle.printed_claims.specs.Claims.{TablesAreTrue, CertificatesAreTrue, PairLinesAreTrue, CloseLinesAreTrue, AnswerLinesAreTrue, ReplyLinesAreTrue, QrelsTextsAreTrue, NoTextIsTrue};
 
 use order_certificate::{certificates_have_texts, evidence_implies_claim, no_text_begins_another};
-use pair_table::laws::{numbers_hold_in_every_completion, precision_is_exact};
+use pair_table::laws::{
+    numbers_hold_in_every_completion, numbers_of_two_runs_hold, precision_is_exact,
+};
 
-/// Each whole line of any prefix of a printed table is true. A line `pair A above B LOW HIGH` means that
-/// A's mean is greater than B's in every completion of the judgements, `below` that B's is, and `equal`
-/// that the two are equal. Under precision the word says exactly which of these holds, and is `open`
-/// where none does. From LOW to HIGH lies the difference of the means, on a line `run A LOW HIGH` the
-/// mean of A, in every completion.
+/// Whatever was received of a printed table claims nothing false. A line `pair A above B LOW HIGH` means
+/// that A's mean is greater than B's in every completion of the judgements, `below` that B's is, and
+/// `equal` that the two are equal. Under precision the word says exactly which of these holds, and is
+/// `open` where none does. From LOW to HIGH lies the difference of the means, on a line
+/// `run A LOW HIGH` the mean of A, in every completion.
 pub fn printed_tables_are_true()
     ensures { TablesAreTrue }
 {
@@ -17,8 +25,16 @@ pub fn printed_tables_are_true()
     certificates_have_texts();
 }
 
-/// The claim of a printed certificate holds, where it is evidence. No prefix of it is another
-/// certificate, and no line of it is one of a table.
+/// Whatever was received of the line of two different runs, in either order, claims nothing false, where
+/// its sums are the numbers of the measure's name.
+pub fn printed_pair_lines_are_true()
+    ensures { PairLinesAreTrue }
+{
+    numbers_of_two_runs_hold();
+    certificates_have_texts();
+}
+
+/// Whatever was received of the text of a certificate that is evidence claims nothing false.
 pub fn printed_certificates_are_true()
     ensures { CertificatesAreTrue }
 {
@@ -27,17 +43,41 @@ pub fn printed_certificates_are_true()
     no_text_begins_another();
 }
 
-/// A close line is neither a line of a table nor a certificate.
+/// Whatever was received of a close line claims nothing false.
 pub fn close_lines_are_true()
     ensures { CloseLinesAreTrue }
 {
     certificates_have_texts();
 }
 
-/// The line that tells what checking a certificate answered is neither a line of a table nor a
-/// certificate.
+/// Whatever was received of the line that tells what checking a certificate answered claims nothing
+/// false.
 pub fn answer_lines_are_true()
     ensures { AnswerLinesAreTrue }
+{
+    certificates_have_texts();
+}
+
+/// Whatever was received of a session's reply that begins with `judged`, `undone`, `redone`, `pool` or
+/// `no` claims nothing false.
+pub fn reply_lines_are_true()
+    ensures { ReplyLinesAreTrue }
+{
+    certificates_have_texts();
+}
+
+/// Whatever was received of the judgements in force, as the text of a judgements file, claims nothing
+/// false. The line of a topic named `run` has four fields, as a line `run NAME LOW HIGH` has, but it ends
+/// with a grade, which has no point.
+pub fn qrels_texts_are_true()
+    ensures { QrelsTextsAreTrue }
+{
+    certificates_have_texts();
+}
+
+/// A text without bytes claims nothing false.
+pub fn no_text_is_true()
+    ensures { NoTextIsTrue }
 {
     certificates_have_texts();
 }

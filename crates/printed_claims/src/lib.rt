@@ -1,4 +1,5 @@
-//! What is printed is true: the lines of a table, and certificates.
+//! What is printed claims nothing false: tables, lines of pairs, certificates, and the other answers and
+//! replies.
 #![tactic(auto)]
 
 pub mod laws;

@@ -8,7 +8,7 @@ use Rattle.desk_model.specs.declared.types.Verdict.TheVariants.{Close}
 use Rattle.fractions.specs.Numbers.{floor_of, ceiling_of}
 use Rattle.desk_report.specs.Means.{decimal_text, ends_text}
 use Rattle.desk_report.specs.Table.{word_of, table_lines, table_text}
-use Rattle.printed_claims.specs.Received.{whole_lines}
+use Rattle.desk_text.specs.Lines.{whole_lines}
 use Rattle.worked_cases.specs.Example.{two_runs, sums}
 
 -- ---- floors and ceilings

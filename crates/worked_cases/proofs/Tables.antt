@@ -19,6 +19,7 @@ use Rattle.pair_table.specs.Sums.{run_numbers, pair_sums, run_sums, span_sum, sw
 use Rattle.pair_table.specs.Numbers.{AreNumbersIn}
 use Rattle.pair_table.specs.Orders.{IsNearZero, total_width}
 use Rattle.printed_claims.specs.Claims.{HoldsByNames, IsPairLine, IsRunLine, SaysExactly, EnclosesDifference, IsTrueLine}
+use Rattle.printed_claims.proofs.Texts.{grade_not_decimal}
 use Rattle.worked_cases.specs.Example.{two_runs, two_topics, one_topic, marks_401, a, b, sums, ends}
 use Rattle.worked_cases.proofs.Names.{different}
 use Rattle.worked_cases.proofs.Completions.{precision_of_two, a_is_always_above_b, b_is_not_always_above_a, example_is_not_always_equal}
@@ -152,10 +153,16 @@ pub line_of_a_pair : IsPairLine (codes "pair A above B 0.500000 0.500000") (code
 line_of_a_pair = refl
 
 pub line_of_a_run : IsRunLine (codes "run A 0.500000 1.000000") (codes "A") (codes "0.500000") (codes "1.000000")
-line_of_a_run = refl
+unfolding digits
+line_of_a_run = (refl, (pos 500000, refl), (pos 1000000, refl))
+
+-- in a text of judgements the line of a topic that is named `run` ends with a grade
+pub judgement_of_a_topic_named_run : IsRunLine (codes "run 0 d1 1") (codes "0") (codes "d1") (codes "1") → ⊥
+unfolding digits
+judgement_of_a_topic_named_run h = grade_not_decimal (codes "1") (pos 1) refl h.2
 
 pub line_of_neither : IsRunLine (codes "topics 1") (codes "A") (codes "0.500000") (codes "1.000000") → ⊥
-line_of_neither h = absurd (cc)
+line_of_neither h = let fields = h.0 in absurd (cc)
 
 -- under P_2 `above` says exactly what always holds of A and B
 pub above_says_exactly : SaysExactly (Precision 2) one_topic (codes "above") 0 1
@@ -178,7 +185,7 @@ head_line_is_true = record {
   equal = λ first second low high h. absurd (cc);
   exact = λ k e first word second low high h. absurd (cc);
   pair_bounds = λ first word second low high h. absurd (cc);
-  run_bounds = λ run low high h. absurd (cc);
+  run_bounds = λ run low high h. let fields = h.0 in absurd (cc);
 }
 
 -- ---- the line `pair A above B 0.500000 0.500000` is true
@@ -226,7 +233,7 @@ pair_line_is_true = record {
   exact = λ k e first word second low high h. let w = of_line first word second low high h in
       by_names _ first word second low high w (subst (λ x. SaysExactly (Precision 2) one_topic x 0 1) w.1 above_says_exactly);
   pair_bounds = λ first word second low high h. let w = of_line first word second low high h in by_names _ first word second low high w (half_encloses low high w.3 w.4);
-  run_bounds = λ run low high h. absurd (cc);
+  run_bounds = λ run low high h. let fields = h.0 in absurd (cc);
 }
 
 -- with `open` it is not
