@@ -1,5 +1,6 @@
 -- Words that ask for a report say a job that can have it.
 use Rattle.std.proofs.Common.{ℕ, List, [], ◌∷◌, arith, inl, inr}
+use Rattle.desk_model.specs.MeasureText.{IsMeasure}
 use Rattle.order_certificate.specs.Certificate.{IsLevel}
 use Rattle.desk_words.specs.Words.{IsCommandOf, IsLevelOf}
 use Rattle.desk_words.specs.declared.command.Job.{Job}
@@ -18,3 +19,7 @@ table_asked (word ∷ rest) job h = record { measure = h.1.measure.2; level = le
 pub certificate_asked : (words : List (List ℕ)) (job : Job) → IsCommandOf words (commands.Certify job) → IsAsked Certificate job
 certificate_asked [] job h = absurd h
 certificate_asked (word ∷ rest) job h = record { measure = h.1.measure.2; level = level_said _ job.level h.1.level; runs = h.1.runs.enough }
+
+pub session_asked : (words : List (List ℕ)) (job : Job) → IsCommandOf words (commands.Session job) → IsMeasure job.measure × IsLevel job.level
+session_asked [] job h = absurd h
+session_asked (word ∷ rest) job h = (h.1.measure.2, level_said _ job.level h.1.level)

@@ -33,7 +33,7 @@ use Rattle.desk_files.specs.Load.{Opens}
 use Rattle.desk_files.proofs.Checking.{check_opens_qrels}
 use Rattle.desk_top.specs.Verification.{IsReasonOn, reason_text, verification_text, verification_status, IsVerificationOf}
 use Rattle.desk_top.specs.Told.{Writes, status_line, refusal_line}
-use Rattle.desk_top.specs.Seen.{Shelf, Source, Sink, ReceivedNothing}
+use Rattle.desk_outside.specs.Seen.{Shelf, Source, Sink, ReceivedNothing}
 use Rattle.desk_top.specs.Printing.{IsPrinted, IsBroken, IsUnread}
 use Rattle.desk_top.specs.Meaning.{check_printing, check_meaning}
 use Rattle.desk_top.specs.Meets.{Meets}

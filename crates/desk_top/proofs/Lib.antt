@@ -6,5 +6,8 @@ pub mod Meeting
 pub mod Printed
 pub mod Reporting
 pub mod Checks
+pub mod Conversing
 pub mod Truth
+pub mod Replying
+pub mod Truthful
 pub mod Statuses

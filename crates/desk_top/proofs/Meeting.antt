@@ -8,10 +8,11 @@ use Rattle.desk_outside.proofs.Told.{append_known-nil}
 use Rattle.desk_words.specs.Words.{IsCommandOf}
 use Rattle.desk_words.specs.declared.command.Command.{Command}
 use Rattle.desk_top.specs.Told.{Writes, status_line}
-use Rattle.desk_top.specs.Seen.{Shelf, Source, Sink, ReceivedNothing, ReceivedAll}
+use Rattle.desk_outside.specs.Seen.{Shelf, Source, Sink, ReceivedNothing, ReceivedAll}
 use Rattle.desk_top.specs.Answer.{Answer, text_of, usage}
-use Rattle.desk_top.specs.Meaning.{Input, Whole, Meaning, meaning_of, usage_meaning, words_meaning}
-use Rattle.desk_top.specs.Meets.{OpensWithin, HasAnswer, IsInput, IsGiven, Gives, OutputFailed, FilesFailed, Stopped, EvaluatesWithin, Meets, CanEnd}
+use Rattle.desk_outside.specs.Inputs.{Input, Whole, IsInput}
+use Rattle.desk_top.specs.Meaning.{Meaning, meaning_of, usage_meaning, words_meaning}
+use Rattle.desk_top.specs.Meets.{OpensWithin, HasAnswer, IsGiven, Gives, OutputFailed, FilesFailed, Stopped, EvaluatesWithin, Meets, CanEnd}
 
 -- an input's bytes, where they are known
 abbrev bytes_of : Option (List ℕ) → List ℕ

@@ -5,13 +5,14 @@ use Rattle.std.specs.Io.KnownBytes.{prepend_known}
 use Rattle.desk_outside.specs.Outside.{Files}
 use Rattle.desk_files.specs.Files.{Halt, Missing, Refused, Refusal}
 use Rattle.desk_top.specs.Told.{Writes, status_line, refusal_line}
-use Rattle.desk_top.specs.Seen.{Shelf, Source, Sink, ReceivedNothing, ReceivedAll, ReceivedPrefix}
+use Rattle.desk_outside.specs.Seen.{Shelf, Source, Sink, ReceivedNothing, ReceivedAll, ReceivedPrefix}
 use Rattle.desk_files.specs.declared.stop.Stop.{Stop}
 use Rattle.desk_files.specs.declared.stop.Stop.TheVariants as stops
 use Rattle.desk_top.specs.Answer.{Answer, Moment, said_with, halted}
 use Rattle.desk_top.specs.Printing.{Printing, HasPrinted, IsPrinted, IsBroken, IsUnread, Ends, IsPut}
-use Rattle.desk_top.specs.Meaning.{Input, Cut, Meaning, MayCome, AnswersFiles}
-use Rattle.desk_top.specs.Meets.{HasAnswer, IsPart, Gives, OutputFailed, FilesFailed, EvaluatesWithin, OpensWithin, Meets}
+use Rattle.desk_outside.specs.Inputs.{Input, Cut, IsPart}
+use Rattle.desk_top.specs.Meaning.{Meaning, MayCome, AnswersFiles}
+use Rattle.desk_top.specs.Meets.{HasAnswer, Gives, OutputFailed, FilesFailed, EvaluatesWithin, OpensWithin, Meets}
 use Rattle.desk_top.proofs.Meeting.{no_text, given, meets_given, meets_outside}
 
 pub prepend_known-nil : (o : Option (List ℕ)) → o ≡ prepend_known [] o
@@ -19,15 +20,15 @@ prepend_known-nil None = refl
 prepend_known-nil (Some xs) = refl
 
 module _ {X : Type 0} (comes : Files → Result X Halt → Type 0) where
-  found_may_come : (known : Option Files) (found : X) → IfSome known (λ files. comes files (Ok found)) → MayCome known comes (Ok found)
+  pub found_may_come : (known : Option Files) (found : X) → IfSome known (λ files. comes files (Ok found)) → MayCome known comes (Ok found)
   found_may_come None found read = tt
   found_may_come (Some files) found read = read
 
-  refusal_may_come : (known : Option Files) (refusal : Refusal) → IfSome known (λ files. comes files (Err (Refused refusal))) → MayCome known comes (Err (Refused refusal))
+  pub refusal_may_come : (known : Option Files) (refusal : Refusal) → IfSome known (λ files. comes files (Err (Refused refusal))) → MayCome known comes (Err (Refused refusal))
   refusal_may_come None refusal read = tt
   refusal_may_come (Some files) refusal read = read
 
-  missing_may_come : (known : Option Files) → IsSomeAnd known (λ files. comes files (Err Missing)) → MayCome known comes (Err Missing)
+  pub missing_may_come : (known : Option Files) → IsSomeAnd known (λ files. comes files (Err Missing)) → MayCome known comes (Err Missing)
   missing_may_come None is = is
   missing_may_come (Some files) is = is
 

@@ -10,9 +10,10 @@ use Rattle.desk_top.specs.declared.report.Report.{Report}
 use Rattle.desk_top.specs.declared.report.Report.TheVariants.{Table, Certificate}
 use Rattle.desk_top.specs.Report.{IsReportOf, CountsSteps, sources_of, cells_in}
 use Rattle.desk_top.specs.Told.{Writes, status_line, refusal_line}
-use Rattle.desk_top.specs.Seen.{Shelf, Source, Sink, ReceivedNothing}
+use Rattle.desk_outside.specs.Seen.{Shelf, Source, Sink, ReceivedNothing}
 use Rattle.desk_top.specs.Printing.{IsPrinted, IsBroken, IsUnread}
-use Rattle.desk_top.specs.Meaning.{Cut, report_printing, report_meaning}
+use Rattle.desk_outside.specs.Inputs.{Cut}
+use Rattle.desk_top.specs.Meaning.{report_printing, report_meaning}
 use Rattle.desk_top.specs.Meets.{EvaluatesWithin, Meets}
 use Rattle.desk_top.proofs.Meeting.{meets_memory}
 use Rattle.desk_top.proofs.Printed.{Answers, prepend_known-nil, meets_printed, meets_refused, meets_failure}

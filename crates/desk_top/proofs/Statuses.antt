@@ -1,8 +1,8 @@
 -- What follows for every call that meets what its words mean.
 use Rattle.std.proofs.Common.{◌≡◌, ℕ, List, [], ◌∷◌, ◌++◌, length, refl, ap, sym, subst, ◌∙◌, arith, inl, inr, append-nil}
-use Rattle.std.specs.Prelude.{Option, Some, None, Result, Ok, Err, ◌⊎◌}
+use Rattle.std.specs.Prelude.{Option, Some, None, Result, Ok, Err, Bool, true, false, cond, nat_lt, ◌⊎◌}
 use Rattle.std.specs.Io.KnownBytes.{append_known}
-use Rattle.desk_outside.specs.Outside.{Files}
+use Rattle.desk_outside.specs.Outside.{Files, Rose}
 use Rattle.desk_outside.proofs.Told.{append_known-nil}
 use Rattle.desk_words.specs.Words.{IsCommandOf}
 use Rattle.desk_words.specs.Laws.{CommandIsUnique}
@@ -13,17 +13,21 @@ use Rattle.desk_words.specs.declared.command.Command.TheVariants.{Table, Certify
 use Rattle.desk_model.specs.Desk.{Desk}
 use Rattle.order_certificate.specs.declared.certificate.Certificate.{Certificate}
 use Rattle.order_verifier.specs.declared.rejected.Rejected.{Rejected}
-use Rattle.desk_files.specs.Load.{Loaded}
+use Rattle.desk_files.specs.Load.{Loaded, loaded}
 use Rattle.desk_files.specs.Checks.{CheckComes}
 use Rattle.desk_files.specs.Files.{Halt, Missing, NoMemory, Refused}
 use Rattle.desk_top.specs.declared.report.Report.TheVariants as reports
-use Rattle.desk_top.specs.Report.{IsReportOf}
+use Rattle.desk_top.specs.Report.{IsReportOf, sources_of}
 use Rattle.desk_top.specs.Verification.{verification_status}
 use Rattle.desk_top.specs.Told.{Writes, refusal_line}
-use Rattle.desk_top.specs.Seen.{Shelf, Source, Sink, ReceivedNothing}
+use Rattle.desk_outside.specs.Seen.{Shelf, Source, Sink, ReceivedNothing}
 use Rattle.desk_top.specs.Answer.{Answer, text_of, usage, halted}
 use Rattle.desk_top.specs.Printing.{Printing}
-use Rattle.desk_top.specs.Meaning.{Input, Meaning, AnswersFiles, meaning_of, report_printing, check_printing, words_meaning}
+use Rattle.desk_outside.specs.Inputs.{Input, Whole, Cut, bytes_in, IsInput}
+use Rattle.session_stream.specs.Hearing.{End, Done, TooLong, Hearing, has_quit, before_quit, ended_lines, heard_to_end, hearing_of}
+use Rattle.session_stream.specs.declared.stream.TheConstants.{LONGEST_INPUT}
+use Rattle.desk_top.specs.Conversation.{status_at, IsSessionOn}
+use Rattle.desk_top.specs.Meaning.{Meaning, AnswersFiles, meaning_of, report_printing, check_printing, session_meaning, words_meaning}
 use Rattle.desk_top.specs.Meets.{Gives, OutputFailed, FilesFailed, Meets, Stopped, OpensWithin}
 use Rattle.desk_top.specs.Laws.{AreGood, HaltAt, IsStatusOf, IsCallOver, OtherWordsAreUsage, GoodFilesAreAnswered, MissingFileIsOutside, RefusalIsTold, StatusesAreFew}
 
@@ -31,18 +35,6 @@ use Rattle.desk_top.specs.Laws.{AreGood, HaltAt, IsStatusOf, IsCallOver, OtherWo
 command_answers : CommandIsUnique → (words : List (List ℕ)) (command : Command) → IsCommandOf words command → (known : Option Files) (input : Input) (answer : Answer) → (words_meaning words).answers known input answer → (meaning_of command).answers known input answer
 command_answers unique words command asks known input answer (inl (other, said, is)) = subst (λ c. (meaning_of c).answers known input answer) (unique words other command said asks) is
 command_answers unique words command asks known input answer (inr (nobody, is)) = absurd (nobody command asks)
-
--- no command that is built reads the input
-none_reads : (command : Command) → (meaning_of command).reads → ⊥
-none_reads (Table job) reads = reads
-none_reads (Certify job) reads = reads
-none_reads (Session job) reads = reads
-none_reads (Verify check) reads = reads
-none_reads (Demo seed) reads = reads
-
-words_read_nothing : (words : List (List ℕ)) → (words_meaning words).reads → ⊥
-words_read_nothing words (inl (command, said, reads)) = none_reads command reads
-words_read_nothing words (inr (nobody, reads)) = reads
 
 -- the files of a check come to one thing alone
 abbrev pub OneCheck : Type 0
@@ -76,41 +68,94 @@ few_statuses command IsEnd ends known answer (Err Missing, come, is) = inr (inr 
 few_statuses command IsEnd ends known answer (Err NoMemory, come, is) = inr (inr (inr (ap (λ (a : Answer). a.status) is)))
 few_statuses command IsEnd ends known answer (Err (Refused refusal), come, is) = inr (inl (ap (λ (a : Answer). a.status) is))
 
-table_ends : (job : Job) (found : _) (moment : _) (status : ℕ) (text : List ℕ) → (report_printing reports.Table job).prints found moment status text → IsStatusOf (Table job) status
-table_ends job found moment status text is = is.printed.0
+table_ends : (job : Job) (input : Source) (found : _) (moment : _) (status : ℕ) (text : List ℕ) → (report_printing reports.Table job).prints found moment status text → IsStatusOf (Table job) input status
+table_ends job input found moment status text is = is.printed.0
 
 certificate_status : (job : Job) (desk : Desk) (status : ℕ) (text : List ℕ) → IsReportOf reports.Certificate job desk status text → (status ≡ 0) ⊎ (status ≡ 6)
 certificate_status job desk status text (inl certified) = inl certified.0
 certificate_status job desk status text (inr close) = inr close.0
 
-certificate_ends : (job : Job) (found : _) (moment : _) (status : ℕ) (text : List ℕ) → (report_printing reports.Certificate job).prints found moment status text → IsStatusOf (Certify job) status
-certificate_ends job found moment status text is = certificate_status job is.desk status text is.printed
+certificate_ends : (job : Job) (input : Source) (found : _) (moment : _) (status : ℕ) (text : List ℕ) → (report_printing reports.Certificate job).prints found moment status text → IsStatusOf (Certify job) input status
+certificate_ends job input found moment status text is = certificate_status job is.desk status text is.printed
 
-check_ends : (check : Check) (found : _) (moment : _) (status : ℕ) (text : List ℕ) → (check_printing check).prints found moment status text → IsStatusOf (Verify check) status
-check_ends check found moment status text is = verification_ends is.printed.answer status is.printed.ends
+check_ends : (check : Check) (input : Source) (found : _) (moment : _) (status : ℕ) (text : List ℕ) → (check_printing check).prints found moment status text → IsStatusOf (Verify check) input status
+check_ends check input found moment status text is = verification_ends is.printed.answer status is.printed.ends
+
+-- ---- the answers of a session
+-- an input that failed
+abbrev IsCut : Input → Type 0
+IsCut (Whole bytes) = ⊥
+IsCut (Cut bytes) = Unit {0}
+
+abbrev EndsBy : Input → End → Type 0
+EndsBy input end = (status_at end ≡ 0) ⊎ (status_at end ≡ 1) ⊎ ((status_at end ≡ 3) × IsCut input)
+
+hearing_ends : (input : Input) → EndsBy input (hearing_of input).end
+hearing_ends input = at (has_quit (ended_lines input)) (nat_lt LONGEST_INPUT (length (bytes_in input)))
+  where
+    last : (i : Input) → EndsBy i (heard_to_end i).end
+    last (Whole bytes) = inl refl
+    last (Cut bytes) = inr (inr (refl, tt))
+
+    at : (quits long : Bool) → EndsBy input (cond quits (record { lines = before_quit (ended_lines input); end = Done }) (cond long (record { lines = ended_lines input; end = TooLong }) (heard_to_end input))).end
+    at true long = inl refl
+    at false true = inr (inl refl)
+    at false false = last input
+
+failed_source : (source : Source) (input : Input) → IsInput source input → IsCut input → Rose source.before source.after
+failed_source source (Whole bytes) met cut = absurd cut
+failed_source source (Cut bytes) met cut = met.1
+
+session_end : (job : Job) (source : Source) (input : Input) (rows : Loaded) (answer : Answer) → IsInput source input → IsSessionOn job input rows answer → IsStatusOf (Session job) source answer.status
+session_end job source input rows answer met is = subst (λ (a : Answer). IsStatusOf (Session job) source a.status) (sym is.is) (at (hearing_ends input))
+  where
+    at : EndsBy input (hearing_of input).end → IsStatusOf (Session job) source (status_at (hearing_of input).end)
+    at (inl done) = inl done
+    at (inr (inl long)) = inr (inl long)
+    at (inr (inr failed)) = inr (inr (failed.0, failed_source source input met failed.1))
+
+session_status : (job : Job) (source : Source) (files : Files) (known : Option Files) (input : Input) (answer : Answer) → IsInput source input → known ≡ Some files → (rows : Loaded) → loaded files (sources_of job) ≡ Ok rows → (session_meaning job).answers known input answer → IsStatusOf (Session job) source answer.status
+session_status job source files None input answer met e rows good is = absurd (cc)
+session_status job source files (Some held) input answer met e rows good (Ok found, come, is) = session_end job source input found answer met is
+session_status job source files (Some held) input answer met e rows good (Err halt, come, is) = let same : held ≡ files = cc in let bad : Ok rows ≡ Err halt = sym good ∙ subst (λ f. loaded f (sources_of job) ≡ Err halt) same come in absurd (cc)
+
+session_halted : (job : Job) (files : Files) (known : Option Files) (input : Input) (answer : Answer) (halt : Halt) → known ≡ Some files → loaded files (sources_of job) ≡ Err halt → (session_meaning job).answers known input answer → answer ≡ halted halt
+session_halted job files None input answer halt e at is = absurd (cc)
+session_halted job files (Some held) input answer halt e at (Ok found, come, is) = let same : held ≡ files = cc in let bad : Err halt ≡ Ok found = sym at ∙ subst (λ f. loaded f (sources_of job) ≡ Ok found) same come in absurd (cc)
+session_halted job files (Some held) input answer halt e at (Err other, come, is) =
+    let same : held ≡ files = cc in
+    let both : Err other ≡ Err halt = sym (subst (λ f. loaded f (sources_of job) ≡ Err other) same come) ∙ at in
+    let halts : other ≡ halt = cc in
+    is ∙ ap halted halts
+
+few_sessions : (job : Job) (source : Source) (known : Option Files) (input : Input) (answer : Answer) → IsInput source input → (session_meaning job).answers known input answer → IsStatusOf (Session job) source answer.status ⊎ (answer.status ≡ 1) ⊎ (answer.status ≡ 3) ⊎ (answer.status ≡ 4)
+few_sessions job source known input answer met (Ok found, come, is) = inl (session_end job source input found answer met is)
+few_sessions job source known input answer met (Err Missing, come, is) = inr (inr (inl (ap (λ (a : Answer). a.status) is)))
+few_sessions job source known input answer met (Err NoMemory, come, is) = inr (inr (inr (ap (λ (a : Answer). a.status) is)))
+few_sessions job source known input answer met (Err (Refused refusal), come, is) = inr (inl (ap (λ (a : Answer). a.status) is))
 
 -- good files have an answer with one of the command's statuses
-good_answer : OneCheck → (command : Command) (files : Files) (known : Option Files) (input : Input) (answer : Answer) → known ≡ Some files → AreGood command files → (meaning_of command).answers known input answer → IsStatusOf command answer.status
-good_answer one (Table job) files known input answer e good is = good_status (report_printing reports.Table job) (λ files x y a b. sym a ∙ b) (IsStatusOf (Table job)) (table_ends job) files known answer good.0 e good.1 is
-good_answer one (Certify job) files known input answer e good is = good_status (report_printing reports.Certificate job) (λ files x y a b. sym a ∙ b) (IsStatusOf (Certify job)) (certificate_ends job) files known answer good.0 e good.1 is
-good_answer one (Session job) files known input answer e good is = absurd good
-good_answer one (Verify check) files known input answer e good is = good_status (check_printing check) (one check) (IsStatusOf (Verify check)) (check_ends check) files known answer good.0 e good.1 is
-good_answer one (Demo seed) files known input answer e good is = absurd good
+good_answer : OneCheck → (source : Source) (command : Command) (files : Files) (known : Option Files) (input : Input) (answer : Answer) → IsInput source input → known ≡ Some files → AreGood command files → (meaning_of command).answers known input answer → IsStatusOf command source answer.status
+good_answer one source (Table job) files known input answer met e good is = good_status (report_printing reports.Table job) (λ files x y a b. sym a ∙ b) (IsStatusOf (Table job) source) (table_ends job source) files known answer good.0 e good.1 is
+good_answer one source (Certify job) files known input answer met e good is = good_status (report_printing reports.Certificate job) (λ files x y a b. sym a ∙ b) (IsStatusOf (Certify job) source) (certificate_ends job source) files known answer good.0 e good.1 is
+good_answer one source (Session job) files known input answer met e good is = session_status job source files known input answer met e good.0 good.1 is
+good_answer one source (Verify check) files known input answer met e good is = good_status (check_printing check) (one check) (IsStatusOf (Verify check) source) (check_ends check source) files known answer good.0 e good.1 is
+good_answer one source (Demo seed) files known input answer met e good is = absurd good
 
 -- files that halt have that answer
-halted_answer : OneCheck → (command : Command) (files : Files) (halt : Halt) (known : Option Files) (input : Input) (answer : Answer) → known ≡ Some files → HaltAt command files halt → (meaning_of command).answers known input answer → answer ≡ halted halt
-halted_answer one (Table job) files halt known input answer e at is = halted_there (report_printing reports.Table job) (λ files x y a b. sym a ∙ b) (IsStatusOf (Table job)) (table_ends job) files known answer halt e at is
-halted_answer one (Certify job) files halt known input answer e at is = halted_there (report_printing reports.Certificate job) (λ files x y a b. sym a ∙ b) (IsStatusOf (Certify job)) (certificate_ends job) files known answer halt e at is
-halted_answer one (Session job) files halt known input answer e at is = absurd at
-halted_answer one (Verify check) files halt known input answer e at is = halted_there (check_printing check) (one check) (IsStatusOf (Verify check)) (check_ends check) files known answer halt e at is
-halted_answer one (Demo seed) files halt known input answer e at is = absurd at
+halted_answer : OneCheck → (source : Source) (command : Command) (files : Files) (halt : Halt) (known : Option Files) (input : Input) (answer : Answer) → known ≡ Some files → HaltAt command files halt → (meaning_of command).answers known input answer → answer ≡ halted halt
+halted_answer one source (Table job) files halt known input answer e at is = halted_there (report_printing reports.Table job) (λ files x y a b. sym a ∙ b) (IsStatusOf (Table job) source) (table_ends job source) files known answer halt e at is
+halted_answer one source (Certify job) files halt known input answer e at is = halted_there (report_printing reports.Certificate job) (λ files x y a b. sym a ∙ b) (IsStatusOf (Certify job) source) (certificate_ends job source) files known answer halt e at is
+halted_answer one source (Session job) files halt known input answer e at is = session_halted job files known input answer halt e at is
+halted_answer one source (Verify check) files halt known input answer e at is = halted_there (check_printing check) (one check) (IsStatusOf (Verify check) source) (check_ends check source) files known answer halt e at is
+halted_answer one source (Demo seed) files halt known input answer e at is = absurd at
 
-few_answers : (command : Command) (known : Option Files) (input : Input) (answer : Answer) → (meaning_of command).answers known input answer → IsStatusOf command answer.status ⊎ (answer.status ≡ 1) ⊎ (answer.status ≡ 3) ⊎ (answer.status ≡ 4)
-few_answers (Table job) known input answer is = few_statuses (report_printing reports.Table job) (IsStatusOf (Table job)) (table_ends job) known answer is
-few_answers (Certify job) known input answer is = few_statuses (report_printing reports.Certificate job) (IsStatusOf (Certify job)) (certificate_ends job) known answer is
-few_answers (Session job) known input answer is = inl (ap (λ (a : Answer). a.status) is)
-few_answers (Verify check) known input answer is = few_statuses (check_printing check) (IsStatusOf (Verify check)) (check_ends check) known answer is
-few_answers (Demo seed) known input answer is = inl (ap (λ (a : Answer). a.status) is)
+few_answers : (source : Source) (command : Command) (known : Option Files) (input : Input) (answer : Answer) → IsInput source input → (meaning_of command).answers known input answer → IsStatusOf command source answer.status ⊎ (answer.status ≡ 1) ⊎ (answer.status ≡ 3) ⊎ (answer.status ≡ 4)
+few_answers source (Table job) known input answer met is = few_statuses (report_printing reports.Table job) (IsStatusOf (Table job) source) (table_ends job source) known answer is
+few_answers source (Certify job) known input answer met is = few_statuses (report_printing reports.Certificate job) (IsStatusOf (Certify job) source) (certificate_ends job source) known answer is
+few_answers source (Session job) known input answer met is = few_sessions job source known input answer met is
+few_answers source (Verify check) known input answer met is = few_statuses (check_printing check) (IsStatusOf (Verify check) source) (check_ends check source) known answer is
+few_answers source (Demo seed) known input answer met is = inl (ap (λ (a : Answer). a.status) is)
 
 module _ (meaning : Meaning) (shelf : Shelf) (input : Source) (out err : Sink) (before after status : ℕ) (meets : Meets meaning shelf input out err before after status) where
   -- a call gave its answer, or something failed, or memory ran out
@@ -158,24 +203,24 @@ other_words words shelf input out err before after status call none = (at (ways 
 pub statuses_few : CommandIsUnique → StatusesAreFew
 statuses_few unique words command shelf input out err before after status call asks = at call.meets.answered
   where
-    at : Gives (words_meaning words) shelf input out err status ⊎ (status ≡ 3) ⊎ (status ≡ 4) → IsStatusOf command status ⊎ (status ≡ 1) ⊎ (status ≡ 3) ⊎ (status ≡ 4)
+    at : Gives (words_meaning words) shelf input out err status ⊎ (status ≡ 3) ⊎ (status ≡ 4) → IsStatusOf command input status ⊎ (status ≡ 1) ⊎ (status ≡ 3) ⊎ (status ≡ 4)
     at (inl gives) =
-        subst (λ n. IsStatusOf command n ⊎ (n ≡ 1) ⊎ (n ≡ 3) ⊎ (n ≡ 4)) (sym gives.holds.ended) (few_answers command shelf.files gives.input gives.answer (command_answers unique words command asks shelf.files gives.input gives.answer gives.is))
+        subst (λ n. IsStatusOf command input n ⊎ (n ≡ 1) ⊎ (n ≡ 3) ⊎ (n ≡ 4)) (sym gives.holds.ended) (few_answers input command shelf.files gives.input gives.answer gives.met (command_answers unique words command asks shelf.files gives.input gives.answer gives.is))
     at (inr other) = inr (inr other)
 
 pub good_files : CommandIsUnique → OneCheck → GoodFilesAreAnswered
 good_files unique one words command files shelf input out err before after status call good calm still = at (ways (words_meaning words) shelf input out err before after status call.meets)
   where
-    at : Ways (words_meaning words) shelf input out err before after status call.meets → IsStatusOf command status ⊎ (status ≡ 4)
+    at : Ways (words_meaning words) shelf input out err before after status call.meets → IsStatusOf command input status ⊎ (status ≡ 4)
     at (inl gives) =
-        inl (subst (IsStatusOf command) (sym gives.holds.ended) (good_answer one command files shelf.files gives.input gives.answer call.known good (command_answers unique words command call.asks shelf.files gives.input gives.answer gives.is)))
+        inl (subst (IsStatusOf command input) (sym gives.holds.ended) (good_answer one input command files shelf.files gives.input gives.answer gives.met call.known good (command_answers unique words command call.asks shelf.files gives.input gives.answer gives.is)))
     at (inr (inl failed)) = absurd (still failed.0)
     at (inr (inr (inl failed))) = absurd (calm failed.1)
     at (inr (inr (inr four))) = inr four
 
 module _ (unique : CommandIsUnique) (one : OneCheck) (words : List (List ℕ)) (command : Command) (files : Files) (shelf : Shelf) (input : Source) (out err : Sink) (before after status : ℕ) (call : IsCallOver words command files shelf input out err before after status) (halt : Halt) (read : HaltAt command files halt) where
   halts : (i : Input) (answer : Answer) → (words_meaning words).answers shelf.files i answer → answer ≡ halted halt
-  halts i answer is = halted_answer one command files halt shelf.files i answer call.known read (command_answers unique words command call.asks shelf.files i answer is)
+  halts i answer is = halted_answer one input command files halt shelf.files i answer call.known read (command_answers unique words command call.asks shelf.files i answer is)
 
   silent : text_of (halted halt) ≡ [] → OutputFailed (words_meaning words) shelf input out → ⊥
   silent none failed =
@@ -198,7 +243,10 @@ refusal_told unique one words command files shelf input out err before after sta
   where
     stopped : status ≡ 4 → Stopped (words_meaning words) shelf input out → ReceivedNothing out
     stopped four (inl nothing) = nothing
-    stopped four (inr part) = absurd (words_read_nothing words part.0)
+    stopped four (inr part) =
+        let has = part.1 in
+        let is = halts unique one words command files shelf input out err before after status call (Refused refusal) read has.input has.answer has.is in
+        has.holds ∙ ap (λ a. append_known out.had (text_of a)) is ∙ append_known-nil out.had
 
     at : Ways (words_meaning words) shelf input out err before after status call.meets → (((status ≡ 1) × Writes err.had err.has err.before err.after (refusal_line refusal)) ⊎ (status ≡ 4)) × ReceivedNothing out
     at (inl gives) =

@@ -3,8 +3,7 @@ use Rattle.std.proofs.Common.{◌≡◌, ◌≢◌, ℕ, ◌<◌, ◌≤◌, ◌
 use Rattle.std.proofs.Math.Seq.{take-append-add, take-append_seam, drop-append_seam}
 use Rattle.std.proofs.lemmas.List.{take_all, drop_all, take-append-le}
 use Rattle.std.proofs.lemmas.Bool.{cases_lt}
-use Rattle.std.proofs.lemmas.Option.{slice_get_within, unwrap_or-slice_get}
-use Rattle.std.specs.Prelude.{Option, Result, codes, Ok, Err, Some, slice_get, unwrap_or, true, ◌⊎◌}
+use Rattle.std.specs.Prelude.{Option, Result, codes, Ok, Err, Some, ◌⊎◌}
 use Rattle.desk_outside.proofs.Told.{append_known-nil, prefix_whole}
 use Rattle.desk_outside.specs.Outside.{Files}
 use Rattle.desk_words.specs.Words.{IsCommandOf}
@@ -14,7 +13,6 @@ use Rattle.desk_words.specs.declared.command.Command.{Command}
 use Rattle.desk_words.specs.declared.command.Command.TheVariants.{Table, Certify, Session, Verify, Demo}
 use Rattle.desk_model.specs.MeasureText.{IsMeasure}
 use Rattle.desk_model.specs.Desk.{Desk, IsDesk, AreMarksOf}
-use Rattle.desk_model.specs.Name.{is_name}
 use Rattle.desk_model.specs.Verdict.{verdict}
 use Rattle.desk_model.specs.declared.types.Mark.{Mark}
 use Rattle.desk_model.specs.declared.types.MeasureName.{MeasureName}
@@ -29,17 +27,19 @@ use Rattle.order_verifier.specs.declared.rejected.Rejected.{Rejected}
 use Rattle.order_certificate.specs.declared.certificate.Certificate.{Certificate}
 use Rattle.pair_table.specs.Numbers.{HaveEnds}
 use Rattle.pair_table.specs.Evidence.{Says, IsCertificateOf}
-use Rattle.printed_claims.specs.Claims.{IsTrueText, TablesAreTrue, CertificatesAreTrue, CloseLinesAreTrue, AnswerLinesAreTrue}
+use Rattle.printed_claims.specs.Claims.{IsTrueText, TablesAreTrue, CertificatesAreTrue, CloseLinesAreTrue, AnswerLinesAreTrue, PairLinesAreTrue, ReplyLinesAreTrue, QrelsTextsAreTrue, NoTextIsTrue}
 use Rattle.desk_files.specs.Files.{Missing, NoMemory, Refused}
 use Rattle.desk_top.specs.declared.report.Report.{Report}
 use Rattle.desk_top.specs.declared.report.Report.TheVariants as reports
-use Rattle.desk_top.specs.Report.{IsTableText, IsCertificateText, IsCloseText, IsReportOf, marks_in}
-use Rattle.desk_top.specs.Seen.{Shelf, Source, Sink, ReceivedPrefix}
+use Rattle.pair_reports.specs.Reports.{Subject, IsTableText, IsCertificateText, IsCloseText, run_name}
+use Rattle.desk_top.specs.Report.{IsReportOf, marks_in, subject_of}
+use Rattle.desk_outside.specs.Seen.{Shelf, Source, Sink, ReceivedPrefix}
 use Rattle.desk_top.specs.Answer.{Answer, Saying, Moment, text_of, IsTrueOf, AreTrue, AreAlwaysTrue}
 use Rattle.desk_top.specs.Verification.{reason_text, verification_text, marks_for}
 use Rattle.desk_top.specs.Printing.{Printing}
-use Rattle.desk_top.specs.Meaning.{Input, Whole, Cut, Meaning, AnswersFiles, report_printing, check_printing, usage_meaning, meaning_of, words_meaning}
-use Rattle.desk_top.specs.Meets.{HasAnswer, IsInput, IsPart, Gives, OutputFailed, FilesFailed, Stopped, Meets, ReceivesPart, SaysTruth, IsTruthful}
+use Rattle.desk_outside.specs.Inputs.{Input, Whole, Cut, IsInput, IsPart}
+use Rattle.desk_top.specs.Meaning.{Meaning, AnswersFiles, report_printing, check_printing, usage_meaning, meaning_of, words_meaning}
+use Rattle.desk_top.specs.Meets.{HasAnswer, Gives, OutputFailed, FilesFailed, Stopped, Meets, ReceivesPart, SaysTruth, IsTruthful}
 use Rattle.desk_top.proofs.Marking.{marks_known}
 use Rattle.desk_top.proofs.Checks.{reason_in_line}
 use Rattle.desk_top.proofs.Asking.{table_asked, certificate_asked}
@@ -120,7 +120,7 @@ abbrev pub PrintsOnlyTruth : {X : Type 0} → Printing X → Type 0
 PrintsOnlyTruth {X} command = (found : X) (moment : Moment) (status : ℕ) (text : List ℕ) → command.prints found moment status text → (n : ℕ) → IsTrueOf moment (take n text)
 
 -- then all its answers are
-answers_are_true : {X : Type 0} (command : Printing X) → PrintsOnlyTruth command → (known : Option Files) (answer : Answer) → AnswersFiles command known answer → AreAlwaysTrue answer.said
+pub answers_are_true : {X : Type 0} (command : Printing X) → PrintsOnlyTruth command → (known : Option Files) (answer : Answer) → AnswersFiles command known answer → AreAlwaysTrue answer.said
 answers_are_true command truth known answer (Err Missing, come, is) = subst (λ (a : Answer). AreAlwaysTrue a.said) (sym is) tt
 answers_are_true command truth known answer (Err NoMemory, come, is) = subst (λ (a : Answer). AreAlwaysTrue a.said) (sym is) tt
 answers_are_true command truth known answer (Err (Refused refusal), come, is) = subst (λ (a : Answer). AreAlwaysTrue a.said) (sym is) tt
@@ -140,12 +140,12 @@ pub record PrintsTruth : Type 0 where
   pub evidence : CertificatesAreEvidence
   pub answers : AnswerLinesAreTrue
   pub claims : ForEvidence (λ c desk marks. ClaimHolds c desk marks)
+  pub pair_lines : PairLinesAreTrue
+  pub replies : ReplyLinesAreTrue
+  pub qrels : QrelsTextsAreTrue
+  pub no_text : NoTextIsTrue
 
 module _ (laws : PrintsTruth) where
-  run_named : (desk : Desk) (run : ℕ) (name : List ℕ) → IsDesk desk → slice_get desk.runs run ≡ Some name → is_name name ≡ true
-  run_named desk run name valid is =
-      subst (λ n. is_name n ≡ true) (sym (unwrap_or-slice_get desk.runs run []) ∙ ap (λ o. unwrap_or o []) is) (valid.named run [] (slice_get_within desk.runs run name is))
-
   measure_answered : (Has : HaveEnds) (name : MeasureName) (desk : Desk) (marks : List (List Mark)) (level a b : ℕ) (c : Certificate) (v : Verdict) → Says Has name desk marks level a b c v → c.measure ≡ name
   measure_answered Has name desk marks level a b c verdicts.Above says = says.compares.by_measure
   measure_answered Has name desk marks level a b c verdicts.Below says = says.compares.by_measure
@@ -157,30 +157,33 @@ module _ (laws : PrintsTruth) where
   abbrev ReportIsTrue : Job → Desk → ℕ → List ℕ → Type 0
   ReportIsTrue job desk n text = IsTrueText job.measure desk (marks_in job desk) (take n text)
 
-  table_is_true : (job : Job) (desk : Desk) (text : List ℕ) (n : ℕ) → IsMeasure job.measure → IsTableText job desk text → ReportIsTrue job desk n text
-  table_is_true job desk text n m is =
-      subst (ReportIsTrue job desk n) (sym is.is) (laws.tables job.measure desk (marks_in job desk) job.level n is.bounds is.totals m is.valid (marks_known job.level desk is.valid) is.numbers)
+  -- a prefix of a text of a table
+  abbrev SubjectIsTrue : Subject → ℕ → List ℕ → Type 0
+  SubjectIsTrue s n text = IsTrueText s.measure s.desk s.marks (take n text)
 
-  certificate_is_true : (job : Job) (desk : Desk) (text : List ℕ) (n : ℕ) → IsMeasure job.measure → IsCertificateText job desk text → ReportIsTrue job desk n text
-  certificate_is_true job desk text n m is =
+  pub table_is_true : (s : Subject) (text : List ℕ) (n : ℕ) → IsMeasure s.measure → AreMarksOf s.desk s.marks → IsTableText s text → SubjectIsTrue s n text
+  table_is_true s text n m known is =
+      subst (SubjectIsTrue s n) (sym is.is) (laws.tables s.measure s.desk s.marks s.level n is.bounds is.totals m is.valid known is.numbers)
+
+  pub certificate_is_true : (s : Subject) (a b : ℕ) (text : List ℕ) (n : ℕ) → IsMeasure s.measure → AreMarksOf s.desk s.marks → IsCertificateText s a b text → SubjectIsTrue s n text
+  certificate_is_true s a b text n m known is =
       let c = is.certificate in
-      let known = marks_known job.level desk is.valid in
-      let shown = laws.evidence job.measure desk (marks_in job desk) job.level 0 1 c m is.valid known (λ e. omega (arith, e)) (omega (arith, is.two)) (omega (arith, is.two)) is.of_pair in
-      let named : c.measure ≡ job.measure = measure_answered (HasEnds job.measure) job.measure desk (marks_in job desk) job.level 0 1 c (verdict is.of_pair.sums) is.of_pair.says in
-      subst (ReportIsTrue job desk n) (sym is.is) (subst (λ m. IsTrueText m desk (marks_in job desk) (take n (certificate_text c))) named (laws.certificates c desk (marks_in job desk) n is.within is.valid known shown))
+      let shown = laws.evidence s.measure s.desk s.marks s.level a b c m is.valid known is.runs.different is.runs.first is.runs.second is.of_pair in
+      let named : c.measure ≡ s.measure = measure_answered (HasEnds s.measure) s.measure s.desk s.marks s.level a b c (verdict is.of_pair.sums) is.of_pair.says in
+      subst (SubjectIsTrue s n) (sym is.is) (subst (λ m. IsTrueText m s.desk s.marks (take n (certificate_text c))) named (laws.certificates c s.desk s.marks n is.within is.valid known shown))
 
-  close_is_true : (job : Job) (desk : Desk) (text : List ℕ) (n : ℕ) → IsCloseText job desk text → ReportIsTrue job desk n text
-  close_is_true job desk text n is =
-      subst (ReportIsTrue job desk n) (sym is.is)
-      (laws.close_lines job.measure desk (marks_in job desk) is.first is.second is.totals n (run_named desk 0 is.first is.valid is.named_first) (run_named desk 1 is.second is.valid is.named_second))
+  pub close_is_true : (s : Subject) (a b : ℕ) (text : List ℕ) (n : ℕ) → IsCloseText s a b text → SubjectIsTrue s n text
+  close_is_true s a b text n is =
+      subst (SubjectIsTrue s n) (sym is.is)
+      (laws.close_lines s.measure s.desk s.marks (run_name s.desk a) (run_name s.desk b) is.totals n (is.valid.named a [] is.runs.first) (is.valid.named b [] is.runs.second))
 
   report_is_true : (report : Report) (job : Job) (desk : Desk) (status : ℕ) (text : List ℕ) (n : ℕ) → IsMeasure job.measure → IsReportOf report job desk status text → ReportIsTrue job desk n text
-  report_is_true reports.Table job desk status text n m is = table_is_true job desk text n m is.1
-  report_is_true reports.Certificate job desk status text n m (inl certified) = certificate_is_true job desk text n m certified.1
-  report_is_true reports.Certificate job desk status text n m (inr close) = close_is_true job desk text n close.1
+  report_is_true reports.Table job desk status text n m is = table_is_true (subject_of job desk) text n m (marks_known job.level desk is.1.valid) is.1
+  report_is_true reports.Certificate job desk status text n m (inl certified) = certificate_is_true (subject_of job desk) 0 1 text n m (marks_known job.level desk certified.1.valid) certified.1
+  report_is_true reports.Certificate job desk status text n m (inr close) = close_is_true (subject_of job desk) 0 1 text n close.1
 
   -- a report checks no certificate
-  report_says_truth : (report : Report) (job : Job) → IsMeasure job.measure → PrintsOnlyTruth (report_printing report job)
+  pub report_says_truth : (report : Report) (job : Job) → IsMeasure job.measure → PrintsOnlyTruth (report_printing report job)
   report_says_truth report job m found moment status text is n =
       subst (λ at. IsTrueOf at (take n text)) (sym is.at) (record { text = report_is_true report job is.desk status text n m is.printed; accepted = λ c more none e. absurd (cc) })
 
@@ -198,7 +201,7 @@ module _ (laws : PrintsTruth) where
   answer_text (Err why) name desk marks n valid = laws.answers name desk marks (codes "rejected ") (reason_text desk why) n (inr refl) (reason_in_line desk valid why)
 
   -- the line of a check says the truth: where it is `accepted`, the claim holds
-  check_says_truth : (check : Check) → PrintsOnlyTruth (check_printing check)
+  pub check_says_truth : (check : Check) → PrintsOnlyTruth (check_printing check)
   check_says_truth check found moment status text is n =
       let c = found.1 in
       let desk = is.desk in
@@ -211,19 +214,3 @@ module _ (laws : PrintsTruth) where
         accepted = λ d more same e. subst (λ z. ClaimHolds z desk marks) (some_certificate c d same)
             (laws.claims c desk marks is.within.measure valid known (accepted_is_evidence c desk marks answer n more (sym (ap (take n) is.printed.is) ∙ e) is.printed.verified));
       })
-
-usage_is_truthful : IsTruthful usage_meaning
-usage_is_truthful known input answer is = subst (λ (a : Answer). AreAlwaysTrue a.said) (sym is) tt
-
--- each command is truthful
-command_is_truthful : PrintsTruth → (words : List (List ℕ)) (command : Command) → IsCommandOf words command → IsTruthful (meaning_of command)
-command_is_truthful laws words (Table job) said = λ known input answer is. answers_are_true (report_printing reports.Table job) (report_says_truth laws reports.Table job (table_asked words job said).measure) known answer is
-command_is_truthful laws words (Certify job) said = λ known input answer is. answers_are_true (report_printing reports.Certificate job) (report_says_truth laws reports.Certificate job (certificate_asked words job said).measure) known answer is
-command_is_truthful laws words (Session job) said = usage_is_truthful
-command_is_truthful laws words (Verify check) said = λ known input answer is. answers_are_true (check_printing check) (check_says_truth laws check) known answer is
-command_is_truthful laws words (Demo seed) said = usage_is_truthful
-
--- what words mean is truthful
-pub words_are_truthful : PrintsTruth → (words : List (List ℕ)) → IsTruthful (words_meaning words)
-words_are_truthful laws words known input answer (inl (command, said, is)) = command_is_truthful laws words command said known input answer is
-words_are_truthful laws words known input answer (inr (nobody, is)) = usage_is_truthful known input answer is

@@ -3,14 +3,14 @@ use Rattle.std.specs.Prelude.{◌≡◌, ◌⊎◌, ℕ, List, Some, Ok, Err}
 use Rattle.desk_outside.specs.Outside.{Files, Rose}
 use Rattle.desk_words.specs.Words.{IsCommandOf}
 use Rattle.desk_words.specs.declared.command.Command.{Command}
-use Rattle.desk_words.specs.declared.command.Command.TheVariants.{Table, Certify, Verify}
+use Rattle.desk_words.specs.declared.command.Command.TheVariants.{Table, Certify, Session, Verify}
 use Rattle.desk_files.specs.Files.{Halt, Missing, Refused, Refusal}
 use Rattle.order_certificate.specs.declared.certificate.Certificate.{Certificate}
 use Rattle.desk_files.specs.Load.{Loaded, loaded}
 use Rattle.desk_files.specs.Checks.{CheckComes}
 use Rattle.desk_top.specs.Report.{sources_of}
 use Rattle.desk_top.specs.Told.{Writes, refusal_line}
-use Rattle.desk_top.specs.Seen.{Shelf, Source, Sink, ReceivedNothing}
+use Rattle.desk_outside.specs.Seen.{Shelf, Source, Sink, ReceivedNothing}
 use Rattle.desk_top.specs.Meaning.{words_meaning}
 use Rattle.desk_top.specs.Meets.{Meets}
 
@@ -18,6 +18,7 @@ use Rattle.desk_top.specs.Meets.{Meets}
 abbrev pub AreGood : Command → Files → Type 0
 AreGood (Table job) files = (rows : Loaded) × (loaded files (sources_of job) ≡ Ok rows)
 AreGood (Certify job) files = (rows : Loaded) × (loaded files (sources_of job) ≡ Ok rows)
+AreGood (Session job) files = (rows : Loaded) × (loaded files (sources_of job) ≡ Ok rows)
 AreGood (Verify check) files = (found : Loaded × Certificate) × CheckComes files check (Ok found)
 AreGood command files = ⊥
 
@@ -25,15 +26,17 @@ AreGood command files = ⊥
 abbrev pub HaltAt : Command → Files → Halt → Type 0
 HaltAt (Table job) files halt = loaded files (sources_of job) ≡ Err halt
 HaltAt (Certify job) files halt = loaded files (sources_of job) ≡ Err halt
+HaltAt (Session job) files halt = loaded files (sources_of job) ≡ Err halt
 HaltAt (Verify check) files halt = CheckComes files check (Err halt)
 HaltAt command files halt = ⊥
 
--- the statuses with which a command prints on its files
-abbrev pub IsStatusOf : Command → ℕ → Type 0
-IsStatusOf (Table job) status = status ≡ 0
-IsStatusOf (Certify job) status = (status ≡ 0) ⊎ (status ≡ 6)
-IsStatusOf (Verify check) status = (status ≡ 0) ⊎ (status ≡ 5)
-IsStatusOf command status = status ≡ 2
+-- the statuses with which a command ends on its files: 1 is that of a session whose input is too long, and 3 that of one whose input failed
+abbrev pub IsStatusOf : Command → Source → ℕ → Type 0
+IsStatusOf (Table job) input status = status ≡ 0
+IsStatusOf (Certify job) input status = (status ≡ 0) ⊎ (status ≡ 6)
+IsStatusOf (Session job) input status = (status ≡ 0) ⊎ (status ≡ 1) ⊎ ((status ≡ 3) × Rose input.before input.after)
+IsStatusOf (Verify check) input status = (status ≡ 0) ⊎ (status ≡ 5)
+IsStatusOf command input status = status ≡ 2
 
 -- a call with these words, and what is seen of it
 pub record IsCall (words : List (List ℕ)) (shelf : Shelf) (input : Source) (out err : Sink) (before after status : ℕ) : Type 0 where
@@ -53,7 +56,7 @@ OtherWordsAreUsage = (words : List (List ℕ)) (shelf : Shelf) (input : Source) 
 -- files that are all held and not refused: where neither the shelf nor the output failed, the command printed on them, or the status is 4
 abbrev pub GoodFilesAreAnswered : Type 0
 GoodFilesAreAnswered = (words : List (List ℕ)) (command : Command) (files : Files) (shelf : Shelf) (input : Source) (out err : Sink) (before after status : ℕ) → IsCallOver words command files shelf input out err before after status →
-    AreGood command files → (Rose shelf.before shelf.after → ⊥) → (Rose out.before out.after → ⊥) → IsStatusOf command status ⊎ (status ≡ 4)
+    AreGood command files → (Rose shelf.before shelf.after → ⊥) → (Rose out.before out.after → ⊥) → IsStatusOf command input status ⊎ (status ≡ 4)
 
 -- a path that is not held, and nothing refused before it: the status is 3, or 4
 abbrev pub MissingFileIsOutside : Type 0
@@ -69,4 +72,4 @@ RefusalIsTold = (words : List (List ℕ)) (command : Command) (files : Files) (s
 -- a command never ends with a status but those of its texts, 1, 3 and 4
 abbrev pub StatusesAreFew : Type 0
 StatusesAreFew = (words : List (List ℕ)) (command : Command) (shelf : Shelf) (input : Source) (out err : Sink) (before after status : ℕ) → IsCall words shelf input out err before after status →
-    IsCommandOf words command → IsStatusOf command status ⊎ (status ≡ 1) ⊎ (status ≡ 3) ⊎ (status ≡ 4)
+    IsCommandOf words command → IsStatusOf command input status ⊎ (status ≡ 1) ⊎ (status ≡ 3) ⊎ (status ≡ 4)

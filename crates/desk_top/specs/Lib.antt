@@ -1,9 +1,9 @@
 pub mod Told
-pub mod Seen
 pub mod Answer
 pub mod Report
 pub mod Verification
 pub mod Printing
+pub mod Conversation
 pub mod Meaning
 pub mod Meets
 pub mod Laws

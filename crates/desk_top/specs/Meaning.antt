@@ -1,11 +1,12 @@
 -- What commands mean. A new command is one more case of `meaning_of`.
-use Rattle.std.specs.Prelude.{◌≡◌, ◌⊎◌, ℕ, List, [], ◌∷◌, Option, Some, None, Result, Ok, Err}
+use Rattle.std.specs.Prelude.{◌≡◌, ◌⊎◌, ℕ, ◌+◌, ◌*◌, List, [], ◌∷◌, Option, Some, None, Result, Ok, Err}
 use Rattle.desk_outside.specs.Outside.{Files}
+use Rattle.desk_outside.specs.Inputs.{Input}
 use Rattle.desk_words.specs.Words.{IsCommandOf}
 use Rattle.desk_words.specs.declared.command.Check.{Check}
 use Rattle.desk_words.specs.declared.command.Job.{Job}
 use Rattle.desk_words.specs.declared.command.Command.{Command}
-use Rattle.desk_words.specs.declared.command.Command.TheVariants.{Table, Certify, Verify}
+use Rattle.desk_words.specs.declared.command.Command.TheVariants.{Table, Certify, Verify, Session}
 use Rattle.desk_model.specs.Desk.{Desk}
 use Rattle.topics_pool.specs.Rows.{IsDeskOf}
 use Rattle.desk_files.specs.Files.{Halt, Missing, NoMemory}
@@ -17,13 +18,11 @@ use Rattle.desk_top.specs.declared.report.Report.{Report}
 use Rattle.desk_top.specs.declared.report.Report.TheVariants as reports
 use Rattle.desk_top.specs.Report.{IsReportOf, sources_of, marks_in, cells_in}
 use Rattle.desk_top.specs.Verification.{IsVerificationOf, marks_for}
+use Rattle.session_stream.specs.Hearing.{hearing_of}
+use Rattle.session_stream.specs.Text.{accepted_in}
+use Rattle.desk_top.specs.Conversation.{IsSessionAnswer}
 use Rattle.desk_top.specs.Printing.{Printing}
 use Rattle.desk_top.specs.Answer.{Answer, Moment, usage, halted, said_with}
-
--- an input as a call meets it: these are all its bytes; or it gave these bytes, and no more can be had
-pub data Input : Type 0 where
-  Whole : (bytes : List ℕ) → Input
-  Cut : (bytes : List ℕ) → Input
 
 -- what a command means
 pub record Meaning : Type 1 where
@@ -107,6 +106,15 @@ check_meaning check = record {
   cells = λ known taken most. most ≡ 0;
 }
 
+-- a session on the files of a job: the input is read, and pairs times topics are evaluated for a first table and for each change that is accepted
+abbrev pub session_meaning : Job → Meaning
+session_meaning job = record {
+  opens = λ known names. DeskMayOpen known (sources_of job) names;
+  reads = Unit {0};
+  answers = λ known input answer. (found : Result Loaded Halt) × MayCome known (λ files found. loaded files (sources_of job) ≡ found) found × IsSessionAnswer job input found answer;
+  cells = λ known taken most. HasDesk known (sources_of job) (λ desk. most ≡ cells_in desk * (1 + accepted_in desk (hearing_of taken).lines []));
+}
+
 -- usage: no file is opened, and nothing is read or evaluated
 abbrev pub usage_meaning : Meaning
 usage_meaning = record {
@@ -121,6 +129,7 @@ abbrev pub meaning_of : Command → Meaning
 meaning_of (Table job) = report_meaning reports.Table job
 meaning_of (Certify job) = report_meaning reports.Certificate job
 meaning_of (Verify check) = check_meaning check
+meaning_of (Session job) = session_meaning job
 meaning_of command = usage_meaning
 
 -- something holds of the meaning of words: of their command's, or of usage, where they are of no command

@@ -1,27 +1,12 @@
 -- How a call meets what its words mean.
 use Rattle.std.specs.Prelude.{◌≡◌, ◌⊎◌, ℕ, ◌<◌, ◌≤◌, ◌+◌, List, [], ◌∷◌, length, Option, Some, IfSome, ◌++◌}
-use Rattle.std.specs.Io.KnownBytes.{prepend_known, IsAtEnd}
 use Rattle.desk_outside.specs.Outside.{Files, Rose}
 use Rattle.desk_files.specs.Load.{Opens}
 use Rattle.desk_top.specs.Told.{Writes, status_line}
-use Rattle.desk_top.specs.Seen.{Shelf, Source, Sink, ReceivedNothing, ReceivedAll, ReceivedPrefix}
+use Rattle.desk_outside.specs.Seen.{Shelf, Source, Sink, ReceivedNothing, ReceivedAll, ReceivedPrefix}
 use Rattle.desk_top.specs.Answer.{Answer, text_of, AreTrue, AreAlwaysTrue}
-use Rattle.desk_top.specs.Meaning.{Input, Whole, Cut, Meaning}
-
--- the input of a call: all its bytes; or those that were taken, where it failed
-abbrev pub IsInput : Source → Input → Type 0
-IsInput input (Whole bytes) = IfSome input.rest (λ all. all ≡ bytes)
-IsInput input (Cut bytes) = (input.rest ≡ prepend_known bytes input.left) × Rose input.before input.after
-
--- the input of a call, or a prefix of it
-abbrev pub IsPart : Source → Input → Type 0
-IsPart input (Whole bytes) = IfSome input.rest (λ all. all ≡ bytes)
-IsPart input (Cut bytes) = (more : Option (List ℕ)) × (input.rest ≡ prepend_known bytes more)
-
--- what was taken of the input of a call: all of it, to its end, or some bytes
-abbrev pub IsTaken : Source → Input → Type 0
-IsTaken input (Whole bytes) = (input.rest ≡ prepend_known bytes input.left) × IsAtEnd input.left
-IsTaken input (Cut bytes) = input.rest ≡ prepend_known bytes input.left
+use Rattle.desk_outside.specs.Inputs.{Input, IsInput, IsPart, IsTaken}
+use Rattle.desk_top.specs.Meaning.{Meaning}
 
 -- an answer over an input that is so, of which something holds
 pub record HasAnswer (meaning : Meaning) (known : Option Files) (is_input : Input → Type 0) (fact : Answer → Type 0) : Type 0 where

@@ -5,7 +5,7 @@ use Rattle.desk_files.specs.declared.stop.Stop.{Stop}
 use Rattle.desk_files.specs.declared.stop.Stop.TheVariants as stops
 use Rattle.desk_files.specs.Files.{Halt, Missing, Refused}
 use Rattle.desk_files.specs.Views.{refusal_of}
-use Rattle.desk_top.specs.Seen.{Shelf, Sink, ReceivedNothing, ReceivedAll, ReceivedPrefix}
+use Rattle.desk_outside.specs.Seen.{Shelf, Sink, ReceivedNothing, ReceivedAll, ReceivedPrefix}
 use Rattle.desk_top.specs.Answer.{Moment}
 
 -- what files come to, or halt at; and what is printed on that: a text, what it speaks of, and the status

@@ -4,6 +4,7 @@
 pub mod laws;
 mod output;
 mod report;
+mod session;
 mod tell;
 mod top;
 mod verify;

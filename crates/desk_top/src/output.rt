@@ -1,7 +1,7 @@
 // A text that a command prints.
 ghost use Rattle.std.specs.Prelude.{◌≡◌};
 ghost use Rattle.desk_top.specs.Printing.{IsPut};
-ghost use Rattle.desk_top.specs.Seen.{sink};
+ghost use Rattle.desk_outside.specs.Seen.{sink};
 
 use desk_files::Stop;
 use desk_outside::{Sink, put_all};

@@ -1,22 +1,18 @@
 // The commands that print a report on the files of a job.
 ghost use Rattle.std.specs.Prelude.{◌≡◌, ◌≤◌, ◌+◌, length, IfOk};
 ghost use Rattle.desk_files.specs.Load.{DeskMayOpen, Opens};
-ghost use Rattle.desk_top.specs.Report.{IsAsked, IsTableOn, IsReportOf, CountsSteps, least_runs, cells_in, marks_in, sources_of};
-ghost use Rattle.desk_top.specs.declared.report.Report.TheVariants as reports;
+ghost use Rattle.desk_top.specs.Report.{IsAsked, IsPrintedAs, IsReportOf, CountsSteps, least_runs, cells_in, sources_of};
 ghost use Rattle.desk_top.specs.Printing.{Ends};
 ghost use Rattle.desk_top.specs.Meaning.{report_printing};
-ghost use Rattle.desk_top.specs.Seen.{shelf, sink};
+ghost use Rattle.desk_outside.specs.Seen.{shelf, sink};
 
 use crate::output::{DONE, Printed, put_printed};
 use desk_files::{Stop, load_desk};
 use desk_model::{Desk, Marks, Memory};
-use desk_outside::{Shelf, Sink, put_all};
-use desk_report::{close_line, table_text};
+use desk_outside::{Shelf, Sink};
 use desk_words::Job;
-use measure_core::{Maker, Measure, Steps};
-use order_certificate::write_certificate;
-use pair_table::evidence_laws::answers_are_of_names;
-use pair_table::{EvidenceFault, Table};
+use measure_core::{Maker, Steps};
+use pair_reports::{Certified, certified_report, table_on, table_report};
 use std::alloc::Global;
 use std::sync::ledger::Ledger;
 
@@ -31,61 +27,16 @@ pub enum Report {
 
 const CLOSE: u8 = 6;
 
-// The report that is a table.
-fn table_report<M: Measure>(
-    alloc: Global,
-    desk: &Desk,
-    job: &Job,
-    table: &Table<M>,
-) -> Result<Printed, Memory>
-    requires job { IsAsked reports.Table job.now }
-    requires table { IsTableOn (M.measured table.now.measure) (M.cell_of table.now.measure) (M.bounds_of table.now.measure) job.now desk.now table.now }
-    ensures { IfOk result (λ printed. IsReportOf reports.Table job.now desk.now printed.status printed.text.items) }
+// The text of what shows the order of two runs, and its status.
+fn shown(answer: Certified) -> Printed
+    ensures { IsPrintedAs answer result.status result.text.items }
 {
-    // A report speaks of a valid desk, which every desk is.
-    let _runs = desk.run_count();
-    let text = table_text(
-        alloc,
-        desk,
-        &job.measure,
-        job.level,
-        table.measure().unit(),
-        table.all_bounds(),
-        table.all_totals(),
-    )?;
-    Ok(Printed { text, status: DONE })
-}
-
-// The report that is a certificate, or the line of a close pair.
-fn certificate_report<M: Measure>(
-    alloc: Global,
-    desk: &Desk,
-    marks: &Marks,
-    job: &Job,
-    table: &Table<M>,
-) -> Result<Printed, Memory>
-    requires job { IsAsked reports.Certificate job.now }
-    requires runs { 2 ≤ length desk.now.runs }
-    requires marks { marks.now ≡ marks_in job.now desk.now }
-    requires table { IsTableOn (M.measured table.now.measure) (M.cell_of table.now.measure) (M.bounds_of table.now.measure) job.now desk.now table.now }
-    ensures { IfOk result (λ printed. IsReportOf reports.Certificate job.now desk.now printed.status printed.text.items) }
-{
-    answers_are_of_names();
-    // A report speaks of a valid desk, which every desk is.
-    let _runs = desk.run_count();
-    match table.evidence(alloc, desk, marks, job.level, 0, 1) {
-        Ok(certificate) => {
-            let text = write_certificate(alloc, &certificate)?;
-            Ok(Printed { text, status: DONE })
-        }
-        Err(EvidenceFault::Close(totals)) => {
-            let text = close_line(alloc, desk.run_name(0), desk.run_name(1), &totals)?;
-            Ok(Printed {
-                text,
-                status: CLOSE,
-            })
-        }
-        Err(EvidenceFault::Memory) => Err(Memory),
+    match answer {
+        Certified::Certificate(text) => Printed { text, status: DONE },
+        Certified::Close(text) => Printed {
+            text,
+            status: CLOSE,
+        },
     }
 }
 
@@ -106,11 +57,16 @@ fn report_on<P: Maker, L: Ledger>(
     // A table speaks of a valid desk, which every desk is.
     let _runs = desk.run_count();
     let marks = Marks::of_file(alloc, desk, job.level)?;
-    let measure = maker.make(alloc, job.measure)?;
-    let table = Table::new(alloc, desk, &marks, measure, steps)?;
+    let table = table_on(alloc, desk, &marks, job.measure, maker, steps)?;
     match report {
-        Report::Table => table_report(alloc, desk, job, &table),
-        Report::Certificate => certificate_report(alloc, desk, &marks, job, &table),
+        Report::Table => {
+            let text = table_report(alloc, desk, job.level, &table)?;
+            Ok(Printed { text, status: DONE })
+        }
+        Report::Certificate => {
+            let answer = certified_report(alloc, desk, &marks, job.level, &table, 0, 1)?;
+            Ok(shown(answer))
+        }
     }
 }
 

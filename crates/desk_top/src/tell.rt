@@ -1,6 +1,6 @@
 // What is told on the error output. A failure there changes nothing.
 ghost use Rattle.std.specs.Prelude.{◌≡◌, ◌⊎◌, ℕ, ◌++◌, OnOk, IfOk, codes, decimal};
-ghost use Rattle.desk_top.specs.Told.{Writes, fault_word, fault_text, refusal_text, refusal_line, status_line};
+ghost use Rattle.desk_top.specs.Told.{Writes, fault_word, fault_text, refusal_text, refusal_line, long_input_line, status_line};
 ghost use Rattle.desk_files.specs.Views.{refusal_of};
 
 use desk_files::Refusal;
@@ -42,6 +42,15 @@ pub fn tell_outside<E: Sink>(err: &mut E) -> u8
 {
     tell(err, b"fault: outside\n");
     OUTSIDE
+}
+
+/// A session's input is too long, and the status is 1.
+pub fn tell_long_input<E: Sink>(err: &mut E) -> u8
+    ensures status { result ≡ 1 }
+    ensures line { Writes (E.received err.old) (E.received err.new) (E.faults err.old) (E.faults err.new) long_input_line }
+{
+    tell(err, b"refused: input: InputTooLong\n");
+    REFUSED
 }
 
 /// Memory ran out, and the status is 4.

@@ -60,6 +60,7 @@ fn status_of<L: Ledger>(
     alloc: Global,
     words: &[String],
     files: &mut MemShelf,
+    input: &mut MemSource,
     out: &mut MemSink,
     err: &mut MemSink,
     blank: Blank,
@@ -68,11 +69,8 @@ fn status_of<L: Ledger>(
     requires parts { blank.parts ≡ L.parts }
     requires some { 0 < blank.parts }
 {
-    let mut input = MemSource::new(Vec::new(alloc), 1, Vec::new(alloc));
     let mut steps: Steps<L> = Steps::new(blank);
-    run_desk(
-        alloc, words, files, &mut input, out, err, &Common, &mut steps,
-    )
+    run_desk(alloc, words, files, input, out, err, &Common, &mut steps)
 }
 
 // The status of the words, what an output of this room received, and what the error output was told.
@@ -84,7 +82,16 @@ fn answer(
 ) -> Result<(u8, Vec<u8>, Vec<u8>), AllocError> {
     let mut out = MemSink::new(alloc, room, 4096, Vec::new(alloc)).map_err(|_| AllocError)?;
     let mut err = MemSink::new(alloc, 1000, 3, Vec::new(alloc)).map_err(|_| AllocError)?;
-    let status = status_of::<Brand>(alloc, words, files, &mut out, &mut err, Blank::new(1));
+    let mut input = MemSource::new(Vec::new(alloc), 1, Vec::new(alloc));
+    let status = status_of::<Brand>(
+        alloc,
+        words,
+        files,
+        &mut input,
+        &mut out,
+        &mut err,
+        Blank::new(1),
+    );
     Ok((
         status,
         out.received().to_vec(alloc)?,
@@ -173,10 +180,11 @@ fn each_line_has_its_answer(rt: HostRuntime) -> Result<(), Fail> {
             "refused: a line 1: BadFieldCount\n",
         ),
         (
-            "session --qrels q --measure P_2 a",
+            "demo 7",
             2,
             "usage: desk COMMAND --qrels FILE --measure NAME [--level N] RUN...\n",
         ),
+        ("session --qrels q --measure P_2 a x", 3, "fault: outside\n"),
         ("table --qrels q --measure P_2 a x", 3, "fault: outside\n"),
     ];
     for (line, status, ending) in cases {
@@ -191,6 +199,73 @@ fn each_line_has_its_answer(rt: HostRuntime) -> Result<(), Fail> {
         assert!(rt; said.ends_with(ending.as_bytes()), "{line}");
         assert!(rt; out.is_empty() || err.is_empty(), "{line}");
     }
+    Ok(())
+}
+
+// The status of a session over two runs, what its output received, and what the error output was told. Its input gives
+// at most so many bytes a call, and the call of this number fails.
+fn converse(
+    alloc: Global,
+    lines: &[u8],
+    piece: usize,
+    failing: u64,
+) -> Result<(u8, Vec<u8>, Vec<u8>), AllocError>
+    requires { 0 < piece }
+{
+    let words = words_of(alloc, "session --qrels q --measure P_2 a b")?;
+    let mut input = MemSource::new(lines.to_vec(alloc)?, piece, [failing].to_vec(alloc)?);
+    let mut out = MemSink::new(alloc, 4000, 4096, Vec::new(alloc)).map_err(|_| AllocError)?;
+    let mut err = MemSink::new(alloc, 1000, 3, Vec::new(alloc)).map_err(|_| AllocError)?;
+    let status = status_of::<Brand>(
+        alloc,
+        &words,
+        &mut shelf(alloc, &[])?,
+        &mut input,
+        &mut out,
+        &mut err,
+        Blank::new(1),
+    );
+    Ok((
+        status,
+        out.received().to_vec(alloc)?,
+        err.received().to_vec(alloc)?,
+    ))
+}
+
+#[test]
+fn lines_of_a_session_have_their_replies(rt: HostRuntime) -> Result<(), Fail> {
+    let alloc = rt.alloc();
+    let cases = [
+        (
+            "judge ann 401 d3 1\njudge bob 401 d3 0\nundo ann\nundo bob\nundo bob",
+            "judged 401 d3 1\njudged 401 d3 0\nundone 401 d3 0\nundone 401 d3 -\nno NothingToUndo\n",
+        ),
+        (
+            "redo bob\njudge bob 401 d3 1\nundo bob\n\njudge bob 401 d3 0\nredo bob\n",
+            "no NothingToRedo\njudged 401 d3 1\nundone 401 d3 -\njudged 401 d3 0\nno NothingToRedo\n",
+        ),
+        (
+            "judge ann 401 d3 2\npool 401 1\npool 401 2\nqrels\nundo ann\nredo ann\ncertify A B\nbogus\nquit\nundo ann\n",
+            "judged 401 d3 2\npool 2 2 1 0\npool 3 3 2 0\n401 0 d1 1\n401 0 d2 0\n401 0 d3 2\nundone 401 d3 -\nredone 401 d3 2\ndesk-certificate 1\nmeasure P_2\nlevel 1\nfirst A\nsecond B\nclaim above\ntopics 1\ntopic 401 1\nend\nno BadLine\n",
+        ),
+        (
+            "pair B A\npair A X\npair A A\njudge ann 499 d1 1\njudge ann 401 d9 1\npool 499 1\nquit x",
+            "pair B below A -0.500000 -0.500000\nno UnknownRun\nno SameRun\nno UnknownTopic\nno UnknownDocument\nno UnknownTopic\nno BadLine\n",
+        ),
+    ];
+    for (lines, replies) in cases {
+        for piece in [1, 19, 4096] {
+            let (status, out, err) = converse(alloc, lines.as_bytes(), piece, 1_000_000)?;
+            assert_eq!(rt; status, 0, "{lines}");
+            assert_eq!(rt; out.as_slice(), replies.as_bytes(), "{lines}");
+            assert!(rt; err.is_empty());
+        }
+    }
+    // The second read fails: the one whole line of the first 19 bytes has its reply.
+    let (status, out, err) = converse(alloc, b"judge ann 401 d3 1\njudge bob 401 d3 0\n", 19, 1)?;
+    assert_eq!(rt; status, 3);
+    assert_eq!(rt; out.as_slice(), b"judged 401 d3 1\n".as_slice());
+    assert_eq!(rt; err.as_slice(), b"fault: outside\n".as_slice());
     Ok(())
 }
 

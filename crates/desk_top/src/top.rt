@@ -1,22 +1,26 @@
 // The top call.
 ghost use Rattle.std.specs.Prelude.{◌≡◌, ◌<◌, ◌≤◌, length, map, string_bytes};
 ghost use Rattle.desk_top.specs.Report.{IsAsked};
-ghost use Rattle.desk_top.specs.Seen.{shelf, source, sink};
-ghost use Rattle.desk_top.specs.Meaning.{report_meaning, check_meaning, words_meaning};
+ghost use Rattle.desk_outside.specs.Seen.{shelf, source, sink};
+ghost use Rattle.desk_model.specs.MeasureText.{IsMeasure};
+ghost use Rattle.order_certificate.specs.Certificate.{IsLevel};
+ghost use Rattle.desk_top.specs.Meaning.{report_meaning, check_meaning, session_meaning, words_meaning};
 ghost use Rattle.desk_top.specs.Meets.{Meets, SaysTruth, LeavesInput};
 
 use crate::report::{Report, print_report};
+use crate::session::answer_session;
 use crate::tell::{tell_memory, tell_outside, tell_refused, tell_usage};
 use crate::verify::print_verification;
-use desk_files::Stop;
+use desk_files::{Stop, load_desk};
 use desk_outside::{Shelf, Sink, Source};
 use desk_words::{Check, Command, Job, WordsFault, read_words};
 use measure_core::{Maker, Steps};
 use order_certificate::evidence_implies_claim;
 use pair_table::evidence_laws::certificates_are_evidence;
 use printed_claims::laws::{
-    answer_lines_are_true, close_lines_are_true, printed_certificates_are_true,
-    printed_tables_are_true,
+    answer_lines_are_true, close_lines_are_true, no_text_is_true, printed_certificates_are_true,
+    printed_pair_lines_are_true, printed_tables_are_true, qrels_texts_are_true,
+    reply_lines_are_true,
 };
 use std::alloc::Global;
 use std::sync::ledger::Ledger;
@@ -80,6 +84,36 @@ fn run_check<F: Shelf, S: Source, K: Sink, E: Sink, L: Ledger>(
     }
 }
 
+// The session on the files of a job, and the status that tells how it ended.
+fn run_session<F: Shelf, S: Source, K: Sink, E: Sink, P: Maker, L: Ledger>(
+    alloc: Global,
+    job: &Job,
+    files: &mut F,
+    input: &mut S,
+    out: &mut K,
+    err: &mut E,
+    maker: &P,
+    steps: &mut Steps<L>,
+) -> u8
+    requires measure { IsMeasure job.now.measure }
+    requires level { IsLevel job.now.level }
+    ensures known { result ≤ 6 }
+    ensures meets { Meets (session_meaning job.now)
+        (shelf (F.files files.old) (F.opened files.old) (F.opened files.new) (F.faults files.old) (F.faults files.new))
+        (source (S.rest input.old) (S.rest input.new) (S.faults input.old) (S.faults input.new))
+        (sink (K.received out.old) (K.received out.new) (K.faults out.old) (K.faults out.new))
+        (sink (E.received err.old) (E.received err.new) (E.faults err.old) (E.faults err.new))
+        steps.old steps.new result }
+    ensures files { F.files files.new ≡ F.files files.old }
+{
+    match load_desk(alloc, files, &job.qrels, &job.runs) {
+        Ok(desk) => answer_session(alloc, &desk, job, input, out, err, maker, steps),
+        Err(Stop::Refused(refusal)) => tell_refused(alloc, err, &refusal),
+        Err(Stop::Outside) => tell_outside(err),
+        Err(Stop::Memory) => tell_memory(err),
+    }
+}
+
 // Runs the command of the words, and answers its status.
 fn run_words<F: Shelf, S: Source, K: Sink, E: Sink, P: Maker, L: Ledger>(
     alloc: Global,
@@ -129,7 +163,7 @@ fn run_words<F: Shelf, S: Source, K: Sink, E: Sink, P: Maker, L: Ledger>(
             maker,
             steps,
         ),
-        Command::Session(_) => tell_usage(err),
+        Command::Session(job) => { run_session(alloc, job, files, input, out, err, maker, steps) }
         Command::Verify(check) => run_check(alloc, check, files, input, out, err, steps),
         Command::Demo { .. } => tell_usage(err),
     }
@@ -172,6 +206,10 @@ pub fn run_desk<F: Shelf, S: Source, K: Sink, E: Sink, P: Maker, L: Ledger>(
     printed_certificates_are_true();
     close_lines_are_true();
     answer_lines_are_true();
+    printed_pair_lines_are_true();
+    reply_lines_are_true();
+    qrels_texts_are_true();
+    no_text_is_true();
     certificates_are_evidence();
     evidence_implies_claim();
     run_words(alloc, words, files, input, out, err, maker, steps)

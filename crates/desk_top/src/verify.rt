@@ -6,7 +6,7 @@ ghost use Rattle.desk_files.specs.Load.{Opens};
 ghost use Rattle.desk_top.specs.Verification.{IsReasonOn, reason_text, verification_text, IsVerificationOf};
 ghost use Rattle.desk_top.specs.Printing.{Ends};
 ghost use Rattle.desk_top.specs.Meaning.{check_printing};
-ghost use Rattle.desk_top.specs.Seen.{shelf, sink};
+ghost use Rattle.desk_outside.specs.Seen.{shelf, sink};
 
 use crate::output::{DONE, Printed, put_printed};
 use crate::tell::push_number;

@@ -1,6 +1,6 @@
 use Rattle.std.proofs.Common.{[], refl}
 use Rattle.desk_top.specs.Meaning.{file_moment, report_printing}
-use Rattle.desk_top.specs.Seen.{shelf}
+use Rattle.desk_outside.specs.Seen.{shelf}
 use Rattle.desk_top.proofs.Nonempty.{text_is_some}
 use Rattle.desk_top.proofs.Printed.{ends_put}
 use Rattle.desk_top.proofs.report.print_report.Goals as goal

@@ -1,9 +1,9 @@
-use Rattle.std.proofs.Common.{refl, ap, subst, inl}
+use Rattle.std.proofs.Common.{refl, ap, subst, inl, inr}
 use Rattle.std.specs.Prelude.{map, string_bytes, Err}
 use Rattle.desk_words.specs.Words.{IsCommandOf}
 use Rattle.desk_words.specs.declared.command.Command.TheVariants.{Table, Certify, Session, Verify, Demo}
 use Rattle.desk_top.specs.Meaning.{words_meaning}
-use Rattle.desk_top.proofs.Asking.{table_asked, certificate_asked}
+use Rattle.desk_top.proofs.Asking.{table_asked, certificate_asked, session_asked}
 use Rattle.desk_top.proofs.Meeting.{meets_words, meets_no_command, meets_memory, meets_usage}
 use Rattle.desk_top.proofs.top.run_words.Goals as goal
 
@@ -31,10 +31,19 @@ returns-in-Certify-clause-meets g c =
     let words = map string_bytes c.args.words.now in
     meets_words words (Certify c.in-Certify.job) _ _ _ _ _ _ _ (subst (IsCommandOf words) c.in-Certify.is c.in-Ok.ensures.ok) c.run_report-in-Certify.ensures.meets
 
+pub run_session-requires-clause-measure : goal.run_session-requires-clause-measure
+run_session-requires-clause-measure g c = (session_asked (map string_bytes c.args.words.now) c.in-Session.job (subst (IsCommandOf (map string_bytes c.args.words.now)) c.in-Session.is c.in-Ok.ensures.ok)).0
+
+pub run_session-requires-clause-level : goal.run_session-requires-clause-level
+run_session-requires-clause-level g c = (session_asked (map string_bytes c.args.words.now) c.in-Session.job (subst (IsCommandOf (map string_bytes c.args.words.now)) c.in-Session.is c.in-Ok.ensures.ok)).1
+
 pub returns-in-Session-clause-meets : goal.returns-in-Session-clause-meets
 returns-in-Session-clause-meets g c =
     let words = map string_bytes c.args.words.now in
-    meets_words words (Session c.in-Session.field-0) _ _ _ _ _ _ _ (subst (IsCommandOf words) c.in-Session.is c.in-Ok.ensures.ok) (meets_usage _ _ _ _ _ _ c.tell_usage-in-Session.ensures.status refl refl c.tell_usage-in-Session.ensures.line)
+    meets_words words (Session c.in-Session.job) _ _ _ _ _ _ _ (subst (IsCommandOf words) c.in-Session.is c.in-Ok.ensures.ok) c.run_session.ensures.meets
+
+pub returns-in-Session-clause-input : goal.returns-in-Session-clause-input
+returns-in-Session-clause-input g c = let words = map string_bytes c.args.words.now in inr (inl (Session c.in-Session.job, subst (IsCommandOf words) c.in-Session.is c.in-Ok.ensures.ok, tt))
 
 pub returns-in-Verify-clause-meets : goal.returns-in-Verify-clause-meets
 returns-in-Verify-clause-meets g c =
