@@ -14,3 +14,4 @@ pub mod Floors
 pub mod MarkTests
 pub mod Agreement
 pub mod Sums
+pub mod Words

@@ -1,18 +1,36 @@
--- Looking a name up among names that ascend.
-use Rattle.std.proofs.Common.{◌≡◌, ℕ, zero, suc, ◌+◌, ◌<◌, ◌≤◌, true, false, List, [], ◌∷◌, length, get_or, map, Some, None, Ok, Err, refl, ap, sym, ◌∙◌, arith}
-use Rattle.std.specs.List.{AllByRecursion, position_from}
+-- Names that are one, names that ascend, and looking a name up among these.
+use Rattle.std.proofs.Common.{◌≡◌, ℕ, zero, suc, ◌+◌, ◌<◌, ◌≤◌, true, false, true≢false, Bool, ◌||◌, List, [], ◌∷◌, length, get_or, map, Some, None, Ok, Err, refl, ap, ap₂, sym, ◌∙◌, arith}
+use Rattle.std.specs.List.{AllByRecursion, list_any, position_from}
+use Rattle.std.specs.Str.{bytes_eq}
 use Rattle.std.specs.Cmp.Lexicographic.{lists_ties}
 use Rattle.std.specs.List.Sorted.{IsStrictlySortedBy, IsNonDecreasingBy, IsBinarySearchResult}
 use Rattle.std.specs.Ordering.{nat_cmp, ordering_index, ordering_reverse, is_lt, is_eq}
 use Rattle.std.specs.declared.cmp.Ordering.TheVariants.{Less}
 use Rattle.std.proofs.lemmas.Cmp.{nat_list_cmp_total, alike_right}
 use Rattle.std.proofs.lemmas.Bool.Decides.{nat_tests}
+use Rattle.std.proofs.lemmas.Slice.Eq.{bytes_eq-Decides}
 use Rattle.std.proofs.lemmas.List.Sorted.{searchable_from_sorted}
 use Rattle.desk_model.specs.Name.{name_cmp, is_same_name, number_of, AreAscending}
 
 -- two names are one exactly where they compare as equal
 pub same_by_cmp : (x y : List ℕ) → is_same_name x y ≡ is_eq (name_cmp x y)
 same_by_cmp = lists_ties nat_cmp (λ x y. grind (arith, nat_tests))
+
+pub same_name : (x y : List ℕ) → bytes_eq x y ≡ true → x ≡ y
+same_name x y e = (bytes_eq-Decides x y).0 e
+
+-- a name is not less than a name that is less
+pub two_ways : (x y : List ℕ) → name_cmp x y ≡ Less → name_cmp y x ≡ Less → ⊥
+two_ways x y e f = true≢false (sym (ap is_lt f) ∙ ap is_lt (nat_list_cmp_total.antisymm y x ∙ ap ordering_reverse e))
+
+-- a name is none of those above it
+pub none_above : (x : List ℕ) (ys : List (List ℕ)) → AllByRecursion (λ y. name_cmp x y ≡ Less) ys → list_any (bytes_eq x) ys ≡ false
+none_above x [] h = refl
+none_above x (y ∷ ys) h = ap₂ (λ a b. a || b) (apart (bytes_eq x y) refl) (none_above x ys h.1)
+  where
+    apart : (b : Bool) → bytes_eq x y ≡ b → bytes_eq x y ≡ false
+    apart true e = let self : name_cmp x x ≡ Less = ap (name_cmp x) (same_name x y e) ∙ h.0 in absurd (two_ways x x self self)
+    apart false e = e
 
 module _ {X : Type 0} (key : X → List ℕ) where
   -- keys ascend from place to place

@@ -16,3 +16,4 @@ pub mod Desk
 pub mod MeasureText
 pub mod Pairs
 pub mod Floors
+pub mod Named

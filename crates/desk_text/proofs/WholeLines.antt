@@ -1,6 +1,7 @@
 -- Lines that a line feed ended, and what follows the last of them.
 use Rattle.std.proofs.Common.{◌≡◌, ℕ, ◌<◌, List, [], ◌∷◌, ◌++◌, take, length, true, false, Some, None, cond, refl, sym, ap, ◌∙◌, arith, append_assoc, length-append}
-use Rattle.std.specs.Prelude.{Bool, Option, ◌==◌, ◌||◌, nat_le, filter}
+use Rattle.std.specs.Prelude.{Bool, Option, ◌==◌, ◌||◌, nat_le, filter, flat_map}
+use Rattle.std.specs.List.{AllByRecursion}
 use Rattle.std.proofs.lemmas.Bool.{ne_eqb, lt-ltb, leb-false, lt-leb}
 use Rattle.desk_text.specs.Lines.{is_filled, onto_first, lines, onto_whole, whole_lines, has_line_feed, HasNoLineFeed, unended, last_line, kept_line, longer, IsPushed, KeepsOn}
 use Rattle.desk_text.specs.declared.arriving.Pushed.{Pushed}
@@ -144,3 +145,15 @@ keeps_on text piece new pushed is = by pushed.ended is.taken
     by false e =
         let all = ap (λ bs. text ++ bs) e in
         (ap whole_lines all ∙ whole_lines-append_more text is.line is.in_line, kept ∙ ap kept_line (sym (ap unended all ∙ unended-append_more text is.line is.in_line)))
+
+-- a line and its line feed are the first whole line
+pub whole_lines-ended : (line rest : List ℕ) → HasNoLineFeed line → whole_lines ((line ++ 10 ∷ []) ++ rest) ≡ line ∷ whole_lines rest
+whole_lines-ended [] rest h = refl
+whole_lines-ended (b ∷ bs) rest h =
+    ap (λ t. cond t ([] ∷ whole_lines ((bs ++ 10 ∷ []) ++ rest)) (onto_whole b (whole_lines ((bs ++ 10 ∷ []) ++ rest)))) (ne_eqb b 10 h.0)
+    ∙ ap (onto_whole b) (whole_lines-ended bs rest h.1)
+
+-- the whole lines of lines with their line feeds are the lines
+pub whole_lines-of_lines : (lines : List (List ℕ)) → AllByRecursion HasNoLineFeed lines → whole_lines (flat_map (λ line. line ++ 10 ∷ []) lines) ≡ lines
+whole_lines-of_lines [] h = refl
+whole_lines-of_lines (l ∷ ls) h = whole_lines-ended l (flat_map (λ line. line ++ 10 ∷ []) ls) h.0 ∙ ap (λ ms. l ∷ ms) (whole_lines-of_lines ls h.1)
