@@ -2,6 +2,8 @@
 //! one before it times the persistence p.
 #![tactic(auto)]
 
+pub mod corrections;
 pub mod rbp;
+pub mod weights;
 
 pub use rbp::Rbp;

@@ -1,0 +1,126 @@
+// The weights of a run's documents, and what is left for the places after them.
+ghost use Rattle.std.specs.Prelude.{◌≡◌, ◌-◌, ◌≤◌, ◌<◌, ◌≤ℤ◌, true, false, pos, length, All, Some};
+ghost use Rattle.measure_laws.specs.Ranks.{IsRankWithin};
+ghost use Rattle.measure_laws.specs.Powers.{low_weight, high_weight, low_power, high_power};
+ghost use Rattle.measure_laws.specs.Shares.{low_worth, high_worth};
+ghost use Rattle.rbp.specs.Persistence.{IsLoose};
+ghost use Rattle.rbp.specs.Walk.{number_of};
+ghost use Rattle.desk_model.specs.Limits.{PARTS_OF_ONE, RANK_LIMIT};
+
+use crate::rbp::Rbp;
+use desk_model::Mark;
+use fractions::Span;
+
+/// The sums of the weights of a run's relevant documents, and of its relevant and unjudged ones.
+#[derive(Clone, Copy)]
+pub struct Weights {
+    pub relevant: Span,
+    pub possible: Span,
+}
+
+/// A weight in parts of 10^18, rounded down and up.
+#[derive(Clone, Copy)]
+struct Parts {
+    low: u64,
+    high: u64,
+}
+
+/// The number of a mark.
+#[inline]
+pub fn number_of(mark: Mark) -> usize
+    ensures { result ≡ number_of mark }
+{
+    match mark {
+        Mark::Unjudged => 0,
+        Mark::Relevant => 1,
+        Mark::Other => 2,
+    }
+}
+
+/// The span from one number to another.
+fn span(low: u64, high: u64) -> Span
+    ensures lo { result.lo ≡ pos low }
+    ensures hi { result.hi ≡ pos high }
+{
+    Span {
+        lo: i128::from(low),
+        hi: i128::from(high),
+    }
+}
+
+impl Rbp {
+    /// The weight of a rank, and none of an absent one.
+    pub fn weight_at(&self, rank: Option<u32>) -> Span
+        requires { IsRankWithin RANK_LIMIT rank }
+        ensures lo { result.lo ≡ pos (low_weight self.now.top self.now.bottom rank) }
+        ensures hi { result.hi ≡ pos (high_weight self.now.top self.now.bottom rank) }
+        ensures lo_small { result.lo ≤ℤ pos PARTS_OF_ONE }
+        ensures hi_small { result.hi ≤ℤ pos PARTS_OF_ONE }
+    {
+        match rank {
+            None => Span { lo: 0, hi: 0 },
+            Some(rank) => self.powers.weight(rank),
+        }
+    }
+
+    /// The weight of a rank as two numbers of parts of 10^18.
+    #[inline]
+    fn parts_at(&self, rank: u32) -> Parts
+        requires { IsRankWithin RANK_LIMIT (Some rank) }
+        ensures low { result.low ≡ low_weight self.now.top self.now.bottom (Some rank) }
+        ensures high { result.high ≡ high_weight self.now.top self.now.bottom (Some rank) }
+    {
+        let weight = self.weight_at(Some(rank));
+        Parts {
+            low: weight.lo as u64,
+            high: weight.hi as u64,
+        }
+    }
+
+    /// The sums of the weights of a run's documents.
+    pub fn weights(&self, marks: &[Mark], docs: &[u32]) -> Weights
+        requires known { All (λ doc. doc < length marks.now) docs.now }
+        requires few { length docs.now ≤ RANK_LIMIT }
+        ensures relevant_lo { result.relevant.lo ≡ pos (low_worth self.now.top self.now.bottom false marks.now docs.now) }
+        ensures relevant_hi { result.relevant.hi ≡ pos (high_worth self.now.top self.now.bottom false marks.now docs.now) }
+        ensures possible_lo { result.possible.lo ≡ pos (low_worth self.now.top self.now.bottom true marks.now docs.now) }
+        ensures possible_hi { result.possible.hi ≡ pos (high_worth self.now.top self.now.bottom true marks.now docs.now) }
+        ensures relevant_loose { IsLoose result.relevant }
+        ensures possible_loose { IsLoose result.possible }
+    {
+        // What is kept of the persistence bounds the weights.
+        let _ = &self.top;
+        // A sum for each mark: no jump depends on the marks, which no processor foresees.
+        let mut low = [0u64; 3];
+        let mut high = [0u64; 3];
+        for (place, doc) in docs.iter().enumerate() {
+            let parts = self.parts_at(place as u32 + 1);
+            let number = number_of(marks[*doc as usize]);
+            low[number] += parts.low;
+            high[number] += parts.high;
+        }
+        Weights {
+            relevant: span(low[1], high[1]),
+            possible: span(low[0] + low[1], high[0] + high[1]),
+        }
+    }
+
+    /// 10^18 times what a tail after so many ranks adds at most.
+    pub fn tail_most(&self, ranks: u32) -> i128
+        requires { ranks ≤ RANK_LIMIT }
+        ensures value { result ≡ pos (high_power self.now.top self.now.bottom ranks) }
+        ensures small { result ≤ℤ pos PARTS_OF_ONE }
+    {
+        self.powers.high(ranks)
+    }
+
+    /// 10^18 times what 10^24 relevant places after so many ranks add at least.
+    pub fn tail_least(&self, ranks: u32) -> i128
+        requires { ranks ≤ RANK_LIMIT }
+        ensures value { result ≡ pos (low_power self.now.top self.now.bottom ranks - 1) }
+        ensures small { result ≤ℤ pos PARTS_OF_ONE }
+    {
+        let kept = self.powers.low(ranks);
+        if kept > 0 { kept - 1 } else { 0 }
+    }
+}
