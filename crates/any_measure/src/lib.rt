@@ -4,8 +4,6 @@
 pub mod any;
 pub mod common;
 pub mod members;
-#[cfg(test)]
-mod tests;
 
 pub use any::AnyMeasure;
 pub use common::Common;

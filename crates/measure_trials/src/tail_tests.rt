@@ -1,5 +1,6 @@
 //! Rank-biased precision against the plain sum of its definition, in every completion of small topics
 //! with some short tails.
+use crate::plain::{difference, is_in};
 use crate::tests::{MARKS, O, R, RANKINGS, U, cell_once, ranking};
 use any_measure::AnyMeasure;
 use desk_model::{Mark, MeasureName};
@@ -18,9 +19,6 @@ const TAILS: [&[bool]; 5] = [
     &[true, false, true],
     &[true, true, true],
 ];
-
-// 10^18 over 10^7: what one part of a score by seven places is worth.
-const PART: i128 = 100_000_000_000;
 
 const TENTH: i128 = 100_000_000_000_000_000;
 
@@ -85,15 +83,6 @@ fn score(persistence: u64, relevant: u32, docs: &[u32], tail: &[bool]) -> u64 {
         sum = sum.with(*place);
     }
     sum.total
-}
-
-/// 10^18 times the difference of two scores.
-fn difference(first: u64, second: u64) -> i128 {
-    (i128::from(first) - i128::from(second)) * PART
-}
-
-fn is_in(lo: i128, number: i128, hi: i128) -> bool {
-    lo <= number && number <= hi
 }
 
 /// Whether the difference is in the cell, under each pair of tails.

@@ -4,12 +4,13 @@ ghost use Rattle.desk_model.specs.MeasureText.{IsMeasure};
 ghost use Rattle.measure_core.specs.Laws.{AreMet};
 ghost use Rattle.every_completion.specs.Walk.{LooksAtNoTail};
 
+use crate::plain::judged;
 use any_measure::AnyMeasure;
 use desk_model::{Mark, MeasureName, Ranking};
 use every_completion::{Ends, EndsFault, extremes, is_ranking};
 use fractions::Span;
 use measure_core::{Cell, Measure, Steps};
-use std::alloc::{AllocError, Global};
+use std::alloc::Global;
 use std::marker::Brand;
 use std::process::Abort;
 use std::sync::ledger::{Blank, Ledger};
@@ -157,15 +158,6 @@ pub fn cell_once<L: Ledger>(
 {
     let mut steps: Steps<L> = Steps::new(blank);
     measure.cell(first, second, marks, &mut steps)
-}
-
-/// Marks under which each document is judged.
-fn judged(alloc: Global, values: &[bool]) -> Result<Vec<Mark>, AllocError> {
-    let mut marks = Vec::new(alloc);
-    for value in values {
-        marks.push(if *value { R } else { O })?;
-    }
-    Ok(marks)
 }
 
 /// Whether the difference in one completion has these two whole numbers next to it.

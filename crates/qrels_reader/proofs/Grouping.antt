@@ -10,7 +10,8 @@ use Rattle.std.proofs.lemmas.Map.Steps.{list_any_congr}
 use Rattle.qrels_reader.specs.Rows.{first_seen}
 use Rattle.qrels_reader.proofs.Mapped.{list_any-map}
 use Rattle.small_lemmas.proofs.Tests.{neither}
-use Rattle.qrels_reader.proofs.Seen.{laws, same, add_name, first_seen-append, IsDistinct, list_any-first_seen, IsDistinct-first_seen}
+use Rattle.desk_model.proofs.Names.{same_name}
+use Rattle.qrels_reader.proofs.Seen.{laws, add_name, first_seen-append, IsDistinct, list_any-first_seen, IsDistinct-first_seen}
 use Rattle.qrels_reader.proofs.RowFiles.{Kind, rows_on, has_topic, has_document, name_bytes_of, topics_of, topic_of, grouped, names_of, is_topic, counted, bytes_in}
 use Rattle.qrels_reader.proofs.Zipped.{counted-cons}
 
@@ -107,7 +108,7 @@ module _ {Row Member Topic : Type 0} (kind : Kind Row Member Topic) where
     where
       by : kind.members_on name (map (topic_of kind rows) ns) ≡ cond (list_any (bytes_eq name) ns) (map kind.member (rows_on kind name rows)) [] → (b : Bool) → bytes_eq name n ≡ b
           → cond b (map kind.member (rows_on kind n rows)) (kind.members_on name (map (topic_of kind rows) ns)) ≡ cond (b || list_any (bytes_eq name) ns) (map kind.member (rows_on kind name rows)) []
-      by rest true e = ap (λ m. map kind.member (rows_on kind m rows)) (sym (same name n e))
+      by rest true e = ap (λ m. map kind.member (rows_on kind m rows)) (sym (same_name name n e))
       by rest false e = rest
 
   pub members_on-grouped : (name : List ℕ) (rows : List Row) → kind.members_on name (grouped kind rows) ≡ map kind.member (rows_on kind name rows)

@@ -8,7 +8,8 @@ use Rattle.std.proofs.lemmas.List.Elements.{All-cons, All-head, All-tail, All-ma
 use Rattle.desk_model.specs.Name.{is_name}
 use Rattle.qrels_reader.specs.Rows.{first_seen}
 use Rattle.qrels_reader.proofs.Mapped.{list_any-map, map-map}
-use Rattle.qrels_reader.proofs.Seen.{same, others, IsDistinct, IsDistinct-first_seen, IsDistinct-push, all_differ}
+use Rattle.desk_model.proofs.Names.{same_name}
+use Rattle.qrels_reader.proofs.Seen.{others, IsDistinct, IsDistinct-first_seen, IsDistinct-push, all_differ}
 use Rattle.qrels_reader.proofs.RowFiles.{Kind, document_of, rows_on, has_document, topics_of, topic_of, grouped, names_of}
 use Rattle.qrels_reader.proofs.Grouping.{names-grouped, rows_on-append}
 
@@ -29,7 +30,7 @@ module _ {Row Member Topic : Type 0} (kind : Kind Row Member Topic) where
       absent : bytes_eq name (kind.topic row) ≡ true → list_any (bytes_eq (document_of kind row)) (map (document_of kind) (rows_on kind name rows)) ≡ false
       absent e =
           sym (list_any-map (bytes_eq (document_of kind row)) (document_of kind) (rows_on kind name rows))
-          ∙ ap (λ n. list_any (λ r. bytes_eq (document_of kind row) (document_of kind r)) (rows_on kind n rows)) (same name (kind.topic row) e) ∙ new
+          ∙ ap (λ n. list_any (λ r. bytes_eq (document_of kind row) (document_of kind r)) (rows_on kind n rows)) (same_name name (kind.topic row) e) ∙ new
 
       by : (b : Bool) → bytes_eq name (kind.topic row) ≡ b → IsDistinct (map (document_of kind) (rows_on kind name (rows ++ row ∷ [])))
       by true e =

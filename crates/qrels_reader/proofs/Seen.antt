@@ -4,16 +4,12 @@ use Rattle.std.specs.Prelude.{Bool, not, ◌||◌, filter}
 use Rattle.std.specs.List.{list_any, AllByRecursion, IsDistinct as AllDiffer}
 use Rattle.std.specs.Str.{bytes_eq}
 use Rattle.std.specs.Cmp.{IsEquivalence}
-use Rattle.std.specs.Cmp.Lexicographic.{same_text}
 use Rattle.std.proofs.lemmas.Cmp.{nat_list_eq_equiv}
 use Rattle.small_lemmas.proofs.Tests.{neither}
 use Rattle.qrels_reader.specs.Rows.{first_seen}
 
 pub laws : IsEquivalence bytes_eq
 laws = nat_list_eq_equiv
-
-pub same : (a b : List ℕ) → bytes_eq a b ≡ true → a ≡ b
-same a b e = same_text a b (sym e)
 
 abbrev pub others : List ℕ → List ℕ → Bool
 others name other = not (bytes_eq name other)

@@ -6,7 +6,7 @@ use Rattle.std.proofs.lemmas.List.Elements.{All-cons, All-head, All-tail}
 use Rattle.run_reader.specs.Rows.{RunRow}
 use Rattle.run_reader.specs.Run.{Scored, RunTopic, scored_of, names_of, with_scored, with_row_on}
 use Rattle.run_reader.specs.Reader.{documents_seen, place_of}
-use Rattle.qrels_reader.proofs.Seen.{same}
+use Rattle.desk_model.proofs.Names.{same_name}
 use Rattle.qrels_reader.proofs.Places.{located}
 
 -- one more row leaves the names of the topics
@@ -24,7 +24,7 @@ seen_new (x ∷ ts) name scored = ap (λ ds. map (λ (j : Scored). j.document) x
 pub placed_has : (P : List ℕ → Type 0) (name : List ℕ) (ts : List RunTopic) (t : ℕ) → All P (names_of ts) → place_of name ts ≡ Some t → P name
 placed_has P name [] t h e = absurd (let k : None ≡ Some t = e in cc)
 placed_has P name (x ∷ ts) t h e = elim (located (bytes_eq name) x.name (names_of ts) t e) [
-  | inl w ↦ subst P (sym (same name x.name w.0)) (All-head P x.name (names_of ts) h)
+  | inl w ↦ subst P (sym (same_name name x.name w.0)) (All-head P x.name (names_of ts) h)
   | inr w ↦ placed_has P name ts w.place (All-tail P x.name (names_of ts) h) w.found
 ]
 

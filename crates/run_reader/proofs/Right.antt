@@ -16,7 +16,8 @@ use Rattle.qrels_reader.specs.Reading.{unless, checked, field, is_long, read_lin
 use Rattle.qrels_reader.specs.Grouped as qrels_grouped
 use Rattle.qrels_reader.proofs.Right.{Made, mapped, parted, last}
 use Rattle.small_lemmas.proofs.Tests.{neither}
-use Rattle.qrels_reader.proofs.Seen.{same, IsDistinct}
+use Rattle.desk_model.proofs.Names.{same_name}
+use Rattle.qrels_reader.proofs.Seen.{IsDistinct}
 use Rattle.qrels_reader.proofs.FieldNames.{is_name-field}
 use Rattle.qrels_reader.proofs.Chains.{none_holds}
 use Rattle.run_reader.specs.declared.limits.TheConstants.{MOST_RANKS}
@@ -33,7 +34,7 @@ depth_more rows row name few room = by (bytes_eq name row.topic) refl
   where
     by : (b : Bool) → bytes_eq name row.topic ≡ b → length (rows_on name (rows ++ row ∷ [])) ≤ MOST_RANKS
     by true e =
-        let here : length (rows_on name rows) ≡ length (rows_on row.topic rows) = ap (λ n. length (rows_on n rows)) (same name row.topic e) in
+        let here : length (rows_on name rows) ≡ length (rows_on row.topic rows) = ap (λ n. length (rows_on n rows)) (same_name name row.topic e) in
         let more = ap length (rows_on-append runs name rows row true e) in
         let lt = leb-false MOST_RANKS (length (rows_on row.topic rows)) room in
         omega (arith, length-append (rows_on name rows) (row ∷ []))

@@ -15,7 +15,8 @@ use Rattle.std.proofs.lemmas.List.Elements.{All-push, All-head, All-tail, All-fr
 use Rattle.std.proofs.lemmas.Map.Keys.{IsDistinct-push, IsDistinct-head, IsDistinct-tail}
 use Rattle.std.proofs.lemmas.Map.Steps.{list_any_congr}
 use Rattle.desk_model.specs.Name.{is_name}
-use Rattle.qrels_reader.proofs.Seen.{laws, same}
+use Rattle.desk_model.proofs.Names.{same_name}
+use Rattle.qrels_reader.proofs.Seen.{laws}
 use Rattle.topic_universe.specs.Names.{with_name, with_names, AreNames, Gathers, numbered_names}
 
 pub with_names-append : (names xs ys : List (List ℕ)) → with_names names (xs ++ ys) ≡ with_names (with_names names xs) ys
@@ -163,7 +164,7 @@ number_step names names' ranked numbers numbers' i n name added within so_far go
     let before : All (λ n. n < length names') numbers = All-weaker (λ n. n < length names) (λ n. n < length names') (λ n lt. omega (arith, lt, longer)) numbers within in
     let step = λ (n : ℕ). get_or names' n [] in (
       subst (All (λ n. n < length names')) (sym pushed) (All-push (λ n. n < length names') numbers n before found.0),
-      ap (map step) pushed ∙ map-append step numbers (n ∷ []) ∙ ap₂ (λ ns x. ns ++ x ∷ []) (renamed names names' numbers kept within ∙ so_far) (sym (same name (step n) found.1)) ∙ sym (take-there ranked i name got),
+      ap (map step) pushed ∙ map-append step numbers (n ∷ []) ∙ ap₂ (λ ns x. ns ++ x ∷ []) (renamed names names' numbers kept within ∙ so_far) (sym (same_name name (step n) found.1)) ∙ sym (take-there ranked i name got),
     )
 
 -- ---- gathering

@@ -13,34 +13,24 @@ use Rattle.desk_model.specs.Name.{name_cmp, AreAscending}
 use Rattle.desk_model.specs.Book.{Book, IsBook}
 use Rattle.desk_model.specs.Ranking.{IsRanking}
 use Rattle.desk_model.specs.Desk.{Desk, ranking_of}
-use Rattle.desk_model.proofs.Names.{ascending_far}
+use Rattle.desk_model.proofs.Names.{same_name, two_ways, none_above, ascending_far}
 use Rattle.desk_model.proofs.Nested.{length-rankings, ranking_over}
 use Rattle.qrels_reader.specs.Grouped.{JudgedTopic, documents_on}
-use Rattle.qrels_reader.proofs.Seen.{laws, same}
+use Rattle.qrels_reader.proofs.Seen.{laws}
 use Rattle.run_reader.specs.Run.{Run, rows_on_topic}
 use Rattle.trec_order.proofs.Unique.{one_order}
 use Rattle.topic_universe.specs.Names.{HaveSameNames}
 use Rattle.topics_pool.specs.Rows.{IsDeskOf, IsBookOf, doc_names, topic_names, names_on, grade_in}
 
 -- ---- names that ascend are one list with the same names
-two_ways : (x y : List ℕ) → name_cmp x y ≡ Less → name_cmp y x ≡ Less → ⊥
-two_ways x y e f = true≢false (sym (ap is_lt f) ∙ ap is_lt (nat_list_cmp_total.antisymm y x ∙ ap ordering_reverse e))
-
 -- a name that is found among names above another is above it
 above : (x q : List ℕ) (xs : List (List ℕ)) → AllByRecursion (λ z. name_cmp x z ≡ Less) xs → list_any (bytes_eq q) xs ≡ true → name_cmp x q ≡ Less
 above x q [] h is = absurd (true≢false (sym is))
 above x q (z ∷ zs) h is = go (bytes_eq q z) refl (above x q zs h.1)
   where
     go : (b : Bool) → bytes_eq q z ≡ b → (list_any (bytes_eq q) zs ≡ true → name_cmp x q ≡ Less) → name_cmp x q ≡ Less
-    go true e later = ap (name_cmp x) (same q z e) ∙ h.0
+    go true e later = ap (name_cmp x) (same_name q z e) ∙ h.0
     go false e later = later (sym (ap (λ b. b || list_any (bytes_eq q) zs) e) ∙ is)
-
-absent : (x : List ℕ) (xs : List (List ℕ)) → AllByRecursion (λ z. name_cmp x z ≡ Less) xs → list_any (bytes_eq x) xs ≡ false
-absent x xs h = go (list_any (bytes_eq x) xs) refl
-  where
-    go : (b : Bool) → list_any (bytes_eq x) xs ≡ b → list_any (bytes_eq x) xs ≡ false
-    go true e = let low = above x x xs h e in absurd (two_ways x x low low)
-    go false e = e
 
 first_found : (x : List ℕ) (xs : List (List ℕ)) → list_any (bytes_eq x) (x ∷ xs) ≡ true
 first_found x xs = ap (λ b. b || list_any (bytes_eq x) xs) (laws.refl x)
@@ -50,7 +40,7 @@ one_first : (x y : List ℕ) (xs ys : List (List ℕ)) → AreAscending (x ∷ x
 one_first x y xs ys s t h = go (bytes_eq x y) refl
   where
     go : (b : Bool) → bytes_eq x y ≡ b → x ≡ y
-    go true e = same x y e
+    go true e = same_name x y e
     go false e =
         let found : list_any (bytes_eq x) ys ≡ true = sym (ap (λ b. b || list_any (bytes_eq x) ys) e) ∙ sym (h x) ∙ first_found x xs in
         let back : list_any (bytes_eq y) xs ≡ true = sym (ap (λ b. b || list_any (bytes_eq y) xs) (laws.symm y x ∙ e)) ∙ h y ∙ first_found y ys in
@@ -61,7 +51,7 @@ one_rest x xs ys s t h q = go (bytes_eq q x) refl
   where
     go : (b : Bool) → bytes_eq q x ≡ b → list_any (bytes_eq q) xs ≡ list_any (bytes_eq q) ys
     go true e =
-        ap (λ n. list_any (bytes_eq n) xs) (same q x e) ∙ absent x xs s ∙ sym (absent x ys t) ∙ ap (λ n. list_any (bytes_eq n) ys) (sym (same q x e))
+        ap (λ n. list_any (bytes_eq n) xs) (same_name q x e) ∙ none_above x xs s ∙ sym (none_above x ys t) ∙ ap (λ n. list_any (bytes_eq n) ys) (sym (same_name q x e))
     go false e = sym (ap (λ b. b || list_any (bytes_eq q) xs) e) ∙ h q ∙ ap (λ b. b || list_any (bytes_eq q) ys) e
 
 pub one_names : (xs ys : List (List ℕ)) → AreAscending xs → AreAscending ys → HaveSameNames xs ys → xs ≡ ys

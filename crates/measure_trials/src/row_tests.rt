@@ -1,38 +1,22 @@
-ghost use Rattle.std.specs.Prelude.{◌≡◌, ◌≢◌, ◌<◌, length, IfOk};
-ghost use Rattle.desk_model.specs.Ranking.{IsRanking};
+//! Each call of each measure once, by hand.
 ghost use Rattle.desk_model.specs.MeasureText.{IsMeasure};
-ghost use Rattle.measure_core.specs.Laws.{AreMet};
 
-use crate::{AnyMeasure, Common};
-use desk_model::{Mark, MeasureName, Ranking};
+use crate::tests::{O, R, U, cell_once, ranking};
+use any_measure::Common;
+use desk_model::{Mark, MeasureName};
 use fractions::Span;
-use measure_core::{Cell, Maker, Measure, Steps};
+use measure_core::{Cell, Maker, Measure};
 use std::alloc::Global;
 use std::marker::Brand;
 use std::process::Abort;
-use std::sync::ledger::{Blank, Ledger};
+use std::sync::ledger::Blank;
 use std::test::Fail;
-
-const R: Mark = Mark::Relevant;
-
-const O: Mark = Mark::Other;
-
-const U: Mark = Mark::Unjudged;
 
 const QUARTER: i128 = 250_000_000_000_000_000;
 
 const HALF: i128 = 500_000_000_000_000_000;
 
 const WHOLE: i128 = 1_000_000_000_000_000_000;
-
-fn two(alloc: Global, first: u32, second: u32, universe: u32) -> Result<Ranking, Fail>
-    requires first { first < universe }
-    requires second { second < universe }
-    requires apart { first ≢ second }
-    ensures { IfOk result (λ ranking. IsRanking universe ranking) }
-{
-    Ok(Ranking::new(alloc, [first, second].to_vec(alloc)?, universe)?)
-}
 
 /// Two runs of two documents each on a topic, and what a measure says of them.
 #[derive(Clone, Copy)]
@@ -52,34 +36,16 @@ fn span(lo: i128, hi: i128) -> Span {
     Span { lo, hi }
 }
 
-fn cell_once<L: Ledger>(
-    measure: &AnyMeasure,
-    a: &Ranking,
-    b: &Ranking,
-    marks: &[Mark],
-    blank: Blank,
-) -> Cell
-    requires met { AreMet marks.now a.now b.now }
-    requires name { blank.name ≡ L.name }
-    requires parts { blank.parts ≡ L.parts }
-    requires some { 0 < blank.parts }
-{
-    let mut steps: Steps<L> = Steps::new(blank);
-    measure.cell(a, b, marks, &mut steps)
-}
-
 /// Compares a measure with a row; the weight is that of the first run's first document.
 fn expect(rt: &impl Abort, alloc: Global, name: MeasureName, row: &Row<'_>) -> Result<(), Fail>
     requires { IsMeasure name }
 {
-    let [one, other] = row.first;
-    let [three, four] = row.second;
+    let [one, _] = row.first;
     assert!(rt; row.marks.len() <= 100);
     let universe = row.marks.len() as u32;
-    assert!(rt; one < universe && other < universe && one != other);
-    assert!(rt; three < universe && four < universe && three != four);
-    let a = two(alloc, one, other, universe)?;
-    let b = two(alloc, three, four, universe)?;
+    assert!(rt; one < universe);
+    let a = ranking(rt, alloc, &row.first, universe)?;
+    let b = ranking(rt, alloc, &row.second, universe)?;
     let measure = Common.make(alloc, name)?;
     assert_eq!(rt; measure.unit(), row.unit);
     let cell = cell_once::<Brand>(&measure, &a, &b, row.marks, Blank::new(1));
