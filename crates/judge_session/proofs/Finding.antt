@@ -11,26 +11,12 @@ use Rattle.judge_session.specs.declared.answers.Changed.{Changed}
 use Rattle.judge_session.specs.declared.answers.JudgeFault.{JudgeFault}
 use Rattle.judge_session.specs.declared.answers.JudgeFault.TheVariants.{HistoryFull}
 use Rattle.judge_session.specs.Session.{is_live_by, is_undone_by, with_live, without_undone, judged, undone, redone, last_that, first_that, IsSession}
-use Rattle.judge_session.specs.InForce.{IsOnDesk, IsSessionOf, book_at, document_in, document_of, found_document, judgeable, with_room}
-use Rattle.judge_session.specs.Marking.{IsLastThat, IsFirstThat}
-use Rattle.std.proofs.lemmas.List.Folds.{list_any_none, list_any_at}
+use Rattle.judge_session.specs.InForce.{IsOnDesk, IsSessionOf, document_in, document_of, found_document, judgeable, with_room}
+use Rattle.desk_model.specs.Named.{book_at}
+use Rattle.judge_session.specs.Marking.{IsFirstThat}
+use Rattle.std.proofs.lemmas.List.Folds.{list_any_at}
 use Rattle.small_lemmas.proofs.Tests.{neither}
 use Rattle.judge_session.proofs.Numbers.{length-without}
-
-last_at : (test : Change → Bool) (xs : List Change) (i : ℕ) (d : Change) → i < length xs → test (get_or xs i d) ≡ true → ((k : ℕ) (e : Change) → i < k → k < length xs → test (get_or xs k e) ≡ false) → last_that test xs ≡ Some (get_or xs i d)
-last_at test [] i d lt here after = absurd (omega arith)
-last_at test (x ∷ xs) zero d lt here after =
-    ap (λ b. if b then last_that test xs else if test x then Some x else None) (list_any_none test xs (λ k e within. after (suc k) e (omega arith) (omega arith)))
-    ∙ ap (λ b. if b then Some x else None) here
-last_at test (x ∷ xs) (suc i) d lt here after =
-    ap (λ b. if b then last_that test xs else if test x then Some x else None) (list_any_at test xs i d (omega arith) here)
-    ∙ last_at test xs i d (omega arith) here (λ k e above within. after (suc k) e (omega arith) (omega arith))
-
-pub last_that-at : (test : Change → Bool) (xs : List Change) (i : ℕ) (d : Change) → IsLastThat test xs i → last_that test xs ≡ Some (get_or xs i d)
-last_that-at test xs i d last = last_at test xs i d last.within (last.here d) last.after
-
-pub last_that-some : (test : Change → Bool) (xs : List Change) (i : ℕ) (d : Change) → IsLastThat test xs i → list_any test xs ≡ true
-last_that-some test xs i d last = list_any_at test xs i d last.within (last.here d)
 
 pub last_that-none : (test : Change → Bool) (xs : List Change) → list_any test xs ≡ false → last_that test xs ≡ None
 last_that-none test [] h = refl

@@ -7,3 +7,6 @@ pub mod Turns
 pub mod Numbers
 pub mod Lookups
 pub mod OneDocument
+pub mod Owners
+pub mod Lasts
+pub mod LookingBack

@@ -22,10 +22,10 @@ or-from false b h = h refl
 turn : (x : Change) (xs : List Change) → (x.live ≡ false → list_any (is_live_by x.who) xs ≡ false) → is_in_turn xs ≡ true → is_in_turn (x ∷ xs) ≡ true
 turn x xs first rest = and_from (x.live || not (list_any (is_live_by x.who) xs)) (is_in_turn xs) (or-from x.live (not (list_any (is_live_by x.who) xs)) (λ e. ap not (first e))) rest
 
-turn_first : (x : Change) (xs : List Change) → is_in_turn (x ∷ xs) ≡ true → x.live ≡ false → list_any (is_live_by x.who) xs ≡ false
+pub turn_first : (x : Change) (xs : List Change) → is_in_turn (x ∷ xs) ≡ true → x.live ≡ false → list_any (is_live_by x.who) xs ≡ false
 turn_first x xs h e = not-true (list_any (is_live_by x.who) xs) (or-cases x.live (not (list_any (is_live_by x.who) xs)) (and_parts (x.live || not (list_any (is_live_by x.who) xs)) (is_in_turn xs) h).0 e)
 
-turn_rest : (x : Change) (xs : List Change) → is_in_turn (x ∷ xs) ≡ true → is_in_turn xs ≡ true
+pub turn_rest : (x : Change) (xs : List Change) → is_in_turn (x ∷ xs) ≡ true → is_in_turn xs ≡ true
 turn_rest x xs h = (and_parts (x.live || not (list_any (is_live_by x.who) xs)) (is_in_turn xs) h).1
 
 -- an undo makes nothing live

@@ -1,9 +1,10 @@
 -- The grades in force after the changes of a session.
-use Rattle.std.specs.Prelude.{◌≡◌, ℕ, ◌<◌, Bool, ◌&&◌, nat_eq, nat_lt, if◌then◌else◌, map, List, [], ◌∷◌, length, slice_index_or, Option, None, Some, Result, Ok, Err, ℤ, pos, negsuc}
+use Rattle.std.specs.Prelude.{◌≡◌, ℕ, ◌<◌, Bool, ◌&&◌, nat_eq, nat_lt, if◌then◌else◌, map, List, [], ◌∷◌, length, Option, None, Some, Result, Ok, Err, ℤ, pos, negsuc}
 use Rattle.std.specs.List.{AllByRecursion, enumerate_from}
 use Rattle.desk_model.specs.Name.{number_of}
 use Rattle.desk_model.specs.Book.{Book, file_grade_of}
 use Rattle.desk_model.specs.Desk.{Desk}
+use Rattle.desk_model.specs.Named.{book_at}
 use Rattle.judge_session.specs.Session.{without_undone, judged, CHANGE_LIMIT}
 use Rattle.judge_session.specs.declared.change.Change.{Change}
 use Rattle.judge_session.specs.declared.answers.Changed.{Changed}
@@ -24,10 +25,6 @@ abbrev pub counted_grade : Option ℤ → Option ℤ
 counted_grade None = None
 counted_grade (Some (pos n)) = Some (pos n)
 counted_grade (Some (negsuc n)) = None
-
--- a topic by its number
-abbrev pub book_at : Desk → ℕ → Book
-book_at desk topic = slice_index_or desk.topics topic (record { name = []; docs = []; grades = [] })
 
 -- the grade in force of a document: that of its last live change, else the file's
 abbrev pub grade_in_force : Desk → ℕ → ℕ → List Change → Option ℤ

@@ -1,8 +1,11 @@
-/// How many changes a caller has.
+/// What is kept of a caller.
 #[derive(Clone, Copy, PartialEq, Eq, Debug)]
 pub struct Counts {
-    /// The live ones.
+    /// How many live changes there are.
     pub live: u32,
-    /// The undone ones.
+    /// How many undone changes there are.
     pub undone: u32,
+    /// The last live change's topic by its number in the desk, and its document by its number in the topic's universe,
+    /// both from 0. `None` exactly where no change is live.
+    pub last: Option<(u32, u32)>,
 }

@@ -1,6 +1,9 @@
 // The grades in force after a list of changes.
 ghost use Rattle.std.specs.Prelude.{◌≡◌, ◌<◌, ℕ, ℤ, length, map, Option, Some, if◌then◌else◌, IfOk, slice_index_or};
-ghost use Rattle.judge_session.specs.InForce.{grade_in_force, grades_in_force, book_at, told_of, found_document, is_live_on, grade_after, counted_grade, IsSessionOf, IsOfDesk};
+ghost use Rattle.judge_session.specs.InForce.{grade_in_force, grades_in_force, told_of, found_document, is_live_on, grade_after, counted_grade, IsSessionOf, IsOfDesk};
+ghost use Rattle.desk_model.specs.Named.{book_at};
+ghost use Rattle.desk_model.specs.Book.{file_grade_of};
+ghost use Rattle.std.specs.Option.{option_or};
 ghost use Rattle.judge_session.specs.declared.change.Change.{Change};
 
 use crate::answers::{Changed, JudgeFault};
@@ -46,6 +49,21 @@ pub fn told_at(changes: &[Change], desk: &Desk, place: usize) -> Changed
         topic: change.topic,
         doc: change.doc,
         grade: in_force(changes, desk, change.topic, change.doc),
+    }
+}
+
+/// What is told of a document, by the grade of its last live change, if it has one.
+pub fn told_by(desk: &Desk, topic: u32, doc: u32, grade: Option<i32>) -> Changed
+    requires topic { topic < length desk.now.topics }
+    requires doc { doc < length (book_at desk.now topic).docs }
+    ensures told { result ≡ record { topic = topic; doc = doc; grade = counted_grade (option_or grade (file_grade_of (book_at desk.now topic) doc)) } }
+    ensures document { IsOfDesk desk.now result }
+{
+    let file = desk.topic(topic).file_grade(doc);
+    Changed {
+        topic,
+        doc,
+        grade: counted(grade.or(file)),
     }
 }
 

@@ -6,6 +6,7 @@ mod change;
 mod counts;
 mod force;
 pub mod laws;
+mod looking;
 mod marking;
 mod session;
 mod steps;

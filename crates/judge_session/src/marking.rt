@@ -8,21 +8,6 @@ ghost use Rattle.judge_session.specs.declared.change.Change.{Change};
 
 use crate::change::Change;
 
-/// The place of the caller's last live change.
-pub fn last_live(changes: &[Change], who: &[u8]) -> Option<usize>
-    ensures { MatchOption result (list_any (is_live_by who.now) changes.now ≡ false)
-        (IsLastThat (is_live_by who.now) changes.now) }
-{
-    let mut place = changes.len();
-    while place > 0 {
-        place -= 1;
-        if is_live_of(&changes[place], who) {
-            return Some(place);
-        }
-    }
-    None
-}
-
 /// The place of the caller's first undone change.
 pub fn first_undone(changes: &[Change], who: &[u8]) -> Option<usize>
     ensures { MatchOption result (list_any (is_undone_by who.now) changes.now ≡ false)
@@ -36,7 +21,8 @@ pub fn first_undone(changes: &[Change], who: &[u8]) -> Option<usize>
     None
 }
 
-fn is_live_of(change: &Change, who: &[u8]) -> bool
+/// Whether it is a live change of this caller.
+pub fn is_live_of(change: &Change, who: &[u8]) -> bool
     ensures { result ≡ is_live_by who.now change.now }
 {
     change.live && change.who.is_same(who)
@@ -90,7 +76,8 @@ fn last_on(changes: &[Change], topic: u32, doc: u32) -> Option<usize>
     None
 }
 
-fn is_live_on(change: &Change, topic: u32, doc: u32) -> bool
+/// Whether it is a live change of this document.
+pub fn is_live_on(change: &Change, topic: u32, doc: u32) -> bool
     ensures { result ≡ on_document topic doc change.now }
 {
     change.live && change.topic == topic && change.doc == doc

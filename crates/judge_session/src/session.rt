@@ -5,7 +5,7 @@ ghost use Rattle.desk_model.specs.Name.{is_name};
 
 use crate::answers::{Changed, JudgeFault, NothingToRedo, NothingToUndo};
 use crate::change::Change;
-use crate::force::{all_in_force, find_document, in_force, told_at};
+use crate::force::{all_in_force, find_document, in_force, told_at, told_by};
 use crate::marking::counted;
 use crate::steps::{append, redo_first, undo_last};
 use crate::tally::Tally;
@@ -23,7 +23,7 @@ use std::marker::Model;
 pub struct Session {
     changes: Vec<Change>,
     // How many live and how many undone changes each caller has, so that a judgement of a caller without undone ones
-    // does not walk the list.
+    // does not walk the list, and of which document the last live one is, so that an undo walks it once.
     tally: Tally,
 }
 
@@ -41,7 +41,8 @@ impl Model for Session {
 
 impl Session {
     ghost use Rattle.judge_session.specs.Session.{is_live_by, is_undone_by, judged, undone, redone, last_that, first_that, IsSession};
-    ghost use Rattle.judge_session.specs.InForce.{grade_in_force, grades_in_force, book_at, told_of, judgeable, IsOfDesk, IsSessionOf, Judges};
+    ghost use Rattle.judge_session.specs.InForce.{grade_in_force, grades_in_force, told_of, judgeable, IsOfDesk, IsSessionOf, Judges};
+    ghost use Rattle.desk_model.specs.Named.{book_at};
 
     // The greatest number of changes.
     const MOST: usize = 1_000_000;
@@ -133,8 +134,8 @@ impl Session {
     }
 
     /// Marks the caller's last live change as undone, at its place. It answers the document of that change and the
-    /// grade in force there afterwards, which may be another caller's. It takes no memory. It looks for each of the two
-    /// from the last change back.
+    /// grade in force there afterwards, which may be another caller's. It takes no memory. It looks at each change once
+    /// at most, from the last change back.
     ///
     /// # Errors
     /// `NothingToUndo`: exactly where the caller has no live change. The list is as it was.
@@ -151,10 +152,10 @@ impl Session {
         ensures session { IsSession self.new }
         ensures desk { IsSessionOf desk.now self.new }
     {
-        let Some(place) = undo_last(&mut self.changes, &mut self.tally, who) else {
+        let Some(mark) = undo_last(&mut self.changes, &mut self.tally, who) else {
             return Err(NothingToUndo);
         };
-        Ok(told_at(&self.changes, desk, place))
+        Ok(told_by(desk, mark.topic, mark.doc, mark.grade))
     }
 
     /// Makes live again the change that the caller undid last, which is the caller's first undone one in the list. It

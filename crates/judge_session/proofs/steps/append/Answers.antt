@@ -1,4 +1,4 @@
-use Rattle.std.proofs.Common.{◌≡◌, ◌+◌, [], ◌∷◌, ◌++◌, true, cond, refl, ap, ap₂, sym, subst, ◌∙◌, arith, List, ℕ}
+use Rattle.std.proofs.Common.{◌≡◌, ◌+◌, [], ◌∷◌, ◌++◌, true, cond, refl, ap, ap₂, sym, subst, ◌∙◌, arith, List, ℕ, Some}
 use Rattle.std.specs.Prelude.{if◌then◌else◌, not, ◌&&◌}
 use Rattle.std.proofs.Common.{w32, to_z, of_z}
 use Rattle.std.proofs.lemmas.Int.{to_z-of_z}
@@ -47,4 +47,4 @@ returns-clause-kept c =
     let kept : IsKept c.args.changes.now.items added = record { session = c.requires.kept.session; tallied = λ q. c.add.ensures.same q ∙ c.requires.kept.tallied q } in
     subst (λ (ys : List Change). IsKept ys c.set.new.self) (sym {A = List Change} (returns-clause-ok c))
     (kept-judged who c.args.topic c.args.doc c.args.grade c.args.changes.now.items added c.set.new.self kept c.requires.room (λ q.
-    c.set.ensures q ∙ ap (λ (k : Counts). if is_same_name who q then record { live = k.live + 1; undone = 0 } else counts_of q added) c.counts-counts.ensures))
+    c.set.ensures q ∙ ap (λ (k : Counts). if is_same_name who q then record { live = k.live + 1; undone = 0; last = Some (c.args.topic, c.args.doc) } else counts_of q added) c.counts-counts.ensures))

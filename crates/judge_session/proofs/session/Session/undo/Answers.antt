@@ -1,35 +1,37 @@
-use Rattle.std.proofs.Common.{length, get_or, false, true≢false, ap, sym, subst, ◌∙◌, arith, Some}
-use Rattle.std.specs.Prelude.{option_map}
-use Rattle.std.specs.List.{list_any}
-use Rattle.std.proofs.lemmas.List.{get_or-set_same}
-use Rattle.judge_session.specs.Session.{is_live_by, undone, with_live, last_that}
-use Rattle.judge_session.specs.InForce.{told_of, IsSessionOf}
-use Rattle.judge_session.specs.Marking.{IsLastThat}
+use Rattle.std.proofs.Common.{◌≡◌, true≢false, ap, sym, subst, ◌∙◌, Some, None, Option, ℕ}
+use Rattle.std.specs.Prelude.{option_map, ℤ}
+use Rattle.judge_session.specs.declared.answers.Changed.{Changed}
+use Rattle.desk_model.specs.Book.{file_grade_of}
+use Rattle.desk_model.specs.Named.{book_at}
+use Rattle.judge_session.specs.Session.{is_live_by, undone, last_that}
+use Rattle.judge_session.specs.InForce.{told_of, counted_grade, IsSessionOf}
+use Rattle.judge_session.specs.Looking.{IsMarkOf}
+use Rattle.judge_session.specs.Tally.{changed_document}
 use Rattle.judge_session.proofs.Undoing.{undone-none}
-use Rattle.judge_session.proofs.Sessions.{no_change, undone-set, length-undone}
-use Rattle.judge_session.proofs.Finding.{last_that-at, last_that-none, last_that-some, on_desk-undone}
+use Rattle.judge_session.proofs.Finding.{last_that-none, on_desk-undone}
+use Rattle.judge_session.proofs.Lasts.{last_document-on_desk, told_as, told_by_document}
 use Rattle.judge_session.proofs.session.Session.undo.Goals as goal
 
 pub returns-in_default-clause-told : goal.returns-in_default-clause-told
 returns-in_default-clause-told c =
     sym (ap (λ xs. option_map (told_of c.args.desk.now c.undo_last.new.changes.items) (last_that (is_live_by c.args.who.now) xs)) (sym c.self.view_is)
-    ∙ ap (option_map (told_of c.args.desk.now c.undo_last.new.changes.items)) (last_that-none (is_live_by c.args.who.now) c.self.inside.changes.items c.in_default.ensures.place))
+    ∙ ap (option_map (told_of c.args.desk.now c.undo_last.new.changes.items)) (last_that-none (is_live_by c.args.who.now) c.self.inside.changes.items c.in_default.ensures.mark))
 
 pub returns-in_default-clause-unchanged : goal.returns-in_default-clause-unchanged
-returns-in_default-clause-unchanged c = c.undo_last.ensures.undone ∙ undone-none c.args.who.now c.self.inside.changes.items c.in_default.ensures.place ∙ c.self.view_is
+returns-in_default-clause-unchanged c = c.undo_last.ensures.undone ∙ undone-none c.args.who.now c.self.inside.changes.items c.in_default.ensures.mark ∙ c.self.view_is
 
 pub returns-in_default-clause-desk : goal.returns-in_default-clause-desk
 returns-in_default-clause-desk c = subst (IsSessionOf c.args.desk.now) (sym (returns-in_default-clause-unchanged c)) c.requires
 
-pub told_at-requires-clause-place : goal.told_at-requires-clause-place
-told_at-requires-clause-place c =
-    let xs = c.self.inside.changes.items in
-    let last : IsLastThat (is_live_by c.args.who.now) xs c.in-Some.place = c.in-Some.ensures.place in
-    omega (arith, last.within, ap length (c.deref.ensures.value ∙ c.undo_last.ensures.undone), length-undone c.args.who.now xs)
+pub told_by-requires-clause-topic : goal.told_by-requires-clause-topic
+told_by-requires-clause-topic c =
+    let mark : IsMarkOf c.args.who.now c.self.inside.changes.items c.undo_last.new.changes.items c.in-Some.mark = c.in-Some.ensures.mark in
+    (last_document-on_desk c.args.desk.now c.args.who.now c.self.inside.changes.items c.in-Some.mark.topic c.in-Some.mark.doc (subst (IsSessionOf c.args.desk.now) (sym c.self.view_is) c.requires) mark.document).0
 
-pub told_at-requires-clause-desk : goal.told_at-requires-clause-desk
-told_at-requires-clause-desk c =
-    subst (IsSessionOf c.args.desk.now) (sym (c.deref.ensures.value ∙ c.undo_last.ensures.undone ∙ ap (undone c.args.who.now) c.self.view_is)) (on_desk-undone c.args.desk.now c.args.who.now c.args.self.now c.requires)
+pub told_by-requires-clause-doc : goal.told_by-requires-clause-doc
+told_by-requires-clause-doc c =
+    let mark : IsMarkOf c.args.who.now c.self.inside.changes.items c.undo_last.new.changes.items c.in-Some.mark = c.in-Some.ensures.mark in
+    (last_document-on_desk c.args.desk.now c.args.who.now c.self.inside.changes.items c.in-Some.mark.topic c.in-Some.mark.doc (subst (IsSessionOf c.args.desk.now) (sym c.self.view_is) c.requires) mark.document).1
 
 pub returns-clause-desk : goal.returns-clause-desk
 returns-clause-desk c =
@@ -38,10 +40,14 @@ returns-clause-desk c =
 pub returns-clause-nothing : goal.returns-clause-nothing
 returns-clause-nothing c =
     let xs = c.self.inside.changes.items in
-    let last : IsLastThat (is_live_by c.args.who.now) xs c.in-Some.place = c.in-Some.ensures.place in (
+    let mark : IsMarkOf c.args.who.now xs c.undo_last.new.changes.items c.in-Some.mark = c.in-Some.ensures.mark in (
       λ e. absurd (true≢false (sym e)),
-      λ h. absurd (true≢false (sym (last_that-some (is_live_by c.args.who.now) xs c.in-Some.place no_change last) ∙ ap (list_any (is_live_by c.args.who.now)) c.self.view_is ∙ h)),
+      λ h. absurd (some_not_none (sym mark.document
+          ∙ ap (option_map changed_document) (ap (last_that (is_live_by c.args.who.now)) c.self.view_is ∙ last_that-none (is_live_by c.args.who.now) c.args.self.now h))),
     )
+  where
+    some_not_none : {document : ℕ × ℕ} → Some document ≡ None → ⊥
+    some_not_none h = absurd (cc)
 
 pub returns-clause-told : goal.returns-clause-told
 returns-clause-told c =
@@ -49,14 +55,12 @@ returns-clause-told c =
     let desk = c.args.desk.now in
     let xs = c.self.inside.changes.items in
     let new = c.undo_last.new.changes.items in
-    let place = c.in-Some.place in
-    let last : IsLastThat (is_live_by who) xs place = c.in-Some.ensures.place in
-    let x = get_or xs place no_change in
+    let topic = c.in-Some.mark.topic in
+    let doc = c.in-Some.mark.doc in
+    let mark : IsMarkOf who xs new c.in-Some.mark = c.in-Some.ensures.mark in
     ap (λ told. Some told) (
-    c.told_at.ensures.told no_change
-    ∙ ap (λ ys. told_of desk ys (get_or ys place no_change)) c.deref.ensures.value
-    ∙ ap (λ ys. told_of desk new (get_or ys place no_change)) (c.undo_last.ensures.undone ∙ sym (undone-set who xs c.self.inside.tally c.self.invariant place last no_change))
-    ∙ ap (told_of desk new) (get_or-set_same xs place (with_live false x) no_change last.within)
+    c.told_by.ensures.told
+    ∙ ap (λ (grade : Option ℤ). let told : Changed = record { topic = topic; doc = doc; grade = counted_grade grade } in told) (sym (mark.grade (file_grade_of (book_at desk topic) doc)))
     )
-    ∙ sym (ap (λ ys. option_map (told_of desk new) (last_that (is_live_by who) ys)) (sym c.self.view_is)
-    ∙ ap (option_map (told_of desk new)) (last_that-at (is_live_by who) xs place no_change last))
+    ∙ ap (option_map (told_as desk new)) (sym mark.document) ∙ sym (told_by_document desk who xs new)
+    ∙ ap (λ ys. option_map (told_of desk new) (last_that (is_live_by who) ys)) c.self.view_is
