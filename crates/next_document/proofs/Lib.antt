@@ -1,0 +1,5 @@
+pub mod Pairs
+pub mod Summing
+pub mod Choosing
+pub mod Naming
+pub mod Weighing

@@ -1,0 +1,4 @@
+pub mod Proposal
+pub mod Laws
+pub mod Total
+pub mod Best
