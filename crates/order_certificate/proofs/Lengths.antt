@@ -7,7 +7,8 @@ use Rattle.std.proofs.lemmas.Bool.{and_parts, leb-true}
 use Rattle.std.proofs.lemmas.Fmt.{length-decimal-le}
 use Rattle.std.proofs.lemmas.List.Elements.{All-from_recursion}
 use Rattle.std.proofs.Math.Nat.{pow-le-pow_right}
-use Rattle.desk_model.specs.Name.{is_name, is_field_byte}
+use Rattle.desk_model.specs.Name.{is_name}
+use Rattle.desk_model.proofs.Words.{name_most}
 use Rattle.desk_model.specs.MeasureText.{measure_text, persistence_digits, IsMeasure}
 use Rattle.desk_model.specs.declared.types.MeasureName.{MeasureName}
 use Rattle.desk_model.specs.declared.types.MeasureName.TheVariants.{Precision, Recall, RPrecision, Reciprocal, Biased}
@@ -31,11 +32,6 @@ stand_short : {X : Type 0} (form : Form X) (ls : List (List ℕ)) → AtEach Are
 stand_short form [] h s = tt
 stand_short (Whole x) (l ∷ ls) h s = absurd s
 stand_short (Line show Fits next) (l ∷ ls) h (p, fits, is, s) = (subst IsShortLine (sym is) (h.0 p fits), stand_short (next p) ls (h.1 p fits) s)
-
-name_most : (name : List ℕ) → is_name name ≡ true → length name ≤ 255
-name_most name h =
-    let parts = and_parts (nat_le 1 (length name)) (nat_le (length name) 255 && list_all is_field_byte name) h in
-    leb-true (length name) 255 (and_parts (nat_le (length name) 255) (list_all is_field_byte name) parts.1).0
 
 decimal_most : (n : ℕ) → n < 10 ^ 19 → length (decimal n) ≤ 19
 decimal_most n lt = length-decimal-le 19 n (omega arith) lt (omega arith)

@@ -1,10 +1,12 @@
 -- The places of a certificate are those of its lines.
-use Rattle.std.proofs.Common.{◌≡◌, ℕ, List, [], ◌∷◌, ◌++◌, length, refl, ap, sym, subst, ◌∙◌, true, arith, rules, flat_map, map, pos}
+use Rattle.std.proofs.Common.{◌≡◌, ℕ, List, [], ◌∷◌, ◌++◌, length, refl, ap, sym, subst, ◌∙◌, true, arith, rules, flat_map, map, pos, take}
 use Rattle.std.specs.Prelude.{codes, decimal}
-use Rattle.std.specs.List.{All}
+use Rattle.std.specs.List.{All, AllByRecursion}
 use Rattle.std.proofs.lemmas.Fmt.{decimal_injective}
 use Rattle.std.proofs.lemmas.List.{append_cancel_left, length-map}
 use Rattle.std.proofs.lemmas.List.Elements.{All-from_recursion, recursion_from_All}
+use Rattle.desk_text.specs.Lines.{whole_lines, HasNoLineFeed}
+use Rattle.desk_text.proofs.WholeLines.{whole_lines-of_lines}
 use Rattle.desk_model.specs.Name.{is_name}
 use Rattle.desk_model.specs.MeasureText.{IsMeasure, IsTextOf, measure_text}
 use Rattle.desk_model.specs.declared.types.MeasureName.{MeasureName}
@@ -17,8 +19,8 @@ use Rattle.order_certificate.specs.Form.{Form, Whole, Says, IsFirstBad, bind, ea
 use Rattle.order_certificate.specs.Places.{low_place, low_high_place, witness_places, topic_places, claim_line, claim_places, evidence_places, fixed_place, name_place, measure_place, level_place, certificate_places, IsText}
 use Rattle.order_certificate.specs.declared.places.Claim.{Claim}
 use Rattle.order_certificate.specs.declared.places.Claim.TheVariants as claimed
-use Rattle.order_certificate.specs.Certificate.{low_line, low_high_line, witness_lines, topics_line, evidence_lines, certificate_lines, certificate_text, opening_lines, IsNumber, IsLevel, IsTopicCount, AreTopics, AreDocuments, IsWritable, IsCertificate}
-use Rattle.order_certificate.proofs.Cuts.{AreAbove, above-append, same_lines}
+use Rattle.order_certificate.specs.Certificate.{claim_of, first_lines, low_line, low_high_line, witness_lines, topics_line, evidence_lines, certificate_lines, certificate_text, opening_lines, IsNumber, IsLevel, IsTopicCount, AreTopics, AreDocuments, IsWritable, IsCertificate}
+use Rattle.order_certificate.proofs.Cuts.{AreAbove, AreLines, above-append, above_free, same_lines}
 use Rattle.order_certificate.proofs.Forms.{IsPlain, bind_forth, bind_back, bind_plain, one_value, says_stands, stands_lines, none_longer, one_bad, none_bad}
 use Rattle.order_certificate.proofs.Rows.{Kind, line_forth, made_forth, made_back, each_forth, each_back, each_plain, follow_names, names_follow, flat_single}
 use Rattle.order_certificate.proofs.Shown.{measure_above, measure_is_text}
@@ -265,3 +267,19 @@ one_bad_line unique bytes m n a b = one_bad certificate_places bytes m n (places
 
 pub no_bad_line : OneMeasure → (bytes : List ℕ) (c : Certificate) (n : ℕ) → IsText bytes c → IsFirstBad certificate_places bytes n → ⊥
 no_bad_line unique bytes c n t bad = none_bad certificate_places t.0 c n (places_plain unique) t.2 (subst (λ z. IsFirstBad certificate_places z n) t.1 bad)
+
+no_feeds : (lines : List (List ℕ)) → AreLines lines → AllByRecursion HasNoLineFeed lines
+no_feeds [] h = tt
+no_feeds (line ∷ lines) h = (above_free 10 line h.0, no_feeds lines h.1)
+
+-- the first six lines of a text are those of its certificate
+pub begins_with_claim : OneMeasure → (bytes : List ℕ) (c : Certificate) → IsText bytes c → take 6 (whole_lines bytes) ≡ first_lines c
+begins_with_claim unique bytes c t =
+    let lines = stands_lines certificate_places t.0 (places_plain unique) (says_stands certificate_places t.0 c t.2) in
+    ap (λ b. take 6 (whole_lines b)) t.1 ∙ ap (take 6) (whole_lines-of_lines t.0 (no_feeds t.0 lines)) ∙ ap (take 6) (says_only t.0 c t.2).0 ∙ by c.evidence
+  where
+    by : (e : Evidence) → take 6 (opening_lines c.measure c.level ++ (codes "first " ++ c.first) ∷ (codes "second " ++ c.second) ∷ evidence_lines e ++ codes "end" ∷ [])
+        ≡ opening_lines c.measure c.level ++ (codes "first " ++ c.first) ∷ (codes "second " ++ c.second) ∷ claim_of e ∷ []
+    by (Above bounds) = refl
+    by (Equal bounds) = refl
+    by (Open witnesses) = refl

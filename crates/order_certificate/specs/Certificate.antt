@@ -47,6 +47,16 @@ evidence_lines (Above bounds) = codes "claim above" ∷ topics_line (length boun
 evidence_lines (Equal bounds) = codes "claim equal" ∷ topics_line (length bounds) ∷ map low_high_line bounds
 evidence_lines (Open witnesses) = codes "claim open" ∷ topics_line (length witnesses) ∷ flat_map witness_lines witnesses
 
+-- the line of the claim
+abbrev pub claim_of : Evidence → List ℕ
+claim_of (Above bounds) = codes "claim above"
+claim_of (Equal bounds) = codes "claim equal"
+claim_of (Open witnesses) = codes "claim open"
+
+-- the six lines that say what is claimed: which form it is, what the runs are compared by, which runs they are, and the claim
+abbrev pub first_lines : Certificate → List (List ℕ)
+first_lines c = opening_lines c.measure c.level ++ (codes "first " ++ c.first) ∷ (codes "second " ++ c.second) ∷ claim_of c.evidence ∷ []
+
 abbrev pub certificate_lines : Certificate → List (List ℕ)
 certificate_lines c =
     opening_lines c.measure c.level

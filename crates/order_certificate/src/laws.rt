@@ -1,11 +1,12 @@
 //! Laws of certificates, each the contract of a function that does nothing.
-ghost use Rattle.std.specs.Prelude.{◌≡◌, ◌≤◌, ◌⊎◌, ◌++◌, ℕ, All, List, [], length, ℤ};
+ghost use Rattle.std.specs.Prelude.{◌≡◌, ◌≤◌, ◌⊎◌, ◌++◌, ℕ, All, List, [], length, take, ℤ};
+ghost use Rattle.desk_text.specs.Lines.{whole_lines};
 ghost use Rattle.desk_model.specs.Completion.{Completion};
 ghost use Rattle.desk_model.specs.Desk.{topics_under};
 ghost use Rattle.desk_model.specs.Fraction.{IsSame};
 ghost use Rattle.desk_model.specs.Order.{IsCompletion, run_mean};
 ghost use Rattle.desk_model.specs.declared.types.MeasureName.{MeasureName};
-ghost use Rattle.order_certificate.specs.Certificate.{IsCertificate, certificate_text};
+ghost use Rattle.order_certificate.specs.Certificate.{IsCertificate, certificate_text, first_lines};
 ghost use Rattle.order_certificate.specs.Form.{CanStand, IsFirstBad};
 ghost use Rattle.order_certificate.specs.Places.{certificate_places, IsText};
 ghost use Rattle.order_certificate.specs.Claim.{NamedTopic, AreItsRuns, ClaimHolds, IsBelowIn, IsOpen};
@@ -31,6 +32,14 @@ pub fn certificates_have_texts()
     ensures written { (bytes : List ℕ) (c : Certificate) → IsText bytes c → bytes ≡ certificate_text c }
     ensures text { (c : Certificate) → IsCertificate c → IsText (certificate_text c) c }
 {}
+
+/// The first six lines of a certificate's text say what it claims: the form, the measure, the level, the first run, the
+/// second run, and on line 6 the claim, which is `claim above`, `claim equal` or `claim open` by its evidence.
+pub fn claim_is_on_line_6()
+    ensures { (bytes : List ℕ) (c : Certificate) → IsText bytes c → take 6 (whole_lines bytes) ≡ first_lines c }
+{
+    measure_of_text_is_unique();
+}
 
 /// No text of a certificate begins with the text of another.
 pub fn no_text_begins_another()

@@ -10,7 +10,7 @@ mod writing;
 
 pub use certificate::{Bounds, Certificate, Evidence, Names, TopicBound, TopicWitness, Witnesses};
 pub use laws::{
-    bad_line_exists, certificates_have_texts, evidence_holds_in_completions,
+    bad_line_exists, certificates_have_texts, claim_is_on_line_6, evidence_holds_in_completions,
     evidence_implies_claim, first_bad_line_is_unique, lines_are_short, no_text_begins_another,
     open_sums_are_determined, text_and_certificate_are_one,
 };
