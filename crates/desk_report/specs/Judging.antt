@@ -1,10 +1,12 @@
--- The texts of judging: what a change told, the counts of a pool, and the judgements in force.
+-- The texts of judging: what a change told, the counts of a pool, the next document, and the judgements in force.
 use Rattle.std.specs.Prelude.{ℕ, List, [], ◌∷◌, ◌++◌, flat_map, codes, decimal, Option, None, Some, ℤ, negsuc}
 use Rattle.std.specs.Fmt.{signed_decimal}
 use Rattle.std.specs.List.{zip}
 use Rattle.desk_model.specs.Book.{Book}
 use Rattle.desk_model.specs.Desk.{Desk}
+use Rattle.desk_model.specs.Named.{book_at, name_at}
 use Rattle.judgement_pool.specs.declared.pool.PoolCount.{PoolCount}
+use Rattle.next_document.specs.declared.proposal.Proposal.{Proposal}
 use Rattle.desk_report.specs.Table.{ended}
 
 -- a grade in force, and `-` where the document is unjudged
@@ -19,6 +21,11 @@ changed_line word topic doc grade = word ++ 32 ∷ topic ++ 32 ∷ doc ++ 32 ∷
 -- `pool SIZE JUDGED RELEVANT UNJUDGED`
 abbrev pub pool_line : PoolCount → List ℕ
 pool_line count = codes "pool " ++ decimal count.size ++ 32 ∷ decimal count.judged ++ 32 ∷ decimal count.relevant ++ 32 ∷ decimal count.unjudged
+
+-- `next TOPIC DOC WEIGHT`, and `next none` where there is no proposal
+abbrev pub next_line : Desk → Option Proposal → List ℕ
+next_line desk None = codes "next none"
+next_line desk (Some p) = codes "next " ++ (book_at desk p.topic).name ++ 32 ∷ name_at desk p.topic p.doc ++ 32 ∷ decimal p.weight
 
 -- `TOPIC 0 DOC GRADE`
 abbrev pub qrels_line : List ℕ → List ℕ → ℤ → List ℕ

@@ -1,13 +1,14 @@
-// The lines of a change and of a pool.
-ghost use Rattle.std.specs.Prelude.{◌≡◌, ◌<◌, ◌++◌, ◌∷◌, [], decimal, length, slice_index_or, IfOk, OnOk};
-ghost use Rattle.judge_session.specs.InForce.{book_at};
+// The lines of a change, of a pool and of the next document.
+ghost use Rattle.std.specs.Prelude.{◌≡◌, ◌<◌, ◌++◌, ◌∷◌, [], codes, decimal, length, slice_index_or, option_copied, IfOk, IfSome, OnOk};
+ghost use Rattle.desk_model.specs.Named.{book_at};
 ghost use Rattle.desk_report.specs.Table.{ended};
-ghost use Rattle.desk_report.specs.Judging.{grade_text, changed_line, pool_line};
+ghost use Rattle.desk_report.specs.Judging.{grade_text, changed_line, pool_line, next_line};
 
 use desk_model::{Desk, Memory};
 use judge_session::Changed;
 use judgement_pool::PoolCount;
-use number_texts::{push_grade, push_number};
+use next_document::Proposal;
+use number_texts::{push_grade, push_number, push_whole};
 use std::alloc::{AllocError, Global};
 
 // A grade in force, or `-`.
@@ -71,7 +72,7 @@ pub fn changed_line(
 }
 
 // A number after a space.
-fn push_next(out: &mut Vec<u8>, number: u32) -> Result<(), AllocError>
+fn push_count(out: &mut Vec<u8>, number: u32) -> Result<(), AllocError>
     ensures { OnOk result (out.new.items ≡ out.old.items ++ 32 ∷ decimal number) }
 {
     out.extend_from_slice(b" ")?;
@@ -82,10 +83,10 @@ fn push_pool(out: &mut Vec<u8>, count: &PoolCount) -> Result<(), AllocError>
     ensures { OnOk result (out.new.items ≡ out.old.items ++ ended (pool_line count.now)) }
 {
     out.extend_from_slice(b"pool")?;
-    push_next(out, count.size)?;
-    push_next(out, count.judged)?;
-    push_next(out, count.relevant)?;
-    push_next(out, count.unjudged)?;
+    push_count(out, count.size)?;
+    push_count(out, count.judged)?;
+    push_count(out, count.relevant)?;
+    push_count(out, count.unjudged)?;
     out.extend_from_slice(b"\n")
 }
 
@@ -98,6 +99,61 @@ pub fn pool_line(alloc: Global, count: &PoolCount) -> Result<Vec<u8>, Memory>
 {
     let mut out = Vec::new(alloc);
     match push_pool(&mut out, count) {
+        Ok(()) => Ok(out),
+        Err(_) => Err(Memory),
+    }
+}
+
+// The line of a document that is proposed.
+fn push_proposed(
+    out: &mut Vec<u8>,
+    topic: &[u8],
+    doc: &[u8],
+    weight: u128,
+) -> Result<(), AllocError>
+    ensures { OnOk result (out.new.items ≡ out.old.items ++ ended (codes "next " ++ topic.now ++ 32 ∷ doc.now ++ 32 ∷ decimal weight)) }
+{
+    push_names(out, b"next", topic, doc)?;
+    out.extend_from_slice(b" ")?;
+    push_whole(out, weight)?;
+    out.extend_from_slice(b"\n")
+}
+
+fn push_proposal(
+    out: &mut Vec<u8>,
+    desk: &Desk,
+    proposal: Option<&Proposal>,
+) -> Result<(), AllocError>
+    requires topic { IfSome (option_copied proposal) (λ p. p.topic < length desk.now.topics) }
+    requires doc { IfSome (option_copied proposal) (λ p. p.doc < length (book_at desk.now p.topic).docs) }
+    ensures { OnOk result (out.new.items ≡ out.old.items ++ ended (next_line desk.now (option_copied proposal.entry))) }
+{
+    match proposal {
+        Some(proposal) => {
+            let book = desk.topic(proposal.topic);
+            let doc = book.doc_name(proposal.doc);
+            push_proposed(out, book.name(), doc, proposal.weight)
+        }
+        None => out.extend_from_slice(b"next none\n"),
+    }
+}
+
+/// The line `next TOPIC DOC WEIGHT` of a proposal with its line feed: the names of its topic and its document, whose
+/// numbers are from 0, and its total weight in units of the measure. `next none` where there is no proposal.
+///
+/// # Errors
+/// `Memory`: out of memory.
+pub fn next_line_text(
+    alloc: Global,
+    desk: &Desk,
+    proposal: Option<&Proposal>,
+) -> Result<Vec<u8>, Memory>
+    requires topic { IfSome (option_copied proposal) (λ p. p.topic < length desk.now.topics) }
+    requires doc { IfSome (option_copied proposal) (λ p. p.doc < length (book_at desk.now p.topic).docs) }
+    ensures { IfOk result (λ line. line.items ≡ ended (next_line desk.now (option_copied proposal.entry))) }
+{
+    let mut out = Vec::new(alloc);
+    match push_proposal(&mut out, desk, proposal) {
         Ok(()) => Ok(out),
         Err(_) => Err(Memory),
     }
@@ -130,6 +186,17 @@ mod tests {
         };
         let line = pool_line(rt.alloc(), &count).map_err(|_| AllocError)?;
         assert_eq!(rt; line.as_slice(), b"pool 3 2 1 1\n".as_slice());
+        Ok(())
+    }
+
+    #[test]
+    fn a_proposal_shows_its_names_and_its_weight(rt: HostRuntime) -> Result<(), Fail> {
+        let mut out = Vec::new(rt.alloc());
+        push_proposed(&mut out, b"401", b"m", 1_000_000_000_000_000_000)?;
+        assert_eq!(rt;
+            out.as_slice(),
+            b"next 401 m 1000000000000000000\n".as_slice()
+        );
         Ok(())
     }
 }

@@ -8,6 +8,6 @@ mod qrels;
 mod table;
 
 pub use close::close_line;
-pub use judging::{changed_line, pool_line};
+pub use judging::{changed_line, next_line_text, pool_line};
 pub use qrels::qrels_text;
 pub use table::{pair_line, table_text};

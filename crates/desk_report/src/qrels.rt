@@ -1,6 +1,6 @@
 // The judgements in force on a topic, as lines of a judgements file.
 ghost use Rattle.std.specs.Prelude.{◌≡◌, ◌<◌, ◌++◌, flat_map, length, IfOk, OnOk};
-ghost use Rattle.judge_session.specs.InForce.{book_at};
+ghost use Rattle.desk_model.specs.Named.{book_at};
 ghost use Rattle.desk_report.specs.Table.{ended};
 ghost use Rattle.desk_report.specs.Judging.{qrels_line, qrels_lines_of, topic_qrels_text};
 

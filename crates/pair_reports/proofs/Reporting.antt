@@ -1,6 +1,6 @@
 -- What a table says of its desk and of two runs, by the name of its measure.
-use Rattle.std.proofs.Common.{◌≡◌, ℕ, ◌*◌, ◌<◌, List, [], length, get_or, ℤ, pos, neg_ℤ, ◌≤ℤ◌, Result, Ok, Err, Some, inl, inr, ap, sym, subst, ◌∙◌, arith}
-use Rattle.std.specs.Prelude.{All, slice_get, unwrap_or}
+use Rattle.std.proofs.Common.{◌≡◌, ℕ, ◌*◌, ◌<◌, List, [], length, get_or, ℤ, pos, neg_ℤ, ◌≤ℤ◌, Result, Ok, Err, Option, Some, inl, inr, ap, sym, subst, ◌∙◌, arith}
+use Rattle.std.specs.Prelude.{All, map, slice_get, unwrap_or}
 use Rattle.std.specs.List.{zip}
 use Rattle.std.proofs.lemmas.Int.{ints}
 use Rattle.std.proofs.lemmas.Option.{unwrap_or-slice_get}
@@ -8,9 +8,11 @@ use Rattle.std.proofs.lemmas.Slice.Zip.{get_or-zip, length-zip}
 use Rattle.std.proofs.Math.Nat.{min-le_left, min-le_right}
 use Rattle.desk_model.specs.Desk.{Desk, IsDesk, topics_under}
 use Rattle.desk_model.specs.Pairs.{pairs_of}
+use Rattle.desk_model.specs.Verdict.{verdict}
 use Rattle.desk_model.specs.declared.types.Mark.{Mark}
 use Rattle.desk_model.specs.declared.types.MeasureName.{MeasureName}
 use Rattle.desk_model.specs.declared.types.Totals.{Totals}
+use Rattle.desk_model.specs.declared.types.Verdict.{Verdict}
 use Rattle.fractions.specs.declared.span.Span.{Span}
 use Rattle.measure_laws.specs.Measures.{unit_of}
 use Rattle.measure_core.specs.Laws.{MeetsLaws}
@@ -28,9 +30,12 @@ use Rattle.pair_table.proofs.Answered.{named_answer}
 use Rattle.pair_table.proofs.DeskTopics.{topics_met}
 use Rattle.pair_table.proofs.Named.{pair_named, table_named}
 use Rattle.pair_table.proofs.Saying.{standing_sums}
+use Rattle.next_document.specs.Proposal.{Standing, IsNext}
+use Rattle.next_document.specs.declared.proposal.Proposal.{Proposal}
 use Rattle.desk_report.specs.Close.{close_line}
+use Rattle.desk_report.specs.Judging.{next_line}
 use Rattle.desk_report.specs.Table.{AreNearTotals, table_text, pair_line, ended}
-use Rattle.pair_reports.specs.Reports.{Subject, IsSubjectOf, IsTableText, IsPairText, IsCertificateText, IsCloseText, run_name, AreRuns}
+use Rattle.pair_reports.specs.Reports.{Subject, IsSubjectOf, IsTableText, IsPairText, IsCertificateText, IsCloseText, IsNextText, standing_of, run_name, AreRuns}
 
 -- ---- the sums of two runs are not large
 one_of : (pairs : List (ℕ × ℕ)) (totals : List Totals) (k : ℕ) (pair : ℕ × ℕ) (sums : Totals) → All AreModestTotals totals → k < length (zip pairs totals) → get_or (zip pairs totals) k (pair, sums) ≡ (pair, sums) → AreModestTotals sums
@@ -68,7 +73,7 @@ module _ {M : Type 0} (measured : MeasureName) (cell : List Mark → List ℕ �
   named_too : (run : ℕ) (name : List ℕ) → slice_get desk.runs run ≡ Some name → name ≡ run_name s.desk run
   named_too run name is = named_run desk run name is ∙ ap (λ d. run_name d run) (sym of.over)
 
-  table_numbers : AreNumbersIn s.measure s.desk s.marks table.bounds table.totals
+  pub table_numbers : AreNumbersIn s.measure s.desk s.marks table.bounds table.totals
   table_numbers =
       subst (λ b. AreNumbersIn s.measure s.desk s.marks b table.totals) (sym of.on.bounds)
       (subst (AreNumbersIn s.measure s.desk s.marks _) (sym of.on.stands.totals) (table_named s.measure cell bounds s.desk s.marks of.on.made.numbers valid_too of.marked))
@@ -84,6 +89,21 @@ module _ {M : Type 0} (measured : MeasureName) (cell : List Mark → List ℕ �
         ∙ ap (λ l. table_text s.desk s.measure l unit table.bounds table.totals) (sym at)
         ∙ ap (λ u. table_text s.desk s.measure s.level u table.bounds table.totals) (units ∙ ap (λ m. pos (unit_of m)) of.on.made.named);
   }
+
+  pub next_is : (marks : List (List Mark)) (measure : MeasureName) (verdicts : List Verdict) (proposal : Option Proposal) (text : List ℕ) → s.marks ≡ marks → measure ≡ measured → verdicts ≡ map verdict table.totals →
+      IsNext (record { measure = measure; desk = desk; marks = marks; verdicts = verdicts }) proposal → text ≡ ended (next_line desk proposal) → IsNextText s text
+  next_is marks measure verdicts proposal text marked named decided next is =
+      let name : measure ≡ s.measure = named ∙ of.on.made.named in
+      let same : record { measure = measure; desk = desk; marks = marks; verdicts = verdicts } ≡ standing_of s table.totals =
+      λ i. record { measure = name i; desk = sym of.over i; marks = sym marked i; verdicts = decided i } in
+      record {
+        valid = valid_too;
+        totals = table.totals;
+        summed = table_numbers.pairs;
+        proposal = proposal;
+        next = subst (λ (standing : Standing). IsNext standing proposal) same next;
+        is = is ∙ ap (λ d. ended (next_line d proposal)) (sym of.over);
+      }
 
   pair_numbers : (a b : ℕ) (sums : Totals) → MeetsLaws measured cell bounds → AreRuns desk a b → AreSumsOf table.runs table.totals a b sums → ArePairNumbers s.measure (topics_under s.desk s.marks) a b sums
   pair_numbers a b sums laws runs h =

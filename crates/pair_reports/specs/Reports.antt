@@ -1,6 +1,8 @@
--- What is printed of a table of pairs: the whole table, the line of two runs, and their certificate or close line.
-use Rattle.std.specs.Prelude.{◌≡◌, ℕ, ◌*◌, ◌<◌, List, length, slice_index_or, [], pos}
-use Rattle.desk_model.specs.Desk.{Desk, IsDesk, AreMarksOf, topics_under}
+-- What is printed of a table of pairs: the whole table, the line of two runs, their certificate or close line, and the line of the next document to judge.
+use Rattle.std.specs.Prelude.{◌≡◌, ℕ, ◌*◌, ◌<◌, List, length, map, slice_index_or, [], pos, Option}
+use Rattle.std.specs.List.{AllZip}
+use Rattle.desk_model.specs.Desk.{Desk, IsDesk, AreMarksOf, pair_count, topics_under}
+use Rattle.desk_model.specs.Pairs.{pairs_of}
 use Rattle.desk_model.specs.Verdict.{verdict}
 use Rattle.desk_model.specs.declared.types.Mark.{Mark}
 use Rattle.desk_model.specs.declared.types.MeasureName.{MeasureName}
@@ -14,9 +16,12 @@ use Rattle.order_certificate.specs.Certificate.{IsCertificate, certificate_text}
 use Rattle.order_certificate.specs.declared.certificate.Certificate.{Certificate}
 use Rattle.pair_table.specs.Evidence.{IsCertificateOf}
 use Rattle.pair_table.specs.Kept.{Kept, StandsFor}
-use Rattle.pair_table.specs.Numbers.{AreNumbersIn, ArePairNumbers}
-use Rattle.pair_table.specs.Sums.{all_run_sums}
+use Rattle.pair_table.specs.Numbers.{AreNumbersIn, ArePairNumbers, AreAllPairNumbers}
+use Rattle.pair_table.specs.Sums.{all_run_sums, run_numbers}
+use Rattle.next_document.specs.Proposal.{Standing, IsNext}
+use Rattle.next_document.specs.declared.proposal.Proposal.{Proposal}
 use Rattle.desk_report.specs.Close.{close_line}
+use Rattle.desk_report.specs.Judging.{next_line}
 use Rattle.desk_report.specs.Table.{table_text, pair_line, ended}
 use Rattle.pair_reports.specs.declared.reports.Certified.{Certified}
 use Rattle.pair_reports.specs.declared.reports.Certified.TheVariants as answers
@@ -30,6 +35,10 @@ pub record Subject : Type 0 where
 
 abbrev pub subject : MeasureName → ℕ → Desk → List (List Mark) → Subject
 subject measure level desk marks = record { measure = measure; level = level; desk = desk; marks = marks }
+
+-- the cells of a table: pairs times topics
+abbrev pub cells_of : Desk → ℕ
+cells_of desk = pair_count (length desk.runs) * length desk.topics
 
 -- a table stands for a desk under marks, with the numbers of the measure
 pub record IsTableOn {M : Type 0} (measured : MeasureName) (cell : List Mark → List ℕ → List ℕ → Cell) (bound : List Mark → List ℕ → Span) (s : Subject) (table : Kept M) : Type 0 where
@@ -86,6 +95,19 @@ pub record IsCloseText (s : Subject) (a b : ℕ) (text : List ℕ) : Type 0 wher
   pub summed : ArePairNumbers s.measure (topics_under s.desk s.marks) a b totals
   pub close : verdict totals ≡ Close
   pub is : text ≡ ended (close_line (run_name s.desk a) (run_name s.desk b) totals)
+
+-- how the runs stand by the sums of each pair
+abbrev pub standing_of : Subject → List Totals → Standing
+standing_of s totals = record { measure = s.measure; desk = s.desk; marks = s.marks; verdicts = map verdict totals }
+
+-- the text is the line of the next document to judge
+pub record IsNextText (s : Subject) (text : List ℕ) : Type 0 where
+  pub valid : IsDesk s.desk
+  pub totals : List Totals
+  pub summed : AreAllPairNumbers s.measure s.desk s.marks totals
+  pub proposal : Option Proposal
+  pub next : IsNext (standing_of s totals) proposal
+  pub is : text ≡ ended (next_line s.desk proposal)
 
 -- what two runs are answered: their certificate, or their close line
 abbrev pub IsCertifiedAs : Subject → ℕ → ℕ → Certified → Type 0

@@ -3,4 +3,4 @@
 
 mod reports;
 
-pub use reports::{Certified, certified_report, pair_report, table_on, table_report};
+pub use reports::{Certified, certified_report, next_report, pair_report, table_on, table_report};

@@ -1,14 +1,15 @@
 // A table of pairs by the name of a measure, and its texts.
-ghost use Rattle.std.specs.Prelude.{◌≡◌, ◌+◌, ◌*◌, ℕ, length, IfOk, OnOk, OnErr};
-ghost use Rattle.desk_model.specs.Desk.{AreMarksOf, pair_count};
+ghost use Rattle.std.specs.Prelude.{◌≡◌, ◌+◌, ℕ, length, IfOk, OnOk, OnErr};
+ghost use Rattle.desk_model.specs.Desk.{AreMarksOf};
 ghost use Rattle.desk_model.specs.MeasureText.{IsMeasure};
 ghost use Rattle.order_certificate.specs.Certificate.{IsLevel};
 ghost use Rattle.pair_table.specs.Kept.{StandsFor};
-ghost use Rattle.pair_reports.specs.Reports.{Subject, subject, IsTableOn, IsSubjectOf, IsTableText, IsPairText, IsCertifiedAs, AreRuns};
+ghost use Rattle.pair_reports.specs.Reports.{Subject, subject, IsTableOn, IsSubjectOf, IsTableText, IsPairText, IsCertifiedAs, IsNextText, AreRuns, cells_of};
 
 use desk_model::{Desk, Marks, MeasureName, Memory};
-use desk_report::{close_line, pair_line, table_text};
+use desk_report::{close_line, next_line_text, pair_line, table_text};
 use measure_core::{Maker, Measure, Steps};
+use next_document::next;
 use order_certificate::write_certificate;
 use pair_table::{EvidenceFault, Table};
 use std::alloc::Global;
@@ -40,7 +41,7 @@ pub fn table_on<P: Maker, L: Ledger>(
     requires marks { AreMarksOf desk.now marks.now }
     ensures table { IfOk result (λ table. (level : ℕ) →
         IsTableOn (P.Made.measured table.measure) (P.Made.cell_of table.measure) (P.Made.bounds_of table.measure) (subject name level desk.now marks.now) table) }
-    ensures steps { OnOk result (steps.new ≡ steps.old + pair_count (length desk.now.runs) * length desk.now.topics) }
+    ensures steps { OnOk result (steps.new ≡ steps.old + cells_of desk.now) }
     ensures no_steps { OnErr result (steps.new ≡ steps.old) }
 {
     let measure = maker.make(alloc, name)?;
@@ -149,4 +150,28 @@ pub fn certified_report<M: Measure>(
         }
         Err(EvidenceFault::Memory) => Err(Memory),
     }
+}
+
+/// The line of the document to judge next on a desk under marks, with its line feed: its names and its total weight over
+/// the pairs that are not settled, or `next none`.
+///
+/// # Errors
+/// `Memory`: out of memory.
+pub fn next_report<M: Measure>(
+    alloc: Global,
+    desk: &Desk,
+    marks: &Marks,
+    table: &Table<M>,
+) -> Result<Vec<u8>, Memory>
+    requires marks { AreMarksOf desk.now marks.now }
+    requires table { table.now.runs ≡ length desk.now.runs }
+    ensures { IfOk result (λ text. (s : Subject) → s.marks ≡ marks.now →
+        IsSubjectOf (M.measured table.now.measure) (M.cell_of table.now.measure) (M.bounds_of table.now.measure) desk.now table.now s →
+        IsNextText s text.items) }
+{
+    // A report speaks of a valid desk, which every desk is, and a table has sums for each pair.
+    let (_runs, _sums) = (desk.run_count(), table.all_totals());
+    let proposal = next(table.measure(), desk, marks, table.verdicts());
+    let text = next_line_text(alloc, desk, proposal.as_ref())?;
+    Ok(text)
 }

@@ -62,7 +62,7 @@ high_values high [] (e ∷ ends) same = absurd (omega (arith, same))
 high_values high (b ∷ books) [] same = absurd (omega (arith, same))
 high_values high (b ∷ books) (e ∷ ends) same = ap (λ zs. high e ∷ zs) (high_values high books ends (omega (arith, same)))
 
-swapped_sum : (ends : List Ends) → whole_sum (map (λ (e : Ends). e.least_lo) (map swapped_ends ends)) ≡ neg_ℤ (whole_sum (map (λ (e : Ends). e.most_hi) ends))
+pub swapped_sum : (ends : List Ends) → whole_sum (map (λ (e : Ends). e.least_lo) (map swapped_ends ends)) ≡ neg_ℤ (whole_sum (map (λ (e : Ends). e.most_hi) ends))
 swapped_sum [] = refl
 swapped_sum (e ∷ ends) = omega (arith, ints, swapped_sum ends)
 
@@ -73,7 +73,7 @@ module _ (m : MeasureName) (valid : IsMeasure m) (a b : ℕ) where
   abbrev Has : Ends → Topic → Type 0
   Has e topic = HasEnds m topic.marks (topic.ranking a) (topic.ranking b) e
 
-  swapped_all : (ends : List Ends) (topics : List Topic) → AllByRecursion (MetBy a b) topics → AllZip Has ends topics → AreEndsOf m topics b a (map swapped_ends ends)
+  pub swapped_all : (ends : List Ends) (topics : List Topic) → AllByRecursion (MetBy a b) topics → AllZip Has ends topics → AreEndsOf m topics b a (map swapped_ends ends)
   swapped_all [] [] met h = tt
   swapped_all [] (t ∷ topics) met h = absurd h
   swapped_all (e ∷ ends) [] met h = absurd h

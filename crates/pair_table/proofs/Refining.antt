@@ -68,7 +68,7 @@ sums_close_in name valid a b (t ∷ ts) (u ∷ us) (e ∷ es) (f ∷ fs) h y z =
     let rest = sums_close_in name valid a b ts us es fs h.1 y.1 z.1 in
     (omega (arith, ints, here.0, rest.0), omega (arith, ints, here.1, rest.1))
 
-sums_in_order : (name : MeasureName) → IsMeasure name → (a b : ℕ) (topics : List Topic) (es : List Ends) → AllByRecursion (MetBy a b) topics → AreEndsOf name topics a b es →
+pub sums_in_order : (name : MeasureName) → IsMeasure name → (a b : ℕ) (topics : List Topic) (es : List Ends) → AllByRecursion (MetBy a b) topics → AreEndsOf name topics a b es →
     whole_sum (map (λ (e : Ends). e.least_lo) es) ≤ℤ whole_sum (map (λ (e : Ends). e.most_hi) es)
 sums_in_order name valid a b [] [] met h = omega (arith, ints)
 sums_in_order name valid a b [] (e ∷ es) met h = absurd h

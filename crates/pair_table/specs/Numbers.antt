@@ -50,7 +50,11 @@ pub record AreRunNumbers (name : MeasureName) (topics : List Topic) (run : ℕ) 
   pub named : AreBoundsOf name topics run spans
   pub summed : bounds ≡ span_sum spans
 
+-- sums for each pair of runs, in pair order, are the name's numbers
+abbrev pub AreAllPairNumbers : MeasureName → Desk → List (List Mark) → List Totals → Type 0
+AreAllPairNumbers name desk marks totals = AllZip (λ pair sums. ArePairNumbers name (topics_under desk marks) pair.0 pair.1 sums) (pairs_of (run_numbers (length desk.runs))) totals
+
 -- bounds for each run and sums for each pair are the numbers of a name over a desk and its marks
 pub record AreNumbersIn (name : MeasureName) (desk : Desk) (marks : List (List Mark)) (bounds : List Span) (totals : List Totals) : Type 0 where
   pub runs : AllZip (λ run span. AreRunNumbers name (topics_under desk marks) run span) (run_numbers (length desk.runs)) bounds
-  pub pairs : AllZip (λ pair sums. ArePairNumbers name (topics_under desk marks) pair.0 pair.1 sums) (pairs_of (run_numbers (length desk.runs))) totals
+  pub pairs : AreAllPairNumbers name desk marks totals

@@ -3,19 +3,16 @@ use Rattle.std.proofs.Common.{◌≡◌, ℕ, List, [], ◌∷◌, true, false, 
 use Rattle.std.specs.Prelude.{Bool, Option, ◌&&◌, codes, option_map}
 use Rattle.std.specs.Str.{bytes_eq}
 use Rattle.std.proofs.lemmas.Bool.{and_parts}
-use Rattle.std.proofs.lemmas.Slice.Eq.{bytes_eq-Decides}
 use Rattle.desk_text.specs.Numbers.{whole_of}
 use Rattle.desk_model.specs.Name.{is_name}
-use Rattle.session_lines.specs.Request.{Request, Judge, Undo, Redo, Table, Pair, Certify, Pool, Qrels, Quit, named, alone, with_caller, depth_of, with_two, judging, request_of}
+use Rattle.desk_model.proofs.Names.{same_name as is_word}
+use Rattle.session_lines.specs.Request.{Request, Judge, Undo, Redo, Table, Pair, Certify, Pool, Next, Qrels, Quit, named, alone, with_caller, depth_of, with_two, judging, request_of}
 use Rattle.session_lines.specs.Forms.{AreFieldsOf, IsWithin}
 use Rattle.session_lines.proofs.Numbers.{grade_from, grade_to, depth_from, depth_to}
 
 -- fields of the form of a request
 abbrev pub Formed : Request → List (List ℕ) → Type 0
 Formed request fields = AreFieldsOf request fields × IsWithin request
-
-is_word : (word text : List ℕ) → bytes_eq word text ≡ true → word ≡ text
-is_word word text e = (bytes_eq-Decides word text).0 e
 
 -- a request that is the one asked
 same : (fields : List (List ℕ)) (asked request : Request) → Some asked ≡ Some request → Formed asked fields → Formed request fields
@@ -26,14 +23,15 @@ named_from fields true asked request e formed = same fields asked request e (for
 named_from fields false asked request e formed = absurd (cc)
 
 alone_from : (word : List ℕ) (request : Request) → alone word ≡ Some request → Formed request (word ∷ [])
-alone_from word request e = by (bytes_eq word (codes "table")) (bytes_eq word (codes "qrels")) (bytes_eq word (codes "quit")) refl refl refl e
+alone_from word request e = by (bytes_eq word (codes "table")) (bytes_eq word (codes "next")) (bytes_eq word (codes "qrels")) (bytes_eq word (codes "quit")) refl refl refl refl e
   where
-    by : (a b c : Bool) → bytes_eq word (codes "table") ≡ a → bytes_eq word (codes "qrels") ≡ b → bytes_eq word (codes "quit") ≡ c
-        → cond a (Some Table) (cond b (Some Qrels) (cond c (Some Quit) None)) ≡ Some request → Formed request (word ∷ [])
-    by true b c p q r e = same (word ∷ []) Table request e (ap (λ w. w ∷ []) (is_word word (codes "table") p), tt)
-    by false true c p q r e = same (word ∷ []) Qrels request e (ap (λ w. w ∷ []) (is_word word (codes "qrels") q), tt)
-    by false false true p q r e = same (word ∷ []) Quit request e (ap (λ w. w ∷ []) (is_word word (codes "quit") r), tt)
-    by false false false p q r e = absurd (cc)
+    by : (a b c d : Bool) → bytes_eq word (codes "table") ≡ a → bytes_eq word (codes "next") ≡ b → bytes_eq word (codes "qrels") ≡ c → bytes_eq word (codes "quit") ≡ d
+        → cond a (Some Table) (cond b (Some Next) (cond c (Some Qrels) (cond d (Some Quit) None))) ≡ Some request → Formed request (word ∷ [])
+    by true b c d p q r s e = same (word ∷ []) Table request e (ap (λ w. w ∷ []) (is_word word (codes "table") p), tt)
+    by false true c d p q r s e = same (word ∷ []) Next request e (ap (λ w. w ∷ []) (is_word word (codes "next") q), tt)
+    by false false true d p q r s e = same (word ∷ []) Qrels request e (ap (λ w. w ∷ []) (is_word word (codes "qrels") r), tt)
+    by false false false true p q r s e = same (word ∷ []) Quit request e (ap (λ w. w ∷ []) (is_word word (codes "quit") s), tt)
+    by false false false false p q r s e = absurd (cc)
 
 with_caller_from : (word who : List ℕ) (request : Request) → with_caller word who ≡ Some request → Formed request (word ∷ who ∷ [])
 with_caller_from word who request e = by (bytes_eq word (codes "undo")) (bytes_eq word (codes "redo")) refl refl e
@@ -105,6 +103,7 @@ formed_is_asked fields (Pair first second) (e, w) = ap request_of e ∙ (λ i. n
 formed_is_asked fields (Certify first second) (e, w) = ap request_of e ∙ (λ i. named (w.0 i && w.1 i) (Certify first second))
 formed_is_asked fields (Pool topic depth) (e, w) =
     ap request_of e ∙ (λ i. cond (w.0 i) (option_map (λ depth. Pool topic depth) (depth_to (decimal depth) depth refl w.1 i)) None)
+formed_is_asked fields Next (e, w) = ap request_of e
 formed_is_asked fields Qrels (e, w) = ap request_of e
 formed_is_asked fields Quit (e, w) = ap request_of e
 
@@ -117,5 +116,6 @@ form_has_a_field Table e = cc
 form_has_a_field (Pair first second) e = cc
 form_has_a_field (Certify first second) e = cc
 form_has_a_field (Pool topic depth) e = cc
+form_has_a_field Next e = cc
 form_has_a_field Qrels e = cc
 form_has_a_field Quit e = cc

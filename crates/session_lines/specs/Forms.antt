@@ -5,7 +5,7 @@ use Rattle.desk_text.specs.Lines.{is_blank, is_bad, fields_of}
 use Rattle.desk_text.specs.Numbers.{is_digits, read_on}
 use Rattle.desk_text.specs.declared.line.TheConstants.{LONGEST_LINE}
 use Rattle.desk_model.specs.Name.{is_name}
-use Rattle.session_lines.specs.Request.{Request, Judge, Undo, Redo, Table, Pair, Certify, Pool, Qrels, Quit, Heard, Bad, Asked, heard_of}
+use Rattle.session_lines.specs.Request.{Request, Judge, Undo, Redo, Table, Pair, Certify, Pool, Next, Qrels, Quit, Heard, Bad, Asked, heard_of}
 
 abbrev pub IsName : List ℕ → Type 0
 IsName text = is_name text ≡ true
@@ -35,6 +35,7 @@ AreFieldsOf Table fields = fields ≡ codes "table" ∷ []
 AreFieldsOf (Pair first second) fields = fields ≡ codes "pair" ∷ first ∷ second ∷ []
 AreFieldsOf (Certify first second) fields = fields ≡ codes "certify" ∷ first ∷ second ∷ []
 AreFieldsOf (Pool topic depth) fields = fields ≡ codes "pool" ∷ topic ∷ decimal depth ∷ []
+AreFieldsOf Next fields = fields ≡ codes "next" ∷ []
 AreFieldsOf Qrels fields = fields ≡ codes "qrels" ∷ []
 AreFieldsOf Quit fields = fields ≡ codes "quit" ∷ []
 

@@ -16,6 +16,7 @@ pub data Request : Type 0 where
   Pair : (first second : List ℕ) → Request
   Certify : (first second : List ℕ) → Request
   Pool : (topic : List ℕ) (depth : ℕ) → Request
+  Next : Request
   Qrels : Request
   Quit : Request
 
@@ -30,10 +31,11 @@ pub data Heard : Type 0 where
 abbrev pub named : Bool → Request → Option Request
 named names request = if names then Some request else None
 
--- `table`, `qrels` or `quit`
+-- `table`, `next`, `qrels` or `quit`
 abbrev pub alone : List ℕ → Option Request
 alone word =
     if bytes_eq word (codes "table") then Some Table
+    else if bytes_eq word (codes "next") then Some Next
     else if bytes_eq word (codes "qrels") then Some Qrels
     else if bytes_eq word (codes "quit") then Some Quit
     else None

@@ -1,7 +1,7 @@
 -- What an answer says, in the words of the definition of lines.
 use Rattle.session_lines.specs.Request as words
 use Rattle.session_lines.specs.declared.types.Request.{Request}
-use Rattle.session_lines.specs.declared.types.Request.TheVariants.{Judge, Undo, Redo, Table, Pair, Certify, Pool, Qrels, Quit}
+use Rattle.session_lines.specs.declared.types.Request.TheVariants.{Judge, Undo, Redo, Table, Pair, Certify, Pool, Next, Qrels, Quit}
 use Rattle.session_lines.specs.declared.types.Heard.{Heard}
 use Rattle.session_lines.specs.declared.types.Heard.TheVariants.{Blank, TooLong, Bad, Asked}
 
@@ -14,6 +14,7 @@ request_said Table = words.Table
 request_said (Pair first second) = words.Pair first.now second.now
 request_said (Certify first second) = words.Certify first.now second.now
 request_said (Pool topic depth) = words.Pool topic.now depth
+request_said Next = words.Next
 request_said Qrels = words.Qrels
 request_said Quit = words.Quit
 

@@ -55,12 +55,14 @@ fn request<'a>(line: &'a [u8], found: &Fields) -> Option<Request<'a>>
     }
 }
 
-// `table`, `qrels` or `quit`.
+// `table`, `next`, `qrels` or `quit`.
 fn alone(word: &[u8]) -> Option<Request<'_>>
     ensures { option_map request_said result ≡ alone word.now }
 {
     if word == b"table".as_slice() {
         Some(Request::Table)
+    } else if word == b"next".as_slice() {
+        Some(Request::Next)
     } else if word == b"qrels".as_slice() {
         Some(Request::Qrels)
     } else if word == b"quit".as_slice() {

@@ -20,7 +20,7 @@ pub fn requests_are_of_their_form()
     ensures { RequestsAreOfTheirForm }
 {}
 
-/// A line is bad exactly where it is not too long, not blank and of none of the nine forms.
+/// A line is bad exactly where it is not too long, not blank and of none of the ten forms.
 pub fn bad_lines_are_of_no_form()
     ensures { BadLinesAreOfNoForm }
 {}

@@ -29,6 +29,7 @@ fn lines_ask(rt: HostRuntime) {
         depth: 10_000,
     };
     expect_heard(&rt, b"pool 401 10000", Heard::Asked(pool));
+    expect_heard(&rt, b"next", Heard::Asked(Request::Next));
     expect_heard(&rt, b"qrels", Heard::Asked(Request::Qrels));
     expect_heard(&rt, b"quit", Heard::Asked(Request::Quit));
 }

@@ -47,6 +47,8 @@ pub enum Request<'a> {
         /// The depth, from 1 to 10,000.
         depth: u32,
     },
+    /// `next`: the document to judge next.
+    Next,
     /// `qrels`: all judgements in force.
     Qrels,
     /// `quit`: the end of the session.

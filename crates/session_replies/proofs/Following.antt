@@ -7,7 +7,8 @@ use Rattle.desk_model.specs.Mark.{mark_of}
 use Rattle.desk_model.specs.declared.types.Mark.{Mark}
 use Rattle.judge_session.specs.declared.change.Change.{Change}
 use Rattle.judge_session.specs.declared.answers.Changed.{Changed}
-use Rattle.judge_session.specs.InForce.{grade_after, grade_in_force, IsSessionOf, IsOfDesk, book_at}
+use Rattle.judge_session.specs.InForce.{grade_after, grade_in_force, IsSessionOf, IsOfDesk}
+use Rattle.desk_model.specs.Named.{book_at}
 use Rattle.desk_report.specs.Table.{ended}
 use Rattle.desk_report.specs.Judging.{changed_line}
 use Rattle.pair_reports.specs.Reports.{IsTableOn}

@@ -12,7 +12,8 @@ use Rattle.desk_model.specs.Desk.{Desk}
 use Rattle.desk_model.proofs.Nested.{length-zip, take-there}
 use Rattle.desk_report.specs.Judging.{topic_qrels_text, qrels_text}
 use Rattle.judge_session.specs.declared.change.Change.{Change}
-use Rattle.judge_session.specs.InForce.{book_at, grades_in_force}
+use Rattle.judge_session.specs.InForce.{grades_in_force}
+use Rattle.desk_model.specs.Named.{book_at}
 use Rattle.session_replies.specs.Replies.{all_in_force}
 
 abbrev Judged : Type 0

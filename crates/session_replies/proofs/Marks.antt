@@ -8,7 +8,8 @@ use Rattle.desk_model.specs.Desk.{Desk, IsDesk, AreMarksOf, file_marks}
 use Rattle.desk_model.specs.Mark.{mark_of}
 use Rattle.desk_model.specs.declared.types.Mark.{Mark}
 use Rattle.judge_session.specs.declared.change.Change.{Change}
-use Rattle.judge_session.specs.InForce.{grade_after, counted_grade, book_at, grade_in_force, grades_in_force}
+use Rattle.judge_session.specs.InForce.{grade_after, counted_grade, grade_in_force, grades_in_force}
+use Rattle.desk_model.specs.Named.{book_at}
 use Rattle.session_replies.specs.Replies.{Setting, marks_after}
 
 -- the marks of documents from one on

@@ -1,25 +1,32 @@
 -- A line has one reply.
-use Rattle.std.proofs.Common.{◌≡◌, ◌≢◌, ℕ, List, Bool, true, false, Option, Some, None, Result, Ok, Err, refl, ap, sym, ◌∙◌, inl, inr, pos, length, ◌*◌}
+use Rattle.std.proofs.Common.{◌≡◌, ◌≢◌, ℕ, List, Bool, true, false, Option, Some, None, Result, Ok, Err, refl, subst, ap, sym, ◌∙◌, inl, inr, pos, length, ◌*◌}
 use Rattle.std.specs.Prelude.{MatchBool, nat_eq, map, decimal, codes, ◌++◌, ◌∷◌}
 use Rattle.desk_model.specs.Book.{Book}
-use Rattle.desk_model.specs.Desk.{topics_under}
+use Rattle.desk_model.specs.Desk.{AreMarksOf, topics_under}
 use Rattle.desk_model.specs.Name.{number_of}
+use Rattle.desk_model.specs.Pairs.{pairs_of}
 use Rattle.desk_model.specs.declared.types.Totals.{Totals}
 use Rattle.measure_laws.specs.Measures.{unit_of}
 use Rattle.desk_report.specs.Table.{table_text, pair_line, ended}
 use Rattle.desk_report.specs.Close.{close_line}
-use Rattle.desk_report.specs.Judging.{pool_line}
+use Rattle.desk_report.specs.Judging.{pool_line, next_line}
 use Rattle.judgement_pool.specs.declared.pool.PoolCount.{PoolCount}
 use Rattle.judge_session.specs.declared.change.Change.{Change}
+use Rattle.next_document.specs.Laws.{NextIsOne}
+use Rattle.next_document.specs.Proposal.{IsNext}
 use Rattle.order_certificate.specs.Certificate.{certificate_text}
 use Rattle.order_certificate.specs.declared.certificate.Certificate.{Certificate}
 use Rattle.pair_table.specs.declared.evidence.EvidenceFault.{EvidenceFault}
 use Rattle.pair_table.specs.declared.evidence.EvidenceFault.TheVariants.{Close, Memory}
+use Rattle.pair_table.specs.Numbers.{ArePairNumbers}
+use Rattle.pair_table.specs.Sums.{run_numbers}
 use Rattle.pair_table.proofs.Answered.{one_answer}
 use Rattle.pair_table.proofs.Named.{pair_unique, table_determined}
-use Rattle.pair_reports.specs.Reports.{Subject, IsTableText, IsPairText, run_name}
-use Rattle.session_lines.specs.Request.{Heard, Judge, Undo, Redo, Table, Pair, Certify, Pool, Qrels, Quit, Blank, TooLong, Bad, Asked}
+use Rattle.pair_table.proofs.Zips.{zip_unique}
+use Rattle.pair_reports.specs.Reports.{Subject, IsTableText, IsPairText, IsNextText, standing_of, run_name}
+use Rattle.session_lines.specs.Request.{Heard, Judge, Undo, Redo, Table, Pair, Certify, Pool, Next, Qrels, Quit, Blank, TooLong, Bad, Asked}
 use Rattle.session_replies.specs.Replies.{Setting, subject_after, OnNumbers, IsCertified, IsPoolReply, IsReply, refusal}
+use Rattle.session_replies.proofs.Marks.{marks_of_desk}
 
 one_table : (s : Subject) (text other : List ℕ) → IsTableText s text → IsTableText s other → text ≡ other
 one_table s text other h k =
@@ -51,6 +58,15 @@ one_certified s a b text other (inr h) (inl k) =
 one_certified s a b text other (inr h) (inr k) =
     h.is ∙ ap (λ totals. ended (close_line (run_name s.desk a) (run_name s.desk b) totals)) (pair_unique s.measure (topics_under s.desk s.marks) a b h.totals k.totals h.summed k.summed) ∙ sym k.is
 
+one_next : NextIsOne → (s : Subject) (text other : List ℕ) → AreMarksOf s.desk s.marks → IsNextText s text → IsNextText s other → text ≡ other
+one_next law s text other marked h k =
+    let pairs = pairs_of (run_numbers (length s.desk.runs)) in
+    let topics = topics_under s.desk s.marks in
+    let same : h.totals ≡ k.totals =
+    zip_unique (λ (pair : ℕ × ℕ) (sums : Totals). ArePairNumbers s.measure topics pair.0 pair.1 sums) (λ pair sums others. pair_unique s.measure topics pair.0 pair.1 sums others) pairs h.totals k.totals h.summed k.summed in
+    let next : IsNext (standing_of s k.totals) h.proposal = subst (λ totals. IsNext (standing_of s totals) h.proposal) same h.next in
+    h.is ∙ ap (λ proposal. ended (next_line s.desk proposal)) (law (standing_of s k.totals) h.proposal k.proposal h.valid marked next k.next) ∙ sym k.is
+
 one_of_runs : (o p : Option ℕ) (Fact : ℕ → ℕ → List ℕ → Type 0) (text other : List ℕ) → ((a b : ℕ) → Fact a b text → Fact a b other → text ≡ other) → OnNumbers o p Fact text → OnNumbers o p Fact other → text ≡ other
 one_of_runs (Some a) (Some b) Fact text other one h k = by (nat_eq a b) h k
   where
@@ -72,18 +88,19 @@ one_pool s changes depth None text other h k = h ∙ sym k
 one_pool s changes depth (Some topic) text other h k =
     h.2 ∙ one_line h.0 k.0 (h.1.size ∙ sym k.1.size) (h.1.judged ∙ sym k.1.judged) (h.1.relevant ∙ sym k.1.relevant) (h.1.unjudged ∙ sym k.1.unjudged) ∙ sym k.2
 
-pub one_reply : (s : Setting) (changes : List Change) (heard : Heard) (text other : List ℕ) → IsReply s changes heard text → IsReply s changes heard other → text ≡ other
-one_reply s changes Blank text other h k = h ∙ sym k
-one_reply s changes TooLong text other h k = h ∙ sym k
-one_reply s changes Bad text other h k = h ∙ sym k
-one_reply s changes (Asked (Judge who topic doc grade)) text other h k = h ∙ sym k
-one_reply s changes (Asked (Undo who)) text other h k = h ∙ sym k
-one_reply s changes (Asked (Redo who)) text other h k = h ∙ sym k
-one_reply s changes (Asked Table) text other h k = one_table (subject_after s changes) text other h k
-one_reply s changes (Asked (Pair first second)) text other h k =
+pub one_reply : NextIsOne → (s : Setting) (changes : List Change) (heard : Heard) (text other : List ℕ) → IsReply s changes heard text → IsReply s changes heard other → text ≡ other
+one_reply next s changes Blank text other h k = h ∙ sym k
+one_reply next s changes TooLong text other h k = h ∙ sym k
+one_reply next s changes Bad text other h k = h ∙ sym k
+one_reply next s changes (Asked (Judge who topic doc grade)) text other h k = h ∙ sym k
+one_reply next s changes (Asked (Undo who)) text other h k = h ∙ sym k
+one_reply next s changes (Asked (Redo who)) text other h k = h ∙ sym k
+one_reply next s changes (Asked Table) text other h k = one_table (subject_after s changes) text other h k
+one_reply next s changes (Asked (Pair first second)) text other h k =
     one_of_runs (number_of s.desk.runs first) (number_of s.desk.runs second) (IsPairText (subject_after s changes)) text other (λ a b x y. one_pair (subject_after s changes) a b text other x y) h k
-one_reply s changes (Asked (Certify first second)) text other h k =
+one_reply next s changes (Asked (Certify first second)) text other h k =
     one_of_runs (number_of s.desk.runs first) (number_of s.desk.runs second) (IsCertified (subject_after s changes)) text other (λ a b x y. one_certified (subject_after s changes) a b text other x y) h k
-one_reply s changes (Asked (Pool topic depth)) text other h k = one_pool s changes depth (number_of (map (λ (book : Book). book.name) s.desk.topics) topic) text other h k
-one_reply s changes (Asked Qrels) text other h k = h ∙ sym k
-one_reply s changes (Asked Quit) text other h k = h ∙ sym k
+one_reply next s changes (Asked (Pool topic depth)) text other h k = one_pool s changes depth (number_of (map (λ (book : Book). book.name) s.desk.topics) topic) text other h k
+one_reply next s changes (Asked Next) text other h k = one_next next (subject_after s changes) text other (marks_of_desk s changes h.valid) h k
+one_reply next s changes (Asked Qrels) text other h k = h ∙ sym k
+one_reply next s changes (Asked Quit) text other h k = h ∙ sym k

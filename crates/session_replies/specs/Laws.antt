@@ -4,7 +4,8 @@ use Rattle.desk_model.specs.Desk.{IsDesk}
 use Rattle.desk_model.specs.Mark.{mark_of}
 use Rattle.desk_model.specs.declared.types.Mark.{Mark}
 use Rattle.judge_session.specs.Session.{judged, undone, redone, last_that, first_that, is_live_by, is_undone_by}
-use Rattle.judge_session.specs.InForce.{IsOnDesk, book_at, grade_in_force}
+use Rattle.judge_session.specs.InForce.{IsOnDesk, grade_in_force}
+use Rattle.desk_model.specs.Named.{book_at}
 use Rattle.judge_session.specs.declared.change.Change.{Change}
 use Rattle.session_lines.specs.Request.{Heard}
 use Rattle.session_replies.specs.Replies.{Setting, marks_after, IsReply}

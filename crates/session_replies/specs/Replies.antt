@@ -10,14 +10,15 @@ use Rattle.desk_model.specs.declared.types.MeasureName.{MeasureName}
 use Rattle.judgement_pool.specs.Pool.{pool_of, IsCountOf}
 use Rattle.judgement_pool.specs.declared.pool.PoolCount.{PoolCount}
 use Rattle.judge_session.specs.Session.{judged, undone, redone, last_that, first_that, is_live_by, is_undone_by}
-use Rattle.judge_session.specs.InForce.{judgeable, book_at, grade_in_force, grades_in_force}
+use Rattle.judge_session.specs.InForce.{judgeable, grade_in_force, grades_in_force}
+use Rattle.desk_model.specs.Named.{book_at}
 use Rattle.judge_session.specs.declared.change.Change.{Change}
 use Rattle.judge_session.specs.declared.answers.JudgeFault.{JudgeFault}
 use Rattle.judge_session.specs.declared.answers.JudgeFault.TheVariants.{UnknownTopic, UnknownDocument, HistoryFull, Memory}
 use Rattle.desk_report.specs.Table.{ended}
 use Rattle.desk_report.specs.Judging.{changed_line, pool_line, qrels_text}
-use Rattle.pair_reports.specs.Reports.{Subject, subject, IsTableText, IsPairText, IsCertificateText, IsCloseText}
-use Rattle.session_lines.specs.Request.{Judge, Undo, Redo, Table, Pair, Certify, Pool, Qrels, Quit, Heard, Blank, TooLong, Bad, Asked}
+use Rattle.pair_reports.specs.Reports.{Subject, subject, IsTableText, IsPairText, IsCertificateText, IsCloseText, IsNextText}
+use Rattle.session_lines.specs.Request.{Judge, Undo, Redo, Table, Pair, Certify, Pool, Next, Qrels, Quit, Heard, Blank, TooLong, Bad, Asked}
 
 -- what a session is over: a measure, a level and a desk
 pub record Setting : Type 0 where
@@ -120,6 +121,7 @@ IsReply s changes (Asked Table) text = IsTableText (subject_after s changes) tex
 IsReply s changes (Asked (Pair first second)) text = OnRuns s.desk first second (IsPairText (subject_after s changes)) text
 IsReply s changes (Asked (Certify first second)) text = OnRuns s.desk first second (IsCertified (subject_after s changes)) text
 IsReply s changes (Asked (Pool topic depth)) text = IsPoolReply s changes depth (number_of (map (λ (book : Book). book.name) s.desk.topics) topic) text
+IsReply s changes (Asked Next) text = IsNextText (subject_after s changes) text
 IsReply s changes (Asked Qrels) text = text ≡ qrels_text s.desk (all_in_force s.desk changes)
 IsReply s changes (Asked Quit) text = text ≡ []
 

@@ -1,6 +1,7 @@
 -- What a session keeps between its lines.
-use Rattle.std.specs.Prelude.{◌≡◌, ℕ, ◌*◌, ◌+◌, ◌≤◌, List, length, codes, Option, None, Some, IfSome}
-use Rattle.desk_model.specs.Desk.{Desk, pair_count}
+pub use Rattle.pair_reports.specs.Reports.{cells_of}
+use Rattle.std.specs.Prelude.{◌≡◌, ℕ, ◌*◌, ◌+◌, ◌≤◌, List, codes, Option, None, Some, IfSome}
+use Rattle.desk_model.specs.Desk.{Desk}
 use Rattle.desk_model.specs.MeasureText.{IsMeasure}
 use Rattle.desk_model.specs.declared.types.Mark.{Mark}
 use Rattle.desk_model.specs.declared.types.MeasureName.{MeasureName}
@@ -8,13 +9,15 @@ use Rattle.fractions.specs.declared.span.Span.{Span}
 use Rattle.measure_core.specs.declared.cell.Cell.{Cell}
 use Rattle.order_certificate.specs.Certificate.{IsLevel}
 use Rattle.judge_session.specs.InForce.{IsSessionOf}
-use Rattle.pair_reports.specs.Reports.{IsTableOn}
+use Rattle.pair_reports.specs.Reports.{Subject, AreRuns, IsTableOn, IsTableText, IsPairText, IsNextText}
 use Rattle.pair_reports.specs.declared.reports.Certified.{Certified}
 use Rattle.pair_reports.specs.declared.reports.Certified.TheVariants as certified
 use Rattle.session_lines.specs.Request.{Heard, Asked, Quit}
-use Rattle.session_replies.specs.Replies.{Setting, marks_after, subject_after, changes_after, accepted, IsReply}
+use Rattle.session_replies.specs.Replies.{Setting, marks_after, subject_after, changes_after, accepted, IsCertified, IsReply}
 use Rattle.session_replies.specs.declared.state.Judging.{Judging}
 use Rattle.session_replies.specs.declared.state.Given.{Given}
+use Rattle.session_replies.specs.declared.comparing.Report.{Report}
+use Rattle.session_replies.specs.declared.comparing.Report.TheVariants as reports
 use Rattle.session_replies.specs.declared.comparing.RunFault.{RunFault}
 use Rattle.session_replies.specs.declared.comparing.RunFault.TheVariants.{UnknownRun, SameRun}
 use Rattle.session_replies.specs.declared.replies.Reply.{Reply}
@@ -27,6 +30,19 @@ setting_of given = record { measure = given.measure.now; level = given.level; de
 abbrev pub word_of : RunFault → List ℕ
 word_of UnknownRun = codes "UnknownRun"
 word_of SameRun = codes "SameRun"
+
+-- the runs of a report are different runs of the desk
+abbrev pub AreRunsOf : Desk → Report → Type 0
+AreRunsOf desk (reports.Pair runs) = AreRuns desk runs.0 runs.1
+AreRunsOf desk (reports.Certificate runs) = AreRuns desk runs.0 runs.1
+AreRunsOf desk report = Unit {0}
+
+-- the text is that of a report
+abbrev pub IsReported : Subject → Report → List ℕ → Type 0
+IsReported s reports.Table text = IsTableText s text
+IsReported s reports.Next text = IsNextText s text
+IsReported s (reports.Pair runs) text = IsPairText s runs.0 runs.1 text
+IsReported s (reports.Certificate runs) text = IsCertified s runs.0 runs.1 text
 
 -- the text of a certificate or of a close line
 abbrev pub shown_text : Certified → List ℕ
@@ -49,10 +65,6 @@ pub record IsReady {M : Type 0} (n : Numbers M) (s : Setting) (kept : Judging M)
   pub on_desk : IsSessionOf s.desk kept.session
   pub marked : kept.marks ≡ marks_after s kept.session
   pub table : IfSome kept.table (λ table. IsTableOn (n.name table.measure) (n.cell table.measure) (n.bound table.measure) (subject_after s kept.session) table)
-
--- pairs times topics
-abbrev pub cells_of : Desk → ℕ
-cells_of desk = pair_count (length desk.runs) * length desk.topics
 
 -- the cells that a table costs, where none is there
 abbrev pub owed : {T : Type 0} → Desk → Option T → ℕ

@@ -2,7 +2,8 @@
 ghost use Rattle.std.specs.Prelude.{◌≡◌, ◌≢◌, ◌<◌, ◌≤ℤ◌, [], None, true, length, slice_index_or, slice_set, pos, negsuc, codes, IfOk, OnOk};
 ghost use Rattle.desk_model.specs.Mark.{mark_of};
 ghost use Rattle.desk_model.specs.Name.{is_name};
-ghost use Rattle.judge_session.specs.InForce.{IsOfDesk, book_at};
+ghost use Rattle.judge_session.specs.InForce.{IsOfDesk};
+ghost use Rattle.desk_model.specs.Named.{book_at};
 ghost use Rattle.desk_report.specs.Judging.{changed_line};
 ghost use Rattle.desk_report.specs.Table.{ended};
 ghost use Rattle.session_lines.specs.Request as lines;

@@ -1,28 +1,44 @@
 // Lines that compare runs by a table.
 ghost use Rattle.std.specs.Prelude.{◌≡◌, ◌+◌, ◌≤◌, Some, IfOk, IfErr, IsSome, OnOk};
+ghost use Rattle.desk_model.specs.Desk.{AreMarksOf};
 ghost use Rattle.desk_model.specs.Name.{number_of};
-ghost use Rattle.pair_reports.specs.Reports.{AreRuns};
-ghost use Rattle.session_lines.specs.Request as lines;
-ghost use Rattle.session_replies.specs.Replies.{refusal, IsRunRefusal};
-ghost use Rattle.session_replies.specs.State.{setting_of, IsSetting, IsReady, Answers, CountsLine, owed, word_of, shown_text};
+ghost use Rattle.order_certificate.specs.Certificate.{IsLevel};
+ghost use Rattle.pair_reports.specs.Reports.{Subject, IsSubjectOf, AreRuns};
+ghost use Rattle.pair_table.specs.Kept.{StandsFor};
+ghost use Rattle.session_replies.specs.Replies.{refusal, subject_after, IsRunRefusal};
+ghost use Rattle.session_replies.specs.State.{setting_of, IsSetting, IsReady, IsReported, AreRunsOf, owed, word_of, shown_text};
 
 use crate::state::{Given, Judging};
 use crate::telling::refused;
-use desk_model::{Desk, Memory};
-use measure_core::{Maker, Steps};
-use pair_reports::{Certified, certified_report, pair_report, table_on, table_report};
+use desk_model::{Desk, Marks, Memory};
+use measure_core::{Maker, Measure, Steps};
+use pair_reports::{Certified, certified_report, next_report, pair_report, table_on, table_report};
+use pair_table::Table;
 use std::alloc::Global;
 use std::sync::ledger::Ledger;
 
 /// Why two names are no two runs.
 #[derive(Clone, Copy)]
-enum RunFault {
+pub enum RunFault {
     UnknownRun,
     SameRun,
 }
 
-// Two different runs by their names.
-fn find_runs(desk: &Desk, first: &[u8], second: &[u8]) -> Result<(u32, u32), RunFault>
+/// What a line asks of a table. Runs are numbered from 0.
+#[derive(Clone, Copy)]
+pub enum Report {
+    /// The whole table.
+    Table,
+    /// The document to judge next.
+    Next,
+    /// The line of two different runs.
+    Pair((u32, u32)),
+    /// The certificate of two different runs, or their close line.
+    Certificate((u32, u32)),
+}
+
+/// Two different runs by their names.
+pub fn find_runs(desk: &Desk, first: &[u8], second: &[u8]) -> Result<(u32, u32), RunFault>
     ensures first { IfOk result (λ runs. number_of desk.now.runs first.now ≡ Some runs.0) }
     ensures second { IfOk result (λ runs. number_of desk.now.runs second.now ≡ Some runs.1) }
     ensures runs { IfOk result (λ runs. AreRuns desk.now runs.0 runs.1) }
@@ -40,7 +56,8 @@ fn find_runs(desk: &Desk, first: &[u8], second: &[u8]) -> Result<(u32, u32), Run
     }
 }
 
-fn refused_runs(alloc: Global, fault: RunFault) -> Result<Vec<u8>, Memory>
+/// The refusal of two names.
+pub fn refused_runs(alloc: Global, fault: RunFault) -> Result<Vec<u8>, Memory>
     ensures { IfOk result (λ text. text.items ≡ refusal (word_of fault)) }
 {
     match fault {
@@ -80,58 +97,6 @@ fn prepare<P: Maker, L: Ledger>(
     Ok(())
 }
 
-/// The reply to `table`.
-pub fn table_reply<P: Maker, L: Ledger>(
-    alloc: Global,
-    judging: &mut Judging<P::Made>,
-    given: &Given<'_>,
-    maker: &P,
-    steps: &mut Steps<L>,
-) -> Result<Vec<u8>, Memory>
-    requires setting { IsSetting (setting_of given.now) }
-    requires ready { IsReady (record { name = P.Made.measured; cell = P.Made.cell_of; bound = P.Made.bounds_of }) (setting_of given.now) judging.old }
-    ensures answers { IfOk result (λ text. Answers (record { name = P.Made.measured; cell = P.Made.cell_of; bound = P.Made.bounds_of }) (setting_of given.now)
-        (lines.Asked lines.Table) judging.old judging.new text.items) }
-    ensures counts { CountsLine (setting_of given.now) (lines.Asked lines.Table) judging.old judging.new steps.old steps.new }
-{
-    // A report speaks of a valid desk, which every desk is.
-    let _topics = given.desk.topic_count();
-    prepare(alloc, judging, given, maker, steps)?;
-    match &judging.table {
-        Some(table) => table_report(alloc, given.desk, given.level, table),
-        None => unreachable!(),
-    }
-}
-
-/// The reply to `pair FIRST SECOND`.
-pub fn pair_reply<P: Maker, L: Ledger>(
-    alloc: Global,
-    judging: &mut Judging<P::Made>,
-    given: &Given<'_>,
-    first: &[u8],
-    second: &[u8],
-    maker: &P,
-    steps: &mut Steps<L>,
-) -> Result<Vec<u8>, Memory>
-    requires setting { IsSetting (setting_of given.now) }
-    requires ready { IsReady (record { name = P.Made.measured; cell = P.Made.cell_of; bound = P.Made.bounds_of }) (setting_of given.now) judging.old }
-    ensures answers { IfOk result (λ text. Answers (record { name = P.Made.measured; cell = P.Made.cell_of; bound = P.Made.bounds_of }) (setting_of given.now)
-        (lines.Asked (lines.Pair first.now second.now)) judging.old judging.new text.items) }
-    ensures counts { CountsLine (setting_of given.now) (lines.Asked (lines.Pair first.now second.now)) judging.old judging.new steps.old steps.new }
-{
-    // A report speaks of a valid desk, which every desk is.
-    let _topics = given.desk.topic_count();
-    let (first, second) = match find_runs(given.desk, first, second) {
-        Ok(runs) => runs,
-        Err(fault) => return refused_runs(alloc, fault),
-    };
-    prepare(alloc, judging, given, maker, steps)?;
-    match &judging.table {
-        Some(table) => pair_report(alloc, given.desk, table, first, second),
-        None => unreachable!(),
-    }
-}
-
 // The text of a certificate or of a close line.
 fn shown(answer: Certified) -> Vec<u8>
     ensures { result.items ≡ shown_text answer }
@@ -142,43 +107,59 @@ fn shown(answer: Certified) -> Vec<u8>
     }
 }
 
-/// The reply to `certify FIRST SECOND`.
-pub fn certify_reply<P: Maker, L: Ledger>(
+// A report of a table that is there.
+fn report_text<M: Measure>(
+    alloc: Global,
+    given: &Given<'_>,
+    marks: &Marks,
+    table: &Table<M>,
+    report: Report,
+) -> Result<Vec<u8>, Memory>
+    requires level { IsLevel given.now.level }
+    requires marks { AreMarksOf given.now.desk.now marks.now }
+    requires table { StandsFor (M.cell_of table.now.measure) given.now.desk.now marks.now table.now }
+    requires runs { AreRunsOf given.now.desk.now report }
+    ensures { IfOk result (λ text. (s : Subject) → s.level ≡ given.now.level → s.marks ≡ marks.now →
+        IsSubjectOf (M.measured table.now.measure) (M.cell_of table.now.measure) (M.bounds_of table.now.measure) given.now.desk.now table.now s →
+        IsReported s report text.items) }
+{
+    let (desk, level) = (given.desk, given.level);
+    match report {
+        Report::Table => table_report(alloc, desk, level, table),
+        Report::Next => next_report(alloc, desk, marks, table),
+        Report::Pair((first, second)) => pair_report(alloc, desk, table, first, second),
+        Report::Certificate((first, second)) => {
+            let answer = certified_report(alloc, desk, marks, level, table, first, second)?;
+            Ok(shown(answer))
+        }
+    }
+}
+
+/// A report on the judgements in force. Its table is made where none is there.
+///
+/// # Errors
+/// `Memory`: out of memory.
+pub fn make_report<P: Maker, L: Ledger>(
     alloc: Global,
     judging: &mut Judging<P::Made>,
     given: &Given<'_>,
-    first: &[u8],
-    second: &[u8],
+    report: Report,
     maker: &P,
     steps: &mut Steps<L>,
 ) -> Result<Vec<u8>, Memory>
     requires setting { IsSetting (setting_of given.now) }
     requires ready { IsReady (record { name = P.Made.measured; cell = P.Made.cell_of; bound = P.Made.bounds_of }) (setting_of given.now) judging.old }
-    ensures answers { IfOk result (λ text. Answers (record { name = P.Made.measured; cell = P.Made.cell_of; bound = P.Made.bounds_of }) (setting_of given.now)
-        (lines.Asked (lines.Certify first.now second.now)) judging.old judging.new text.items) }
-    ensures counts { CountsLine (setting_of given.now) (lines.Asked (lines.Certify first.now second.now)) judging.old judging.new steps.old steps.new }
+    requires runs { AreRunsOf given.now.desk.now report }
+    ensures ready { IsReady (record { name = P.Made.measured; cell = P.Made.cell_of; bound = P.Made.bounds_of }) (setting_of given.now) judging.new }
+    ensures session { judging.new.session ≡ judging.old.session }
+    ensures told { IfOk result (λ text. IsReported (subject_after (setting_of given.now) judging.old.session) report text.items) }
+    ensures steps { steps.new + owed given.now.desk.now judging.new.table ≤ steps.old + owed given.now.desk.now judging.old.table }
 {
     // A report speaks of a valid desk, which every desk is.
     let _topics = given.desk.topic_count();
-    let (first, second) = match find_runs(given.desk, first, second) {
-        Ok(runs) => runs,
-        Err(fault) => return refused_runs(alloc, fault),
-    };
     prepare(alloc, judging, given, maker, steps)?;
     match &judging.table {
-        Some(table) => {
-            let marks = &judging.marks;
-            let answer = certified_report(
-                alloc,
-                given.desk,
-                marks,
-                given.level,
-                table,
-                first,
-                second,
-            )?;
-            Ok(shown(answer))
-        }
+        Some(table) => report_text(alloc, given, &judging.marks, table, report),
         None => unreachable!(),
     }
 }

@@ -6,7 +6,7 @@ ghost use Rattle.session_lines.specs.Request.{heard_of};
 ghost use Rattle.session_lines.specs.Said.{request_said};
 ghost use Rattle.session_replies.specs.State.{setting_of, IsSetting, IsReady, Answers, IsAnswered, CountsLine, owed};
 
-use crate::comparing::{certify_reply, pair_reply, table_reply};
+use crate::comparing::{Report, find_runs, make_report, refused_runs};
 use crate::state::{Given, Judging};
 use crate::telling::{pool, qrels, refused};
 use desk_model::Memory;
@@ -52,14 +52,24 @@ fn answer<P: Maker, L: Ledger>(
         } => judging.judge(alloc, given, who, topic, doc, grade),
         Request::Undo { who } => judging.undo(alloc, given, who),
         Request::Redo { who } => judging.redo(alloc, given, who),
-        Request::Table => table_reply(alloc, judging, given, maker, steps),
-        Request::Pair { first, second } => {
-            pair_reply(alloc, judging, given, first, second, maker, steps)
-        }
-        Request::Certify { first, second } => {
-            certify_reply(alloc, judging, given, first, second, maker, steps)
-        }
+        Request::Table => make_report(alloc, judging, given, Report::Table, maker, steps),
+        Request::Pair { first, second } => match find_runs(given.desk, first, second) {
+            Ok(runs) => make_report(alloc, judging, given, Report::Pair(runs), maker, steps),
+            Err(fault) => refused_runs(alloc, fault),
+        },
+        Request::Certify { first, second } => match find_runs(given.desk, first, second) {
+            Ok(runs) => make_report(
+                alloc,
+                judging,
+                given,
+                Report::Certificate(runs),
+                maker,
+                steps,
+            ),
+            Err(fault) => refused_runs(alloc, fault),
+        },
         Request::Pool { topic, depth } => pool(alloc, given, &judging.marks, topic, depth),
+        Request::Next => make_report(alloc, judging, given, Report::Next, maker, steps),
         Request::Qrels => qrels(alloc, given.desk, &judging.session),
         Request::Quit => Ok(Vec::new(alloc)),
     }

@@ -7,7 +7,7 @@ use Rattle.std.proofs.Math.Nat.{mul-le-mul_left, mul-add}
 use Rattle.desk_outside.specs.Outside.{Rose, AppendsPrefix}
 use Rattle.desk_outside.specs.Inputs.{Input, Whole, Cut, bytes_in, IsInput, IsPart, IsTaken}
 use Rattle.desk_outside.specs.Seen.{Source, Sink, ReceivedAll, ReceivedPrefix}
-use Rattle.desk_outside.proofs.Told.{append_known-nil, prepend_known-prepend}
+use Rattle.desk_outside.proofs.Told.{append_known-nil, prepend_known-nil, prepend_known-prepend}
 use Rattle.desk_model.specs.Desk.{Desk}
 use Rattle.judge_session.specs.declared.change.Change.{Change}
 use Rattle.session_replies.specs.Replies.{Setting}
@@ -22,10 +22,6 @@ use Rattle.session_stream.specs.declared.stream.Ended.TheVariants as ended
 use Rattle.session_stream.specs.declared.stream.Fault.TheVariants as faults
 use Rattle.session_stream.proofs.Hearing.{Begins, heard_whole, heard_to_quit, heard_too_long, heard_first, within_limit, no_quit_before}
 use Rattle.session_stream.proofs.Replies.{accepted-append}
-
-pub prepend_nil : (o : Option (List ℕ)) → o ≡ prepend_known [] o
-prepend_nil None = refl
-prepend_nil (Some xs) = refl
 
 -- all bytes of an input of which some were taken
 whole_input : (old now : Option (List ℕ)) (bytes : List ℕ) → old ≡ prepend_known bytes now → (rest : List ℕ) × IfSome old (λ all. all ≡ bytes ++ rest)
@@ -117,10 +113,10 @@ module _ (s : Setting) where
 
   -- nothing was taken
   pub no_memory_yet : (rest had : Option (List ℕ)) (a b d e : ℕ) → EndsSession s (record { rest = rest; left = rest; before = a; after = b }) (record { had = had; has = had; before = d; after = e }) (Err faults.Memory)
-  no_memory_yet rest had a b d e = part_replies (record { rest = rest; left = rest; before = a; after = b }) (λ text. had ≡ append_known had text) [] [] [] (prepend_nil rest) (omega arith) refl tt (sym (append_known-nil had))
+  no_memory_yet rest had a b d e = part_replies (record { rest = rest; left = rest; before = a; after = b }) (λ text. had ≡ append_known had text) [] [] [] (prepend_known-nil rest) (omega arith) refl tt (sym (append_known-nil had))
 
   pub no_cells_yet : (rest : Option (List ℕ)) (a b steps : ℕ) → EvaluatesWithin s (record { rest = rest; left = rest; before = a; after = b }) steps steps
-  no_cells_yet rest a b steps = within_cells (record { rest = rest; left = rest; before = a; after = b }) (Cut []) steps steps [] (prepend_nil rest) ((hearing_of (Cut [])).lines, refl) (omega arith)
+  no_cells_yet rest a b steps = within_cells (record { rest = rest; left = rest; before = a; after = b }) (Cut []) steps steps [] (prepend_known-nil rest) ((hearing_of (Cut [])).lines, refl) (omega arith)
 
   -- ---- what a piece came to, where it was the whole of what was taken within the limit
   module _ (input : Source) (out : Sink) (before steps : ℕ) (all answered : List ℕ) (rest : input.rest ≡ prepend_known all input.left) (cut : take LONGEST_INPUT all ≡ answered) where

@@ -58,6 +58,7 @@ quit_accepts desk (Asked Table) c quit = refl
 quit_accepts desk (Asked (Pair first second)) c quit = refl
 quit_accepts desk (Asked (Certify first second)) c quit = refl
 quit_accepts desk (Asked (Pool topic depth)) c quit = refl
+quit_accepts desk (Asked Rattle.session_lines.specs.Request.Next) c quit = refl
 quit_accepts desk (Asked Qrels) c quit = refl
 
 module _ (s : Setting) (had has : Option (List ℕ)) (first total : ℕ) (taken line : List ℕ) (c : List Change) (in_line : HasNoLineFeed line) (t : Talks s had has first total taken c) where

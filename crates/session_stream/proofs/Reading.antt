@@ -13,7 +13,7 @@ use Rattle.desk_text.specs.Lines.{unended, kept_line}
 use Rattle.session_stream.specs.Held.{Talks, IsHeld}
 use Rattle.session_stream.specs.declared.stream.TheConstants.{LONGEST_INPUT}
 use Rattle.session_stream.proofs.Hearing.{cut_at_limit, within_limit}
-use Rattle.session_stream.proofs.Ending.{prepend_nil}
+use Rattle.desk_outside.proofs.Told.{prepend_known-nil}
 
 -- the bytes of a read that are within the limit, as the room holds them
 abbrev pub within_of : ℕ → ℕ → ℕ
@@ -93,7 +93,7 @@ nothing_read s old now had has first total line c taken h now' room count none r
 pub held_at_start : (s : Setting) (rest had : Option (List ℕ)) (steps owes : ℕ) (line : Option (List ℕ)) (c : List Change) → line ≡ kept_line [] → c ≡ [] → owes ≡ cells_of s.desk → IsHeld s rest rest had had (steps + cells_of s.desk) (steps + owes) line c 0
 held_at_start s rest had steps owes line c is none owed_is = record {
   bytes = [];
-  rest = prepend_nil rest;
+  rest = prepend_known-nil rest;
   count = refl;
   talks = record {
     no_quit = refl;

@@ -1,6 +1,6 @@
 use Rattle.std.proofs.Common.{◌<◌, ◌++◌, ap, ◌∙◌, length, arith}
 use Rattle.desk_report.specs.Judging.{topic_qrels_text}
-use Rattle.judge_session.specs.InForce.{book_at}
+use Rattle.desk_model.specs.Named.{book_at}
 use Rattle.session_replies.proofs.Judgements.{more_topics, all_topics}
 use Rattle.session_replies.proofs.Marks.{length-in_force}
 use Rattle.session_replies.proofs.telling.qrels.Goals as goal
