@@ -12,40 +12,29 @@ use Rattle.std.proofs.lemmas.Map.Made.{length-le_from_is_member}
 use Rattle.std.proofs.lemmas.List.Folds.{list_any-append}
 use Rattle.std.proofs.lemmas.List.Elements.{filter-append, recursion_from_All}
 use Rattle.small_lemmas.proofs.Tests.{neither}
+use Rattle.small_lemmas.proofs.Lists.{all-append}
 use Rattle.desk_model.specs.Name.{is_name, name_cmp, AreAscending}
 use Rattle.desk_model.specs.Book.{Book, IsBook}
+use Rattle.desk_model.proofs.Names.{same_name, none_above}
 use Rattle.qrels_reader.specs.Rows.{Row, rows_on, has_topic, topics_of}
 use Rattle.qrels_reader.specs.declared.limits.TheConstants.{MOST_TOPICS}
-use Rattle.qrels_reader.proofs.Seen.{laws, same, IsDistinct, IsDistinct-first_seen, all_differ}
+use Rattle.qrels_reader.proofs.Seen.{laws, IsDistinct, IsDistinct-first_seen, all_differ}
 use Rattle.qrels_reader.proofs.RowFiles.{judgements}
 use Rattle.qrels_reader.proofs.Grouping.{has_topic-topics}
 use Rattle.topics_pool.specs.Rows.{topic_names}
 use Rattle.qrels_round_trip.specs.RoundTrip.{rows_of_book, AreGradesOf}
 use Rattle.qrels_round_trip.proofs.Line.{IsWritable}
 use Rattle.qrels_round_trip.proofs.Reading.{AreNew}
-use Rattle.qrels_round_trip.proofs.OneTopic.{all-append, apart, or_second, AreFresh, fresh-append, writable, each_row, on_topic, fresh_topic}
+use Rattle.qrels_round_trip.proofs.OneTopic.{apart, or_second, AreFresh, fresh-append, writable, each_row, on_topic, fresh_topic}
 
 -- the rows of topics by their grades in force
 abbrev pub rows_in : List Book → List (List (Option ℤ)) → List Row
 rows_in books grades = flat_map (λ p. rows_of_book p.0 p.1) (zip books grades)
 
 -- ---- names that ascend differ
-less_apart : (x y : List ℕ) → name_cmp x y ≡ Less → bytes_eq x y ≡ false
-less_apart x y h = by (bytes_eq x y) refl
-  where
-    by : (b : Bool) → bytes_eq x y ≡ b → bytes_eq x y ≡ false
-    by true e =
-        let self : name_cmp x x ≡ Less = ap (name_cmp x) (same x y e) ∙ h in
-        absurd (true≢false (sym (ap is_lt self) ∙ ap is_lt (nat_list_cmp_total.antisymm x x ∙ ap ordering_reverse self)))
-    by false e = e
-
-none_equal : (x : List ℕ) (ys : List (List ℕ)) → AllByRecursion (λ y. name_cmp x y ≡ Less) ys → list_any (bytes_eq x) ys ≡ false
-none_equal x [] h = refl
-none_equal x (y ∷ ys) h = ap₂ (λ a b. a || b) (less_apart x y h.0) (none_equal x ys h.1)
-
 pub ascending_differ : (names : List (List ℕ)) → AreAscending names → IsDistinct names
 ascending_differ [] h = tt
-ascending_differ (x ∷ xs) h = (none_equal x xs (sorted_head name_cmp x xs h), ascending_differ xs (sorted_tail name_cmp x xs h))
+ascending_differ (x ∷ xs) h = (none_above x xs (sorted_head name_cmp x xs h), ascending_differ xs (sorted_tail name_cmp x xs h))
 
 -- ---- every row can be written
 pub all_writable : (books : List Book) (grades : List (List (Option ℤ))) → AllByRecursion IsBook books → AllZip AreGradesOf books grades → AllByRecursion IsWritable (rows_in books grades)
@@ -82,7 +71,7 @@ any_among names q [] h e = absurd (true≢false (sym e))
 any_among names q (row ∷ rows) h e = by (bytes_eq q row.topic) refl e (any_among names q rows h.1)
   where
     by : (b : Bool) → bytes_eq q row.topic ≡ b → (bytes_eq q row.topic || has_topic q rows) ≡ true → (has_topic q rows ≡ true → list_any (bytes_eq q) names ≡ true) → list_any (bytes_eq q) names ≡ true
-    by true f g later = ap (λ n. list_any (bytes_eq n) names) (same q row.topic f) ∙ h.0
+    by true f g later = ap (λ n. list_any (bytes_eq n) names) (same_name q row.topic f) ∙ h.0
     by false f g later = later (sym (ap (λ b. b || has_topic q rows) f) ∙ g)
 
 -- so no topic is one too many
@@ -102,7 +91,7 @@ few_topics names before row few old here = by (has_topic row.topic before) refl
         last false = refl
 
         among : (q : List ℕ) (b : Bool) → bytes_eq q row.topic ≡ b → (bytes_eq q row.topic || list_any (bytes_eq q) (topics_of before)) ≡ true → list_any (bytes_eq q) names ≡ true
-        among q true f g = ap (λ n. list_any (bytes_eq n) names) (same q row.topic f) ∙ here
+        among q true f g = ap (λ n. list_any (bytes_eq n) names) (same_name q row.topic f) ∙ here
         among q false f g = any_among names q before old (sym (has_topic-topics judgements q before) ∙ sym (ap (λ b. b || list_any (bytes_eq q) (topics_of before)) f) ∙ g)
 
 pub are_new : (names : List (List ℕ)) (before rows : List Row) → length names ≤ MOST_TOPICS → AllByRecursion (IsOf names) before → AllByRecursion (IsOf names) rows → AreFresh before rows → AreNew before rows

@@ -16,7 +16,8 @@ use Rattle.desk_model.specs.Name.{is_name, is_field_byte}
 use Rattle.desk_report.specs.Judging.{qrels_line}
 use Rattle.qrels_reader.specs.Reading.{field, is_long, unless}
 use Rattle.qrels_reader.specs.Rows.{Row, grade_of, row_of, form_faults}
-use Rattle.qrels_round_trip.proofs.Words.{IsWord, IsSmall, name_word, name_short, signed_word, fields_word, fields_last, word_good, field_no_separator}
+use Rattle.desk_model.proofs.Words.{IsWord, name_word, name_most, name_bytes, fields_word, fields_last, ink_no_separator}
+use Rattle.qrels_round_trip.proofs.Words.{IsSmall, signed_word, signed_bytes, word_good}
 
 -- a row whose names are names and whose grade is from -1,000 to 1,000
 pub record IsWritable (row : Row) : Type 0 where
@@ -91,7 +92,7 @@ module _ (row : Row) (h : IsWritable row) where
 
   pub line_fields : fields_of (line_of row) ≡ row.topic ∷ codes "0" ∷ row.document ∷ grade ∷ []
   line_fields =
-      let zero_word : IsWord (codes "0") = record { filled = omega arith; bytes = refl } in
+      let zero_word : IsWord (codes "0") = record { filled = omega arith; ink = (omega arith, tt) } in
       ap fields_of parted
       ∙ fields_word row.topic (codes "0" ++ 32 ∷ (row.document ++ 32 ∷ grade)) (name_word row.topic h.topic)
       ∙ ap (λ fs. row.topic ∷ fs) (fields_word (codes "0") (row.document ++ 32 ∷ grade) zero_word
@@ -100,8 +101,8 @@ module _ (row : Row) (h : IsWritable row) where
 
   pub line_short : length (line_of row) ≤ LONGEST_LINE
   line_short =
-      let topic = name_short row.topic h.topic in
-      let document = name_short row.document h.document in
+      let topic = name_most row.topic h.topic in
+      let document = name_most row.document h.document in
       let number = signed_short row.grade h.grade in
       omega (arith, ap length parted, length-append row.topic (32 ∷ (codes "0" ++ 32 ∷ (row.document ++ 32 ∷ grade))), length-append row.document (32 ∷ grade))
 
@@ -110,15 +111,15 @@ module _ (row : Row) (h : IsWritable row) where
 
   pub line_good : list_any is_bad (line_of row) ≡ false
   line_good =
-      let topic = word_good row.topic (name_word row.topic h.topic).bytes in
-      let document = word_good row.document (name_word row.document h.document).bytes in
-      let number = word_good grade (signed_word row.grade h.grade).bytes in
+      let topic = word_good row.topic (name_bytes row.topic h.topic) in
+      let document = word_good row.document (name_bytes row.document h.document) in
+      let number = word_good grade (signed_bytes row.grade h.grade) in
       ap (list_any is_bad) parted
       ∙ good_after row.topic (codes "0" ++ 32 ∷ (row.document ++ 32 ∷ grade)) topic (good_after (codes "0") (row.document ++ 32 ∷ grade) refl (good_after row.document grade document number))
 
   starts : (w rest : List ℕ) → IsWord w → list_all is_separator (w ++ rest) ≡ false
   starts [] rest some = absurd (let none = some.filled in omega arith)
-  starts (b ∷ bs) rest some = ap (λ t. t && list_all is_separator (bs ++ rest)) (field_no_separator b (and_parts (is_field_byte b) (list_all is_field_byte bs) some.bytes).0)
+  starts (b ∷ bs) rest some = ap (λ t. t && list_all is_separator (bs ++ rest)) (ink_no_separator b some.ink.0)
 
   pub line_not_blank : is_blank (line_of row) ≡ false
   line_not_blank =
@@ -136,7 +137,7 @@ module _ (row : Row) (h : IsWritable row) where
   grade_is = ap (whole_of (negsuc 999) (pos 1000)) (field_is 3) ∙ grade_read row.grade h.grade
 
   short_name : (name : List ℕ) → is_name name ≡ true → is_long name ≡ false
-  short_name name named = le-ltb 255 (length name) (name_short name named)
+  short_name name named = le-ltb 255 (length name) (name_most name named)
 
   pub row_is : row_of (line_of row) ≡ row
   row_is = λ i. record { topic = field_is 0 i; document = field_is 2 i; grade = ap (λ g. unwrap_or g (pos 0)) grade_is i }

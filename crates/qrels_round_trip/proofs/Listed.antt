@@ -10,7 +10,8 @@ use Rattle.qrels_reader.specs.Rows.{Row, has_topic, read_row}
 use Rattle.qrels_reader.specs.Reading.{rows_of}
 use Rattle.qrels_reader.specs.Grouped.{Judged, JudgedTopic, judged_of, grouped, names_of, documents_on, qrels_of}
 use Rattle.qrels_reader.specs.declared.fault.FileFault.TheVariants.{NoTopics}
-use Rattle.qrels_reader.proofs.Seen.{laws, same}
+use Rattle.desk_model.proofs.Names.{same_name}
+use Rattle.qrels_reader.proofs.Seen.{laws}
 use Rattle.qrels_reader.proofs.RowFiles.{judgements}
 use Rattle.qrels_reader.proofs.Grouping.{is_topic-grouped, members_on-grouped}
 use Rattle.qrels_reader.proofs.Right.{parted}
@@ -79,7 +80,7 @@ placed q [] h = absurd (true≢false (sym h))
 placed q (x ∷ names) h = by (bytes_eq q x) refl h (placed q names)
   where
     by : (b : Bool) → bytes_eq q x ≡ b → (bytes_eq q x || list_any (bytes_eq q) names) ≡ true → (list_any (bytes_eq q) names ≡ true → IsPlaced q names) → IsPlaced q (x ∷ names)
-    by true e g later = record { place = 0; stands = ap Some (sym (same q x e)) }
+    by true e g later = record { place = 0; stands = ap Some (sym (same_name q x e)) }
     by false e g later = let found = later (sym (ap (λ b. b || list_any (bytes_eq q) names) e) ∙ g) in record { place = suc found.place; stands = found.stands }
 
 record IsGraded (q : List ℕ) (documents : List Judged) : Type 0 where

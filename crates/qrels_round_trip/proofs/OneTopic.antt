@@ -10,7 +10,9 @@ use Rattle.judge_session.specs.InForce.{counted_grade}
 use Rattle.qrels_reader.specs.Rows.{Row, rows_on, has_document}
 use Rattle.qrels_reader.specs.Grouped.{Judged, judged_of}
 use Rattle.small_lemmas.proofs.Tests.{neither}
-use Rattle.qrels_reader.proofs.Seen.{laws, same, IsDistinct}
+use Rattle.small_lemmas.proofs.Lists.{all-append}
+use Rattle.desk_model.proofs.Names.{same_name}
+use Rattle.qrels_reader.proofs.Seen.{laws, IsDistinct}
 use Rattle.qrels_reader.proofs.RowFiles.{judgements}
 use Rattle.qrels_reader.proofs.Grouping.{rows_on-append}
 use Rattle.topics_pool.proofs.Finding.{among-at}
@@ -44,10 +46,6 @@ said_counts None (Some (negsuc n)) h = absurd (omega (arith, ints, h))
 said_counts (Some f) (Some (pos n)) h = refl
 said_counts (Some f) (Some (negsuc n)) h = absurd (omega (arith, ints, h))
 
-pub all-append : {X : Type 0} (P : X → Type 0) (xs ys : List X) → AllByRecursion P xs → AllByRecursion P ys → AllByRecursion P (xs ++ ys)
-all-append P [] ys h k = k
-all-append P (x ∷ xs) ys h k = (h.0, all-append P xs ys h.1 k)
-
 -- where a test gives the same for all items, it keeps all or none
 pub filter_all : {X : Type 0} (p : X → Bool) (b : Bool) (xs : List X) → AllByRecursion (λ x. p x ≡ b) xs → filter p xs ≡ cond b xs []
 filter_all p true [] h = refl
@@ -72,7 +70,7 @@ pub apart : (x y : List ℕ) (ys : List (List ℕ)) → list_any (bytes_eq x) ys
 apart x y ys none some = by (bytes_eq y x) refl
   where
     by : (b : Bool) → bytes_eq y x ≡ b → bytes_eq y x ≡ false
-    by true e = absurd (true≢false (sym some ∙ ap (λ z. list_any (bytes_eq z) ys) (same y x e) ∙ none))
+    by true e = absurd (true≢false (sym some ∙ ap (λ z. list_any (bytes_eq z) ys) (same_name y x e) ∙ none))
     by false e = e
 
 -- ---- rows whose documents are new

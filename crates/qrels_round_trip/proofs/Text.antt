@@ -4,8 +4,8 @@ use Rattle.std.specs.Prelude.{Bool, ◌==◌, map, flat_map, Option, Some, None}
 use Rattle.std.specs.List.{list_any, zip, AllByRecursion}
 use Rattle.std.proofs.lemmas.Bool.{eqb-true}
 use Rattle.std.proofs.lemmas.List.{map-append}
-use Rattle.std.proofs.lemmas.Grind.{flat_map-append}
 use Rattle.small_lemmas.proofs.Tests.{neither}
+use Rattle.small_lemmas.proofs.Lists.{flat_map-nested}
 use Rattle.desk_text.specs.Lines.{lines, onto_first, is_bad}
 use Rattle.desk_model.specs.Book.{Book}
 use Rattle.desk_model.specs.Desk.{Desk}
@@ -23,7 +23,7 @@ no_feed b h = by (b == 10) refl
     by true e = absurd (true≢false (sym (ap is_bad (eqb-true b 10 e)) ∙ h))
     by false e = e
 
-lines-ended : (l rest : List ℕ) → list_any is_bad l ≡ false → lines (ended l ++ rest) ≡ l ∷ lines rest
+pub lines-ended : (l rest : List ℕ) → list_any is_bad l ≡ false → lines (ended l ++ rest) ≡ l ∷ lines rest
 lines-ended [] rest h = refl
 lines-ended (b ∷ bs) rest h =
     let parts = neither (is_bad b) (list_any is_bad bs) h in
@@ -35,13 +35,9 @@ lines-of_ended [] h = refl
 lines-of_ended (row ∷ rows) h = lines-ended (line_of row) (flat_map ended (map line_of rows)) (line_good row h.0) ∙ ap (λ ls. line_of row ∷ ls) (lines-of_ended rows h.1)
 
 -- ---- the text
-pulled : {A B C : Type 0} (f : A → List B) (g : B → C) (h : A → List C) → ((x : A) → h x ≡ map g (f x)) → (xs : List A) → flat_map h xs ≡ map g (flat_map f xs)
+pub pulled : {A B C : Type 0} (f : A → List B) (g : B → C) (h : A → List C) → ((x : A) → h x ≡ map g (f x)) → (xs : List A) → flat_map h xs ≡ map g (flat_map f xs)
 pulled f g h each [] = refl
 pulled f g h each (x ∷ xs) = ap₂ (λ p q. p ++ q) (each x) (pulled f g h each xs) ∙ sym (map-append g (f x) (flat_map f xs))
-
-nested : {A B C : Type 0} (f : A → List B) (k : B → List C) (xs : List A) → flat_map (λ x. flat_map k (f x)) xs ≡ flat_map k (flat_map f xs)
-nested f k [] = refl
-nested f k (x ∷ xs) = ap (λ q. flat_map k (f x) ++ q) (nested f k xs) ∙ sym (flat_map-append k (f x) (flat_map f xs))
 
 document_lines : (topic doc : List ℕ) (file grade : Option ℤ) → qrels_lines_of topic doc file grade ≡ map line_of (rows_of_document topic doc file grade)
 document_lines topic doc None None = refl
@@ -55,5 +51,5 @@ book_lines book grades =
 
 pub text_is : (desk : Desk) (grades : List (List (Option ℤ))) → qrels_text desk grades ≡ flat_map ended (map line_of (rows_in_force desk grades))
 text_is desk grades =
-    nested (λ (p : Book × List (Option ℤ)). topic_qrels_lines p.0 p.1) ended (zip desk.topics grades)
+    flat_map-nested (λ (p : Book × List (Option ℤ)). topic_qrels_lines p.0 p.1) ended (zip desk.topics grades)
     ∙ ap (flat_map ended) (pulled (λ (p : Book × List (Option ℤ)). rows_of_book p.0 p.1) line_of (λ p. topic_qrels_lines p.0 p.1) (λ p. book_lines p.0 p.1) (zip desk.topics grades))
