@@ -4,5 +4,6 @@ pub mod Rounding
 pub mod Pairing
 pub mod Lines
 pub mod Others
+pub mod Proposed
 pub mod Qrels
 pub mod Truths

@@ -30,10 +30,12 @@ use Rattle.fractions.specs.Numbers.{floor_of, ceiling_of}
 use Rattle.desk_report.specs.Means.{decimal_text}
 use Rattle.desk_report.specs.Table.{word_of, run_line, pair_line, head_lines, run_lines, pair_lines, ended, table_lines, table_text}
 use Rattle.printed_claims.specs.Claims.{HoldsByName, HoldsByNames, SaysExactly, EnclosesDifference, EnclosesMean, IsPairLine, IsRunLine, IsTrueLine, ForEachLine}
-use Rattle.printed_claims.proofs.Spelling.{AreInk, AreInLine, IsWord, ink_in_line, in_line-append, in_line-spaced, fields_word, fields_last, whole_lines-take, whole_lines-of_ended}
-use Rattle.printed_claims.proofs.Texts.{decimal_ink, decimal_text_word, measure_ink, name_word, verdict_word}
+use Rattle.desk_model.proofs.Words.{AreInk, IsWord, name_word, fields_word, fields_last}
+use Rattle.printed_claims.proofs.Spelling.{AreInLine, ink_in_line, in_line-append, in_line-spaced, whole_lines-take, whole_lines-of_ended}
+use Rattle.printed_claims.proofs.Texts.{decimal_ink, decimal_text_word, measure_ink, verdict_word}
 use Rattle.printed_claims.proofs.Rounding.{printed_low, printed_high}
-use Rattle.printed_claims.proofs.Pairing.{all-append, all_prefix, all_weaker, both, each_line, AlikePairs, paired, numbered_from_0}
+use Rattle.small_lemmas.proofs.Lists.{all-append}
+use Rattle.printed_claims.proofs.Pairing.{all_prefix, all_weaker, both, each_line, AlikePairs, paired, numbered_from_0}
 
 pub word : (w : List ℕ) (filled : 0 < length w) (ink : AreInk w) → IsWord w
 word w filled ink = record { filled = filled; ink = ink }

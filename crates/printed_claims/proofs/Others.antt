@@ -1,6 +1,6 @@
--- Lines that are none of a table: those of a certificate, the close line, the answer of a check, and replies of a session.
+-- Lines that are none of a table: those of a certificate, the close line, the answer of a check, and those of other words.
 use Rattle.std.proofs.Common.{◌≡◌, ℕ, suc, ◌<◌, List, [], ◌∷◌, ◌++◌, length, get_or, refl, ap, sym, subst, inl, inr, ◌∙◌, arith, rules, ℤ, pos, negsuc}
-use Rattle.std.specs.Prelude.{codes, decimal, filter, map, flat_map, true}
+use Rattle.std.specs.Prelude.{codes, decimal, filter, map, flat_map, true, false, ◌==◌}
 use Rattle.std.specs.List.{AllByRecursion}
 use Rattle.std.specs.Fmt.{signed_decimal}
 use Rattle.std.proofs.lemmas.Bool.{eqb-false}
@@ -19,10 +19,11 @@ use Rattle.order_certificate.specs.declared.certificate.Evidence.{Evidence}
 use Rattle.order_certificate.specs.declared.certificate.Evidence.TheVariants.{Above, Equal, Open}
 use Rattle.order_certificate.specs.declared.certificate.TopicBound.{TopicBound}
 use Rattle.order_certificate.specs.declared.certificate.TopicWitness.{TopicWitness}
-use Rattle.printed_claims.specs.Claims.{IsAnswerWord, IsInLine, IsReplyWord}
-use Rattle.printed_claims.proofs.Spelling.{AreInLine, IsWord, piece_on, kept, ink_in_line, in_line-append, in_line-spaced}
-use Rattle.printed_claims.proofs.Texts.{decimal_ink, measure_ink, name_word}
-use Rattle.printed_claims.proofs.Pairing.{all-append}
+use Rattle.printed_claims.specs.Claims.{IsAnswerWord, IsInLine, IsOtherWord}
+use Rattle.desk_model.proofs.Words.{IsWord, piece_on, kept, name_word}
+use Rattle.printed_claims.proofs.Spelling.{AreInLine, ink_in_line, in_line-append, in_line-spaced}
+use Rattle.printed_claims.proofs.Texts.{decimal_ink, measure_ink}
+use Rattle.small_lemmas.proofs.Lists.{all-append}
 use Rattle.printed_claims.proofs.Lines.{IsSound, word, other_line, worded_line, field}
 
 -- ---- a line's first byte is that of its first field
@@ -37,6 +38,15 @@ first_byte b bs h = ap (λ ps. get_or (field 0 (filter is_filled ps)) 0 0) (piec
 pub in_line_back : (bytes : List ℕ) → AreInLine bytes → IsInLine bytes
 in_line_back [] h = tt
 in_line_back (b ∷ bs) h = (h.0, in_line_back bs h.1)
+
+-- a word whose third byte is none of those of `pair`, `run` and `desk-certificate`
+pub other_word : (w : List ℕ) → is_name w ≡ true → (get_or w 2 0 == 105) ≡ false → (get_or w 2 0 == 110) ≡ false → (get_or w 2 0 == 115) ≡ false → IsOtherWord w
+other_word w is no_pair no_run no_certificate = record {
+  is = is;
+  no_pair = λ e. eqb-false (get_or w 2 0) 105 no_pair (ap (λ x. get_or x 2 0) e);
+  no_run = λ e. eqb-false (get_or w 2 0) 110 no_run (ap (λ x. get_or x 2 0) e);
+  no_certificate = λ e. eqb-false (get_or w 2 0) 115 no_certificate (ap (λ x. get_or x 2 0) e);
+}
 
 module _ (name : MeasureName) (desk : Desk) (marks : List (List Mark)) where
   -- a line whose first byte is not that of `pair` and `run` claims nothing of runs
@@ -154,37 +164,6 @@ module _ (name : MeasureName) (desk : Desk) (marks : List (List Mark)) where
   answer_sound word rest (inl is) line = subst (λ w. IsSound name desk marks (w ++ rest)) (sym is) (accepted_more rest (in_line_of rest line))
   answer_sound word rest (inr is) line = subst (λ w. IsSound name desk marks (w ++ rest)) (sym is) (rejected_sound rest (in_line_of rest line))
 
-  -- ---- the reply of a session
-  -- a word that begins neither a pair line nor a run line
-  abbrev IsOtherWord : List ℕ → Type 0
-  IsOtherWord w = IsWord w × (w ≡ codes "pair" → ⊥) × (w ≡ codes "run" → ⊥)
-
-  reply_word : (w : List ℕ) → IsReplyWord w → IsOtherWord w
-  reply_word w (inl is) = subst IsOtherWord (sym is) (
-    word (codes "judged") (omega arith) (search rules),
-    λ e. eqb-false 106 112 refl (ap (λ w. get_or w 0 0) e),
-    λ e. eqb-false 106 114 refl (ap (λ w. get_or w 0 0) e),
-  )
-  reply_word w (inr (inl is)) = subst IsOtherWord (sym is) (
-    word (codes "undone") (omega arith) (search rules),
-    λ e. eqb-false 117 112 refl (ap (λ w. get_or w 0 0) e),
-    λ e. eqb-false 117 114 refl (ap (λ w. get_or w 0 0) e),
-  )
-  reply_word w (inr (inr (inl is))) = subst IsOtherWord (sym is) (
-    word (codes "redone") (omega arith) (search rules),
-    λ e. eqb-false 114 112 refl (ap (λ w. get_or w 0 0) e),
-    λ e. eqb-false 101 117 refl (ap (λ w. get_or w 1 0) e),
-  )
-  reply_word w (inr (inr (inr (inl is)))) = subst IsOtherWord (sym is) (
-    word (codes "pool") (omega arith) (search rules),
-    λ e. eqb-false 111 97 refl (ap (λ w. get_or w 1 0) e),
-    λ e. eqb-false 112 114 refl (ap (λ w. get_or w 0 0) e),
-  )
-  reply_word w (inr (inr (inr (inr is)))) = subst IsOtherWord (sym is) (
-    word (codes "no") (omega arith) (search rules),
-    λ e. eqb-false 110 112 refl (ap (λ w. get_or w 0 0) e),
-    λ e. eqb-false 110 114 refl (ap (λ w. get_or w 0 0) e),
-  )
-
-  pub reply_sound : (w rest : List ℕ) → IsReplyWord w → IsInLine rest → IsSound name desk marks (w ++ 32 ∷ rest)
-  reply_sound w rest is line = let other = reply_word w is in worded_line name desk marks w rest other.0 (in_line_of rest line) other.1 other.2
+  -- ---- a line of another word
+  pub named_sound : (w rest : List ℕ) → IsOtherWord w → IsInLine rest → IsSound name desk marks (w ++ 32 ∷ rest)
+  named_sound w rest is line = worded_line name desk marks w rest (name_word w is.is) (in_line_of rest line) is.no_pair is.no_run

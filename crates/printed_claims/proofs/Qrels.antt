@@ -4,7 +4,7 @@ use Rattle.std.specs.Prelude.{codes, flat_map, true, Option, None, Some}
 use Rattle.std.specs.Fmt.{signed_decimal}
 use Rattle.std.specs.List.{AllByRecursion, zip}
 use Rattle.std.proofs.lemmas.List.Elements.{recursion_from_All}
-use Rattle.std.proofs.lemmas.Grind.{flat_map-append}
+use Rattle.small_lemmas.proofs.Lists.{all-append, flat_map-nested}
 use Rattle.desk_text.specs.Lines.{fields_of}
 use Rattle.desk_model.specs.Book.{Book, IsBook}
 use Rattle.desk_model.specs.Desk.{Desk, IsDesk}
@@ -13,9 +13,9 @@ use Rattle.desk_model.specs.declared.types.Mark.{Mark}
 use Rattle.desk_model.specs.declared.types.MeasureName.{MeasureName}
 use Rattle.desk_report.specs.Judging.{qrels_line, qrels_lines_of, topic_qrels_lines, qrels_text}
 use Rattle.desk_report.specs.Table.{ended}
-use Rattle.printed_claims.proofs.Spelling.{IsWord, ink_in_line, in_line-append, in_line-spaced, fields_word, fields_last}
-use Rattle.printed_claims.proofs.Texts.{name_word, signed_word, grade_not_decimal}
-use Rattle.printed_claims.proofs.Pairing.{all-append}
+use Rattle.desk_model.proofs.Words.{IsWord, name_word, fields_word, fields_last}
+use Rattle.printed_claims.proofs.Spelling.{ink_in_line, in_line-append, in_line-spaced}
+use Rattle.printed_claims.proofs.Texts.{signed_word, grade_not_decimal}
 use Rattle.printed_claims.proofs.Lines.{IsSound, word, other_line, field}
 
 -- ---- the fields of a line
@@ -42,17 +42,13 @@ all_flat_map : {A B : Type 0} (P : A → Type 0) (Q : B → Type 0) (f : A → L
 all_flat_map P Q f each [] h = tt
 all_flat_map P Q f each (x ∷ xs) h = all-append Q (f x) (flat_map f xs) (each x h.0) (all_flat_map P Q f each xs h.1)
 
-nested : {A B C : Type 0} (f : A → List B) (k : B → List C) (xs : List A) → flat_map (λ x. flat_map k (f x)) xs ≡ flat_map k (flat_map f xs)
-nested f k [] = refl
-nested f k (x ∷ xs) = ap (λ q. flat_map k (f x) ++ q) (nested f k xs) ∙ sym (flat_map-append k (f x) (flat_map f xs))
-
 -- ---- the lines
 -- all lines of a text of judgements
 abbrev pub qrels_lines : Desk → List (List (Option ℤ)) → List (List ℕ)
 qrels_lines desk grades = flat_map (λ p. topic_qrels_lines p.0 p.1) (zip desk.topics grades)
 
 pub text_of_lines : (desk : Desk) (grades : List (List (Option ℤ))) → qrels_text desk grades ≡ flat_map ended (qrels_lines desk grades)
-text_of_lines desk grades = nested (λ (p : Book × List (Option ℤ)). topic_qrels_lines p.0 p.1) ended (zip desk.topics grades)
+text_of_lines desk grades = flat_map-nested (λ (p : Book × List (Option ℤ)). topic_qrels_lines p.0 p.1) ended (zip desk.topics grades)
 
 module _ (name : MeasureName) (desk : Desk) (marks : List (List Mark)) where
   abbrev pub IsQrelsLine : List ℕ → Type 0

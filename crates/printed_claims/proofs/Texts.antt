@@ -1,4 +1,4 @@
--- Printed numbers, names and words are words.
+-- Printed numbers and words are words.
 use Rattle.std.proofs.Common.{◌≡◌, ℕ, zero, suc, ◌+◌, ◌/◌, ◌%◌, ◌<◌, ◌≤◌, List, [], ◌∷◌, length, drop, cond, true, false, refl, sym, subst, ◌∙◌, arith, rules, ℤ, pos, negsuc, ◌++◌, length-append}
 use Rattle.std.specs.Prelude.{Bool, ◌&&◌, ◌==◌, not, nat_lt, nat_le, nat_eq, codes, decimal}
 use Rattle.std.specs.List.{list_all, AllByRecursion}
@@ -13,7 +13,8 @@ use Rattle.desk_model.specs.declared.types.Verdict.TheVariants.{Above, Below, Eq
 use Rattle.desk_report.specs.Means.{six_digits, millionths, decimal_text}
 use Rattle.desk_report.specs.Table.{word_of}
 use Rattle.printed_claims.specs.Claims.{IsDecimal}
-use Rattle.printed_claims.proofs.Spelling.{AreInk, IsWord, ink-append}
+use Rattle.desk_model.proofs.Words.{AreInk, IsWord}
+use Rattle.printed_claims.proofs.Spelling.{ink-append}
 
 -- ---- digits are greater than the point
 abbrev pub ArePastPoint : List ℕ → Type 0
@@ -110,19 +111,6 @@ measure_ink (Recall k) = ink-append (codes "recall_") (decimal k) (search rules)
 measure_ink RPrecision = search rules
 measure_ink Reciprocal = search rules
 measure_ink (Biased top bottom) = ink-append (codes "rbp_0.") (drop 1 (decimal (bottom + top))) (search rules) (rest_ink (decimal (bottom + top)) (decimal_ink (bottom + top)))
-
-field_bytes_ink : (w : List ℕ) → list_all is_field_byte w ≡ true → AreInk w
-field_bytes_ink [] h = tt
-field_bytes_ink (b ∷ bs) h =
-    let parts = and_parts (is_field_byte b) (list_all is_field_byte bs) h in
-    let above : 33 ≤ b = leb-true 33 b (and_parts (nat_le 33 b) (not (nat_eq b 127)) parts.0).0 in
-    (omega (arith, above), field_bytes_ink bs parts.1)
-
-pub name_word : (w : List ℕ) → is_name w ≡ true → IsWord w
-name_word w h =
-    let parts = and_parts (nat_le 1 (length w)) (nat_le (length w) 255 && list_all is_field_byte w) h in
-    let some : 1 ≤ length w = leb-true 1 (length w) parts.0 in
-    record { filled = omega (arith, some); ink = field_bytes_ink w (and_parts (nat_le (length w) 255) (list_all is_field_byte w) parts.1).1 }
 
 pub verdict_word : (v : Verdict) → IsWord (word_of v)
 verdict_word Above = record { filled = omega arith; ink = search rules }

@@ -1,6 +1,6 @@
 -- What was received of a printed text is true.
-use Rattle.std.proofs.Common.{◌≡◌, ℕ, zero, suc, List, [], ◌∷◌, ◌++◌, take, drop, get_or, refl, ap, sym, subst, ◌∙◌, arith, ◌*◌, length, append-nil, inl, inr, rules, ℤ, pos}
-use Rattle.std.specs.Prelude.{All, codes, flat_map, slice_index_or}
+use Rattle.std.proofs.Common.{◌≡◌, ℕ, zero, suc, List, [], ◌∷◌, ◌++◌, take, drop, get_or, refl, ap, sym, subst, ◌∙◌, arith, ◌*◌, length, append-nil, append_assoc, Some, None, inl, inr, rules, ℤ, pos}
+use Rattle.std.specs.Prelude.{All, codes, decimal, flat_map, slice_index_or}
 use Rattle.std.specs.List.{AllByRecursion}
 use Rattle.std.proofs.lemmas.List.{take-append-drop}
 use Rattle.desk_model.specs.Desk.{Desk}
@@ -9,7 +9,9 @@ use Rattle.desk_model.specs.declared.types.Mark.{Mark}
 use Rattle.desk_model.specs.declared.types.MeasureName.{MeasureName}
 use Rattle.desk_model.specs.declared.types.MeasureName.TheVariants.{Precision}
 use Rattle.desk_model.specs.declared.types.Totals.{Totals}
+use Rattle.desk_model.specs.Named.{book_at, name_at}
 use Rattle.desk_report.specs.Close.{close_line}
+use Rattle.desk_report.specs.Judging.{next_line}
 use Rattle.desk_report.specs.Table.{pair_line, table_text, table_lines, ended}
 use Rattle.order_certificate.specs.Certificate.{IsCertificate, certificate_lines, certificate_text}
 use Rattle.order_certificate.specs.Claim.{ClaimHolds}
@@ -19,12 +21,14 @@ use Rattle.order_certificate.specs.declared.certificate.Certificate.{Certificate
 use Rattle.fractions.specs.declared.span.Span.{Span}
 use Rattle.measure_laws.specs.Measures.{unit_of}
 use Rattle.pair_table.specs.Orders.{HoldsOfPair, HoldsOfRun, ForEachPair, ForTwoRuns, ForEachRun}
-use Rattle.desk_text.specs.Lines.{whole_lines}
-use Rattle.printed_claims.specs.Claims.{IsTrueLine, IsTrueText, TablesAreTrue, PairLinesAreTrue, CertificatesAreTrue, CloseLinesAreTrue, IsAnswerWord, AnswerLinesAreTrue, IsReplyWord, ReplyLinesAreTrue, QrelsTextsAreTrue, NoTextIsTrue}
-use Rattle.printed_claims.proofs.Spelling.{AreInLine, whole_lines-ended}
+use Rattle.desk_text.specs.Lines.{whole_lines, fields_of}
+use Rattle.desk_model.proofs.Words.{name_word, fields_word}
+use Rattle.printed_claims.specs.Claims.{IsTrueLine, IsTrueText, TablesAreTrue, PairLinesAreTrue, CertificatesAreTrue, CloseLinesAreTrue, IsAnswerWord, AnswerLinesAreTrue, IsInLine, IsOtherWord, OtherLinesAreTrue, NextLinesAreTrue, QrelsTextsAreTrue, NoTextIsTrue}
+use Rattle.printed_claims.proofs.Spelling.{AreInLine, in_line-spaced, whole_lines-ended}
 use Rattle.printed_claims.proofs.Pairing.{all_weaker}
-use Rattle.printed_claims.proofs.Lines.{IsSound, two_runs_sound, printed_lines, prefix_all, prefix_true}
-use Rattle.printed_claims.proofs.Others.{certificate_sound, close_sound, answer_sound, reply_sound}
+use Rattle.printed_claims.proofs.Lines.{IsSound, field, two_runs_sound, printed_lines, prefix_all, prefix_true}
+use Rattle.printed_claims.proofs.Proposed.{next_is_other, next_rest, rest_in_line, proposal_true}
+use Rattle.printed_claims.proofs.Others.{in_line_back, certificate_sound, close_sound, answer_sound, named_sound}
 use Rattle.printed_claims.proofs.Qrels.{HasFourFields, qrels_lines, text_of_lines, IsQrelsLine, qrels_sound}
 
 -- a text is written as its certificate is
@@ -68,11 +72,16 @@ certificates_true written texts holds alone c desk marks received is valid marke
         let same : d ≡ c = (alone (take received (certificate_text c)) (drop received (certificate_text c)) d c t joined).1 in
         (ap (λ (z : Certificate). z.measure) same, subst (λ z. ClaimHolds z desk marks) (sym same) (holds c desk marks is.measure valid marked evidence))
 
+-- the whole lines of a prefix of one line
+sound_lines : (name : MeasureName) (desk : Desk) (marks : List (List Mark)) (line : List ℕ) (received : ℕ) → IsSound name desk marks line → All (IsTrueLine name desk marks) (whole_lines (take received (ended line)))
+sound_lines name desk marks line received sound =
+    subst (λ text. All (IsTrueLine name desk marks) (whole_lines (take received text))) (append-nil (ended line)) (prefix_true name desk marks (line ∷ []) received (sound, tt))
+
 -- a line of its own that begins with another byte than a certificate
 module _ (written : AreWritten) (name : MeasureName) (desk : Desk) (marks : List (List Mark)) where
   line_true : (line : List ℕ) (received : ℕ) → IsSound name desk marks line → (get_or (ended line) 0 0 ≡ 100 → ⊥) → IsTrueText name desk marks (take received (ended line))
   line_true line received sound other = record {
-    lines = subst (λ text. All (IsTrueLine name desk marks) (whole_lines (take received text))) (append-nil (ended line)) (prefix_true name desk marks (line ∷ []) received (sound, tt));
+    lines = sound_lines name desk marks line received sound;
     claim = λ c t. absurd (no_certificate written (ended line) received c other t);
   }
 
@@ -87,24 +96,13 @@ pub close_true : AreWritten → CloseLinesAreTrue
 close_true written name desk marks first second totals received f s =
     line_true written name desk marks (close_line first second totals) received (close_sound name desk marks first second totals f s) (λ e. let two : 99 ≡ 100 = e in omega (arith, two))
 
--- the lines of an answer and of a reply begin with another byte than a certificate
+-- the lines of an answer begin with another byte than a certificate
 answer_begins : (word rest : List ℕ) → IsAnswerWord word → get_or (ended (word ++ rest)) 0 0 ≡ 100 → ⊥
 answer_begins word rest (inl is) e = let first : 97 ≡ 100 = ap (λ w. get_or (ended (w ++ rest)) 0 0) (sym is) ∙ e in omega (arith, first)
 answer_begins word rest (inr is) e = let first : 114 ≡ 100 = ap (λ w. get_or (ended (w ++ rest)) 0 0) (sym is) ∙ e in omega (arith, first)
 
 pub answer_true : AreWritten → AnswerLinesAreTrue
 answer_true written name desk marks word rest received is line = line_true written name desk marks (word ++ rest) received (answer_sound name desk marks word rest is line) (answer_begins word rest is)
-
-reply_begins : (word rest : List ℕ) → IsReplyWord word → get_or (ended (word ++ rest)) 0 0 ≡ 100 → ⊥
-reply_begins word rest (inl is) e = let first : 106 ≡ 100 = ap (λ w. get_or (ended (w ++ rest)) 0 0) (sym is) ∙ e in omega (arith, first)
-reply_begins word rest (inr (inl is)) e = let first : 117 ≡ 100 = ap (λ w. get_or (ended (w ++ rest)) 0 0) (sym is) ∙ e in omega (arith, first)
-reply_begins word rest (inr (inr (inl is))) e = let first : 114 ≡ 100 = ap (λ w. get_or (ended (w ++ rest)) 0 0) (sym is) ∙ e in omega (arith, first)
-reply_begins word rest (inr (inr (inr (inl is)))) e = let first : 112 ≡ 100 = ap (λ w. get_or (ended (w ++ rest)) 0 0) (sym is) ∙ e in omega (arith, first)
-reply_begins word rest (inr (inr (inr (inr is)))) e = let first : 110 ≡ 100 = ap (λ w. get_or (ended (w ++ rest)) 0 0) (sym is) ∙ e in omega (arith, first)
-
-pub reply_true : AreWritten → ReplyLinesAreTrue
-reply_true written name desk marks word rest received is line =
-    line_true written name desk marks (word ++ 32 ∷ rest) received (reply_sound name desk marks word rest is line) (reply_begins word (32 ∷ rest) is)
 
 -- ---- the judgements in force
 -- the first line of a certificate, which has two fields
@@ -122,6 +120,49 @@ no_certificate_of_four written lines n c in_line four t =
     let all : AllByRecursion HasFourFields (codes "desk-certificate 1" ∷ first.0) = subst (AllByRecursion HasFourFields) own (prefix_all HasFourFields lines n in_line four) in
     let two : 2 ≡ 4 = all.0 in
     omega (arith, two)
+
+-- no prefix of a line of another word is a certificate
+no_certificate_of_other : AreWritten → (word rest : List ℕ) (n : ℕ) (c : Certificate) → IsOtherWord word → IsInLine rest → AreInLine (word ++ 32 ∷ rest) → IsText (take n (ended (word ++ 32 ∷ rest))) c → ⊥
+no_certificate_of_other written word rest n c is line in_line t =
+    let own : List ℕ = word ++ 32 ∷ rest in
+    let first = certificate_first c in
+    let cut : whole_lines (take n (ended own ++ [])) ≡ codes "desk-certificate 1" ∷ first.0 =
+    ap (λ z. whole_lines (take n z)) (append-nil (ended own)) ∙ ap whole_lines (written (take n (ended own)) c t) ∙ first.1 in
+    let all : AllByRecursion (λ l. l ≡ own) (codes "desk-certificate 1" ∷ first.0) = subst (AllByRecursion (λ l. l ≡ own)) cut (prefix_all (λ l. l ≡ own) (own ∷ []) n (in_line, tt) (refl, tt)) in
+    is.no_certificate (sym (ap (field 0) (ap fields_of all.0 ∙ fields_word word rest (name_word word is.is))))
+
+pub other_true : AreWritten → OtherLinesAreTrue
+other_true written name desk marks word rest received is line =
+    let sound = named_sound name desk marks word rest is line in
+    record {
+      lines = sound_lines name desk marks (word ++ 32 ∷ rest) received sound;
+      claim = λ c t. absurd (no_certificate_of_other written word rest received c is line sound.0 t);
+    }
+
+-- the whole lines of a prefix of one line are that line
+only_line : (line : List ℕ) (n : ℕ) (other : List ℕ) → AreInLine line → whole_lines (take n (ended line)) ≡ other ∷ [] → other ≡ line
+only_line line n other in_line e =
+    let all : AllByRecursion (λ l. l ≡ line) (whole_lines (take n (ended line ++ []))) = prefix_all (λ l. l ≡ line) (line ∷ []) n (in_line, tt) (refl, tt) in
+    let one : AllByRecursion (λ l. l ≡ line) (other ∷ []) = subst (AllByRecursion (λ l. l ≡ line)) (ap (λ z. whole_lines (take n z)) (append-nil (ended line)) ∙ e) all in
+    one.0
+
+pub next_true : AreWritten → NextLinesAreTrue
+next_true written name desk marks totals None received valid known numbers next = (
+  other_true written name desk marks (codes "next") (codes "none") received next_is_other (search rules),
+  proposal_true name desk marks totals valid known numbers None (take received (ended (codes "next none"))) next (λ line one. only_line (codes "next none") received line (search rules) one),
+)
+next_true written name desk marks totals (Some p) received valid known numbers next =
+    let rest = next_rest desk (Some p) in
+    let in_line = rest_in_line name desk marks totals valid known (Some p) next in
+    let same : next_line desk (Some p) ≡ codes "next" ++ 32 ∷ rest = regroup (book_at desk p.topic).name (name_at desk p.topic p.doc) (decimal p.weight) in
+    let whole : AreInLine (codes "next" ++ 32 ∷ rest) = in_line-spaced (codes "next") rest (search rules) in_line in (
+      subst (λ line. IsTrueText name desk marks (take received (ended line))) (sym same) (other_true written name desk marks (codes "next") rest received next_is_other (in_line_back rest in_line)),
+      proposal_true name desk marks totals valid known numbers (Some p) (take received (ended (next_line desk (Some p)))) next
+          (λ line one. only_line (next_line desk (Some p)) received line (subst AreInLine (sym same) whole) one),
+    )
+  where
+    regroup : (x y z : List ℕ) → (codes "next " ++ x ++ 32 ∷ y ++ 32 ∷ z) ≡ codes "next" ++ 32 ∷ (x ++ 32 ∷ y ++ 32 ∷ z)
+    regroup x y z = simp append_assoc
 
 pub qrels_true : AreWritten → QrelsTextsAreTrue
 qrels_true written name desk marks grades received valid =

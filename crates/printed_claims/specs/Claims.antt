@@ -1,5 +1,5 @@
 -- What printed texts claim.
-use Rattle.std.specs.Prelude.{◌≡◌, ◌≢◌, ◌↔◌, ◌⊎◌, ◌*◌, ◌<◌, ◌≤◌, ℕ, List, [], ◌∷◌, ◌++◌, length, slice_get, slice_index_or, Option, Some, true, codes, ℤ, All, take, pos}
+use Rattle.std.specs.Prelude.{◌≡◌, ◌≢◌, ◌↔◌, ◌⊎◌, ◌*◌, ◌<◌, ◌≤◌, ℕ, List, [], ◌∷◌, ◌++◌, length, slice_get, slice_index_or, Option, Some, true, codes, decimal, ℤ, All, map, take, pos}
 use Rattle.std.specs.List.{AllByRecursion}
 use Rattle.desk_text.specs.Lines.{fields_of, whole_lines}
 use Rattle.desk_model.specs.Completion.{Completion}
@@ -14,12 +14,16 @@ use Rattle.desk_model.specs.declared.types.MeasureName.TheVariants.{Precision}
 use Rattle.desk_model.specs.declared.types.Totals.{Totals}
 use Rattle.fractions.specs.declared.span.Span.{Span}
 use Rattle.measure_laws.specs.Measures.{unit_of}
-use Rattle.pair_table.specs.Numbers.{ArePairNumbers, AreNumbersIn}
+use Rattle.pair_table.specs.Numbers.{ArePairNumbers, AreAllPairNumbers, AreNumbersIn}
 use Rattle.desk_report.specs.Means.{decimal_text}
 use Rattle.desk_model.specs.Name.{is_name}
+use Rattle.desk_model.specs.Named.{book_at, name_at}
+use Rattle.desk_model.specs.Verdict.{verdict}
 use Rattle.desk_report.specs.Table.{pair_line, table_text, ended}
 use Rattle.desk_report.specs.Close.{close_line}
-use Rattle.desk_report.specs.Judging.{qrels_text}
+use Rattle.desk_report.specs.Judging.{qrels_text, next_line}
+use Rattle.next_document.specs.Proposal.{Standing, IsProposal, HaveNoWeight, IsNext}
+use Rattle.next_document.specs.declared.proposal.Proposal.{Proposal}
 use Rattle.order_certificate.specs.Certificate.{IsCertificate, certificate_text}
 use Rattle.order_certificate.specs.Places.{IsText}
 use Rattle.order_certificate.specs.Claim.{ClaimHolds}
@@ -145,15 +149,54 @@ AnswerLinesAreTrue =
     (name : MeasureName) (desk : Desk) (marks : List (List Mark)) (word rest : List ℕ) (received : ℕ) → IsAnswerWord word → IsInLine rest →
     IsTrueText name desk marks (take received (word ++ rest ++ codes "\n"))
 
--- the words that begin the replies of a session to a judgement, to `undo`, to `redo` and to `pool`, and to what it refuses
-abbrev pub IsReplyWord : List ℕ → Type 0
-IsReplyWord word = (word ≡ codes "judged") ⊎ (word ≡ codes "undone") ⊎ (word ≡ codes "redone") ⊎ (word ≡ codes "pool") ⊎ (word ≡ codes "no")
+-- a word that begins no line of a pair or of a run, and no certificate
+pub record IsOtherWord (word : List ℕ) : Type 0 where
+  pub is : is_name word ≡ true
+  pub no_pair : word ≢ codes "pair"
+  pub no_run : word ≢ codes "run"
+  pub no_certificate : word ≢ codes "desk-certificate"
 
--- whatever was received of such a reply claims nothing false
-abbrev pub ReplyLinesAreTrue : Type 0
-ReplyLinesAreTrue =
-    (name : MeasureName) (desk : Desk) (marks : List (List Mark)) (word rest : List ℕ) (received : ℕ) → IsReplyWord word → IsInLine rest →
+-- whatever was received of a line that begins with another word claims nothing false
+abbrev pub OtherLinesAreTrue : Type 0
+OtherLinesAreTrue =
+    (name : MeasureName) (desk : Desk) (marks : List (List Mark)) (word rest : List ℕ) (received : ℕ) → IsOtherWord word → IsInLine rest →
     IsTrueText name desk marks (take received (word ++ 32 ∷ rest ++ codes "\n"))
+
+-- the line is `next TOPIC DOC WEIGHT`
+abbrev pub IsNextLine : List ℕ → List ℕ → List ℕ → List ℕ → Type 0
+IsNextLine line topic doc weight = fields_of line ≡ codes "next" ∷ topic ∷ doc ∷ weight ∷ []
+
+-- the line is `next none`
+abbrev pub IsNoneLine : List ℕ → Type 0
+IsNoneLine line = fields_of line ≡ codes "next" ∷ codes "none" ∷ []
+
+-- a fact of how the runs of a desk stand, each pair with the verdict of its numbers under a measure's name
+pub record HoldsOfStanding (name : MeasureName) (desk : Desk) (marks : List (List Mark)) (fact : Standing → Type 0) : Type 0 where
+  pub totals : List Totals
+  pub numbers : AreAllPairNumbers name desk marks totals
+  pub holds : fact (record { measure = name; desk = desk; marks = marks; verdicts = map verdict totals })
+
+-- the document of these names is the proposal, and this is its total in digits
+pub record IsProposedAs (topic doc weight : List ℕ) (s : Standing) : Type 0 where
+  pub proposal : Proposal
+  pub is : IsProposal s proposal
+  pub of_topic : (book_at s.desk proposal.topic).name ≡ topic
+  pub named : name_at s.desk proposal.topic proposal.doc ≡ doc
+  pub total : weight ≡ decimal proposal.weight
+
+-- what was received as the line of the next document to judge is true, where it is a whole line: the document that it names is the proposal, with its
+-- total; and at `none` there is no proposal
+pub record IsTrueProposal (name : MeasureName) (desk : Desk) (marks : List (List Mark)) (received : List ℕ) : Type 0 where
+  pub proposed : (line topic doc weight : List ℕ) → whole_lines received ≡ line ∷ [] → IsNextLine line topic doc weight → HoldsOfStanding name desk marks (IsProposedAs topic doc weight)
+  pub none : (line : List ℕ) → whole_lines received ≡ line ∷ [] → IsNoneLine line → HoldsOfStanding name desk marks HaveNoWeight
+
+-- whatever was received of the line of what is to be judged next is true
+abbrev pub NextLinesAreTrue : Type 0
+NextLinesAreTrue =
+    (name : MeasureName) (desk : Desk) (marks : List (List Mark)) (totals : List Totals) (proposal : Option Proposal) (received : ℕ) →
+    IsDesk desk → AreMarksOf desk marks → AreAllPairNumbers name desk marks totals →
+    IsNext (record { measure = name; desk = desk; marks = marks; verdicts = map verdict totals }) proposal →
+    IsTrueText name desk marks (take received (ended (next_line desk proposal))) × IsTrueProposal name desk marks (take received (ended (next_line desk proposal)))
 
 -- whatever was received of the judgements in force, as a judgements file, claims nothing false
 abbrev pub QrelsTextsAreTrue : Type 0

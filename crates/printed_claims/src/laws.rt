@@ -5,7 +5,7 @@
 //! only where it is `pair FIRST WORD SECOND LOW HIGH`, or `run NAME LOW HIGH` with LOW and HIGH printed
 //! with a point and six digits. And where what was received is a certificate, it is one of that measure
 //! and its claim holds.
-ghost use Rattle.printed_claims.specs.Claims.{TablesAreTrue, CertificatesAreTrue, PairLinesAreTrue, CloseLinesAreTrue, AnswerLinesAreTrue, ReplyLinesAreTrue, QrelsTextsAreTrue, NoTextIsTrue};
+ghost use Rattle.printed_claims.specs.Claims.{TablesAreTrue, CertificatesAreTrue, PairLinesAreTrue, CloseLinesAreTrue, AnswerLinesAreTrue, OtherLinesAreTrue, NextLinesAreTrue, QrelsTextsAreTrue, NoTextIsTrue};
 
 use order_certificate::{certificates_have_texts, evidence_implies_claim, no_text_begins_another};
 use pair_table::laws::{
@@ -58,10 +58,19 @@ pub fn answer_lines_are_true()
     certificates_have_texts();
 }
 
-/// Whatever was received of a session's reply that begins with `judged`, `undone`, `redone`, `pool` or
-/// `no` claims nothing false.
-pub fn reply_lines_are_true()
-    ensures { ReplyLinesAreTrue }
+/// Whatever was received of a line whose first word is not `pair`, `run` or `desk-certificate` claims
+/// nothing false, as each reply of a session to a change, to `next` and to `pool`, and what it refuses.
+pub fn other_lines_are_true()
+    ensures { OtherLinesAreTrue }
+{
+    certificates_have_texts();
+}
+
+/// Whatever was received of the line of what is to be judged next claims nothing false of the runs, and what
+/// it says of the next document is true: `next TOPIC DOC WEIGHT` names the proposal and its total, and
+/// `next none` comes only where there is no proposal.
+pub fn next_lines_are_true()
+    ensures { NextLinesAreTrue }
 {
     certificates_have_texts();
 }
