@@ -1,0 +1,9 @@
+pub mod Words
+pub mod Names
+pub mod Nested
+pub mod Judgements
+pub mod Scores
+pub mod RunLine
+pub mod RunReading
+pub mod Said
+pub mod Faults

@@ -1,0 +1,11 @@
+//! The desk of the demo: texts that are made of a seed, and read as files are.
+#![tactic(auto)]
+
+mod demo;
+mod laws;
+
+pub use demo::{DemoDesk, demo_desk};
+pub use laws::texts_are_read;
+
+#[cfg(test)]
+mod tests;

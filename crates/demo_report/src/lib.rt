@@ -1,0 +1,6 @@
+//! The summary of a demo.
+#![tactic(auto)]
+
+mod summary;
+
+pub use summary::summary_text;
