@@ -9,5 +9,6 @@ pub mod Checks
 pub mod Conversing
 pub mod Truth
 pub mod Replying
+pub mod Showing
 pub mod Truthful
 pub mod Statuses

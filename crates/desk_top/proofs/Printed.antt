@@ -3,6 +3,7 @@ use Rattle.std.proofs.Common.{◌≡◌, ℕ, ◌<◌, List, [], ◌∷◌, leng
 use Rattle.std.specs.Prelude.{Option, Some, None, Result, Ok, Err, IfSome, IsSomeAnd, ◌⊎◌}
 use Rattle.std.specs.Io.KnownBytes.{prepend_known}
 use Rattle.desk_outside.specs.Outside.{Files}
+use Rattle.desk_outside.proofs.Told.{prepend_known-nil}
 use Rattle.desk_files.specs.Files.{Halt, Missing, Refused, Refusal}
 use Rattle.desk_top.specs.Told.{Writes, status_line, refusal_line}
 use Rattle.desk_outside.specs.Seen.{Shelf, Source, Sink, ReceivedNothing, ReceivedAll, ReceivedPrefix}
@@ -14,10 +15,6 @@ use Rattle.desk_outside.specs.Inputs.{Input, Cut, IsPart}
 use Rattle.desk_top.specs.Meaning.{Meaning, MayCome, AnswersFiles}
 use Rattle.desk_top.specs.Meets.{HasAnswer, Gives, OutputFailed, FilesFailed, EvaluatesWithin, OpensWithin, Meets}
 use Rattle.desk_top.proofs.Meeting.{no_text, given, meets_given, meets_outside}
-
-pub prepend_known-nil : (o : Option (List ℕ)) → o ≡ prepend_known [] o
-prepend_known-nil None = refl
-prepend_known-nil (Some xs) = refl
 
 module _ {X : Type 0} (comes : Files → Result X Halt → Type 0) where
   pub found_may_come : (known : Option Files) (found : X) → IfSome known (λ files. comes files (Ok found)) → MayCome known comes (Ok found)

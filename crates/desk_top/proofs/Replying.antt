@@ -10,21 +10,24 @@ use Rattle.desk_model.specs.Desk.{Desk, IsDesk}
 use Rattle.desk_model.specs.MeasureText.{IsMeasure}
 use Rattle.desk_model.specs.Name.{is_name, number_of}
 use Rattle.judgement_pool.specs.declared.pool.PoolCount.{PoolCount}
-use Rattle.judge_session.specs.InForce.{judgeable, book_at, grade_in_force}
+use Rattle.judge_session.specs.InForce.{judgeable, grade_in_force}
+use Rattle.desk_model.specs.Named.{book_at}
 use Rattle.judge_session.specs.Session.{last_that, first_that, is_live_by, is_undone_by, undone, redone}
 use Rattle.judge_session.specs.declared.change.Change.{Change}
 use Rattle.judge_session.specs.declared.answers.JudgeFault.{JudgeFault}
 use Rattle.judge_session.specs.declared.answers.JudgeFault.TheVariants.{UnknownTopic, UnknownDocument, HistoryFull, Memory}
 use Rattle.desk_report.specs.Judging.{grade_text, pool_line}
 use Rattle.desk_report.specs.Table.{ended}
-use Rattle.pair_reports.specs.Reports.{Subject, IsPairText}
-use Rattle.printed_claims.specs.Claims.{IsTrueText, IsInLine, IsReplyWord}
+use Rattle.pair_reports.specs.Reports.{Subject, IsPairText, IsNextText}
+use Rattle.printed_claims.specs.Claims.{IsTrueText, IsInLine, IsTrueProposal, IsOtherWord}
 use Rattle.printed_claims.proofs.Spelling.{AreInLine, in_line-append, in_line-spaced, ink_in_line}
-use Rattle.printed_claims.proofs.Texts.{decimal_ink, name_word}
-use Rattle.printed_claims.proofs.Others.{in_line_back}
-use Rattle.session_lines.specs.Request.{Request, Judge, Undo, Redo, Table, Pair, Certify, Pool, Qrels, Quit, Heard, Blank, TooLong, Bad, Asked}
+use Rattle.desk_model.proofs.Words.{name_word}
+use Rattle.printed_claims.proofs.Texts.{decimal_ink}
+use Rattle.printed_claims.proofs.Others.{in_line_back, other_word}
+use Rattle.session_lines.specs.Request.{Request, Judge, Undo, Redo, Table, Pair, Certify, Pool, Next, Qrels, Quit, Heard, Blank, TooLong, Bad, Asked}
 use Rattle.session_replies.specs.Replies.{Setting, IsReply, IsCertified, IsPoolReply, OnNumbers, refusal, fault_word, change_reply, judge_reply, undo_reply, redo_reply, marks_after, subject_after, changes_after, all_in_force}
 use Rattle.session_replies.proofs.Marks.{marks_of_desk}
+use Rattle.desk_top.specs.Conversation.{asks_next}
 use Rattle.desk_top.proofs.Truth.{PrintsTruth, table_is_true, certificate_is_true, close_is_true}
 
 -- ---- what stands in a reply ends no line
@@ -82,11 +85,11 @@ module _ (laws : PrintsTruth) (s : Setting) (changes : List Change) (m : IsMeasu
   abbrev ReplyIsTrue : ℕ → List ℕ → Type 0
   ReplyIsTrue n text = IsTrueText s.measure s.desk (marks_after s changes) (take n text)
 
-  line_true : (n : ℕ) (word rest : List ℕ) → IsReplyWord word → IsInLine rest → ReplyIsTrue n (word ++ 32 ∷ rest ++ codes "\n")
-  line_true n word rest is line = laws.replies s.measure s.desk (marks_after s changes) word rest n is line
+  line_true : (n : ℕ) (word rest : List ℕ) → IsOtherWord word → IsInLine rest → ReplyIsTrue n (word ++ 32 ∷ rest ++ codes "\n")
+  line_true n word rest is line = laws.others s.measure s.desk (marks_after s changes) word rest n is line
 
   refusal_true : (n : ℕ) (reason : List ℕ) → IsInLine reason → ReplyIsTrue n (refusal reason)
-  refusal_true n reason line = line_true n (codes "no") reason (inr (inr (inr (inr refl)))) line
+  refusal_true n reason line = line_true n (codes "no") reason (other_word (codes "no") refl refl refl refl) line
 
   fault_true : (n : ℕ) (fault : JudgeFault) → ReplyIsTrue n (refusal (fault_word fault))
   fault_true n UnknownTopic = refusal_true n (codes "UnknownTopic") (search rules)
@@ -95,20 +98,20 @@ module _ (laws : PrintsTruth) (s : Setting) (changes : List Change) (m : IsMeasu
   fault_true n Memory = refusal_true n [] tt
 
   judge_true : (n : ℕ) (now : List Change) (place : Result (ℕ × ℕ) JudgeFault) → ReplyIsTrue n (judge_reply s.desk now place)
-  judge_true n now (Ok place) = line_true n (codes "judged") (change_rest s.desk valid place.0 place.1 now) (inl refl) (change_in_line s.desk valid place.0 place.1 now)
+  judge_true n now (Ok place) = line_true n (codes "judged") (change_rest s.desk valid place.0 place.1 now) (other_word (codes "judged") refl refl refl refl) (change_in_line s.desk valid place.0 place.1 now)
   judge_true n now (Err fault) = fault_true n fault
 
   undo_true : (n : ℕ) (now : List Change) (change : Option Change) → ReplyIsTrue n (undo_reply s.desk now change)
   undo_true n now None = refusal_true n (codes "NothingToUndo") (search rules)
-  undo_true n now (Some change) = line_true n (codes "undone") (change_rest s.desk valid change.topic change.doc now) (inr (inl refl)) (change_in_line s.desk valid change.topic change.doc now)
+  undo_true n now (Some change) = line_true n (codes "undone") (change_rest s.desk valid change.topic change.doc now) (other_word (codes "undone") refl refl refl refl) (change_in_line s.desk valid change.topic change.doc now)
 
   redo_true : (n : ℕ) (now : List Change) (change : Option Change) → ReplyIsTrue n (redo_reply s.desk now change)
   redo_true n now None = refusal_true n (codes "NothingToRedo") (search rules)
-  redo_true n now (Some change) = line_true n (codes "redone") (change_rest s.desk valid change.topic change.doc now) (inr (inr (inl refl))) (change_in_line s.desk valid change.topic change.doc now)
+  redo_true n now (Some change) = line_true n (codes "redone") (change_rest s.desk valid change.topic change.doc now) (other_word (codes "redone") refl refl refl refl) (change_in_line s.desk valid change.topic change.doc now)
 
   pool_true : (n depth : ℕ) (topic : Option ℕ) (text : List ℕ) → IsPoolReply s changes depth topic text → ReplyIsTrue n text
   pool_true n depth None text is = subst (ReplyIsTrue n) (sym is) (refusal_true n (codes "UnknownTopic") (search rules))
-  pool_true n depth (Some topic) text is = subst (ReplyIsTrue n) (sym is.2) (line_true n (codes "pool") (pool_rest is.0) (inr (inr (inr (inl refl)))) (pool_in_line is.0))
+  pool_true n depth (Some topic) text is = subst (ReplyIsTrue n) (sym is.2) (line_true n (codes "pool") (pool_rest is.0) (other_word (codes "pool") refl refl refl refl) (pool_in_line is.0))
 
   -- a reply on two runs
   runs_true : (n : ℕ) (first second : Option ℕ) (fact : ℕ → ℕ → List ℕ → Type 0) (text : List ℕ) → ((a b : ℕ) → fact a b text → ReplyIsTrue n text) → OnNumbers first second fact text → ReplyIsTrue n text
@@ -128,6 +131,11 @@ module _ (laws : PrintsTruth) (s : Setting) (changes : List Change) (m : IsMeasu
   certified_true n a b text (inl is) = certificate_is_true laws (subject_after s changes) a b text n m (marks_of_desk s changes valid) is
   certified_true n a b text (inr is) = close_is_true laws (subject_after s changes) a b text n is
 
+  next_true : (n : ℕ) (text : List ℕ) → IsNextText (subject_after s changes) text → ReplyIsTrue n text × IsTrueProposal s.measure s.desk (marks_after s changes) (take n text)
+  next_true n text is =
+      subst (λ t. ReplyIsTrue n t × IsTrueProposal s.measure s.desk (marks_after s changes) (take n t)) (sym is.is)
+      (laws.next s.measure s.desk (marks_after s changes) is.totals is.proposal n valid (marks_of_desk s changes valid) is.summed is.next)
+
   pub reply_is_true : (heard : Heard) (text : List ℕ) (n : ℕ) → IsReply s changes heard text → ReplyIsTrue n text
   reply_is_true Blank text n is = subst (ReplyIsTrue n) (sym is) (laws.no_text s.measure s.desk (marks_after s changes) n)
   reply_is_true TooLong text n is = subst (ReplyIsTrue n) (sym is) (refusal_true n (codes "LineTooLong") (search rules))
@@ -140,5 +148,22 @@ module _ (laws : PrintsTruth) (s : Setting) (changes : List Change) (m : IsMeasu
   reply_is_true (Asked (Pair first second)) text n is = runs_true n (number_of s.desk.runs first) (number_of s.desk.runs second) (IsPairText (subject_after s changes)) text (λ a b. pair_true n a b text) is
   reply_is_true (Asked (Certify first second)) text n is = runs_true n (number_of s.desk.runs first) (number_of s.desk.runs second) (IsCertified (subject_after s changes)) text (λ a b. certified_true n a b text) is
   reply_is_true (Asked (Pool topic depth)) text n is = pool_true n depth (number_of (map (λ (book : Book). book.name) s.desk.topics) topic) text is
+  reply_is_true (Asked Next) text n is = (next_true n text is).0
   reply_is_true (Asked Qrels) text n is = subst (ReplyIsTrue n) (sym is) (laws.qrels s.measure s.desk (marks_after s changes) (all_in_force s.desk changes) n valid)
   reply_is_true (Asked Quit) text n is = subst (ReplyIsTrue n) (sym is) (laws.no_text s.measure s.desk (marks_after s changes) n)
+
+  -- a prefix of the reply to `next` tells the proposal
+  pub proposal_is_true : (heard : Heard) (text : List ℕ) (n : ℕ) → IsReply s changes heard text → asks_next heard ≡ true → IsTrueProposal s.measure s.desk (marks_after s changes) (take n text)
+  proposal_is_true (Asked Next) text n is e = (next_true n text is).1
+  proposal_is_true Blank text n is e = absurd (cc)
+  proposal_is_true TooLong text n is e = absurd (cc)
+  proposal_is_true Bad text n is e = absurd (cc)
+  proposal_is_true (Asked (Judge who topic doc grade)) text n is e = absurd (cc)
+  proposal_is_true (Asked (Undo who)) text n is e = absurd (cc)
+  proposal_is_true (Asked (Redo who)) text n is e = absurd (cc)
+  proposal_is_true (Asked Table) text n is e = absurd (cc)
+  proposal_is_true (Asked (Pair first second)) text n is e = absurd (cc)
+  proposal_is_true (Asked (Certify first second)) text n is e = absurd (cc)
+  proposal_is_true (Asked (Pool topic depth)) text n is e = absurd (cc)
+  proposal_is_true (Asked Qrels) text n is e = absurd (cc)
+  proposal_is_true (Asked Quit) text n is e = absurd (cc)

@@ -8,7 +8,8 @@ use Rattle.desk_files.specs.Load.{loaded, DeskMayOpen, Opens}
 use Rattle.desk_files.proofs.Opening.{may_open_qrels}
 use Rattle.desk_top.specs.declared.report.Report.{Report}
 use Rattle.desk_top.specs.declared.report.Report.TheVariants.{Table, Certificate}
-use Rattle.desk_top.specs.Report.{IsReportOf, CountsSteps, sources_of, cells_in}
+use Rattle.pair_reports.specs.Reports.{cells_of}
+use Rattle.desk_top.specs.Report.{IsReportOf, CountsSteps, sources_of}
 use Rattle.desk_top.specs.Told.{Writes, status_line, refusal_line}
 use Rattle.desk_outside.specs.Seen.{Shelf, Source, Sink, ReceivedNothing}
 use Rattle.desk_top.specs.Printing.{IsPrinted, IsBroken, IsUnread}
@@ -16,7 +17,8 @@ use Rattle.desk_outside.specs.Inputs.{Cut}
 use Rattle.desk_top.specs.Meaning.{report_printing, report_meaning}
 use Rattle.desk_top.specs.Meets.{EvaluatesWithin, Meets}
 use Rattle.desk_top.proofs.Meeting.{meets_memory}
-use Rattle.desk_top.proofs.Printed.{Answers, prepend_known-nil, meets_printed, meets_refused, meets_failure}
+use Rattle.desk_outside.proofs.Told.{prepend_known-nil}
+use Rattle.desk_top.proofs.Printed.{Answers, meets_printed, meets_refused, meets_failure}
 
 -- a report comes with status 0 or 6
 report_status : (report : Report) (job : Job) (desk : Desk) (status : ℕ) (text : List ℕ) → IsReportOf report job desk status text → (status ≡ 0) ⊎ (status ≡ 6)
@@ -39,7 +41,7 @@ report_answers report job = record {
 report_cells : (report : Report) (job : Job) (shelf : Shelf) (input : Source) (before after : ℕ) → input.rest ≡ input.left → CountsSteps shelf.files job before after → EvaluatesWithin (report_meaning report job) shelf input before after
 report_cells report job shelf input before after same (inl none) = inl none
 report_cells report job shelf input before after same (inr has) =
-    inr (Cut [], same ∙ prepend_known-nil input.left, cells_in has.desk, record { rows = has.rows; read = has.read; desk = has.desk; ranked = has.ranked; holds = refl }, has.holds)
+    inr (Cut [], same ∙ prepend_known-nil input.left, cells_of has.desk, record { rows = has.rows; read = has.read; desk = has.desk; ranked = has.ranked; holds = refl }, has.holds)
 
 module _ (report : Report) (job : Job) (shelf : Shelf) (input : Source) (out err : Sink) where
   pub report_printed : (before after status : ℕ) → input.rest ≡ input.left → IsPrinted (report_printing report job) shelf out status → Writes err.had err.has err.before err.after [] → CountsSteps shelf.files job before after → Opens (DeskMayOpen shelf.files (sources_of job)) shelf.had shelf.has →

@@ -140,7 +140,7 @@ good_answer one source (Table job) files known input answer met e good is = good
 good_answer one source (Certify job) files known input answer met e good is = good_status (report_printing reports.Certificate job) (λ files x y a b. sym a ∙ b) (IsStatusOf (Certify job) source) (certificate_ends job source) files known answer good.0 e good.1 is
 good_answer one source (Session job) files known input answer met e good is = session_status job source files known input answer met e good.0 good.1 is
 good_answer one source (Verify check) files known input answer met e good is = good_status (check_printing check) (one check) (IsStatusOf (Verify check) source) (check_ends check source) files known answer good.0 e good.1 is
-good_answer one source (Demo seed) files known input answer met e good is = absurd good
+good_answer one source (Demo seed) files known input answer met e good is = ap (λ (a : Answer). a.status) is.is
 
 -- files that halt have that answer
 halted_answer : OneCheck → (source : Source) (command : Command) (files : Files) (halt : Halt) (known : Option Files) (input : Input) (answer : Answer) → known ≡ Some files → HaltAt command files halt → (meaning_of command).answers known input answer → answer ≡ halted halt
@@ -155,7 +155,7 @@ few_answers source (Table job) known input answer met is = few_statuses (report_
 few_answers source (Certify job) known input answer met is = few_statuses (report_printing reports.Certificate job) (IsStatusOf (Certify job) source) (certificate_ends job source) known answer is
 few_answers source (Session job) known input answer met is = few_sessions job source known input answer met is
 few_answers source (Verify check) known input answer met is = few_statuses (check_printing check) (IsStatusOf (Verify check) source) (check_ends check source) known answer is
-few_answers source (Demo seed) known input answer met is = inl (ap (λ (a : Answer). a.status) is)
+few_answers source (Demo seed) known input answer met is = inl (ap (λ (a : Answer). a.status) is.is)
 
 module _ (meaning : Meaning) (shelf : Shelf) (input : Source) (out err : Sink) (before after status : ℕ) (meets : Meets meaning shelf input out err before after status) where
   -- a call gave its answer, or something failed, or memory ran out

@@ -27,7 +27,7 @@ use Rattle.order_verifier.specs.declared.rejected.Rejected.{Rejected}
 use Rattle.order_certificate.specs.declared.certificate.Certificate.{Certificate}
 use Rattle.pair_table.specs.Numbers.{HaveEnds}
 use Rattle.pair_table.specs.Evidence.{Says, IsCertificateOf}
-use Rattle.printed_claims.specs.Claims.{IsTrueText, TablesAreTrue, CertificatesAreTrue, CloseLinesAreTrue, AnswerLinesAreTrue, PairLinesAreTrue, ReplyLinesAreTrue, QrelsTextsAreTrue, NoTextIsTrue}
+use Rattle.printed_claims.specs.Claims.{IsTrueText, TablesAreTrue, CertificatesAreTrue, CloseLinesAreTrue, AnswerLinesAreTrue, PairLinesAreTrue, OtherLinesAreTrue, NextLinesAreTrue, QrelsTextsAreTrue, NoTextIsTrue}
 use Rattle.desk_files.specs.Files.{Missing, NoMemory, Refused}
 use Rattle.desk_top.specs.declared.report.Report.{Report}
 use Rattle.desk_top.specs.declared.report.Report.TheVariants as reports
@@ -141,7 +141,8 @@ pub record PrintsTruth : Type 0 where
   pub answers : AnswerLinesAreTrue
   pub claims : ForEvidence (λ c desk marks. ClaimHolds c desk marks)
   pub pair_lines : PairLinesAreTrue
-  pub replies : ReplyLinesAreTrue
+  pub others : OtherLinesAreTrue
+  pub next : NextLinesAreTrue
   pub qrels : QrelsTextsAreTrue
   pub no_text : NoTextIsTrue
 
@@ -185,7 +186,7 @@ module _ (laws : PrintsTruth) where
   -- a report checks no certificate
   pub report_says_truth : (report : Report) (job : Job) → IsMeasure job.measure → PrintsOnlyTruth (report_printing report job)
   report_says_truth report job m found moment status text is n =
-      subst (λ at. IsTrueOf at (take n text)) (sym is.at) (record { text = report_is_true report job is.desk status text n m is.printed; accepted = λ c more none e. absurd (cc) })
+      subst (λ at. IsTrueOf at (take n text)) (sym is.at) (record { text = report_is_true report job is.desk status text n m is.printed; accepted = λ c more none e. absurd (cc); proposed = λ e. absurd (cc) })
 
   some_certificate : (c d : Certificate) → Some c ≡ Some d → c ≡ d
   some_certificate c d e = cc
@@ -213,4 +214,5 @@ module _ (laws : PrintsTruth) where
         text = subst (λ t. IsTrueText c.measure desk marks (take n t)) (sym is.printed.is) (answer_text answer c.measure desk marks n valid);
         accepted = λ d more same e. subst (λ z. ClaimHolds z desk marks) (some_certificate c d same)
             (laws.claims c desk marks is.within.measure valid known (accepted_is_evidence c desk marks answer n more (sym (ap (take n) is.printed.is) ∙ e) is.printed.verified));
+        proposed = λ e. absurd (cc);
       })

@@ -21,14 +21,15 @@ use Rattle.desk_top.specs.Meaning.{report_printing, check_printing, session_mean
 use Rattle.desk_top.specs.Meets.{IsTruthful}
 use Rattle.desk_top.proofs.Asking.{table_asked, certificate_asked, session_asked}
 use Rattle.desk_top.proofs.Truth.{PrintsTruth, answers_are_true, report_says_truth, check_says_truth}
-use Rattle.desk_top.proofs.Replying.{reply_is_true}
+use Rattle.desk_top.proofs.Showing.{demo_is_truthful}
+use Rattle.desk_top.proofs.Replying.{reply_is_true, proposal_is_true}
 
 -- the replies of a session are true, each of the judgements in force before its line
 replies_are_true : PrintsTruth → (s : Setting) → IsMeasure s.measure → IsDesk s.desk → (c : List Change) (ls texts : List (List ℕ)) → AreReplies s c ls texts → AreAlwaysTrue (sayings s c ls texts)
 replies_are_true laws s m valid c [] texts are = tt
 replies_are_true laws s m valid c (l ∷ ls) [] are = absurd are
 replies_are_true laws s m valid c (l ∷ ls) (t ∷ ts) are = (
-  λ n. record { text = reply_is_true laws s c m valid (heard_of l) t n are.0; accepted = λ d more none e. absurd (cc) },
+  λ n. record { text = reply_is_true laws s c m valid (heard_of l) t n are.0; accepted = λ d more none e. absurd (cc); proposed = proposal_is_true laws s c m valid (heard_of l) t n are.0 },
   replies_are_true laws s m valid (changes_after s.desk (heard_of l) c) ls ts are.1,
 )
 
@@ -48,7 +49,7 @@ command_is_truthful laws words (Table job) said = λ known input answer is. answ
 command_is_truthful laws words (Certify job) said = λ known input answer is. answers_are_true (report_printing reports.Certificate job) (report_says_truth laws reports.Certificate job (certificate_asked words job said).measure) known answer is
 command_is_truthful laws words (Session job) said = session_is_truthful laws job (session_asked words job said).0
 command_is_truthful laws words (Verify check) said = λ known input answer is. answers_are_true (check_printing check) (check_says_truth laws check) known answer is
-command_is_truthful laws words (Demo seed) said = usage_is_truthful
+command_is_truthful laws words (Demo seed) said = demo_is_truthful laws seed
 
 -- what words mean is truthful
 pub words_are_truthful : PrintsTruth → (words : List (List ℕ)) → IsTruthful (words_meaning words)

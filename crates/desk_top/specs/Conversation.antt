@@ -1,12 +1,12 @@
 -- What a session answers.
-use Rattle.std.specs.Prelude.{◌≡◌, ℕ, List, [], ◌∷◌, None, Result, Ok, Err}
+use Rattle.std.specs.Prelude.{◌≡◌, ℕ, List, [], ◌∷◌, Bool, true, false, None, Result, Ok, Err}
 use Rattle.desk_outside.specs.Inputs.{Input}
 use Rattle.desk_outside.specs.Seen.{Source, Sink}
 use Rattle.desk_words.specs.declared.command.Job.{Job}
 use Rattle.desk_model.specs.Desk.{Desk}
 use Rattle.topics_pool.specs.Rows.{IsDeskOf}
 use Rattle.judge_session.specs.declared.change.Change.{Change}
-use Rattle.session_lines.specs.Request.{heard_of}
+use Rattle.session_lines.specs.Request.{Heard, Asked, Next, heard_of}
 use Rattle.session_replies.specs.Replies.{Setting, changes_after, marks_after}
 use Rattle.session_stream.specs.Hearing.{End, Done, TooLong, Failed, Hearing, hearing_of}
 use Rattle.session_stream.specs.Text.{AreReplies, EndsSession, end_of}
@@ -22,15 +22,20 @@ use Rattle.desk_top.specs.Told.{Writes, status_line, long_input_line}
 abbrev pub setting_on : Job → Desk → Setting
 setting_on job desk = record { measure = job.measure; level = job.level; desk = desk }
 
--- the desk with the judgements in force after changes
-abbrev pub moment_after : Setting → List Change → Moment
-moment_after s changes = record { measure = s.measure; desk = s.desk; marks = marks_after s changes; checked = None }
+-- whether a line asks what is to be judged next
+abbrev pub asks_next : Heard → Bool
+asks_next (Asked Next) = true
+asks_next heard = false
+
+-- the desk with the judgements in force after changes, of which a reply to a line speaks
+abbrev pub moment_at : Setting → List Change → Heard → Moment
+moment_at s changes heard = record { measure = s.measure; desk = s.desk; marks = marks_after s changes; checked = None; proposes = asks_next heard }
 
 -- the replies to lines, each with the judgements that were in force before its line
 abbrev pub sayings : Setting → List Change → List (List ℕ) → List (List ℕ) → List Saying
 sayings s changes [] texts = []
 sayings s changes (line ∷ more) [] = []
-sayings s changes (line ∷ more) (text ∷ texts) = record { moment = moment_after s changes; text = text } ∷ sayings s (changes_after s.desk (heard_of line) changes) more texts
+sayings s changes (line ∷ more) (text ∷ texts) = record { moment = moment_at s changes (heard_of line); text = text } ∷ sayings s (changes_after s.desk (heard_of line) changes) more texts
 
 -- the status of a session by how it ends
 abbrev pub status_at : End → ℕ

@@ -3,7 +3,7 @@ use Rattle.std.specs.Prelude.{◌≡◌, ◌⊎◌, ℕ, List, Some, Ok, Err}
 use Rattle.desk_outside.specs.Outside.{Files, Rose}
 use Rattle.desk_words.specs.Words.{IsCommandOf}
 use Rattle.desk_words.specs.declared.command.Command.{Command}
-use Rattle.desk_words.specs.declared.command.Command.TheVariants.{Table, Certify, Session, Verify}
+use Rattle.desk_words.specs.declared.command.Command.TheVariants.{Table, Certify, Session, Verify, Demo}
 use Rattle.desk_files.specs.Files.{Halt, Missing, Refused, Refusal}
 use Rattle.order_certificate.specs.declared.certificate.Certificate.{Certificate}
 use Rattle.desk_files.specs.Load.{Loaded, loaded}
@@ -20,7 +20,7 @@ AreGood (Table job) files = (rows : Loaded) × (loaded files (sources_of job) �
 AreGood (Certify job) files = (rows : Loaded) × (loaded files (sources_of job) ≡ Ok rows)
 AreGood (Session job) files = (rows : Loaded) × (loaded files (sources_of job) ≡ Ok rows)
 AreGood (Verify check) files = (found : Loaded × Certificate) × CheckComes files check (Ok found)
-AreGood command files = ⊥
+AreGood (Demo seed) files = Unit {0}
 
 -- the files of a command halt at this
 abbrev pub HaltAt : Command → Files → Halt → Type 0
@@ -28,7 +28,7 @@ HaltAt (Table job) files halt = loaded files (sources_of job) ≡ Err halt
 HaltAt (Certify job) files halt = loaded files (sources_of job) ≡ Err halt
 HaltAt (Session job) files halt = loaded files (sources_of job) ≡ Err halt
 HaltAt (Verify check) files halt = CheckComes files check (Err halt)
-HaltAt command files halt = ⊥
+HaltAt (Demo seed) files halt = ⊥
 
 -- the statuses with which a command ends on its files: 1 is that of a session whose input is too long, and 3 that of one whose input failed
 abbrev pub IsStatusOf : Command → Source → ℕ → Type 0
@@ -36,7 +36,7 @@ IsStatusOf (Table job) input status = status ≡ 0
 IsStatusOf (Certify job) input status = (status ≡ 0) ⊎ (status ≡ 6)
 IsStatusOf (Session job) input status = (status ≡ 0) ⊎ (status ≡ 1) ⊎ ((status ≡ 3) × Rose input.before input.after)
 IsStatusOf (Verify check) input status = (status ≡ 0) ⊎ (status ≡ 5)
-IsStatusOf command input status = status ≡ 2
+IsStatusOf (Demo seed) input status = status ≡ 0
 
 -- a call with these words, and what is seen of it
 pub record IsCall (words : List (List ℕ)) (shelf : Shelf) (input : Source) (out err : Sink) (before after status : ℕ) : Type 0 where

@@ -4,6 +4,7 @@ pub mod Report
 pub mod Verification
 pub mod Printing
 pub mod Conversation
+pub mod Showing
 pub mod Meaning
 pub mod Meets
 pub mod Laws

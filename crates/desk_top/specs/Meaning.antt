@@ -1,12 +1,12 @@
 -- What commands mean. A new command is one more case of `meaning_of`.
-use Rattle.std.specs.Prelude.{◌≡◌, ◌⊎◌, ℕ, ◌+◌, ◌*◌, List, [], ◌∷◌, Option, Some, None, Result, Ok, Err}
+use Rattle.std.specs.Prelude.{◌≡◌, ◌⊎◌, ℕ, ◌+◌, ◌*◌, List, [], ◌∷◌, Option, Some, None, false, Result, Ok, Err}
 use Rattle.desk_outside.specs.Outside.{Files}
 use Rattle.desk_outside.specs.Inputs.{Input}
 use Rattle.desk_words.specs.Words.{IsCommandOf}
 use Rattle.desk_words.specs.declared.command.Check.{Check}
 use Rattle.desk_words.specs.declared.command.Job.{Job}
 use Rattle.desk_words.specs.declared.command.Command.{Command}
-use Rattle.desk_words.specs.declared.command.Command.TheVariants.{Table, Certify, Verify, Session}
+use Rattle.desk_words.specs.declared.command.Command.TheVariants.{Table, Certify, Verify, Session, Demo}
 use Rattle.desk_model.specs.Desk.{Desk}
 use Rattle.topics_pool.specs.Rows.{IsDeskOf}
 use Rattle.desk_files.specs.Files.{Halt, Missing, NoMemory}
@@ -16,11 +16,13 @@ use Rattle.desk_files.specs.Load.{Loaded, loaded, DeskMayOpen, HasDesk}
 use Rattle.desk_files.specs.Checks.{CheckComes, CheckMayOpen}
 use Rattle.desk_top.specs.declared.report.Report.{Report}
 use Rattle.desk_top.specs.declared.report.Report.TheVariants as reports
-use Rattle.desk_top.specs.Report.{IsReportOf, sources_of, marks_in, cells_in}
+use Rattle.pair_reports.specs.Reports.{cells_of}
+use Rattle.desk_top.specs.Report.{IsReportOf, sources_of, marks_in}
 use Rattle.desk_top.specs.Verification.{IsVerificationOf, marks_for}
 use Rattle.session_stream.specs.Hearing.{hearing_of}
 use Rattle.session_stream.specs.Text.{accepted_in}
 use Rattle.desk_top.specs.Conversation.{IsSessionAnswer}
+use Rattle.desk_top.specs.Showing.{IsDemoAnswer, HasDemoDesk}
 use Rattle.desk_top.specs.Printing.{Printing}
 use Rattle.desk_top.specs.Answer.{Answer, Moment, usage, halted, said_with}
 
@@ -61,11 +63,11 @@ AnswersFiles {X} command known answer = (found : Result X Halt) × MayCome known
 
 -- the desk as the files have it
 abbrev pub file_moment : Job → Desk → Moment
-file_moment job desk = record { measure = job.measure; desk = desk; marks = marks_in job desk; checked = None }
+file_moment job desk = record { measure = job.measure; desk = desk; marks = marks_in job desk; checked = None; proposes = false }
 
 -- the same, and a certificate that is checked
 abbrev pub check_moment : Certificate → Desk → Moment
-check_moment c desk = record { measure = c.measure; desk = desk; marks = marks_for c desk; checked = Some c }
+check_moment c desk = record { measure = c.measure; desk = desk; marks = marks_for c desk; checked = Some c; proposes = false }
 
 -- a report on the desk that rows make
 pub record IsReportOn (report : Report) (job : Job) (rows : Loaded) (moment : Moment) (status : ℕ) (text : List ℕ) : Type 0 where
@@ -94,7 +96,7 @@ report_meaning report job = record {
   opens = λ known names. DeskMayOpen known (sources_of job) names;
   reads = ⊥;
   answers = λ known input answer. AnswersFiles (report_printing report job) known answer;
-  cells = λ known taken most. HasDesk known (sources_of job) (λ desk. most ≡ cells_in desk);
+  cells = λ known taken most. HasDesk known (sources_of job) (λ desk. most ≡ cells_of desk);
 }
 
 -- the check of a certificate: nothing is evaluated
@@ -112,7 +114,16 @@ session_meaning job = record {
   opens = λ known names. DeskMayOpen known (sources_of job) names;
   reads = Unit {0};
   answers = λ known input answer. (found : Result Loaded Halt) × MayCome known (λ files found. loaded files (sources_of job) ≡ found) found × IsSessionAnswer job input found answer;
-  cells = λ known taken most. HasDesk known (sources_of job) (λ desk. most ≡ cells_in desk * (1 + accepted_in desk (hearing_of taken).lines []));
+  cells = λ known taken most. HasDesk known (sources_of job) (λ desk. most ≡ cells_of desk * (1 + accepted_in desk (hearing_of taken).lines []));
+}
+
+-- a demo: no file is opened, and pairs times topics are evaluated
+abbrev pub demo_meaning : ℕ → Meaning
+demo_meaning seed = record {
+  opens = λ known names. names ≡ [];
+  reads = ⊥;
+  answers = λ known input answer. IsDemoAnswer seed answer;
+  cells = λ known taken most. HasDemoDesk seed (λ desk. most ≡ cells_of desk);
 }
 
 -- usage: no file is opened, and nothing is read or evaluated
@@ -124,13 +135,13 @@ usage_meaning = record {
   cells = λ known taken most. most ≡ 0;
 }
 
--- what a command means; one that is not built means usage
+-- what a command means
 abbrev pub meaning_of : Command → Meaning
 meaning_of (Table job) = report_meaning reports.Table job
 meaning_of (Certify job) = report_meaning reports.Certificate job
 meaning_of (Verify check) = check_meaning check
 meaning_of (Session job) = session_meaning job
-meaning_of command = usage_meaning
+meaning_of (Demo seed) = demo_meaning seed
 
 -- something holds of the meaning of words: of their command's, or of usage, where they are of no command
 abbrev pub Means : List (List ℕ) → (Meaning → Type 0) → Type 0

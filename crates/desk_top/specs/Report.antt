@@ -1,14 +1,14 @@
 -- What a command prints of a desk.
-use Rattle.std.specs.Prelude.{◌≡◌, ◌⊎◌, ℕ, ◌*◌, ◌+◌, ◌≤◌, List, length, map, Option}
+use Rattle.std.specs.Prelude.{◌≡◌, ◌⊎◌, ℕ, ◌+◌, ◌≤◌, List, length, map, Option}
 use Rattle.desk_outside.specs.Outside.{Files}
 use Rattle.desk_words.specs.declared.command.Job.{Job}
 use Rattle.desk_words.specs.declared.command.Command.{Command}
 use Rattle.desk_words.specs.declared.command.Command.TheVariants as commands
-use Rattle.desk_model.specs.Desk.{Desk, pair_count, file_marks}
+use Rattle.desk_model.specs.Desk.{Desk, file_marks}
 use Rattle.desk_model.specs.MeasureText.{IsMeasure}
 use Rattle.desk_model.specs.declared.types.Mark.{Mark}
 use Rattle.order_certificate.specs.Certificate.{IsLevel}
-use Rattle.pair_reports.specs.Reports.{Subject, subject, IsTableText, IsCertificateText, IsCloseText}
+use Rattle.pair_reports.specs.Reports.{Subject, subject, IsTableText, IsCertificateText, IsCloseText, cells_of}
 use Rattle.pair_reports.specs.declared.reports.Certified.{Certified}
 use Rattle.pair_reports.specs.declared.reports.Certified.TheVariants as certified
 use Rattle.desk_files.specs.Load.{Sources, sources, HasDesk}
@@ -53,10 +53,6 @@ abbrev pub IsReportOf : Report → Job → Desk → ℕ → List ℕ → Type 0
 IsReportOf reports.Table job desk status text = (status ≡ 0) × IsTableText (subject_of job desk) text
 IsReportOf reports.Certificate job desk status text = ((status ≡ 0) × IsCertificateText (subject_of job desk) 0 1 text) ⊎ ((status ≡ 6) × IsCloseText (subject_of job desk) 0 1 text)
 
--- pairs times topics
-abbrev pub cells_in : Desk → ℕ
-cells_in desk = pair_count (length desk.runs) * length desk.topics
-
 -- no step was taken, or there is a desk, and at most pairs times topics steps were
 abbrev pub CountsSteps : Option Files → Job → ℕ → ℕ → Type 0
-CountsSteps known job before after = (after ≡ before) ⊎ HasDesk known (sources_of job) (λ desk. after ≤ before + cells_in desk)
+CountsSteps known job before after = (after ≡ before) ⊎ HasDesk known (sources_of job) (λ desk. after ≤ before + cells_of desk)

@@ -1,6 +1,7 @@
 //! The desk's top call.
 #![tactic(auto)]
 
+mod demo;
 pub mod laws;
 mod output;
 mod report;
@@ -12,6 +13,3 @@ mod verify;
 pub use report::Report;
 pub use tell::{tell_memory, tell_outside};
 pub use top::run_desk;
-
-#[cfg(test)]
-mod tests;

@@ -1,7 +1,8 @@
 // The commands that print a report on the files of a job.
 ghost use Rattle.std.specs.Prelude.{◌≡◌, ◌≤◌, ◌+◌, length, IfOk};
 ghost use Rattle.desk_files.specs.Load.{DeskMayOpen, Opens};
-ghost use Rattle.desk_top.specs.Report.{IsAsked, IsPrintedAs, IsReportOf, CountsSteps, least_runs, cells_in, sources_of};
+ghost use Rattle.desk_top.specs.Report.{IsAsked, IsPrintedAs, IsReportOf, CountsSteps, least_runs, sources_of};
+ghost use Rattle.pair_reports.specs.Reports.{cells_of};
 ghost use Rattle.desk_top.specs.Printing.{Ends};
 ghost use Rattle.desk_top.specs.Meaning.{report_printing};
 ghost use Rattle.desk_outside.specs.Seen.{shelf, sink};
@@ -52,7 +53,7 @@ fn report_on<P: Maker, L: Ledger>(
     requires job { IsAsked report job.now }
     requires runs { least_runs report ≤ length desk.now.runs }
     ensures report { IfOk result (λ printed. IsReportOf report job.now desk.now printed.status printed.text.items) }
-    ensures steps { steps.new ≤ steps.old + cells_in desk.now }
+    ensures steps { steps.new ≤ steps.old + cells_of desk.now }
 {
     // A table speaks of a valid desk, which every desk is.
     let _runs = desk.run_count();

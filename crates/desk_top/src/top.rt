@@ -1,12 +1,13 @@
 // The top call.
 ghost use Rattle.std.specs.Prelude.{◌≡◌, ◌<◌, ◌≤◌, length, map, string_bytes};
 ghost use Rattle.desk_top.specs.Report.{IsAsked};
-ghost use Rattle.desk_outside.specs.Seen.{shelf, source, sink};
+ghost use Rattle.desk_outside.specs.Seen.{shelf, source, sink, Shelf as SeenShelf, Source as SeenSource};
 ghost use Rattle.desk_model.specs.MeasureText.{IsMeasure};
 ghost use Rattle.order_certificate.specs.Certificate.{IsLevel};
-ghost use Rattle.desk_top.specs.Meaning.{report_meaning, check_meaning, session_meaning, words_meaning};
+ghost use Rattle.desk_top.specs.Meaning.{report_meaning, check_meaning, session_meaning, demo_meaning, words_meaning};
 ghost use Rattle.desk_top.specs.Meets.{Meets, SaysTruth, LeavesInput};
 
+use crate::demo::{demo_text, put_demo};
 use crate::report::{Report, print_report};
 use crate::session::answer_session;
 use crate::tell::{tell_memory, tell_outside, tell_refused, tell_usage};
@@ -18,9 +19,9 @@ use measure_core::{Maker, Steps};
 use order_certificate::evidence_implies_claim;
 use pair_table::evidence_laws::certificates_are_evidence;
 use printed_claims::laws::{
-    answer_lines_are_true, close_lines_are_true, no_text_is_true, printed_certificates_are_true,
-    printed_pair_lines_are_true, printed_tables_are_true, qrels_texts_are_true,
-    reply_lines_are_true,
+    answer_lines_are_true, close_lines_are_true, next_lines_are_true, no_text_is_true,
+    other_lines_are_true, printed_certificates_are_true, printed_pair_lines_are_true,
+    printed_tables_are_true, qrels_texts_are_true,
 };
 use std::alloc::Global;
 use std::sync::ledger::Ledger;
@@ -114,6 +115,27 @@ fn run_session<F: Shelf, S: Source, K: Sink, E: Sink, P: Maker, L: Ledger>(
     }
 }
 
+// The demo of a seed, and the status that tells how it ended. No file and no input is at hand.
+fn run_demo<K: Sink, E: Sink, P: Maker, L: Ledger>(
+    alloc: Global,
+    seed: u32,
+    out: &mut K,
+    err: &mut E,
+    maker: &P,
+    steps: &mut Steps<L>,
+) -> u8
+    ensures known { result ≤ 6 }
+    ensures meets { (files : SeenShelf) (input : SeenSource) → files.has ≡ files.had → input.rest ≡ input.left → Meets (demo_meaning seed) files input
+        (sink (K.received out.old) (K.received out.new) (K.faults out.old) (K.faults out.new))
+        (sink (E.received err.old) (E.received err.new) (E.faults err.old) (E.faults err.new))
+        steps.old steps.new result }
+{
+    match demo_text(alloc, seed, maker, steps) {
+        Ok(text) => put_demo(out, err, &text),
+        Err(_) => tell_memory(err),
+    }
+}
+
 // Runs the command of the words, and answers its status.
 fn run_words<F: Shelf, S: Source, K: Sink, E: Sink, P: Maker, L: Ledger>(
     alloc: Global,
@@ -165,7 +187,7 @@ fn run_words<F: Shelf, S: Source, K: Sink, E: Sink, P: Maker, L: Ledger>(
         ),
         Command::Session(job) => { run_session(alloc, job, files, input, out, err, maker, steps) }
         Command::Verify(check) => run_check(alloc, check, files, input, out, err, steps),
-        Command::Demo { .. } => tell_usage(err),
+        Command::Demo { seed } => run_demo(alloc, *seed, out, err, maker, steps),
     }
 }
 
@@ -207,7 +229,8 @@ pub fn run_desk<F: Shelf, S: Source, K: Sink, E: Sink, P: Maker, L: Ledger>(
     close_lines_are_true();
     answer_lines_are_true();
     printed_pair_lines_are_true();
-    reply_lines_are_true();
+    other_lines_are_true();
+    next_lines_are_true();
     qrels_texts_are_true();
     no_text_is_true();
     certificates_are_evidence();

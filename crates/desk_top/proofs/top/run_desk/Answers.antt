@@ -7,4 +7,4 @@ use Rattle.desk_top.proofs.top.run_desk.Goals as goal
 pub returns-clause-truth : goal.returns-clause-truth
 returns-clause-truth g c =
     let words = map string_bytes c.args.words.now in
-    says_truth (words_meaning words) _ _ _ _ _ _ _ (words_are_truthful (record { tables = c.printed_tables_are_true.ensures; certificates = c.printed_certificates_are_true.ensures; close_lines = c.close_lines_are_true.ensures; evidence = c.certificates_are_evidence.ensures.evidence; answers = c.answer_lines_are_true.ensures; claims = c.evidence_implies_claim.ensures; pair_lines = c.printed_pair_lines_are_true.ensures; replies = c.reply_lines_are_true.ensures; qrels = c.qrels_texts_are_true.ensures; no_text = c.no_text_is_true.ensures }) words) c.run_words.ensures.meets
+    says_truth (words_meaning words) _ _ _ _ _ _ _ (words_are_truthful (record { tables = c.printed_tables_are_true.ensures; certificates = c.printed_certificates_are_true.ensures; close_lines = c.close_lines_are_true.ensures; evidence = c.certificates_are_evidence.ensures.evidence; answers = c.answer_lines_are_true.ensures; claims = c.evidence_implies_claim.ensures; pair_lines = c.printed_pair_lines_are_true.ensures; others = c.other_lines_are_true.ensures; next = c.next_lines_are_true.ensures; qrels = c.qrels_texts_are_true.ensures; no_text = c.no_text_is_true.ensures }) words) c.run_words.ensures.meets

@@ -53,4 +53,4 @@ returns-in-Verify-clause-meets g c =
 pub returns-clause-meets : goal.returns-clause-meets
 returns-clause-meets g c =
     let words = map string_bytes c.args.words.now in
-    meets_words words (Demo c.in-Demo.seed) _ _ _ _ _ _ _ (subst (IsCommandOf words) c.in-Demo.is c.in-Ok.ensures.ok) (meets_usage _ _ _ _ _ _ c.tell_usage-in-Demo.ensures.status refl refl c.tell_usage-in-Demo.ensures.line)
+    meets_words words (Demo c.in-Demo.seed) _ _ _ _ _ _ _ (subst (IsCommandOf words) c.in-Demo.is c.in-Ok.ensures.ok) (c.run_demo.ensures.meets _ _ refl refl)

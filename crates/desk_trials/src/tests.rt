@@ -1,9 +1,9 @@
 // The top call over files in memory. The expected texts are worked out by hand.
 ghost use Rattle.std.specs.Prelude.{◌≡◌, ◌<◌};
 
-use crate::run_desk;
 use any_measure::Common;
 use desk_outside::{MemShelf, MemSink, MemSource, Shelf};
+use desk_top::run_desk;
 use measure_core::Steps;
 use std::alloc::{AllocError, Global};
 use std::marker::Brand;
@@ -180,7 +180,7 @@ fn each_line_has_its_answer(rt: HostRuntime) -> Result<(), Fail> {
             "refused: a line 1: BadFieldCount\n",
         ),
         (
-            "demo 7",
+            "demo 07",
             2,
             "usage: desk COMMAND --qrels FILE --measure NAME [--level N] RUN...\n",
         ),
@@ -204,15 +204,18 @@ fn each_line_has_its_answer(rt: HostRuntime) -> Result<(), Fail> {
 
 // The status of a session over two runs, what its output received, and what the error output was told. Its input gives
 // at most so many bytes a call, and the call of this number fails.
+const SESSION: &str = "session --qrels q --measure P_2 a b";
+
 fn converse(
     alloc: Global,
+    line: &str,
     lines: &[u8],
     piece: usize,
     failing: u64,
 ) -> Result<(u8, Vec<u8>, Vec<u8>), AllocError>
     requires { 0 < piece }
 {
-    let words = words_of(alloc, "session --qrels q --measure P_2 a b")?;
+    let words = words_of(alloc, line)?;
     let mut input = MemSource::new(lines.to_vec(alloc)?, piece, [failing].to_vec(alloc)?);
     let mut out = MemSink::new(alloc, 4000, 4096, Vec::new(alloc)).map_err(|_| AllocError)?;
     let mut err = MemSink::new(alloc, 1000, 3, Vec::new(alloc)).map_err(|_| AllocError)?;
@@ -252,20 +255,40 @@ fn lines_of_a_session_have_their_replies(rt: HostRuntime) -> Result<(), Fail> {
             "pair B A\npair A X\npair A A\njudge ann 499 d1 1\njudge ann 401 d9 1\npool 499 1\nquit x",
             "pair B below A -0.500000 -0.500000\nno UnknownRun\nno SameRun\nno UnknownTopic\nno UnknownDocument\nno UnknownTopic\nno BadLine\n",
         ),
+        (
+            "next\ntable\n",
+            "next none\nmeasure P_2\nlevel 1\ntopics 1\nruns 2\nrun A 0.500000 1.000000\nrun B 0.000000 0.500000\npair A above B 0.500000 0.500000\n",
+        ),
     ];
     for (lines, replies) in cases {
         for piece in [1, 19, 4096] {
-            let (status, out, err) = converse(alloc, lines.as_bytes(), piece, 1_000_000)?;
+            let (status, out, err) = converse(alloc, SESSION, lines.as_bytes(), piece, 1_000_000)?;
             assert_eq!(rt; status, 0, "{lines}");
             assert_eq!(rt; out.as_slice(), replies.as_bytes(), "{lines}");
             assert!(rt; err.is_empty());
         }
     }
     // The second read fails: the one whole line of the first 19 bytes has its reply.
-    let (status, out, err) = converse(alloc, b"judge ann 401 d3 1\njudge bob 401 d3 0\n", 19, 1)?;
+    let lines = b"judge ann 401 d3 1\njudge bob 401 d3 0\n";
+    let (status, out, err) = converse(alloc, SESSION, lines, 19, 1)?;
     assert_eq!(rt; status, 3);
     assert_eq!(rt; out.as_slice(), b"judged 401 d3 1\n".as_slice());
     assert_eq!(rt; err.as_slice(), b"fault: outside\n".as_slice());
+    Ok(())
+}
+
+#[test]
+fn the_next_document_is_proposed(rt: HostRuntime) -> Result<(), Fail> {
+    let alloc = rt.alloc();
+    let line = "session --qrels p --measure P_1 e f";
+    let lines = b"next\njudge ann 401 d2 1\nnext\n";
+    let (status, out, err) = converse(alloc, line, lines, 4096, 1_000_000)?;
+    assert_eq!(rt; status, 0);
+    assert_eq!(rt;
+        out.as_slice(),
+        b"next 401 d2 1\njudged 401 d2 1\nnext none\n".as_slice()
+    );
+    assert!(rt; err.is_empty());
     Ok(())
 }
 

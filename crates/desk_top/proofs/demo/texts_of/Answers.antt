@@ -1,0 +1,37 @@
+use Rattle.std.proofs.Common.{refl, sym, subst, ap, ◌∙◌, ◌++◌, map}
+use Rattle.desk_model.specs.Desk.{AreMarksOf}
+use Rattle.desk_model.specs.Verdict.{verdict}
+use Rattle.demo_report.specs.Summary.{summary_lines, summary_text}
+use Rattle.pair_reports.specs.Reports.{IsSubjectOf}
+use Rattle.pair_reports.proofs.Reporting.{table_numbers}
+use Rattle.desk_top.specs.Showing.{demo_subject}
+use Rattle.desk_top.proofs.Marking.{marks_known}
+use Rattle.desk_top.proofs.demo.texts_of.Goals as goal
+
+pub summary_text-requires : goal.summary_text-requires
+summary_text-requires g c = let desk = c.args.demo.now.desk in subst (AreMarksOf desk) (sym c.requires.marks) (marks_known 1 desk c.requires.valid)
+
+pub next_report-requires-clause-marks : goal.next_report-requires-clause-marks
+next_report-requires-clause-marks g c = let desk = c.args.demo.now.desk in subst (AreMarksOf desk) (sym c.requires.marks) (marks_known 1 desk c.requires.valid)
+
+pub returns-in-Ok : goal.returns-in-Ok
+returns-in-Ok g c =
+    let demo = c.args.demo.now in
+    let desk = demo.desk in
+    let table = c.args.table.now in
+    let M = g.M.Measure in
+    let s = demo_subject desk in
+    let seed = c.args.seed in
+    let of : IsSubjectOf (M.measured table.measure) (M.cell_of table.measure) (M.bounds_of table.measure) desk table s = record { over = refl; marked = marks_known 1 desk c.requires.valid; on = c.requires.table } in
+    record {
+      lines = summary_lines seed demo.rows s.marks (map verdict table.totals);
+      next = c.in_ok-next.next.items;
+      texts = record {
+        totals = table.totals;
+        numbers = (table_numbers (M.measured table.measure) (M.cell_of table.measure) (M.bounds_of table.measure) desk c.requires.valid table s of).pairs;
+        summary = refl;
+        proposal = c.in_ok-next.ensures s (sym c.requires.marks) of;
+      };
+      is = c.in-Ok.ensures.items ∙ ap (λ n. c.in_ok-text.text.items ++ n) c.deref.ensures.value
+          ∙ ap (λ t. t ++ c.in_ok-next.next.items) (c.in_ok-text.ensures ∙ ap (λ m. summary_text seed demo.rows m c.verdicts.result.now) c.requires.marks ∙ ap (summary_text seed demo.rows s.marks) c.verdicts.ensures);
+    }
