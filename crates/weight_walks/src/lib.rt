@@ -2,6 +2,8 @@
 #![tactic(auto)]
 
 pub mod by_ranks;
+pub mod one_side;
 mod places;
 
 pub use by_ranks::{RankWeight, shift_by_ranks};
+pub use one_side::shift_one_side;
