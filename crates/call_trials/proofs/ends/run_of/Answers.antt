@@ -1,6 +1,6 @@
 use Rattle.std.proofs.Common.{◌≡◌, [], ◌∷◌, rules}
-use Rattle.topic_ends.proofs.OneDocument.{one_ranked}
-use Rattle.topic_ends.proofs.tests.run_of.Goals as goal
+use Rattle.call_trials.proofs.OneRanked.{one_ranked}
+use Rattle.call_trials.proofs.ends.run_of.Goals as goal
 
 pub new-requires : goal.new-requires
 new-requires c =

@@ -1,6 +1,11 @@
-use super::*;
-use desk_model::Memory;
+// Certificates that are read and written again, the lines of their faults, and a verifier for each measure.
+ghost use Rattle.desk_model.specs.MeasureText.{IsMeasure};
+
+use desk_model::{MeasureName, Memory};
+use order_certificate::{CertFault, certificates_have_texts, read_certificate, write_certificate};
+use order_verifier::Verifier;
 use std::alloc::Global;
+use std::process::Abort;
 
 // The text that is written of the certificate that a text is of.
 fn written_again(alloc: Global, text: &[u8]) -> Result<Vec<u8>, CertFault> {
@@ -68,4 +73,19 @@ fn each_fault_has_its_line(rt: HostRuntime) {
         let answer = read_certificate(rt.alloc(), text).err();
         assert!(rt; answer == Some(CertFault::BadLine { line }));
     }
+}
+
+fn expect_made(rt: &impl Abort, alloc: Global, measure: &MeasureName)
+    requires { IsMeasure measure.now }
+{
+    assert!(rt; Verifier::new(alloc, measure).is_ok());
+}
+
+#[test]
+fn a_verifier_is_made_for_each_measure(rt: HostRuntime) {
+    expect_made(&rt, rt.alloc(), &MeasureName::Precision(10));
+    expect_made(&rt, rt.alloc(), &MeasureName::Recall(1));
+    expect_made(&rt, rt.alloc(), &MeasureName::RPrecision);
+    expect_made(&rt, rt.alloc(), &MeasureName::Reciprocal);
+    expect_made(&rt, rt.alloc(), &MeasureName::Biased { top: 5, bottom: 10 });
 }

@@ -1,4 +1,5 @@
-use crate::{Command, WordsFault, read_words};
+// A line of each command, in other forms than the plain one.
+use desk_words::{Command, WordsFault, read_words};
 use std::alloc::Global;
 use std::test::Fail;
 

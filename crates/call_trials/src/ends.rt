@@ -3,11 +3,11 @@ ghost use Rattle.std.specs.Prelude.{ℕ, ◌<◌, IfOk};
 ghost use Rattle.desk_model.specs.MeasureText.{IsMeasure};
 ghost use Rattle.desk_model.specs.Ranking.{IsRanking};
 
-use crate::{Relevance, TopicEnds};
 use desk_model::{Mark, MeasureName, Ranking};
 use std::alloc::Global;
 use std::process::Abort;
 use std::test::Fail;
+use topic_ends::{Relevance, TopicEnds};
 
 const R: Mark = Mark::Relevant;
 

@@ -1,7 +1,8 @@
 // What is heard in lines, by hand.
-use super::*;
+use session_lines::{Heard, Request, hear};
+use std::process::Abort;
 
-fn expect_heard(rt: &impl std::process::Abort, line: &[u8], want: Heard<'_>) {
+fn expect_heard(rt: &impl Abort, line: &[u8], want: Heard<'_>) {
     assert_eq!(rt; hear(line), want, "in {line:?}");
 }
 

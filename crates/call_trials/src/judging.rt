@@ -3,9 +3,8 @@ ghost use Rattle.std.specs.Prelude.{◌≡◌, [], ◌∷◌, None, IfOk, true};
 ghost use Rattle.desk_model.specs.Name.{is_name};
 ghost use Rattle.judge_session.specs.InForce.{IsSessionOf};
 
-use crate::answers::JudgeFault;
-use crate::session::Session;
 use desk_model::{Desk, Name, Ranking, TopicBook};
+use judge_session::{JudgeFault, Session};
 use std::alloc::Global;
 use std::test::Fail;
 

@@ -1,8 +1,8 @@
 use Rattle.std.proofs.Common.{[], ◌∷◌, Option, List, ℕ, sym, subst}
 use Rattle.std.specs.Prelude.{ℤ}
 use Rattle.desk_model.specs.Book.{IsBook}
-use Rattle.judge_session.proofs.OneDocument.{one_book}
-use Rattle.judge_session.proofs.tests.one_topic.Goals as goal
+use Rattle.call_trials.proofs.OneDocument.{one_book}
+use Rattle.call_trials.proofs.judging.one_topic.Goals as goal
 
 pub new-requires : goal.new-requires
 new-requires c =
