@@ -139,15 +139,15 @@ pub whole_left : (shift : Shift) (weight total : ℕ) → IsBalanced shift weigh
 whole_left Add weight total = refl
 whole_left TakeBack weight total = refl
 
-room_left : (shift : Shift) (left whole before now : ℕ) → IsBalanced shift left whole before now → HasRoom shift whole before → HasRoom shift left now
+pub room_left : (shift : Shift) (left whole before now : ℕ) → IsBalanced shift left whole before now → HasRoom shift whole before → HasRoom shift left now
 room_left Add left whole before now h room = omega (arith, h, room)
 room_left TakeBack left whole before now h room = omega (arith, h, room)
 
-step_balanced : (shift : Shift) (left whole before now after : ℕ) → IsBalanced shift left whole before now → IsShifted shift left now after → IsBalanced shift 0 whole before after
+pub step_balanced : (shift : Shift) (left whole before now after : ℕ) → IsBalanced shift left whole before now → IsShifted shift left now after → IsBalanced shift 0 whole before after
 step_balanced Add left whole before now after h is = omega (arith, h, is)
 step_balanced TakeBack left whole before now after h is = omega (arith, h, is)
 
-balanced_end : (shift : Shift) (left whole before now : ℕ) → left ≡ 0 → IsBalanced shift left whole before now → IsShifted shift whole before now
+pub balanced_end : (shift : Shift) (left whole before now : ℕ) → left ≡ 0 → IsBalanced shift left whole before now → IsShifted shift whole before now
 balanced_end Add left whole before now none h = omega (arith, none, h)
 balanced_end TakeBack left whole before now none h = omega (arith, none, h)
 
