@@ -66,30 +66,6 @@ right_more rows row right named a b e =
       documents = λ name. documents_more judgements rows row name (right.documents name) fine.0;
     }
 
--- a mapped answer
-pub mapped : {A F G : Type 0} (f : F → G) (r : Result A F) (a : A) → result_map_both (λ x. x) f r ≡ Ok a → r ≡ Ok a
-mapped f (Ok x) a e = (let k : x ≡ a = cc in ap Ok k)
-mapped f (Err x) a e = absurd (cc)
-
--- a value that is made of another
-pub record Made {A B F : Type 0} (r : Result A F) (next : A → Result B F) (b : B) : Type 0 where
-  pub value : A
-  pub found : r ≡ Ok value
-  pub made : next value ≡ Ok b
-
-pub parted : {A B F : Type 0} (r : Result A F) (next : A → Result B F) (b : B) → and_then r next ≡ Ok b → Made r next b
-parted (Ok a) next b e = record { value = a; found = refl; made = e }
-parted (Err x) next b e = absurd (cc)
-
--- the value where no test holds
-pub last : {A F : Type 0} (tests : List (Bool × F)) (a b : A) → unless tests a ≡ Ok b → a ≡ b
-last [] a b e = cc
-last (t ∷ tests) a b e = by (last tests a b) t.0 e
-  where
-    by : (unless tests a ≡ Ok b → a ≡ b) → (d : Bool) → cond d (Err t.1) (unless tests a) ≡ Ok b → a ≡ b
-    by rest true e = absurd (cc)
-    by rest false e = rest e
-
 -- the row of a line whose form is right has names
 named_form : (line : List ℕ) (row : Row) → unless (form_faults line) (row_of line) ≡ Ok row → IsNamed judgements row
 named_form line row e =

@@ -1,0 +1,12 @@
+// The value of a row.
+
+/// The value of a row, a whole number to clauses: a grade or a score.
+pub trait RowValue: Copy {
+    ghost use Rattle.std.specs.Prelude.{ℤ};
+
+    ghost number: { Self → ℤ };
+}
+
+impl RowValue for i16 {
+    ghost number = { λ grade. grade };
+}
