@@ -10,3 +10,4 @@ pub mod Chains
 pub mod FieldNames
 pub mod NamedRows
 pub mod PieceLines
+pub mod ReadOn

@@ -2,6 +2,7 @@
 ghost use Rattle.file_rows.specs.declared.fault.FileFault.TheVariants.{Memory};
 ghost use Rattle.std.specs.Prelude.{◌≡◌};
 
+use desk_model::Memory as OutOfMemory;
 use std::alloc::AllocError;
 use thiserror::Error;
 
@@ -75,6 +76,14 @@ impl From<AllocError> for FileFault {
     ghost from_gives = { λ _ e. e ≡ Memory };
 
     fn from(_: AllocError) -> FileFault {
+        FileFault::Memory
+    }
+}
+
+impl From<OutOfMemory> for FileFault {
+    ghost from_gives = { λ _ e. e ≡ Memory };
+
+    fn from(_: OutOfMemory) -> FileFault {
         FileFault::Memory
     }
 }

@@ -21,17 +21,24 @@ pub trait LineReader {
     // one of them has a fault
     ghost stopped: { Self → Bool };
 
+    // it can read more
+    ghost is_ready: { Self → Type 0 };
+
     /// Whether a line had a fault.
     fn is_stopped(&self) -> bool
         ensures { result ≡ stopped self.now };
 
     /// Reads a line.
     fn read(&mut self, line: &[u8])
-        ensures { (before : List (List ℕ)) → has_read self.old before → has_read self.new (before ++ line.now ∷ []) };
+        requires { is_ready self.old }
+        ensures ready { is_ready self.new }
+        ensures read { (before : List (List ℕ)) → has_read self.old before → has_read self.new (before ++ line.now ∷ []) };
 
     /// Reads a line, or what is kept of it: nothing where it is too long.
     fn read_kept(&mut self, kept: Option<&[u8]>)
-        ensures { (before : List (List ℕ)) (line : List ℕ) → option_map (λ bytes. bytes.now) kept.entry ≡ kept_line line →
+        requires { is_ready self.old }
+        ensures ready { is_ready self.new }
+        ensures read { (before : List (List ℕ)) (line : List ℕ) → option_map (λ bytes. bytes.now) kept.entry ≡ kept_line line →
             has_read self.old before → has_read self.new (before ++ line ∷ []) };
 
     // lines after one that has a fault change nothing
@@ -62,7 +69,9 @@ impl<R: LineReader + Drop> Pieces<R> {
 
     /// Takes the bytes of a piece.
     pub fn feed(&mut self, piece: &[u8])
-        ensures { (fed : List ℕ) → HasFed R.has_read R.stopped self.old.reader self.old.unended fed →
+        requires { R.is_ready self.old.reader }
+        ensures ready { R.is_ready self.new.reader }
+        ensures fed { (fed : List ℕ) → HasFed R.has_read R.stopped self.old.reader self.old.unended fed →
             HasFed R.has_read R.stopped self.new.reader self.new.unended (fed ++ piece.now) }
     {
         let mut at = 0;
@@ -73,6 +82,7 @@ impl<R: LineReader + Drop> Pieces<R> {
 
     /// The reader at the end of the bytes, whose last line needs no line feed.
     pub fn end(self) -> R
+        requires { R.is_ready self.reader }
         ensures { (fed : List ℕ) → HasFed R.has_read R.stopped self.reader self.unended fed → R.has_read result (lines fed) }
     {
         let Pieces {
@@ -87,7 +97,9 @@ impl<R: LineReader + Drop> Pieces<R> {
 
     // Takes bytes of a piece, to the end of a line or of the piece.
     fn take(&mut self, piece: &[u8]) -> usize
-        requires { 0 < length piece.now }
+        requires some { 0 < length piece.now }
+        requires ready { R.is_ready self.old.reader }
+        ensures ready { R.is_ready self.new.reader }
         ensures some { 0 < result }
         ensures within { result ≤ length piece.now }
         ensures fed { (fed : List ℕ) → HasFed R.has_read R.stopped self.old.reader self.old.unended fed →
@@ -107,7 +119,9 @@ impl<R: LineReader + Drop> Pieces<R> {
 
     // Takes bytes of a piece into the line that has not ended, and reads this where they end it.
     fn push(&mut self, piece: &[u8]) -> usize
-        requires { 0 < length piece.now }
+        requires some { 0 < length piece.now }
+        requires ready { R.is_ready self.old.reader }
+        ensures ready { R.is_ready self.new.reader }
         ensures some { 0 < result }
         ensures within { result ≤ length piece.now }
         ensures fed { (fed : List ℕ) → R.stopped self.old.reader ≡ false → HasFed R.has_read R.stopped self.old.reader self.old.unended fed →
@@ -124,6 +138,7 @@ impl<R: LineReader + Drop> Pieces<R> {
 
 // Reads the line that has not ended, if there is one.
 fn read_last<R: LineReader>(reader: &mut R, unended: &Lines)
+    requires { R.is_ready reader.old }
     ensures { (fed : List ℕ) → R.stopped reader.old ≡ false → HasFed R.has_read R.stopped reader.old unended.now fed → R.has_read reader.new (lines fed) }
 {
     if !is_empty(unended) {

@@ -1,7 +1,7 @@
 use Rattle.std.proofs.Common.{◌+◌, sym, ◌∙◌}
 use Rattle.qrels_reader.specs.Reader.{row_said}
 use Rattle.qrels_reader.proofs.Chains.{read_formed}
-use Rattle.qrels_reader.proofs.reader.QrelsReader.feed.Goals as goal
+use Rattle.qrels_reader.proofs.row_reader.RowReader.read_next.Goals as goal
 
 pub returns-in-Ok-clause-read : goal.returns-in-Ok-clause-read
 returns-in-Ok-clause-read c rows e =

@@ -3,13 +3,14 @@ use Rattle.std.specs.Prelude.{not, ◌&&◌, is_some, nat_le}
 use Rattle.std.specs.Str.{bytes_eq}
 use Rattle.std.proofs.Math.Bool.{and-false}
 use Rattle.std.proofs.lemmas.Bool.{lt-ltb, le-ltb, le-leb, lt-leb, and_from}
-use Rattle.qrels_reader.specs.declared.limits.TheConstants.{MOST_TOPICS, MOST_QRELS_ROWS, MOST_NAME_BYTES}
-use Rattle.qrels_reader.specs.Grouped.{is_topic, names_of, row_count, name_bytes_in}
+use Rattle.qrels_reader.specs.declared.limits.TheConstants.{MOST_TOPICS, MOST_QRELS_ROWS}
+use Rattle.file_rows.specs.declared.limits.TheConstants.{MOST_NAME_BYTES}
+use Rattle.file_rows.specs.Grouped.{is_topic, names_of, row_count, name_bytes_in}
 use Rattle.qrels_reader.specs.Reader.{row_said}
-use Rattle.qrels_reader.proofs.Places.{is_some-position}
+use Rattle.file_rows.proofs.Places.{is_some-position}
 use Rattle.qrels_reader.proofs.Chains.{row_is}
-use Rattle.qrels_reader.proofs.reader.QrelsReader.check.Goals as goal
-use Rattle.qrels_reader.proofs.reader.QrelsReader.check.Goals.{else-is_none-via-then-is_none+else-topics-ge-MOST_TOPICS, else-is_none-via-else-is_none}
+use Rattle.qrels_reader.proofs.row_reader.RowReader.check.Goals as goal
+use Rattle.qrels_reader.proofs.row_reader.RowReader.check.Goals.{else-is_none-via-then-is_none+else-topics-ge-MOST_TOPICS, else-is_none-via-else-is_none}
 
 pub returns-then-topics-ge-MOST_TOPICS : goal.returns-then-topics-ge-MOST_TOPICS
 returns-then-topics-ge-MOST_TOPICS c =
