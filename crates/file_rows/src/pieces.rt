@@ -24,6 +24,9 @@ pub trait LineReader {
     // it can read more
     ghost is_ready: { Self → Type 0 };
 
+    // it reads beside the same as an earlier one
+    ghost same: { Self → Self → Type 0 };
+
     /// Whether a line had a fault.
     fn is_stopped(&self) -> bool
         ensures { result ≡ stopped self.now };
@@ -32,17 +35,23 @@ pub trait LineReader {
     fn read(&mut self, line: &[u8])
         requires { is_ready self.old }
         ensures ready { is_ready self.new }
+        ensures same { same self.old self.new }
         ensures read { (before : List (List ℕ)) → has_read self.old before → has_read self.new (before ++ line.now ∷ []) };
 
     /// Reads a line, or what is kept of it: nothing where it is too long.
     fn read_kept(&mut self, kept: Option<&[u8]>)
         requires { is_ready self.old }
         ensures ready { is_ready self.new }
+        ensures same { same self.old self.new }
         ensures read { (before : List (List ℕ)) (line : List ℕ) → option_map (λ bytes. bytes.now) kept.entry ≡ kept_line line →
             has_read self.old before → has_read self.new (before ++ line ∷ []) };
 
     // lines after one that has a fault change nothing
     ghost stays: { (reader : Self) (before more : List (List ℕ)) → stopped reader ≡ true → has_read reader before → has_read reader (before ++ more) };
+
+    ghost itself: { (reader : Self) → same reader reader };
+
+    ghost later: { (old now new : Self) → same old now → same now new → same old new };
 }
 
 /// Bytes in pieces, of which each whole line is read and the one that has not ended is kept.
@@ -71,6 +80,7 @@ impl<R: LineReader + Drop> Pieces<R> {
     pub fn feed(&mut self, piece: &[u8])
         requires { R.is_ready self.old.reader }
         ensures ready { R.is_ready self.new.reader }
+        ensures same { R.same self.old.reader self.new.reader }
         ensures fed { (fed : List ℕ) → HasFed R.has_read R.stopped self.old.reader self.old.unended fed →
             HasFed R.has_read R.stopped self.new.reader self.new.unended (fed ++ piece.now) }
     {
@@ -83,7 +93,9 @@ impl<R: LineReader + Drop> Pieces<R> {
     /// The reader at the end of the bytes, whose last line needs no line feed.
     pub fn end(self) -> R
         requires { R.is_ready self.reader }
-        ensures { (fed : List ℕ) → HasFed R.has_read R.stopped self.reader self.unended fed → R.has_read result (lines fed) }
+        ensures ready { R.is_ready result }
+        ensures same { R.same self.reader result }
+        ensures fed { (fed : List ℕ) → HasFed R.has_read R.stopped self.reader self.unended fed → R.has_read result (lines fed) }
     {
         let Pieces {
             mut reader,
@@ -100,6 +112,7 @@ impl<R: LineReader + Drop> Pieces<R> {
         requires some { 0 < length piece.now }
         requires ready { R.is_ready self.old.reader }
         ensures ready { R.is_ready self.new.reader }
+        ensures same { R.same self.old.reader self.new.reader }
         ensures some { 0 < result }
         ensures within { result ≤ length piece.now }
         ensures fed { (fed : List ℕ) → HasFed R.has_read R.stopped self.old.reader self.old.unended fed →
@@ -122,6 +135,7 @@ impl<R: LineReader + Drop> Pieces<R> {
         requires some { 0 < length piece.now }
         requires ready { R.is_ready self.old.reader }
         ensures ready { R.is_ready self.new.reader }
+        ensures same { R.same self.old.reader self.new.reader }
         ensures some { 0 < result }
         ensures within { result ≤ length piece.now }
         ensures fed { (fed : List ℕ) → R.stopped self.old.reader ≡ false → HasFed R.has_read R.stopped self.old.reader self.old.unended fed →
@@ -139,7 +153,9 @@ impl<R: LineReader + Drop> Pieces<R> {
 // Reads the line that has not ended, if there is one.
 fn read_last<R: LineReader>(reader: &mut R, unended: &Lines)
     requires { R.is_ready reader.old }
-    ensures { (fed : List ℕ) → R.stopped reader.old ≡ false → HasFed R.has_read R.stopped reader.old unended.now fed → R.has_read reader.new (lines fed) }
+    ensures ready { R.is_ready reader.new }
+    ensures same { R.same reader.old reader.new }
+    ensures fed { (fed : List ℕ) → R.stopped reader.old ≡ false → HasFed R.has_read R.stopped reader.old unended.now fed → R.has_read reader.new (lines fed) }
 {
     if !is_empty(unended) {
         reader.read_kept(unended.line());

@@ -1,4 +1,5 @@
 // The value of a row.
+use decimal_score::Score;
 
 /// The value of a row, a whole number to clauses: a grade or a score.
 pub trait RowValue: Copy {
@@ -9,4 +10,8 @@ pub trait RowValue: Copy {
 
 impl RowValue for i16 {
     ghost number = { λ grade. grade };
+}
+
+impl RowValue for Score {
+    ghost number = { λ score. score };
 }

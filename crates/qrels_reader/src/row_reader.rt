@@ -38,7 +38,13 @@ impl LineReader for RowReader {
 
     ghost is_ready = { λ reader. IsReady reader.fault reader };
 
+    ghost same = { λ _ _. Unit {0} };
+
     ghost stays = { λ reader before more. stays reader.fault reader before more };
+
+    ghost itself = { λ _. tt };
+
+    ghost later = { λ _ _ _ _ _. tt };
 
     fn is_stopped(&self) -> bool {
         self.fault.is_some()

@@ -10,3 +10,6 @@ returns-then-pushed-clause-fed g c fed s h =
 pub returns-else-pushed-clause-fed : goal.returns-else-pushed-clause-fed
 returns-else-pushed-clause-fed g c fed s h =
     fed_more c.args.self.now.reader c.args.self.now.unended c.push-pushed.new.self fed c.args.piece.now c.push-pushed.result s c.push-pushed.ensures c.if-pushed.false h
+
+pub returns-else-pushed-clause-same : goal.returns-else-pushed-clause-same
+returns-else-pushed-clause-same g c = g.met.R.LineReader.itself c.args.self.now.reader

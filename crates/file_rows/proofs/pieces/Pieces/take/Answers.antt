@@ -11,3 +11,6 @@ pub returns-in-Some-clause-fed : goal.returns-in-Some-clause-fed
 returns-in-Some-clause-fed g c fed h =
     fed_line c.args.self.now.reader c.read.new.self c.args.self.now.unended fed c.args.piece.now c.in-Some.end (sym c.is_stopped.ensures ∙ c.if-is_stopped.false)
     (c.is_empty.ensures.yes c.if-is_empty.true) c.in-Some.ensures c.read.ensures.read h
+
+pub returns-then-is_stopped-clause-same : goal.returns-then-is_stopped-clause-same
+returns-then-is_stopped-clause-same g c = g.met.R.LineReader.itself c.args.self.now.reader
