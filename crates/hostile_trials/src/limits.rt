@@ -1,6 +1,7 @@
 // Limits that are met, and passed by one.
 use crate::outside::{Outside, SOUND, answer};
-use qrels_reader::{FileFault, LineFault, read_qrels};
+use file_rows::{FileFault, LineFault};
+use qrels_reader::read_qrels;
 use run_reader::{Used, read_run};
 use std::alloc::{AllocError, Global};
 use std::test::Fail;

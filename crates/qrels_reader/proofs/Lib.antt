@@ -1,14 +1,4 @@
-pub mod Cutting
-pub mod Mapped
-pub mod Numbering
-pub mod RowFiles
-pub mod Zipped
-pub mod Seen
-pub mod Grouping
-pub mod Places
 pub mod Chains
 pub mod Grades
 pub mod Progress
-pub mod FieldNames
-pub mod NamedRows
 pub mod Right

@@ -1,42 +1,67 @@
 -- A file that is read line by line.
-use Rattle.std.proofs.Common.{◌≡◌, subst, ℕ, ◌+◌, ◌<◌, ◌≤◌, List, ◌∷◌, drop, length, ap, ap₂, sym, ◌∙◌}
-use Rattle.std.specs.Prelude.{Ok, Err, ◌==◌, cond}
-use Rattle.std.proofs.lemmas.List.{drop_all}
-use Rattle.desk_text.specs.Lines.{lines}
-use Rattle.qrels_reader.specs.declared.fault.FileFault.TheVariants.{NoTopics}
-use Rattle.qrels_reader.specs.Reading.{and_then, with_row, rows_from, rows_of}
-use Rattle.qrels_reader.specs.Rows.{Row, read_row}
-use Rattle.qrels_reader.specs.Grouped.{JudgedTopic, grouped, qrels_of, row_count, IsQrels}
-use Rattle.qrels_reader.specs.Reader.{ReadsLine}
-use Rattle.qrels_reader.proofs.RowFiles.{judgements}
-use Rattle.qrels_reader.proofs.Grouping.{row_count-grouped}
-use Rattle.qrels_reader.proofs.Right.{AreRight, right_line, is_qrels}
+use Rattle.std.proofs.Common.{◌≡◌, ◌≢◌, ℕ, ◌+◌, ◌<◌, List, [], ◌∷◌, ◌++◌, length, true, refl, ap, ap₂, sym, subst, ◌∙◌, inl, inr, ◌⊎◌, arith, length-append}
+use Rattle.std.specs.Prelude.{Some, None, Ok, Err, ◌==◌, Bool, false, cond, nat_le}
+use Rattle.std.proofs.lemmas.Bool.{eqb-true, ne_eqb, leb-false}
+use Rattle.desk_text.specs.Lines.{lines, kept_line}
+use Rattle.desk_text.specs.declared.line.TheConstants.{LONGEST_LINE}
+use Rattle.file_rows.specs.declared.fault.FileFault.{FileFault}
+use Rattle.file_rows.specs.declared.fault.FileFault.TheVariants.{Memory, NoTopics, Line}
+use Rattle.file_rows.specs.declared.fault.LineFault.TheVariants.{LineTooLong}
+use Rattle.file_rows.specs.Reading.{and_then, with_row, rows_from, IsUnlessMemory}
+use Rattle.file_rows.specs.Rows.{Row}
+use Rattle.file_rows.specs.Grouped.{TopicRows, grouped, row_count}
+use Rattle.file_rows.proofs.Grouping.{row_count-grouped}
+use Rattle.file_rows.proofs.ReadOn.{read_on}
+use Rattle.qrels_reader.specs.Rows.{read_row}
+use Rattle.qrels_reader.specs.Grouped.{qrels_of, IsQrels}
+use Rattle.qrels_reader.specs.Reader.{ReadsLine, IsTooLong, Gathers, HasRead}
+use Rattle.qrels_reader.specs.declared.row_reader.RowReader.{RowReader}
+use Rattle.qrels_reader.proofs.Chains.{read_too_long}
+use Rattle.qrels_reader.proofs.Right.{none_right, rows_right, is_qrels}
 
--- some lines are read, and the others are those from a place on
-pub record Progress (bytes : List ℕ) (at number : ℕ) (topics : List JudgedTopic) : Type 0 where
-  pub rows : List Row
-  pub right : AreRight rows
-  pub so_far : topics ≡ grouped rows
-  pub rest : rows_of read_row bytes ≡ rows_from read_row (number + 1) rows (lines (drop at bytes))
+-- one more line
+module _ (old new : RowReader) (before : List (List ℕ)) (line : List ℕ) (h : Gathers old before) where
+  number_is : old.lines + 1 ≡ 1 + length before
+  number_is = omega (arith, h.number)
 
--- what a text gives after one more line
-pub read_next : (bytes line : List ℕ) (at next number : ℕ) (topics topics' : List JudgedTopic) → Progress bytes at number topics → lines (drop at bytes) ≡ line ∷ lines (drop next bytes)
-    → ((rows : List Row) → topics ≡ grouped rows → ReadsLine (number + 1) rows line (Ok tt) topics') → Progress bytes next (number + 1) topics'
-read_next bytes line at next number topics topics' p e reads =
-    let r = reads p.rows p.so_far in
-    record {
-      rows = with_row p.rows r.0;
-      right = right_line (number + 1) p.rows line r.0 p.right r.1;
-      so_far = r.2;
-      rest = p.rest ∙ ap (rows_from read_row (number + 1) p.rows) e ∙ ap (λ row. and_then row (λ row. rows_from read_row (number + 1 + 1) (with_row p.rows row) (lines (drop next bytes)))) r.1;
-    }
+  pub gathered : ((rows : List Row) → old.groups ≡ grouped rows → ReadsLine (old.lines + 1) rows line (Ok tt) new.groups) → new.lines ≡ old.lines + 1 → Gathers new (before ++ line ∷ [])
+  gathered reads count =
+      let r = reads h.rows h.so_far in
+      record {
+        rows = with_row h.rows r.0;
+        read = read_on read_row 1 (old.lines + 1) [] h.rows before line (Ok r.0) number_is h.read r.1;
+        so_far = r.2;
+        number = omega (arith, count, h.number, length-append before (line ∷ []));
+      }
+
+  pub refused : (fault : FileFault) (topics : List TopicRows) → ((rows : List Row) → old.groups ≡ grouped rows → ReadsLine (old.lines + 1) rows line (Err fault) topics) → HasRead (Some fault) new (before ++ line ∷ [])
+  refused fault topics reads = elim (reads h.rows h.so_far) [
+    | inl w ↦ inl w
+    | inr w ↦ inr (read_on read_row 1 (old.lines + 1) [] h.rows before line (Err fault) number_is h.read w)
+  ]
+
+  pub too_long : (fault : FileFault) → (fault ≡ Memory) ⊎ (fault ≡ Line (old.lines + 1) LineTooLong) → IsTooLong line → HasRead (Some fault) new (before ++ line ∷ [])
+  too_long fault (inl w) long = inl w
+  too_long fault (inr w) long = inr (read_on read_row 1 (old.lines + 1) [] h.rows before line (Err (Line (old.lines + 1) LineTooLong)) number_is h.read (read_too_long (old.lines + 1) h.rows line long) ∙ ap Err (sym w))
 
 -- at the end
-pub ended : (bytes : List ℕ) (at number : ℕ) (topics : List JudgedTopic) → Progress bytes at number topics → length bytes ≤ at → cond (row_count topics == 0) (Err NoTopics) (Ok topics) ≡ qrels_of bytes
-ended bytes at number topics p le =
-    ap₂ (λ n ts. cond (n == 0) (Err NoTopics) (Ok ts)) (ap row_count p.so_far ∙ row_count-grouped judgements p.rows) p.so_far
-    ∙ sym (ap (λ rows. and_then rows (λ rows. cond (length rows == 0) (Err NoTopics) (Ok (grouped rows)))) (p.rest ∙ ap (λ bs. rows_from read_row (number + 1) p.rows (lines bs)) (drop_all at bytes le)))
+module _ (reader : RowReader) (text : List ℕ) where
+  pub finished : Gathers reader (lines text) → cond (row_count reader.groups == 0) (Err NoTopics) (Ok reader.groups) ≡ qrels_of text
+  finished h =
+      ap₂ (λ n ts. cond (n == 0) (Err NoTopics) (Ok ts)) (ap row_count h.so_far ∙ row_count-grouped h.rows) h.so_far
+      ∙ sym (ap (λ rows. and_then rows (λ rows. cond (length rows == 0) (Err NoTopics) (Ok (grouped rows)))) h.read)
 
--- and what was read is right
-pub read_right : (bytes : List ℕ) (at number : ℕ) (topics : List JudgedTopic) → Progress bytes at number topics → 0 < row_count topics → IsQrels topics
-read_right bytes at number topics p some = subst IsQrels (sym p.so_far) (is_qrels p.rows p.right (subst (λ ts. 0 < row_count ts) p.so_far some))
+  pub finished_right : Gathers reader (lines text) → 0 < row_count reader.groups → IsQrels reader.groups
+  finished_right h some = subst IsQrels (sym h.so_far) (is_qrels h.rows (rows_right 1 [] h.rows (lines text) none_right h.read) (subst (λ ts. 0 < row_count ts) h.so_far some))
+
+  pub told : (fault : FileFault) → HasRead (Some fault) reader (lines text) → IsUnlessMemory {A = List TopicRows} (Err fault) (qrels_of text)
+  told fault (inl w) = inl (ap Err w)
+  told fault (inr w) = inr (sym (ap (λ rows. and_then rows (λ rows. cond (length rows == 0) (Err NoTopics) (Ok (grouped rows)))) w))
+
+-- of a line that is too long nothing is kept
+pub long_line : (line : List ℕ) → None ≡ kept_line line → IsTooLong line
+long_line line e = by (nat_le (length line) LONGEST_LINE) refl e
+  where
+    by : (b : Bool) → nat_le (length line) LONGEST_LINE ≡ b → None ≡ cond b (Some line) None → IsTooLong line
+    by true f e = absurd (cc)
+    by false f e = leb-false (length line) LONGEST_LINE f

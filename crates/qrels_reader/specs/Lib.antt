@@ -1,5 +1,5 @@
-pub mod Reading
-pub mod Names
 pub mod Rows
 pub mod Grouped
 pub mod Reader
+pub mod Fed
+pub mod Stays

@@ -1,25 +1,18 @@
-//! The rows of a qrels file, and what every reader of rows shares: the faults, the limits and the definitions of a file's rows.
+//! The rows of a qrels file, whole or in pieces.
 #![tactic(auto)]
 
-mod fault;
-mod groups;
-mod judgements;
 mod limits;
 mod line;
-mod name_index;
-mod name_set;
-mod names;
 mod qrels;
 mod read;
 mod reader;
+mod row_reader;
 
-pub use fault::{FileFault, LineFault};
-pub use limits::{GREATEST_GRADE, LEAST_GRADE, MOST_NAME_BYTES, MOST_QRELS_ROWS, MOST_TOPICS};
-pub use name_index::NameIndex;
-pub use name_set::NameSet;
-pub use names::Names;
+pub use file_rows::{FileFault, LineFault, MOST_NAME_BYTES};
+pub use limits::{GREATEST_GRADE, LEAST_GRADE, MOST_QRELS_ROWS, MOST_TOPICS};
 pub use qrels::Qrels;
 pub use read::read_qrels;
+pub use reader::QrelsReader;
 
 #[cfg(test)]
 mod tests;

@@ -1,14 +1,14 @@
 // The form of a line of a qrels file.
 ghost use Rattle.std.specs.Prelude.{◌≡◌};
 ghost use Rattle.std.specs.Result.{result_map_both};
-ghost use Rattle.qrels_reader.specs.Reading.{unless};
+ghost use Rattle.file_rows.specs.Reading.{unless};
 ghost use Rattle.qrels_reader.specs.Rows.{form_faults, row_of};
 ghost use Rattle.qrels_reader.specs.Reader.{row_said};
 
-use crate::fault::LineFault;
 use crate::limits::{GREATEST_GRADE, LEAST_GRADE};
 use desk_model::Name;
 use desk_text::{LONGEST_LINE, fields, whole};
+use file_rows::LineFault;
 
 /// What a line says.
 #[derive(Clone, Copy)]

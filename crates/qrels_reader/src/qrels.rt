@@ -3,10 +3,12 @@ ghost use Rattle.std.specs.Prelude.{◌≡◌, ◌≤◌, ◌<◌, length, map, 
 ghost use Rattle.std.specs.List.{IsDistinct};
 ghost use Rattle.std.specs.Str.{bytes_eq};
 ghost use Rattle.desk_model.specs.Name.{is_name};
-ghost use Rattle.qrels_reader.specs.Grouped.{is_topic, names_of, documents_at, row_count, name_bytes_in, IsQrels};
-ghost use Rattle.qrels_reader.specs.declared.limits.TheConstants.{MOST_TOPICS, MOST_QRELS_ROWS, MOST_NAME_BYTES};
+ghost use Rattle.file_rows.specs.Grouped.{is_topic, names_of, rows_at, row_count, name_bytes_in};
+ghost use Rattle.file_rows.specs.declared.limits.TheConstants.{MOST_NAME_BYTES};
+ghost use Rattle.qrels_reader.specs.Grouped.{IsQrels};
+ghost use Rattle.qrels_reader.specs.declared.limits.TheConstants.{MOST_TOPICS, MOST_QRELS_ROWS};
 
-use crate::groups::Groups;
+use file_rows::GroupedRows;
 use std::marker::Model;
 
 /// The rows of a qrels file: its topics, and the documents of each topic with their grades. Topics, and the documents of one
@@ -14,14 +16,15 @@ use std::marker::Model;
 /// the documents of one topic, have different names.
 #[derive(Drop)]
 pub struct Qrels {
-    groups: Groups,
+    groups: GroupedRows<i16>,
 }
 
 impl Model for Qrels {
     ghost use Rattle.std.specs.Prelude.{List};
-    ghost use Rattle.qrels_reader.specs.Grouped.{JudgedTopic, IsQrels};
+    ghost use Rattle.file_rows.specs.Grouped.{TopicRows};
+    ghost use Rattle.qrels_reader.specs.Grouped.{IsQrels};
 
-    ghost Value = { List JudgedTopic };
+    ghost Value = { List TopicRows };
 
     ghost view = { λ q. q.groups };
 
@@ -29,7 +32,7 @@ impl Model for Qrels {
 }
 
 impl Qrels {
-    pub(crate) fn new(groups: Groups) -> Qrels
+    pub(crate) fn new(groups: GroupedRows<i16>) -> Qrels
         requires { IsQrels groups }
         ensures { result ≡ groups }
     {
@@ -81,27 +84,27 @@ impl Qrels {
     /// How many documents topic `t` has.
     pub fn doc_count(&self, t: usize) -> usize
         requires { t < length self.now }
-        ensures count { result ≡ length (documents_at self.now t) }
+        ensures count { result ≡ length (rows_at self.now t) }
         ensures within { result ≤ row_count self.now }
-        ensures distinct { IsDistinct bytes_eq (map (λ d. d.document) (documents_at self.now t)) }
+        ensures distinct { IsDistinct bytes_eq (map (λ d. d.document) (rows_at self.now t)) }
     {
-        self.groups.doc_count(t)
+        self.groups.at(t).len()
     }
 
     /// The name of document `i` of topic `t`.
     pub fn doc_name(&self, t: usize, i: usize) -> &[u8]
-        requires { i < length (documents_at self.now t) }
-        ensures bytes { option_map (λ d. d.document) (slice_get (documents_at self.now t) i) ≡ Some result.now }
+        requires { i < length (rows_at self.now t) }
+        ensures bytes { option_map (λ d. d.document) (slice_get (rows_at self.now t) i) ≡ Some result.now }
         ensures name { is_name result.now ≡ true }
     {
-        self.groups.doc_name(t, i)
+        self.groups.at(t).document(i)
     }
 
     /// The grade of document `i` of topic `t`, as it was read.
     pub fn grade(&self, t: usize, i: usize) -> i32
-        requires { i < length (documents_at self.now t) }
-        ensures { option_map (λ d. d.grade) (slice_get (documents_at self.now t) i) ≡ Some result }
+        requires { i < length (rows_at self.now t) }
+        ensures { option_map (λ d. d.value) (slice_get (rows_at self.now t) i) ≡ Some result }
     {
-        self.groups.grade(t, i)
+        i32::from(*self.groups.at(t).value(i))
     }
 }

@@ -1,11 +1,10 @@
 // A whole qrels file.
-ghost use Rattle.qrels_reader.specs.Reading.{IsUnlessMemory};
+ghost use Rattle.file_rows.specs.Reading.{IsUnlessMemory};
 ghost use Rattle.qrels_reader.specs.Grouped.{qrels_of};
 
-use crate::fault::FileFault;
 use crate::qrels::Qrels;
 use crate::reader::QrelsReader;
-use desk_text::next_line;
+use file_rows::FileFault;
 use std::alloc::Global;
 
 /// Reads the rows of a qrels file, in the format of trec_eval: lines of topic, a field that is not used, document and grade.
@@ -15,12 +14,7 @@ use std::alloc::Global;
 pub fn read_qrels(alloc: Global, bytes: &[u8]) -> Result<Qrels, FileFault>
     ensures { IsUnlessMemory result (qrels_of bytes.now) }
 {
-    let mut reader = QrelsReader::new(alloc);
-    let mut at = 0;
-    while at < bytes.len() {
-        let line = next_line(bytes, at);
-        reader.feed(&bytes[line.start..line.end])?;
-        at = line.next;
-    }
+    let mut reader = QrelsReader::new(alloc)?;
+    reader.feed(bytes)?;
     reader.finish()
 }

@@ -1,168 +1,72 @@
-// A reader of the lines of a qrels file.
-ghost use Rattle.std.specs.Prelude.{◌≡◌, ◌⊎◌, ◌+◌, ◌^◌, ◌<◌, [], ◌==◌, if◌then◌else◌, false, List, length, IfOk, IfErr, OnOk, Ok, Err};
-ghost use Rattle.std.specs.List.{list_any};
-ghost use Rattle.std.specs.Str.{bytes_eq};
-ghost use Rattle.qrels_reader.specs.Reading.{checked};
-ghost use Rattle.qrels_reader.specs.Rows.{Row};
-ghost use Rattle.qrels_reader.specs.Grouped.{faults_after, with_row_on, documents_on, documents_at, with_document, judged_of, row_count, name_bytes_in, grouped, IsQrels};
-ghost use Rattle.qrels_reader.specs.Reader.{row_said, place_of, IsTracked, ReadsLine};
+// A reader of a qrels file in pieces.
+ghost use Rattle.std.specs.Prelude.{◌≡◌, ◌++◌, [], IfOk};
+ghost use Rattle.file_rows.specs.Reading.{IsUnlessMemory};
+ghost use Rattle.qrels_reader.specs.Grouped.{qrels_of};
 
-use crate::fault::{FileFault, LineFault};
-use crate::groups::Groups;
-use crate::limits::{MOST_NAME_BYTES, MOST_QRELS_ROWS, MOST_TOPICS};
-use crate::line::{RowText, row_text};
-use crate::name_set::NameSet;
 use crate::qrels::Qrels;
-use desk_text::is_blank;
-use std::alloc::{AllocError, Global};
+use crate::row_reader::RowReader;
+use desk_model::Memory;
+use file_rows::{Fed, FileFault, Pieces};
+use std::alloc::Global;
+use std::marker::Model;
 
-/// Reads a qrels file line by line. After an error it is given up.
+/// Reads a qrels file whose bytes arrive in pieces, of any length and cut anywhere. A clause sees the bytes that it was fed so far.
+/// It keeps the rows, at most one line that has not ended, and the first fault, after which it keeps nothing more.
 #[derive(Drop)]
 pub struct QrelsReader {
-    alloc: Global,
-    groups: Groups,
-    // The documents of each topic, in which repeated ones are found.
-    seen: Vec<NameSet>,
-    lines: u64,
+    fed: Fed,
+    pieces: Pieces<RowReader>,
+}
+
+impl Model for QrelsReader {
+    ghost use Rattle.std.specs.Prelude.{List, ℕ};
+
+    ghost Value = { List ℕ };
+
+    ghost use Rattle.qrels_reader.specs.Fed.{IsFed};
+
+    ghost view = { λ r. r.fed.bytes };
+
+    ghost invariant = { λ r. IsFed r.pieces r.fed.bytes };
 }
 
 impl QrelsReader {
-    pub fn new(alloc: Global) -> QrelsReader
-        ensures none { result.groups ≡ [] }
-        ensures tracked { IsTracked result }
-        ensures lines { result.lines ≡ 0 }
+    /// A reader that was fed nothing.
+    ///
+    /// # Errors
+    /// `Memory` where there is no room for a line.
+    pub fn new(alloc: Global) -> Result<QrelsReader, Memory>
+        ensures { IfOk result (λ reader. reader ≡ []) }
     {
-        QrelsReader {
-            alloc,
-            groups: Groups::new(alloc),
-            seen: Vec::new(alloc),
-            lines: 0,
-        }
+        Ok(QrelsReader {
+            fed: Fed::new(),
+            pieces: Pieces::new(alloc, RowReader::new(alloc))?,
+        })
     }
 
-    /// Reads the next line.
-    pub fn feed(&mut self, line: &[u8]) -> Result<(), FileFault>
-        requires tracked { IsTracked self.old }
-        requires lines { self.old.lines + 1 < 2 ^ 64 }
-        ensures read { (rows : List Row) → self.old.groups ≡ grouped rows → ReadsLine (self.old.lines + 1) rows line.now result self.new.groups }
-        ensures tracked { OnOk result (IsTracked self.new) }
-        ensures lines { OnOk result (self.new.lines ≡ self.old.lines + 1) }
+    /// Takes the next piece of the file. A faulty line is told by `finish`.
+    ///
+    /// # Errors
+    /// `Memory` where memory runs out. The reader is given up then: `finish` answers `Memory`.
+    pub fn feed(&mut self, piece: &[u8]) -> Result<(), Memory>
+        ensures { self.new ≡ self.old ++ piece.now }
     {
-        self.lines += 1;
-        if is_blank(line) {
-            return Ok(());
-        }
-        match row_text(line) {
-            Ok(row) => self.add(&row),
-            Err(fault) => Err(FileFault::Line {
-                line: self.lines,
-                fault,
-            }),
-        }
-    }
-
-    /// What was read.
-    pub fn finish(self) -> Result<Qrels, FileFault>
-        requires { 0 < row_count self.groups → IsQrels self.groups }
-        ensures { result ≡ (if row_count self.groups == 0 then Err FileFault.NoTopics else Ok self.groups) }
-    {
-        if self.groups.rows() == 0 {
-            return Err(FileFault::NoTopics);
-        }
-        Ok(Qrels::new(self.groups))
-    }
-
-    // A row of the line that was read last.
-    fn add(&mut self, row: &RowText<'_>) -> Result<(), FileFault>
-        requires { IsTracked self.old }
-        ensures right { OnOk result (checked (faults_after self.old.groups (row_said row.now)) ≡ Ok (tt {0})) }
-        ensures added { OnOk result (self.new.groups ≡ with_row_on self.old.groups (row_said row.now)) }
-        ensures tracked { OnOk result (IsTracked self.new) }
-        ensures lines { OnOk result (self.new.lines ≡ self.old.lines) }
-        ensures wrong { IfErr result (λ e. (e ≡ FileFault.Memory)
-            ⊎ ((fault : LineFault) × (checked (faults_after self.old.groups (row_said row.now)) ≡ Err fault) × (e ≡ FileFault.Line self.old.lines fault))) }
-    {
-        let place = self.groups.place(row.topic);
-        match self.check(place, row) {
-            Ok(()) => {
-                self.put(place, row)?;
-                Ok(())
-            }
-            Err(fault) => Err(FileFault::Line {
-                line: self.lines,
-                fault,
-            }),
-        }
-    }
-
-    // What is wrong with a row after those that were read, where its topic has a place.
-    fn check(&self, place: Option<usize>, row: &RowText<'_>) -> Result<(), LineFault>
-        requires tracked { IsTracked self.now }
-        requires place { place ≡ place_of row.now.topic.now self.now.groups }
-        ensures { result ≡ checked (faults_after self.now.groups (row_said row.now)) }
-    {
-        if self.has_seen(place, row) {
-            return Err(LineFault::RepeatedDocument);
-        }
-        if place.is_none() && self.groups.topics() >= MOST_TOPICS {
-            return Err(LineFault::TooManyTopics);
-        }
-        if self.groups.rows() >= MOST_QRELS_ROWS {
-            return Err(LineFault::TooManyRows);
-        }
-        if self.groups.name_bytes() as usize + row.document.len() > MOST_NAME_BYTES as usize {
-            return Err(LineFault::TooManyNameBytes);
+        self.pieces.feed(piece);
+        self.fed.note(piece);
+        if self.pieces.reader.lacks_memory() {
+            return Err(Memory);
         }
         Ok(())
     }
 
-    // Whether the row's document stood in its topic.
-    fn has_seen(&self, place: Option<usize>, row: &RowText<'_>) -> bool
-        requires tracked { IsTracked self.now }
-        requires place { place ≡ place_of row.now.topic.now self.now.groups }
-        ensures { result ≡ list_any (λ judged. bytes_eq row.now.document.now judged.document) (documents_on row.now.topic.now self.now.groups) }
+    /// The rows of the bytes that it was fed, as `read_qrels` answers for them.
+    ///
+    /// # Errors
+    /// Those of `read_qrels`.
+    pub fn finish(self) -> Result<Qrels, FileFault>
+        ensures { IsUnlessMemory result (qrels_of self) }
     {
-        match place {
-            Some(t) => self.seen[t].contains(row.document),
-            None => false,
-        }
-    }
-
-    // A row that is right.
-    fn put(&mut self, place: Option<usize>, row: &RowText<'_>) -> Result<(), AllocError>
-        requires tracked { IsTracked self.old }
-        requires place { place ≡ place_of row.now.topic.now self.old.groups }
-        requires new { list_any (λ judged. bytes_eq row.now.document.now judged.document) (documents_on row.now.topic.now self.old.groups) ≡ false }
-        requires rows { row_count self.old.groups + 1 < 2 ^ 32 }
-        requires names { name_bytes_in self.old.groups + length row.now.document.now < 2 ^ 32 }
-        ensures added { OnOk result (self.new.groups ≡ with_row_on self.old.groups (row_said row.now)) }
-        ensures tracked { OnOk result (IsTracked self.new) }
-        ensures lines { OnOk result (self.new.lines ≡ self.old.lines) }
-    {
-        match place {
-            Some(t) => self.put_at(t, row),
-            None => {
-                let t = self.groups.topics();
-                self.groups.add_topic(self.alloc, row.topic)?;
-                self.seen.push(NameSet::new(self.alloc))?;
-                self.put_at(t, row)
-            }
-        }
-    }
-
-    // A row whose topic has a place.
-    fn put_at(&mut self, t: usize, row: &RowText<'_>) -> Result<(), AllocError>
-        requires tracked { IsTracked self.old }
-        requires topic { t < length self.old.groups }
-        requires new { list_any (λ judged. bytes_eq row.now.document.now judged.document) (documents_at self.old.groups t) ≡ false }
-        requires rows { row_count self.old.groups + 1 < 2 ^ 32 }
-        requires names { name_bytes_in self.old.groups + length row.now.document.now < 2 ^ 32 }
-        ensures added { OnOk result (self.new.groups ≡ with_document self.old.groups t (judged_of (row_said row.now))) }
-        ensures tracked { OnOk result (IsTracked self.new) }
-        ensures lines { OnOk result (self.new.lines ≡ self.old.lines) }
-    {
-        self.groups.add_document(t, row.document, row.grade)?;
-        let seen = &mut self.seen[t];
-        seen.add(self.alloc, row.document)
+        let QrelsReader { fed, pieces } = self;
+        pieces.end().finish(&fed)
     }
 }

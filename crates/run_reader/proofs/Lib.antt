@@ -1,5 +1,3 @@
-pub mod Grouping
-pub mod Runs
 pub mod Places
 pub mod Chains
 pub mod Progress

@@ -3,25 +3,25 @@ use Rattle.std.proofs.Common.{◌≡◌, ℕ, zero, suc, List, [], ◌∷◌, �
 use Rattle.std.specs.Prelude.{Bool, All, map, Some, None}
 use Rattle.std.specs.Str.{bytes_eq}
 use Rattle.std.proofs.lemmas.List.Elements.{All-cons, All-head, All-tail}
-use Rattle.run_reader.specs.Rows.{RunRow}
-use Rattle.run_reader.specs.Run.{Scored, RunTopic, scored_of, names_of, with_scored, with_row_on}
-use Rattle.run_reader.specs.Reader.{documents_seen, place_of}
+use Rattle.file_rows.specs.Rows.{Row}
+use Rattle.file_rows.specs.Grouped.{Valued, TopicRows, valued_of, names_of, with_valued, with_row_on}
+use Rattle.file_rows.specs.Grouped.{documents_seen, place_of}
 use Rattle.desk_model.proofs.Names.{same_name}
-use Rattle.qrels_reader.proofs.Places.{located}
+use Rattle.file_rows.proofs.Places.{located}
 
 -- one more row leaves the names of the topics
-pub names_of-with_scored : (ts : List RunTopic) (t : ℕ) (scored : Scored) → names_of (with_scored ts t scored) ≡ names_of ts
-names_of-with_scored [] t scored = refl
-names_of-with_scored (x ∷ ts) zero scored = refl
-names_of-with_scored (x ∷ ts) (suc t) scored = ap (λ ns. x.name ∷ ns) (names_of-with_scored ts t scored)
+pub names_of-with_scored : (ts : List TopicRows) (t : ℕ) (valued : Valued) → names_of (with_valued ts t valued) ≡ names_of ts
+names_of-with_scored [] t valued = refl
+names_of-with_scored (x ∷ ts) zero valued = refl
+names_of-with_scored (x ∷ ts) (suc t) valued = ap (λ ns. x.name ∷ ns) (names_of-with_scored ts t valued)
 
 -- the documents of a new topic at the end
-pub seen_new : (ts : List RunTopic) (name : List ℕ) (scored : Scored) → documents_seen (with_scored (ts ++ record { name = name; rows = [] } ∷ []) (length ts) scored) ≡ documents_seen ts ++ (scored.document ∷ []) ∷ []
-seen_new [] name scored = refl
-seen_new (x ∷ ts) name scored = ap (λ ds. map (λ (j : Scored). j.document) x.rows ∷ ds) (seen_new ts name scored)
+pub seen_new : (ts : List TopicRows) (name : List ℕ) (valued : Valued) → documents_seen (with_valued (ts ++ record { name = name; rows = [] } ∷ []) (length ts) valued) ≡ documents_seen ts ++ (valued.document ∷ []) ∷ []
+seen_new [] name valued = refl
+seen_new (x ∷ ts) name valued = ap (λ ds. map (λ (j : Valued). j.document) x.rows ∷ ds) (seen_new ts name valued)
 
 -- a property of the names of topics that have a place holds of a name that has one
-pub placed_has : (P : List ℕ → Type 0) (name : List ℕ) (ts : List RunTopic) (t : ℕ) → All P (names_of ts) → place_of name ts ≡ Some t → P name
+pub placed_has : (P : List ℕ → Type 0) (name : List ℕ) (ts : List TopicRows) (t : ℕ) → All P (names_of ts) → place_of name ts ≡ Some t → P name
 placed_has P name [] t h e = absurd (let k : None ≡ Some t = e in cc)
 placed_has P name (x ∷ ts) t h e = elim (located (bytes_eq name) x.name (names_of ts) t e) [
   | inl w ↦ subst P (sym (same_name name x.name w.0)) (All-head P x.name (names_of ts) h)
@@ -29,10 +29,10 @@ placed_has P name (x ∷ ts) t h e = elim (located (bytes_eq name) x.name (names
 ]
 
 -- and stays with a row of a topic that has it
-pub names_with : (P : List ℕ → Type 0) (ts : List RunTopic) (row : RunRow) → All P (names_of ts) → P row.topic → All P (names_of (with_row_on ts row))
+pub names_with : (P : List ℕ → Type 0) (ts : List TopicRows) (row : Row) → All P (names_of ts) → P row.topic → All P (names_of (with_row_on ts row))
 names_with P [] row h new = All-cons P row.topic [] new (λ k d lt. absurd (omega arith))
 names_with P (x ∷ ts) row h new = by (bytes_eq row.topic x.name) (names_with P ts row (All-tail P x.name (names_of ts) h) new)
   where
-    by : (b : Bool) → All P (names_of (with_row_on ts row)) → All P (names_of (cond b (record { name = x.name; rows = x.rows ++ scored_of row ∷ [] } ∷ ts) (x ∷ with_row_on ts row)))
+    by : (b : Bool) → All P (names_of (with_row_on ts row)) → All P (names_of (cond b (record { name = x.name; rows = x.rows ++ valued_of row ∷ [] } ∷ ts) (x ∷ with_row_on ts row)))
     by true rest = h
     by false rest = All-cons P x.name (names_of (with_row_on ts row)) (All-head P x.name (names_of ts) h) rest

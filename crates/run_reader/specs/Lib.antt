@@ -1,4 +1,5 @@
 pub mod Rows
 pub mod Run
-pub mod Kept
 pub mod Reader
+pub mod Stays
+pub mod Fed

@@ -1,27 +1,20 @@
 -- The rows of a run file.
-use Rattle.std.specs.Prelude.{ℕ, ◌+◌, Bool, ◌||◌, not, ◌==◌, List, [], ◌∷◌, if◌then◌else◌, Option, Some, None, Result, Ok, nat_lt, nat_le, length, map, filter, sum_by, ℤ}
+use Rattle.std.specs.Prelude.{ℕ, ◌+◌, Bool, ◌||◌, not, ◌==◌, List, [], ◌∷◌, if◌then◌else◌, Option, Some, None, Result, Ok, nat_lt, nat_le, length}
 use Rattle.std.specs.List.{list_any}
 use Rattle.std.specs.Result.{result_map_both}
-use Rattle.std.specs.Str.{bytes_eq}
 use Rattle.desk_text.specs.Lines.{is_bad, fields_of}
 use Rattle.desk_text.specs.declared.line.TheConstants.{LONGEST_LINE}
 use Rattle.decimal_score.specs.Reading.{score_of}
 use Rattle.decimal_score.specs.declared.score.ScoreFault.{ScoreFault}
 use Rattle.decimal_score.specs.declared.score.ScoreFault.TheVariants.{BadScore, ScoreTooLong, ScoreExponent}
-use Rattle.qrels_reader.specs.Reading.{field, is_long, and_then, unless, checked}
-use Rattle.qrels_reader.specs.Rows.{first_seen}
-use Rattle.qrels_reader.specs.Grouped.{JudgedTopic, is_topic}
-use Rattle.qrels_reader.specs.declared.fault.LineFault.{LineFault}
-use Rattle.qrels_reader.specs.declared.fault.LineFault.TheVariants as fault
-use Rattle.qrels_reader.specs.declared.limits.TheConstants.{MOST_NAME_BYTES}
+use Rattle.file_rows.specs.Reading.{field, is_long, and_then, unless, checked}
+use Rattle.file_rows.specs.Rows.{Row, rows_on, has_document, name_bytes_of}
+use Rattle.file_rows.specs.Grouped.{TopicRows, is_topic}
+use Rattle.file_rows.specs.declared.fault.LineFault.{LineFault}
+use Rattle.file_rows.specs.declared.fault.LineFault.TheVariants as fault
+use Rattle.file_rows.specs.declared.limits.TheConstants.{MOST_NAME_BYTES}
 use Rattle.run_reader.specs.declared.limits.TheConstants.{MOST_RANKS, MOST_RUN_ROWS}
 use Rattle.run_reader.specs.declared.used.Used.{Used}
-
--- a row: the document of a topic and its score
-pub record RunRow : Type 0 where
-  pub topic : List ℕ
-  pub document : List ℕ
-  pub score : ℤ
 
 -- what is wrong with a line whose score is not read
 abbrev pub line_fault : ScoreFault → LineFault
@@ -30,32 +23,12 @@ line_fault ScoreTooLong = fault.ScoreTooLong
 line_fault ScoreExponent = fault.ScoreExponent
 
 -- the row of a line of six fields: topic, one that is not used, document, one that is not used, score and tag
-abbrev pub row_of : List ℕ → Result RunRow LineFault
-row_of line = result_map_both (λ score. record { topic = field line 0; document = field line 2; score = score }) line_fault (score_of (field line 4))
+abbrev pub row_of : List ℕ → Result Row LineFault
+row_of line = result_map_both (λ score. record { topic = field line 0; document = field line 2; value = score }) line_fault (score_of (field line 4))
 
 -- the tag of a line
 abbrev pub tag_of : List ℕ → List ℕ
 tag_of line = field line 5
-
--- the topics of rows, in the order in which they first stand
-abbrev pub topics_of : List RunRow → List (List ℕ)
-topics_of rows = first_seen (map (λ row. row.topic) rows)
-
--- the rows of a topic
-abbrev pub rows_on : List ℕ → List RunRow → List RunRow
-rows_on topic rows = filter (λ row. bytes_eq topic row.topic) rows
-
--- whether rows have a topic
-abbrev pub has_topic : List ℕ → List RunRow → Bool
-has_topic topic rows = list_any (λ row. bytes_eq topic row.topic) rows
-
--- whether a document stands in a topic
-abbrev pub has_document : List ℕ → List ℕ → List RunRow → Bool
-has_document topic document rows = list_any (λ row. bytes_eq document row.document) (rows_on topic rows)
-
--- the bytes of the document names of rows
-abbrev pub name_bytes_of : List RunRow → ℕ
-name_bytes_of rows = sum_by (λ row. length row.document) rows
 
 -- what is wrong with the form of a line before its score is looked at, in the order in which it is told
 abbrev pub form_faults : List ℕ → List (Bool × LineFault)
@@ -67,11 +40,11 @@ form_faults line =
     ∷ []
 
 -- the row of a line, or the first fault of its form
-abbrev pub formed : List ℕ → Result RunRow LineFault
+abbrev pub formed : List ℕ → Result Row LineFault
 formed line = and_then (checked (form_faults line)) (λ done. row_of line)
 
 -- what is wrong with a row after the kept rows before it and what earlier files used, in the order in which it is told
-abbrev pub row_faults : Used → List RunRow → RunRow → List (Bool × LineFault)
+abbrev pub row_faults : Used → List Row → Row → List (Bool × LineFault)
 row_faults used rows row =
     (has_document row.topic row.document rows, fault.RepeatedDocument)
     ∷ (nat_le MOST_RANKS (length (rows_on row.topic rows)), fault.TooDeep)
@@ -80,5 +53,5 @@ row_faults used rows row =
     ∷ []
 
 -- the row of a line after the kept rows before it, or the line's first fault; a row on a topic that the qrels lack is dropped
-abbrev pub read_row : List JudgedTopic → Used → List RunRow → List ℕ → Result (Option RunRow) LineFault
+abbrev pub read_row : List TopicRows → Used → List Row → List ℕ → Result (Option Row) LineFault
 read_row qrels used rows line = and_then (formed line) (λ row. if is_topic row.topic qrels then unless (row_faults used rows row) (Some row) else Ok None)

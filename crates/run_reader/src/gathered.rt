@@ -2,51 +2,52 @@
 ghost use Rattle.std.specs.Prelude.{◌≡◌, ◌+◌, ◌^◌, ◌<◌, [], false, true, length, IfOk, OnOk};
 ghost use Rattle.std.specs.List.{list_any};
 ghost use Rattle.std.specs.Str.{bytes_eq};
-ghost use Rattle.run_reader.specs.Run.{is_topic, with_row_on, rows_in, row_count, name_bytes_in};
-ghost use Rattle.run_reader.specs.Reader.{row_said, place_of, IsTracked, IsNoted};
+ghost use Rattle.file_rows.specs.Grouped.{is_topic, with_row_on, rows_in, place_of, row_count, name_bytes_in};
+ghost use Rattle.run_reader.specs.Reader.{row_said, IsTracked, IsNoted};
 
 use crate::line::RowText;
-use crate::topic_rows::TopicRows;
-use qrels_reader::NameIndex;
+use decimal_score::Score;
+use file_rows::{GroupedRows, NameSet};
 use std::alloc::{AllocError, Global};
 
 /// The kept rows so far, and the documents of each topic, in which repeated ones are found. After an error it is given up.
 #[derive(Drop)]
-pub struct Gathered<'a> {
+pub struct Gathered {
     pub alloc: Global,
-    pub kept: TopicRows,
-    pub seen: Vec<NameIndex<'a>>,
+    pub kept: GroupedRows<Score>,
+    pub seen: Vec<NameSet>,
     // The topic that was looked up last, and its place: the rows of one topic mostly stand together.
-    pub last_topic: &'a [u8],
+    pub last_topic: Vec<u8>,
     pub last: Option<usize>,
 }
 
-impl<'a> Gathered<'a> {
-    pub fn new(alloc: Global) -> Gathered<'a>
+impl Gathered {
+    pub fn new(alloc: Global) -> Gathered
         ensures none { result.kept ≡ [] }
         ensures tracked { IsTracked result }
     {
         Gathered {
             alloc,
-            kept: TopicRows::new(alloc),
+            kept: GroupedRows::new(alloc),
             seen: Vec::new(alloc),
-            last_topic: &[],
+            last_topic: Vec::new(alloc),
             last: None,
         }
     }
 
     /// The number of a topic.
-    pub fn place(&mut self, topic: &'a [u8]) -> Option<usize>
+    pub fn place(&mut self, topic: &[u8]) -> Result<Option<usize>, AllocError>
         requires { IsTracked self.old }
-        ensures place { result ≡ place_of topic.now self.old.kept }
+        ensures place { IfOk result (λ place. place ≡ place_of topic.now self.old.kept) }
         ensures kept { self.new.kept ≡ self.old.kept }
-        ensures tracked { IsTracked self.new }
+        ensures tracked { OnOk result (IsTracked self.new) }
     {
-        if topic != self.last_topic {
+        if topic != self.last_topic.as_slice() {
+            self.last_topic.clear();
+            self.last_topic.extend_from_slice(topic)?;
             self.last = self.kept.place(topic);
-            self.last_topic = topic;
         }
-        self.last
+        Ok(self.last)
     }
 
     /// How many rows a topic has.
@@ -61,17 +62,17 @@ impl<'a> Gathered<'a> {
     }
 
     /// Notes the document of a row, and answers whether it stood in its topic.
-    pub fn note(&mut self, place: Option<usize>, row: &RowText<'a>) -> Result<bool, AllocError>
+    pub fn note(&mut self, place: Option<usize>, row: &RowText<'_>) -> Result<bool, AllocError>
         requires tracked { IsTracked self.old }
         requires place { place ≡ place_of row.now.topic.now self.old.kept }
         ensures kept { OnOk result (self.new.kept ≡ self.old.kept) }
-        ensures repeated { IfOk result (λ repeated. repeated ≡ list_any (λ scored. bytes_eq row.now.document.now scored.document) (rows_in row.now.topic.now self.old.kept)) }
+        ensures repeated { IfOk result (λ repeated. repeated ≡ list_any (λ valued. bytes_eq row.now.document.now valued.document) (rows_in row.now.topic.now self.old.kept)) }
         ensures noted { IfOk result (λ repeated. repeated ≡ false → IsNoted place (row_said row.now) self.new) }
     {
         match place {
             Some(t) => {
                 let seen = &mut self.seen[t];
-                let is_new = seen.add(row.document)?;
+                let is_new = seen.insert(self.alloc, row.document)?;
                 Ok(!is_new)
             }
             None => Ok(false),
@@ -79,7 +80,7 @@ impl<'a> Gathered<'a> {
     }
 
     /// Puts a row that is right and noted into its topic.
-    pub fn put(&mut self, place: Option<usize>, row: &RowText<'a>) -> Result<(), AllocError>
+    pub fn put(&mut self, place: Option<usize>, row: &RowText<'_>) -> Result<(), AllocError>
         requires noted { IsNoted place (row_said row.now) self.old }
         requires place { place ≡ place_of row.now.topic.now self.old.kept }
         requires rows { row_count self.old.kept + 1 < 2 ^ 32 }
@@ -88,13 +89,13 @@ impl<'a> Gathered<'a> {
         ensures tracked { OnOk result (IsTracked self.new) }
     {
         match place {
-            Some(t) => self.kept.add_document(t, row.document, row.score),
+            Some(t) => self.kept.add_row(t, row.document, row.score),
             None => self.put_new(row),
         }
     }
 
     // A row of a topic that has no place.
-    fn put_new(&mut self, row: &RowText<'a>) -> Result<(), AllocError>
+    fn put_new(&mut self, row: &RowText<'_>) -> Result<(), AllocError>
         requires tracked { IsTracked self.old }
         requires new { is_topic row.now.topic.now self.old.kept ≡ false }
         requires rows { row_count self.old.kept + 1 < 2 ^ 32 }
@@ -104,12 +105,13 @@ impl<'a> Gathered<'a> {
     {
         let t = self.kept.topics();
         self.kept.add_topic(self.alloc, row.topic)?;
-        self.kept.add_document(t, row.document, row.score)?;
-        let mut seen = NameIndex::new(self.alloc);
-        seen.add(row.document)?;
+        self.kept.add_row(t, row.document, row.score)?;
+        let mut seen = NameSet::new(self.alloc);
+        seen.insert(self.alloc, row.document)?;
         self.seen.push(seen)?;
+        self.last_topic.clear();
+        self.last_topic.extend_from_slice(row.topic)?;
         self.last = self.kept.place(row.topic);
-        self.last_topic = row.topic;
         Ok(())
     }
 }

@@ -1,4 +1,4 @@
-//! Runs: their rows on the topics of the qrels, with exact scores.
+//! Runs: their rows on the topics of the qrels, with exact scores, read whole or in pieces.
 #![tactic(auto)]
 
 mod gathered;
@@ -6,15 +6,14 @@ mod limits;
 mod line;
 mod read;
 mod reader;
+mod row_reader;
 mod run_rows;
-mod scored_rows;
-mod topic_rows;
 mod used;
 
 pub use limits::{MOST_RANKS, MOST_RUN_ROWS};
 pub use read::read_run;
+pub use reader::RunReader;
 pub use run_rows::RunRows;
-pub use scored_rows::ScoredRows;
 pub use used::Used;
 
 #[cfg(test)]

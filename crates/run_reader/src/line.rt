@@ -1,14 +1,14 @@
 // The form of a line of a run file.
 ghost use Rattle.std.specs.Prelude.{◌≡◌, ◌||◌, IfOk};
 ghost use Rattle.std.specs.Result.{result_map_both};
-ghost use Rattle.qrels_reader.specs.Reading.{is_long};
+ghost use Rattle.file_rows.specs.Reading.{is_long};
 ghost use Rattle.run_reader.specs.Rows.{formed, tag_of, line_fault};
 ghost use Rattle.run_reader.specs.Reader.{row_said};
 
 use decimal_score::{Score, ScoreFault, read_score};
 use desk_model::Name;
 use desk_text::{LONGEST_LINE, fields};
-use qrels_reader::LineFault;
+use file_rows::LineFault;
 
 /// What a line says.
 #[derive(Clone, Copy)]

@@ -6,17 +6,16 @@ ghost use Rattle.desk_model.specs.Name.{is_name};
 ghost use Rattle.run_reader.specs.Run.{IsRun, IsWithinLimits, rows_on_topic};
 
 use crate::limits::MOST_RANKS;
-use crate::scored_rows::ScoredRows;
-use crate::topic_rows::TopicRows;
 use crate::used::Used;
 use decimal_score::Score;
+use file_rows::{GroupedRows, ValuedRows};
 use std::marker::Model;
 
 /// A run: its name and its kept rows, which are those on topics of the qrels.
 #[derive(Drop)]
 pub struct RunRows {
     name: Vec<u8>,
-    kept: TopicRows,
+    kept: GroupedRows<Score>,
     used: Used,
 }
 
@@ -33,7 +32,7 @@ impl Model for RunRows {
 }
 
 impl RunRows {
-    pub(crate) fn new(name: Vec<u8>, kept: TopicRows, used: Used) -> RunRows
+    pub(crate) fn new(name: Vec<u8>, kept: GroupedRows<Score>, used: Used) -> RunRows
         requires name { is_name name.items ≡ true }
         requires kept { IsRun kept }
         requires used { IsWithinLimits used }
@@ -60,7 +59,7 @@ impl RunRows {
     }
 
     /// The kept rows of a topic, in the order of the file, where there are any.
-    pub fn rows_on(&self, topic: &[u8]) -> Option<&ScoredRows>
+    pub fn rows_on(&self, topic: &[u8]) -> Option<&ValuedRows<Score>>
         ensures rows { MatchOption result (rows_on_topic self.now topic.now ≡ []) (λ rows. rows.now ≡ rows_on_topic self.now topic.now) }
         ensures distinct { IsDistinct bytes_eq (map (λ row. row.document) (rows_on_topic self.now topic.now)) }
         ensures names { All (λ row. is_name row.document ≡ true) (rows_on_topic self.now topic.now) }
@@ -94,10 +93,10 @@ impl RunRows {
     /// The score of row `i` of a topic, counted from 0 in the order of the file.
     pub fn score(&self, topic: &[u8], i: usize) -> &Score
         requires { i < length (rows_on_topic self.now topic.now) }
-        ensures { option_map (λ row. row.score) (slice_get (rows_on_topic self.now topic.now) i) ≡ Some result.now }
+        ensures { option_map (λ row. row.value) (slice_get (rows_on_topic self.now topic.now) i) ≡ Some result.now }
     {
         match self.rows_on(topic) {
-            Some(rows) => rows.score(i),
+            Some(rows) => rows.value(i),
             None => unreachable!(),
         }
     }

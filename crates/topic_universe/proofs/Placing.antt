@@ -13,7 +13,7 @@ use Rattle.std.proofs.lemmas.List.Sorted.{All-permutation, IsPermutation-map, le
 use Rattle.std.proofs.lemmas.Map.Keys.{IsDistinct-IsPermutation, any_passes_from_place}
 use Rattle.std.proofs.lemmas.Option.{slice_get-get_or}
 use Rattle.desk_model.specs.Name.{name_cmp, is_name}
-use Rattle.qrels_reader.proofs.Seen.{laws}
+use Rattle.file_rows.proofs.Seen.{laws}
 use Rattle.topic_universe.specs.Names.{AreNames}
 use Rattle.topic_universe.specs.Sorted.{Numbered, AreSorted, IsPlaceOf}
 use Rattle.topic_universe.proofs.Sorting.{ascends}

@@ -16,7 +16,7 @@ use Rattle.std.proofs.lemmas.Map.Keys.{IsDistinct-push, IsDistinct-head, IsDisti
 use Rattle.std.proofs.lemmas.Map.Steps.{list_any_congr}
 use Rattle.desk_model.specs.Name.{is_name}
 use Rattle.desk_model.proofs.Names.{same_name}
-use Rattle.qrels_reader.proofs.Seen.{laws}
+use Rattle.file_rows.proofs.Seen.{laws}
 use Rattle.topic_universe.specs.Names.{with_name, with_names, AreNames, Gathers, numbered_names}
 
 pub with_names-append : (names xs ys : List (List ℕ)) → with_names names (xs ++ ys) ≡ with_names (with_names names xs) ys

@@ -8,7 +8,7 @@ ghost use Rattle.topic_universe.specs.Sorted.{AreSorted, IsPlaceOf};
 
 use crate::memory::OutOfMemory;
 use desk_model::{Name, NameFault};
-use qrels_reader::NameIndex;
+use file_rows::NameIndex;
 use std::alloc::{AllocError, Global};
 
 /// A name and its number.

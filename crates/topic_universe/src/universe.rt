@@ -1,14 +1,15 @@
 // The documents of a topic.
 ghost use Rattle.std.specs.Prelude.{◌≡◌, ◌<◌, [], true, All, length, map, flat_map, OnOk, IfOk};
 ghost use Rattle.std.specs.List.{AllZip};
-ghost use Rattle.qrels_reader.specs.Grouped.{documents_at};
+ghost use Rattle.file_rows.specs.Grouped.{rows_at};
 ghost use Rattle.run_reader.specs.Run.{rows_on_topic};
 ghost use Rattle.topic_universe.specs.Names.{with_names, AreNames, Gathers, numbered_names};
 ghost use Rattle.topic_universe.specs.Universe.{listed, retrieved, AreRankedNumbers, IsUniverseOf};
 
 use crate::memory::OutOfMemory;
 use crate::names::{Numbered, sorted};
-use qrels_reader::{NameIndex, Qrels};
+use file_rows::NameIndex;
+use qrels_reader::Qrels;
 use run_reader::RunRows;
 use std::alloc::{AllocError, Global};
 use trec_order::{RankedNames, ranking};
@@ -26,7 +27,7 @@ pub struct Universe<'n> {
 /// The documents that the qrels list of topic `t`, in their order.
 pub fn listed_names(alloc: Global, qrels: &Qrels, t: usize) -> Result<NameIndex<'_>, AllocError>
     requires { t < length qrels.now }
-    ensures documents { IfOk result (λ names. names ≡ listed (documents_at qrels.now t)) }
+    ensures documents { IfOk result (λ names. names ≡ listed (rows_at qrels.now t)) }
     ensures names { IfOk result (λ names. AreNames names) }
 {
     let mut names = NameIndex::new(alloc);

@@ -11,9 +11,9 @@ use Rattle.desk_model.specs.Book.{Book}
 use Rattle.desk_model.specs.Ranking.{IsRanking}
 use Rattle.desk_model.specs.Desk.{Desk, IsDesk, AreRankingsOver, pair_count}
 use Rattle.desk_model.proofs.Nested.{zipped_at, length-zipped}
-use Rattle.qrels_reader.specs.Grouped.{JudgedTopic}
+use Rattle.file_rows.specs.Grouped.{TopicRows}
 use Rattle.qrels_reader.specs.declared.limits.TheConstants.{MOST_TOPICS}
-use Rattle.qrels_reader.proofs.Seen.{laws}
+use Rattle.file_rows.proofs.Seen.{laws}
 use Rattle.run_reader.specs.Run.{Run}
 use Rattle.topics_pool.specs.Rows.{IsDeskOf, IsNoFault, run_names, first_repeated, is_repeated}
 use Rattle.topics_pool.specs.Made.{AreBooksOf, IsRankingOf, AreRankingsOf}
@@ -55,7 +55,7 @@ all-zipped R Q [] (y ∷ ys) says h = absurd h
 all-zipped R Q (x ∷ xs) [] says h = absurd h
 all-zipped R Q (x ∷ xs) (y ∷ ys) says h = All-cons Q y ys (says x y h.0) (all-zipped R Q xs ys says h.1)
 
-module _ (qrels : List JudgedTopic) (runs : List Run) (books : List Book) (names : List (List ℕ)) (rankings : List (List (List ℕ)))
+module _ (qrels : List TopicRows) (runs : List Run) (books : List Book) (names : List (List ℕ)) (rankings : List (List (List ℕ)))
     (are : AreBooksOf qrels runs books) (named : names ≡ run_names runs) (zipped : AllZip (AreRankingsOf books) runs rankings)
   where
     pub is_desk : IsNoFault qrels runs → All (λ name. is_name name ≡ true) (run_names runs) → 0 < length qrels → length qrels ≤ MOST_TOPICS → 0 < length runs → length runs ≤ 256 →

@@ -7,10 +7,10 @@ use Rattle.std.proofs.lemmas.List.{get_or-map, length-map}
 use Rattle.std.proofs.lemmas.List.Quantifiers.{position-Some}
 use Rattle.std.proofs.lemmas.Map.Keys.{any_passes_from_place}
 use Rattle.std.proofs.lemmas.Option.{slice_get-get_or}
-use Rattle.qrels_reader.specs.Grouped.{Judged}
+use Rattle.file_rows.specs.Grouped.{Valued}
 use Rattle.small_lemmas.proofs.Tests.{neither}
-use Rattle.qrels_reader.proofs.Seen.{laws}
-use Rattle.qrels_reader.proofs.Places.{is_some-position}
+use Rattle.file_rows.proofs.Seen.{laws}
+use Rattle.file_rows.proofs.Places.{is_some-position}
 use Rattle.topic_universe.specs.Universe.{listed}
 use Rattle.topics_pool.specs.Rows.{grade_in, first_repeated, is_repeated}
 
@@ -44,32 +44,32 @@ pub repeated_none : (names : List (List ℕ)) → ((k : ℕ) → k < length name
 repeated_none names fails = let start : (k : ℕ) → 0 + k ≡ k = λ k. omega arith in find-none (is_repeated names) 0 (length names) (λ k lt. ap (is_repeated names) (start k) ∙ fails k lt)
 
 -- ---- a document that is listed
-find_at : (p : Judged → Bool) (docs : List Judged) (i : ℕ) (d : Judged) → i < length docs → p (get_or docs i d) ≡ true → ((k : ℕ) → k < i → p (get_or docs k d) ≡ false) → find p docs ≡ Some (get_or docs i d)
+find_at : (p : Valued → Bool) (docs : List Valued) (i : ℕ) (d : Valued) → i < length docs → p (get_or docs i d) ≡ true → ((k : ℕ) → k < i → p (get_or docs k d) ≡ false) → find p docs ≡ Some (get_or docs i d)
 find_at p [] i d lt here before = absurd (omega arith)
 find_at p (x ∷ docs) zero d lt here before = rw here refl
 find_at p (x ∷ docs) (suc i) d lt here before =
     let first : p x ≡ false = before 0 (omega arith) in
     rw first (find_at p docs i d (omega arith) here (λ k below. before (suc k) (omega arith)))
 
-pub grade_found : (docs : List Judged) (name : List ℕ) (i : ℕ) (grade : ℤ) → position (bytes_eq name) (listed docs) ≡ Some i → option_map (λ (d : Judged). d.grade) (slice_get docs i) ≡ Some grade → Some grade ≡ grade_in docs name
+pub grade_found : (docs : List Valued) (name : List ℕ) (i : ℕ) (grade : ℤ) → position (bytes_eq name) (listed docs) ≡ Some i → option_map (λ (d : Valued). d.value) (slice_get docs i) ≡ Some grade → Some grade ≡ grade_in docs name
 grade_found docs name i grade is got =
-    let nobody : Judged = record { document = []; grade = grade } in
+    let nobody : Valued = record { document = []; value = grade } in
     let at = position-Some (bytes_eq name) (listed docs) i [] is in
-    let long = length-map docs (λ (d : Judged). d.document) in
+    let long = length-map docs (λ (d : Valued). d.document) in
     let lt : i < length docs = omega (arith, at.0, long) in
-    let by : (k : ℕ) → k < length docs → get_or (listed docs) k [] ≡ (get_or docs k nobody).document = λ k below. get_or-map (λ (d : Judged). d.document) docs k nobody [] below in
-    let found = find_at (λ (d : Judged). bytes_eq name d.document) docs i nobody lt (ap (bytes_eq name) (sym (by i lt)) ∙ at.1) (λ k below. ap (bytes_eq name) (sym (by k (omega arith))) ∙ at.2 k below) in
-    sym got ∙ ap (option_map (λ (d : Judged). d.grade)) (slice_get-get_or docs i nobody lt ∙ sym found)
+    let by : (k : ℕ) → k < length docs → get_or (listed docs) k [] ≡ (get_or docs k nobody).document = λ k below. get_or-map (λ (d : Valued). d.document) docs k nobody [] below in
+    let found = find_at (λ (d : Valued). bytes_eq name d.document) docs i nobody lt (ap (bytes_eq name) (sym (by i lt)) ∙ at.1) (λ k below. ap (bytes_eq name) (sym (by k (omega arith))) ∙ at.2 k below) in
+    sym got ∙ ap (option_map (λ (d : Valued). d.value)) (slice_get-get_or docs i nobody lt ∙ sym found)
 
-find_none : (docs : List Judged) (name : List ℕ) → list_any (bytes_eq name) (listed docs) ≡ false → find (λ (d : Judged). bytes_eq name d.document) docs ≡ None
+find_none : (docs : List Valued) (name : List ℕ) → list_any (bytes_eq name) (listed docs) ≡ false → find (λ (d : Valued). bytes_eq name d.document) docs ≡ None
 find_none [] name h = refl
 find_none (d ∷ docs) name h =
     let parts = neither (bytes_eq name d.document) (list_any (bytes_eq name) (listed docs)) h in
     rw (parts.0) (find_none docs name parts.1)
 
-pub grade_none : (docs : List Judged) (name : List ℕ) → position (bytes_eq name) (listed docs) ≡ None → None ≡ grade_in docs name
+pub grade_none : (docs : List Valued) (name : List ℕ) → position (bytes_eq name) (listed docs) ≡ None → None ≡ grade_in docs name
 grade_none docs name is =
-    sym (ap (option_map (λ (d : Judged). d.grade)) (find_none docs name (sym (is_some-position (bytes_eq name) (listed docs)) ∙ ap is_some is)))
+    sym (ap (option_map (λ (d : Valued). d.value)) (find_none docs name (sym (is_some-position (bytes_eq name) (listed docs)) ∙ ap is_some is)))
 
 -- a name that stands at a place is among the names
 pub among-at : (names : List (List ℕ)) (i : ℕ) (name : List ℕ) → slice_get names i ≡ Some name → list_any (bytes_eq name) names ≡ true

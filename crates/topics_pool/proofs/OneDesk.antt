@@ -15,8 +15,8 @@ use Rattle.desk_model.specs.Ranking.{IsRanking}
 use Rattle.desk_model.specs.Desk.{Desk, ranking_of}
 use Rattle.desk_model.proofs.Names.{same_name, two_ways, none_above, ascending_far}
 use Rattle.desk_model.proofs.Nested.{length-rankings, ranking_over}
-use Rattle.qrels_reader.specs.Grouped.{JudgedTopic, documents_on}
-use Rattle.qrels_reader.proofs.Seen.{laws}
+use Rattle.file_rows.specs.Grouped.{TopicRows, rows_in}
+use Rattle.file_rows.proofs.Seen.{laws}
 use Rattle.run_reader.specs.Run.{Run, rows_on_topic}
 use Rattle.trec_order.proofs.Unique.{one_order}
 use Rattle.topic_universe.specs.Names.{HaveSameNames}
@@ -66,7 +66,7 @@ one_names (x ∷ xs) (y ∷ ys) s t h =
     λ i. first i ∷ rest i
 
 -- ---- topics
-module _ (qrels : List JudgedTopic) (runs : List Run) where
+module _ (qrels : List TopicRows) (runs : List Run) where
   one_book : (b c : Book) → IsBook b → IsBook c → IsBookOf qrels runs b → IsBookOf qrels runs c → b.name ≡ c.name → b ≡ c
   one_book b c sound_b sound_c of_b of_c name =
       let docs : b.docs ≡ c.docs = one_names b.docs c.docs sound_b.ascending sound_c.ascending
@@ -76,7 +76,7 @@ module _ (qrels : List JudgedTopic) (runs : List Run) where
       let within : i < length b.docs = omega (arith, lt, sound_b.graded) in
       let there = slice_get-get_or b.docs i [] within in
       of_b.grades i (get_or b.docs i []) there
-      ∙ ap (λ n. grade_in (documents_on n qrels) (get_or b.docs i [])) name
+      ∙ ap (λ n. grade_in (rows_in n qrels) (get_or b.docs i [])) name
       ∙ sym (of_c.grades i (get_or b.docs i []) (ap (λ ds. slice_get ds i) (sym docs) ∙ there))) in
       λ i. record { name = name i; docs = docs i; grades = grades i }
 
@@ -114,7 +114,7 @@ no_book = record { name = []; docs = []; grades = [] }
 no_run : Run
 no_run = record { name = []; topics = []; used = record { rows = 0; name_bytes = 0 } }
 
-module _ (qrels : List JudgedTopic) (runs : List Run) (d e : Desk) (is_d : IsDeskOf qrels runs d) (is_e : IsDeskOf qrels runs e) where
+module _ (qrels : List TopicRows) (runs : List Run) (d e : Desk) (is_d : IsDeskOf qrels runs d) (is_e : IsDeskOf qrels runs e) where
   one_topics : d.topics ≡ e.topics
   one_topics =
       one_books qrels runs d.topics e.topics is_d.valid.books is_e.valid.books is_d.books is_e.books

@@ -10,8 +10,9 @@ use Rattle.std.proofs.lemmas.List.Sorted.{length_permutation}
 use Rattle.std.proofs.lemmas.Map.Keys.{IsDistinct-IsPermutation}
 use Rattle.desk_model.specs.Book.{Book}
 use Rattle.desk_model.specs.Ranking.{IsRanking}
-use Rattle.qrels_reader.proofs.Seen.{laws}
-use Rattle.run_reader.specs.Run.{Run, Scored, rows_on_topic}
+use Rattle.file_rows.proofs.Seen.{laws}
+use Rattle.run_reader.specs.Run.{Run, rows_on_topic}
+use Rattle.file_rows.specs.Grouped.{Valued}
 use Rattle.run_reader.specs.declared.limits.TheConstants.{MOST_RANKS}
 use Rattle.trec_order.specs.Order.{IsTrecOrder}
 use Rattle.topic_universe.specs.Universe.{retrieved}
@@ -46,7 +47,7 @@ is_ranking run book names docs order named within distinct few =
     let moved = ranked_documents (rows_on_topic run book.name) names order in
     let differ = IsDistinct-IsPermutation bytes_eq laws.symm (retrieved book.name run) names moved distinct in
     let long = length_permutation (retrieved book.name run) names moved in
-    let rows = length-map (rows_on_topic run book.name) (λ (row : Scored). row.document) in
+    let rows = length-map (rows_on_topic run book.name) (λ (row : Valued). row.document) in
     let numbers = ap length named in
     let same = length-map docs (λ doc. get_or book.docs doc []) in
     record {

@@ -4,18 +4,18 @@ use Rattle.std.specs.List.{AllZip}
 use Rattle.desk_model.specs.Book.{Book, IsBook}
 use Rattle.desk_model.specs.Name.{AreAscending}
 use Rattle.desk_model.specs.Ranking.{IsRanking}
-use Rattle.qrels_reader.specs.Grouped.{JudgedTopic, names_of, documents_at}
+use Rattle.file_rows.specs.Grouped.{TopicRows, names_of, rows_at}
 use Rattle.run_reader.specs.Run.{Run, rows_on_topic}
 use Rattle.trec_order.specs.Order.{IsTrecOrder}
 use Rattle.topic_universe.specs.Names.{HaveSameNames}
 use Rattle.topics_pool.specs.Rows.{IsBookOf, doc_names, grade_in, topic_names}
 
 -- a topic of this name over these documents, each with the grade that topic t of the qrels gives it
-abbrev pub book_over : List JudgedTopic → ℕ → List ℕ → List (List ℕ) → Book
-book_over qrels t name docs = record { name = name; docs = docs; grades = map (grade_in (documents_at qrels t)) docs }
+abbrev pub book_over : List TopicRows → ℕ → List ℕ → List (List ℕ) → Book
+book_over qrels t name docs = record { name = name; docs = docs; grades = map (grade_in (rows_at qrels t)) docs }
 
 -- the topics of the qrels, ascending
-pub record AreBooksOf (qrels : List JudgedTopic) (runs : List Run) (books : List Book) : Type 0 where
+pub record AreBooksOf (qrels : List TopicRows) (runs : List Run) (books : List Book) : Type 0 where
   pub sound : All IsBook books
   pub of_rows : All (IsBookOf qrels runs) books
   pub ascending : AreAscending (topic_names books)

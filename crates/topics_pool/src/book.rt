@@ -4,7 +4,7 @@ ghost use Rattle.std.specs.List.{AllZip, list_any};
 ghost use Rattle.std.specs.Str.{bytes_eq};
 ghost use Rattle.desk_model.specs.Name.{is_name};
 ghost use Rattle.desk_model.specs.Book.{IsBook};
-ghost use Rattle.qrels_reader.specs.Grouped.{documents_at, names_of};
+ghost use Rattle.file_rows.specs.Grouped.{rows_at, names_of};
 ghost use Rattle.run_reader.specs.declared.limits.TheConstants.{MOST_RUN_ROWS};
 ghost use Rattle.topic_universe.specs.Names.{AreNames, AreAmong};
 ghost use Rattle.topic_universe.specs.Universe.{listed};
@@ -13,7 +13,8 @@ ghost use Rattle.topics_pool.specs.Made.{AreBooksOf, AreRankingsOf, HaveOneMore,
 
 use crate::rankings::rank_topic;
 use desk_model::{Name, Ranking, TopicBook};
-use qrels_reader::{NameIndex, Qrels};
+use file_rows::NameIndex;
+use qrels_reader::Qrels;
 use run_reader::RunRows;
 use std::alloc::{AllocError, Global};
 use topic_universe::{
@@ -22,8 +23,8 @@ use topic_universe::{
 
 // The grade that the qrels give a document of topic `t`, where they list it.
 fn listed_grade(qrels: &Qrels, t: usize, names: &NameIndex<'_>, doc: &[u8]) -> Option<i32>
-    requires { names.now ≡ listed (documents_at qrels.now t) }
-    ensures { result ≡ grade_in (documents_at qrels.now t) doc.now }
+    requires { names.now ≡ listed (rows_at qrels.now t) }
+    ensures { result ≡ grade_in (rows_at qrels.now t) doc.now }
 {
     match names.place(doc) {
         Some(i) => Some(qrels.grade(t, i)),
@@ -38,7 +39,7 @@ fn listed_grades(
     docs: &[Name],
 ) -> Result<Vec<Option<i32>>, AllocError>
     requires { t < length qrels.now }
-    ensures { IfOk result (λ grades. grades.items ≡ map (grade_in (documents_at qrels.now t)) docs.now) }
+    ensures { IfOk result (λ grades. grades.items ≡ map (grade_in (rows_at qrels.now t)) docs.now) }
 {
     let names = listed_names(alloc, qrels, t)?;
     let mut grades = Vec::with_capacity(alloc, docs.len())?;

@@ -13,8 +13,8 @@ use Rattle.std.proofs.lemmas.List.{get_or_default, get_or-map, length-map}
 use Rattle.std.proofs.lemmas.Map.Keys.{apart_from_distinct, sorted_from_all_adjacent}
 use Rattle.std.proofs.lemmas.Map.Lookups.{exact_bytes}
 use Rattle.desk_model.specs.Name.{name_cmp}
-use Rattle.qrels_reader.proofs.Seen.{laws}
-use Rattle.run_reader.specs.Run.{Scored}
+use Rattle.file_rows.proofs.Seen.{laws}
+use Rattle.file_rows.specs.Grouped.{Valued}
 use Rattle.trec_order.specs.Order.{trec_cmp}
 use Rattle.trec_order.specs.Entry.{Entry, row_of, AreInOrder}
 
@@ -27,13 +27,13 @@ then_equal Equal s e = e
 then_equal Greater s e = absurd (cc)
 
 -- of two rows with other names, one that is not later stands before
-stands_before : (a b : Scored) → is_lt (trec_cmp b a) ≡ false → bytes_eq a.document b.document ≡ false → trec_cmp a b ≡ Less
+stands_before : (a b : Valued) → is_lt (trec_cmp b a) ≡ false → bytes_eq a.document b.document ≡ false → trec_cmp a b ≡ Less
 stands_before a b early other = by (trec_cmp a b) refl
   where
     by : (r : Ordering) → trec_cmp a b ≡ r → trec_cmp a b ≡ Less
     by Less e = e
     by Equal e =
-        let same : b.document ≡ a.document = exact_bytes b.document a.document (then_equal (int_cmp b.score a.score) (name_cmp b.document a.document) e) in
+        let same : b.document ≡ a.document = exact_bytes b.document a.document (then_equal (int_cmp b.value a.value) (name_cmp b.document a.document) e) in
         absurd (true≢false (sym (ap (bytes_eq a.document) same ∙ laws.refl a.document) ∙ other))
     by Greater e =
         let less : trec_cmp b a ≡ Less = trec_total.antisymm b a ∙ ap ordering_reverse e in
@@ -65,22 +65,22 @@ in_order (e ∷ es) distinct h = sorted_from_all_adjacent trec_total (map row_of
         let here = get_or-map row_of (e ∷ es) k e (row_of e) (omega arith) in
         let there = get_or-map row_of (e ∷ es) (k + 1) e (row_of e) lt in
         let rows = length-map (e ∷ es) row_of in
-        let sizes = length-map (map row_of (e ∷ es)) (λ (row : Scored). row.document) in
+        let sizes = length-map (map row_of (e ∷ es)) (λ (row : Valued). row.document) in
         let apart = apart_from_distinct bytes_eq (map (λ row. row.document) (map row_of (e ∷ es))) k (k + 1) [] distinct (omega arith) (omega arith) in
-        let name = get_or-map (λ (row : Scored). row.document) (map row_of (e ∷ es)) k (row_of e) [] (omega arith) in
-        let name' = get_or-map (λ (row : Scored). row.document) (map row_of (e ∷ es)) (k + 1) (row_of e) [] (omega arith) in
+        let name = get_or-map (λ (row : Valued). row.document) (map row_of (e ∷ es)) k (row_of e) [] (omega arith) in
+        let name' = get_or-map (λ (row : Valued). row.document) (map row_of (e ∷ es)) (k + 1) (row_of e) [] (omega arith) in
         stands_before (get_or (map row_of (e ∷ es)) k (row_of e)) (get_or (map row_of (e ∷ es)) (k + 1) (row_of e))
         ((λ i. is_lt (trec_cmp (there i) (here i))) ∙ h k e lt)
         ((λ i. bytes_eq (sym name i) (sym name' i)) ∙ apart)
 
 -- one more row
-pub row_more : (rows : List Scored) (i : ℕ) (document : List ℕ) (score : ℤ) → option_map (λ row. row.document) (slice_get rows i) ≡ Some document → option_map (λ row. row.score) (slice_get rows i) ≡ Some score
-    → take i rows ++ record { document = document; score = score } ∷ [] ≡ take (suc i) rows
+pub row_more : (rows : List Valued) (i : ℕ) (document : List ℕ) (score : ℤ) → option_map (λ row. row.document) (slice_get rows i) ≡ Some document → option_map (λ row. row.value) (slice_get rows i) ≡ Some score
+    → take i rows ++ record { document = document; value = score } ∷ [] ≡ take (suc i) rows
 row_more [] i document score d s = (let none : None ≡ Some document = d in absurd (cc))
 row_more (x ∷ xs) zero document score d s =
     let p : x.document ≡ document = cc in
-    let q : x.score ≡ score = cc in
-    λ j. record { document = sym p j; score = sym q j } ∷ []
+    let q : x.value ≡ score = cc in
+    λ j. record { document = sym p j; value = sym q j } ∷ []
 row_more (x ∷ xs) (suc i) document score d s = ap (λ rest. x ∷ rest) (row_more xs i document score d s)
 
 -- what holds of a result in two parts holds as a whole

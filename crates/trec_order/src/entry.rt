@@ -7,7 +7,7 @@ ghost use Rattle.trec_order.specs.Order.{trec_cmp};
 ghost use Rattle.trec_order.specs.Entry.{row_of, AreInOrder};
 
 use decimal_score::Score;
-use run_reader::ScoredRows;
+use file_rows::ValuedRows;
 use std::alloc::{AllocError, Global};
 use std::cmp::Reverse;
 
@@ -15,12 +15,12 @@ use std::cmp::Reverse;
 pub type Entry<'r> = (Reverse<&'r Score>, Reverse<&'r [u8]>);
 
 /// The rows, in their own order.
-pub fn entries_of(alloc: Global, rows: &ScoredRows) -> Result<Vec<Entry<'_>>, AllocError>
+pub fn entries_of(alloc: Global, rows: &ValuedRows<Score>) -> Result<Vec<Entry<'_>>, AllocError>
     ensures { IfOk result (λ entries. map row_of entries.items ≡ rows.now) }
 {
     let mut entries = Vec::with_capacity(alloc, rows.len())?;
     for i in 0..rows.len() {
-        entries.push((Reverse(rows.score(i)), Reverse(rows.document(i))))?;
+        entries.push((Reverse(rows.value(i)), Reverse(rows.document(i))))?;
     }
     Ok(entries)
 }
@@ -51,7 +51,7 @@ fn in_order(entries: Vec<Entry<'_>>) -> Result<Vec<Entry<'_>>, AllocError>
 }
 
 /// The rows in trec_eval's order.
-pub fn ranked(alloc: Global, rows: &ScoredRows) -> Result<Vec<Entry<'_>>, AllocError>
+pub fn ranked(alloc: Global, rows: &ValuedRows<Score>) -> Result<Vec<Entry<'_>>, AllocError>
     requires { IsDistinct bytes_eq (map (λ row. row.document) rows.now) }
     ensures once { IfOk result (λ entries. IsPermutation rows.now (map row_of entries.items)) }
     ensures ordered { IfOk result (λ entries. IsStrictlySortedBy trec_cmp (map row_of entries.items)) }

@@ -1,6 +1,7 @@
 // The names of a topic's rows in trec_eval's order.
 ghost use Rattle.std.specs.Prelude.{◌≡◌, ◌<◌, ℕ, List, length, IfOk, slice_get, Some};
-ghost use Rattle.run_reader.specs.Run.{Scored, rows_on_topic};
+ghost use Rattle.file_rows.specs.Grouped.{Valued};
+ghost use Rattle.run_reader.specs.Run.{rows_on_topic};
 ghost use Rattle.trec_order.specs.Order.{IsTrecOrder};
 
 use crate::entry::{Entry, ranked};
@@ -63,5 +64,5 @@ pub fn ranking<'r>(
 
 /// The order fixes the list: two lists of names in trec_eval's order over the same rows are one.
 pub fn order_is_one()
-    ensures { (rows : List Scored) (a b : List (List ℕ)) → IsTrecOrder rows a → IsTrecOrder rows b → a ≡ b }
+    ensures { (rows : List Valued) (a b : List (List ℕ)) → IsTrecOrder rows a → IsTrecOrder rows b → a ≡ b }
 {}

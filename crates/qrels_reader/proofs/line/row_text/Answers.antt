@@ -7,12 +7,13 @@ use Rattle.desk_text.specs.Numbers.{whole_of}
 use Rattle.desk_text.specs.declared.line.TheConstants.{LONGEST_LINE}
 use Rattle.std.proofs.Math.Bool.{or-true}
 use Rattle.qrels_reader.specs.declared.limits.TheConstants.{LEAST_GRADE, GREATEST_GRADE}
-use Rattle.qrels_reader.specs.Reading.{field, is_long}
+use Rattle.file_rows.specs.Reading.{field, is_long}
 use Rattle.qrels_reader.specs.Reader.{row_said}
 use Rattle.qrels_reader.proofs.Grades.{whole_of_within}
 use Rattle.qrels_reader.specs.Rows.{grade_of, row_of}
-use Rattle.qrels_reader.proofs.Places.{is_some-position}
-use Rattle.qrels_reader.proofs.Chains.{form_is, is_some-from, is_none-from}
+use Rattle.file_rows.proofs.Places.{is_some-position}
+use Rattle.qrels_reader.proofs.Chains.{form_is}
+use Rattle.file_rows.proofs.Chains.{is_some-from, is_none-from}
 use Rattle.qrels_reader.proofs.line.row_text.Goals as goal
 
 pub returns-in_default : goal.returns-in_default
@@ -68,5 +69,5 @@ returns c =
     let most : c.in-Some.grade ≤ℤ GREATEST_GRADE = within.1 in
     let kept : to_z w16 (of_z w16 (to_z w64 (of_z w64 c.in-Some.grade))) ≡ c.in-Some.grade = omega (arith, ints) in
     let row : row_said (record { topic = c.text-topic.result; document = c.text-document.result; grade = to_z w16 (of_z w16 (to_z w64 (of_z w64 c.in-Some.grade))) }) ≡ row_of line =
-    λ i. record { topic = c.text-topic.ensures i; document = c.text-document.ensures i; grade = (kept ∙ sym (ap (λ o. unwrap_or o (pos 0)) found)) i } in
+    λ i. record { topic = c.text-topic.ensures i; document = c.text-document.ensures i; value = (kept ∙ sym (ap (λ o. unwrap_or o (pos 0)) found)) i } in
     ap Ok row ∙ sym (form_is line false false false false false short good four names (ap is_none found))

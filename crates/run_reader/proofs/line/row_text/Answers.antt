@@ -5,9 +5,9 @@ use Rattle.std.proofs.lemmas.Bool.{le-ltb, eq-eqb, ne_eqb}
 use Rattle.desk_text.specs.Lines.{is_bad, fields_of}
 use Rattle.desk_text.specs.declared.line.TheConstants.{LONGEST_LINE}
 use Rattle.decimal_score.specs.Reading.{score_of}
-use Rattle.qrels_reader.specs.Reading.{field, is_long}
-use Rattle.qrels_reader.proofs.Places.{is_some-position}
-use Rattle.qrels_reader.proofs.Chains.{is_some-from, is_none-from}
+use Rattle.file_rows.specs.Reading.{field, is_long}
+use Rattle.file_rows.proofs.Places.{is_some-position}
+use Rattle.file_rows.proofs.Chains.{is_some-from, is_none-from}
 use Rattle.run_reader.specs.Rows.{tag_of, row_of, line_fault}
 use Rattle.run_reader.specs.Reader.{row_said}
 use Rattle.run_reader.proofs.Chains.{formed_is}
@@ -47,8 +47,8 @@ returns-in-Ok-read_score-clause-row c =
     (λ i. is_long (sym c.text-topic.ensures i) || (is_long (sym c.text-document.ensures i) || is_long (sym c.text-tag.ensures i))) ∙ sym c.has_long.ensures ∙ c.if-has_long.false in
     let score : score_of (field line 4) ≡ Ok c.in-Ok-read_score.score = ap score_of (sym c.text.ensures) ∙ sym c.read_score.ensures.value ∙ c.in-Ok-read_score.is in
     let row : Ok (row_said (record { topic = c.text-topic.result; document = c.text-document.result; score = c.in-Ok-read_score.score; tag = c.text-tag.result })) ≡ row_of line =
-    (λ i. Ok (record { topic = c.text-topic.ensures i; document = c.text-document.ensures i; score = c.in-Ok-read_score.score }))
-    ∙ sym (ap (result_map_both (λ s. record { topic = field line 0; document = field line 2; score = s }) line_fault) score) in
+    (λ i. Ok (record { topic = c.text-topic.ensures i; document = c.text-document.ensures i; value = c.in-Ok-read_score.score }))
+    ∙ sym (ap (result_map_both (λ s. record { topic = field line 0; document = field line 2; value = s }) line_fault) score) in
     row ∙ sym (formed_is line false false false false short good six names)
 
 pub returns-in-Err-clause-row : goal.returns-in-Err-clause-row
@@ -62,5 +62,5 @@ returns-in-Err-clause-row c =
     (λ i. is_long (sym c.text-topic.ensures i) || (is_long (sym c.text-document.ensures i) || is_long (sym c.text-tag.ensures i))) ∙ sym c.has_long.ensures ∙ c.if-has_long.false in
     let score : score_of (field line 4) ≡ Err c.in-Err.fault = ap score_of (sym c.text.ensures) ∙ sym c.read_score.ensures.value ∙ c.in-Err.is in
     ap Err c.line_fault.ensures
-    ∙ sym (ap (result_map_both (λ s. record { topic = field line 0; document = field line 2; score = s }) line_fault) score)
+    ∙ sym (ap (result_map_both (λ s. record { topic = field line 0; document = field line 2; value = s }) line_fault) score)
     ∙ sym (formed_is line false false false false short good six names)

@@ -1,7 +1,7 @@
 use Rattle.std.proofs.Common.{◌≡◌, take, map}
-use Rattle.qrels_reader.specs.Grouped.{documents_at}
+use Rattle.file_rows.specs.Grouped.{rows_at}
 use Rattle.topics_pool.specs.Rows.{grade_in}
 use Rattle.topics_pool.proofs.book.listed_grades.Given as goal
 
 abbrev pub invariant-loop-doc : goal.invariant-loop-doc
-invariant-loop-doc l = l.grades.items ≡ map (grade_in (documents_at l.qrels l.t)) (take l.doc-index l.docs)
+invariant-loop-doc l = l.grades.items ≡ map (grade_in (rows_at l.qrels l.t)) (take l.doc-index l.docs)

@@ -2,7 +2,7 @@ use Rattle.std.proofs.Common.{◌≡◌, false, sym, ap, ◌∙◌, ◌++◌, �
 use Rattle.std.specs.List.{list_any}
 use Rattle.std.specs.Str.{bytes_eq}
 use Rattle.desk_model.proofs.Nested.{take-there}
-use Rattle.qrels_reader.specs.Grouped.{names_of}
+use Rattle.file_rows.specs.Grouped.{names_of}
 use Rattle.topic_universe.specs.Names.{AreNames}
 use Rattle.topic_universe.proofs.Sets.{AreNames-nil, AreNames-with_name, fresh, added_new}
 use Rattle.topics_pool.proofs.book.qrels_topics.Goals as goal

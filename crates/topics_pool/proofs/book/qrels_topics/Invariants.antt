@@ -1,5 +1,5 @@
 use Rattle.std.proofs.Common.{◌≡◌, take}
-use Rattle.qrels_reader.specs.Grouped.{names_of}
+use Rattle.file_rows.specs.Grouped.{names_of}
 use Rattle.topic_universe.specs.Names.{AreNames}
 use Rattle.topics_pool.proofs.book.qrels_topics.Given as goal
 

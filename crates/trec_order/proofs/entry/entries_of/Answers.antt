@@ -1,6 +1,6 @@
 use Rattle.std.proofs.Common.{List, ◌∷◌, ◌++◌, [], map, take, sym, ap, ◌∙◌, add-one}
 use Rattle.std.proofs.lemmas.List.{map-append}
-use Rattle.run_reader.specs.Run.{Scored}
+use Rattle.file_rows.specs.Grouped.{Valued}
 use Rattle.trec_order.specs.Entry.{row_of}
 use Rattle.trec_order.proofs.Ranks.{row_more}
 use Rattle.trec_order.proofs.entry.entries_of.Goals as goal
@@ -9,7 +9,7 @@ pub loop-i-preserved : goal.loop-i-preserved
 loop-i-preserved c =
     let rows = c.args.rows.now in
     let i = c.loop-i.i in
-    let more = row_more rows i c.document.result.now c.score.result.now c.document.ensures c.score.ensures in
+    let more = row_more rows i c.document.result.now c.value.result.now c.document.ensures c.value.ensures in
     ap (map row_of) c.in_ok-push.ensures.items ∙ map-append row_of c.loop-i.entries.items _
-    ∙ ap (λ (before : List Scored). before ++ record { document = c.document.result.now; score = c.score.result.now } ∷ []) c.loop-i.invariant
+    ∙ ap (λ (before : List Valued). before ++ record { document = c.document.result.now; value = c.value.result.now } ∷ []) c.loop-i.invariant
     ∙ more ∙ ap (λ k. take k rows) (sym (add-one i))

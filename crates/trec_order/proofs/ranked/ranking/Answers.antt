@@ -2,7 +2,7 @@ use Rattle.std.proofs.Common.{[], map, subst, sym, ap}
 use Rattle.std.specs.Prelude.{IsPermutation}
 use Rattle.std.specs.List.Sorted.{IsStrictlySortedBy}
 use Rattle.std.proofs.lemmas.List.Sorted.{IsPermutation-refl}
-use Rattle.run_reader.specs.Run.{Scored}
+use Rattle.file_rows.specs.Grouped.{Valued}
 use Rattle.trec_order.specs.Entry.{row_of}
 use Rattle.trec_order.proofs.ranked.ranking.Goals as goal
 
@@ -12,5 +12,5 @@ returns-in-None c = record {
   ranked = [];
   once = subst (λ rows. IsPermutation rows []) (sym c.in-None.ensures.rows) (IsPermutation-refl []);
   ordered = tt;
-  are_names = ap (λ es. map (λ (row : Scored). row.document) (map row_of es)) c.new.ensures.items;
+  are_names = ap (λ es. map (λ (row : Valued). row.document) (map row_of es)) c.new.ensures.items;
 }

@@ -4,7 +4,8 @@ use Rattle.std.specs.List.{IsDistinct}
 use Rattle.std.specs.Str.{bytes_eq}
 use Rattle.desk_model.specs.Name.{is_name}
 use Rattle.run_reader.specs.declared.limits.TheConstants.{MOST_RANKS}
-use Rattle.run_reader.specs.Run.{Run, Scored, IsRun}
+use Rattle.run_reader.specs.Run.{Run, IsRun}
+use Rattle.file_rows.specs.Grouped.{Valued}
 use Rattle.run_reader.proofs.Right.{rows_in_right}
 use Rattle.run_reader.proofs.run_rows.RunRows.rows_on.Goals as goal
 
@@ -12,7 +13,7 @@ pub returns-clause-distinct : goal.returns-clause-distinct
 unfolding IsDistinct
 returns-clause-distinct c =
     let right = subst IsRun (ap (λ (run : Run). run.topics) c.self.view_is) c.self.invariant.1 in
-    rows_in_right (λ rows. IsDistinct bytes_eq (map (λ (row : Scored). row.document) rows)) tt c.args.self.now.topics right.distinct_documents c.args.topic.now
+    rows_in_right (λ rows. IsDistinct bytes_eq (map (λ (row : Valued). row.document) rows)) tt c.args.self.now.topics right.distinct_documents c.args.topic.now
 
 pub returns-clause-few : goal.returns-clause-few
 returns-clause-few c =

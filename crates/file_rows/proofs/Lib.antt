@@ -1,0 +1,13 @@
+pub mod Cutting
+pub mod Mapped
+pub mod Numbering
+pub mod RowFiles
+pub mod Zipped
+pub mod Seen
+pub mod Grouping
+pub mod Places
+pub mod Chains
+pub mod FieldNames
+pub mod NamedRows
+pub mod PieceLines
+pub mod ReadOn

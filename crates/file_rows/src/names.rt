@@ -1,0 +1,84 @@
+// Names in one row of bytes.
+ghost use Rattle.std.specs.Prelude.{◌≡◌, ◌+◌, ◌^◌, ◌<◌, [], ◌∷◌, ◌++◌, length, sum_by, slice_get, slice_range, ◌≤◌, Some, OnOk, OnErr};
+ghost use Rattle.file_rows.specs.Names.{start_at};
+
+use std::alloc::{AllocError, Global};
+use std::marker::Model;
+
+/// A list of names, kept one behind the other in one row of bytes. Names are numbered from 0.
+#[derive(Drop)]
+pub struct Names {
+    bytes: Vec<u8>,
+    ends: Vec<u32>,
+}
+
+impl Model for Names {
+    ghost use Rattle.std.specs.Prelude.{List, ℕ};
+    ghost use Rattle.file_rows.specs.Names.{cut, IsCut};
+
+    ghost Value = { List (List ℕ) };
+
+    ghost view = { λ n. cut 0 n.ends.items n.bytes.items };
+
+    ghost invariant = { λ n. IsCut 0 n.ends.items n.bytes.items };
+}
+
+impl Names {
+    /// No name. It takes no memory.
+    pub fn new(alloc: Global) -> Names
+        ensures { result ≡ [] }
+    {
+        Names {
+            bytes: Vec::new(alloc),
+            ends: Vec::new(alloc),
+        }
+    }
+
+    /// How many names there are.
+    pub fn len(&self) -> usize
+        ensures { result ≡ length self.now }
+    {
+        self.ends.len()
+    }
+
+    /// Name `i`.
+    pub fn get(&self, i: usize) -> &[u8]
+        requires { i < length self.now }
+        ensures { slice_get self.now i ≡ Some result.now }
+    {
+        let start = start_of(&self.ends, i);
+        let end = self.ends[i] as usize;
+        part(&self.bytes, start, end)
+    }
+
+    /// Puts a copy of a name at the end. It fails only where memory runs out, and then changes nothing.
+    pub fn push(&mut self, name: &[u8]) -> Result<(), AllocError>
+        requires { sum_by length self.old + length name.now < 2 ^ 32 }
+        ensures ok { OnOk result (self.new ≡ self.old ++ name.now ∷ []) }
+        ensures err { OnErr result (self.new ≡ self.old) }
+    {
+        let end = (self.bytes.len() + name.len()) as u32;
+        self.ends.reserve(1)?;
+        self.bytes.extend_from_slice(name)?;
+        match self.ends.push(end) {
+            Ok(()) => Ok(()),
+            Err(_) => unreachable!(),
+        }
+    }
+}
+
+// Where a name begins.
+fn start_of(ends: &[u32], i: usize) -> usize
+    requires { i < length ends.now }
+    ensures { result ≡ start_at 0 ends.now i }
+{
+    if i == 0 { 0 } else { ends[i - 1] as usize }
+}
+
+fn part(bytes: &[u8], start: usize, end: usize) -> &[u8]
+    requires start { start ≤ end }
+    requires end { end ≤ length bytes.now }
+    ensures { result.now ≡ slice_range bytes.now start end }
+{
+    &bytes[start..end]
+}

@@ -1,9 +1,0 @@
-use Rattle.std.proofs.Common.{true, sym, ap, ◌≡◌, ◌∙◌}
-use Rattle.std.specs.Prelude.{not}
-use Rattle.qrels_reader.specs.Grouped.{is_topic}
-use Rattle.run_reader.proofs.Places.{placed_has}
-use Rattle.run_reader.proofs.reader.RunReader.lacks.Goals as goal
-
-pub returns-in-Some : goal.returns-in-Some
-returns-in-Some c =
-    ap not (sym (placed_has (λ name. is_topic name c.args.self.now.qrels.now ≡ true) c.args.topic.now c.args.self.now.gathered.kept _ c.requires.sound.known (sym c.requires.place ∙ c.in-Some.is)))

@@ -1,0 +1,13 @@
+use Rattle.std.proofs.Common.{◌∷◌, [], refl, ap, subst}
+use Rattle.std.specs.Prelude.{is_some}
+use Rattle.run_reader.specs.Reader.{HasRead}
+use Rattle.run_reader.specs.Stays.{stays}
+use Rattle.run_reader.proofs.Progress.{too_long}
+use Rattle.run_reader.proofs.row_reader.RowReader.read_long.Goals as goal
+
+pub returns-in-Some-clause-read : goal.returns-in-Some-clause-read
+returns-in-Some-clause-read c before line long h = stays c.args.self.now.fault c.args.self.now before (line ∷ []) (ap is_some c.in-Some.is) h
+
+pub returns-in-None-clause-read : goal.returns-in-None-clause-read
+returns-in-None-clause-read c before line long h =
+    too_long c.args.self.now c.args.self.now before line refl (subst (λ f. HasRead f c.args.self.now before) c.in-None.is h) c.too_long.result c.too_long.ensures long

@@ -1,0 +1,24 @@
+use Rattle.std.proofs.Common.{◌++◌, ◌∷◌, [], refl, ap, sym, subst, ◌∙◌}
+use Rattle.std.specs.Prelude.{is_some}
+use Rattle.run_reader.specs.Reader.{HasRead, IsReady}
+use Rattle.run_reader.specs.Stays.{stays}
+use Rattle.run_reader.proofs.Progress.{gathered, refused}
+use Rattle.run_reader.proofs.row_reader.RowReaderLineReader.read.Goals as goal
+
+pub read_next-requires : goal.read_next-requires
+read_next-requires c = subst (λ f. IsReady f c.args.self.now) c.in-None.is c.requires
+
+pub returns-in-Some-clause-read : goal.returns-in-Some-clause-read
+returns-in-Some-clause-read c before h = stays c.args.self.now.fault c.args.self.now before (c.args.line.now ∷ []) (ap is_some c.in-Some.is) h
+
+pub returns-in-Ok-clause-ready : goal.returns-in-Ok-clause-ready
+returns-in-Ok-clause-ready c = subst (λ f. IsReady f c.read_next.new.self) (sym (c.in-Ok.ensures.fault ∙ c.in-None.is)) c.in-Ok.ensures.sound
+
+pub returns-in-Ok-clause-read : goal.returns-in-Ok-clause-read
+returns-in-Ok-clause-read c before h =
+    subst (λ f. HasRead f c.read_next.new.self (before ++ c.args.line.now ∷ [])) (sym (c.in-Ok.ensures.fault ∙ c.in-None.is))
+    (gathered c.args.self.now c.read_next.new.self before c.args.line.now c.in-Ok.ensures.beside (subst (λ f. HasRead f c.args.self.now before) c.in-None.is h) c.in-Ok.ensures.read c.in-Ok.ensures.lines c.in-Ok.ensures.name)
+
+pub returns-in-Err-clause-read : goal.returns-in-Err-clause-read
+returns-in-Err-clause-read c before h =
+    refused c.args.self.now c.read_next.new.self before c.args.line.now c.in-Err.ensures.beside (subst (λ f. HasRead f c.args.self.now before) c.in-None.is h) c.in-Err.fault c.read_next.new.self.gathered.kept c.in-Err.ensures.read
