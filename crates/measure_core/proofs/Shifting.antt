@@ -27,7 +27,7 @@ all_shifted shift weight before now end h whole = record { count = h.count; each
 pub room_at : (shift : Shift) (weight : ℕ → ℕ) (before now : List ℕ) (end : ℕ) → AreShiftedTo shift weight before now end → HaveRoom shift weight before → end < length before → HasRoom shift (weight end) (get_or now end 0)
 room_at shift weight before now end h room lt = subst (HasRoom shift (weight end)) (sym (h.kept end (omega arith))) (room end lt)
 
-at_most : (m n : ℕ) → m < n + 1 → (m < n) ⊎ (m ≡ n)
+pub at_most : (m n : ℕ) → m < n + 1 → (m < n) ⊎ (m ≡ n)
 at_most m n h = grind arith
 
 -- a document that weighs nothing

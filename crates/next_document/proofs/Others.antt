@@ -8,11 +8,9 @@ use Rattle.desk_model.specs.declared.types.Verdict.{Verdict}
 use Rattle.measure_core.specs.Shifts.{IsShifted, HaveRoom, AreShifted}
 use Rattle.measure_core.specs.declared.shift.Shift.{Shift}
 use Rattle.measure_core.specs.declared.shift.Shift.TheVariants.{Add, TakeBack}
+use Rattle.measure_core.proofs.Shifting.{at_most}
 use Rattle.next_document.specs.Kept.{AreOver}
 use Rattle.next_document.specs.Moved.{counted, HaveCounted, AreMoved}
-
-at_most : (m n : ℕ) → m < n + 1 → (m < n) ⊎ (m ≡ n)
-at_most m n h = grind arith
 
 -- the totals of the topics below one are shifted, but for the changed topic, and all others are as they were
 pub record AreShiftedBelow (shift : Shift) (weights : ℕ → ℕ → ℕ) (changed end : ℕ) (old now : List (List ℕ)) : Type 0 where

@@ -3,14 +3,10 @@ use Rattle.std.proofs.lemmas.Option.{slice_get-get_or, get_or_from_slice_get}
 use Rattle.desk_model.specs.declared.types.Mark.{Mark}
 use Rattle.desk_model.specs.declared.types.Mark.TheVariants.{Unjudged, Relevant, Other}
 use Rattle.next_document.specs.Proposal.{IsUnjudged}
-use Rattle.next_document.proofs.Choosing.{best_stays, best_of_two, best_of_topic}
+use Rattle.next_document.proofs.Choosing.{judged, best_stays, best_of_two, best_of_topic}
 use Rattle.next_document.specs.Best.{IsBestBefore}
 use Rattle.next_document.proofs.best_kept.best_with_kept_topic.Goals as goal
 use Rattle.next_document.proofs.best_kept.best_with_kept_topic.Goals.{in-Unjudged, in-Relevant}
-
-judged : (m : Mark) → (m ≡ Relevant) ⊎ (m ≡ Other) → m ≡ Unjudged → ⊥
-judged m (inl e) u = let bad : Relevant ≡ Unjudged = sym e ∙ u in absurd (cc)
-judged m (inr e) u = let bad : Other ≡ Unjudged = sym e ∙ u in absurd (cc)
 
 pub loop-doc-preserved : goal.loop-doc-preserved
 loop-doc-preserved c s marks totals earlier =
