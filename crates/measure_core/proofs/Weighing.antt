@@ -9,6 +9,7 @@ use Rattle.desk_model.specs.declared.types.MeasureName.TheVariants.{Precision, R
 use Rattle.measure_laws.specs.Classes.{judged_count}
 use Rattle.measure_laws.specs.Weights.{weight_of, one_side_weight}
 
+-- these two stand in the proofs of judgement_pool as well: neither crate stands on the other
 absent_from : (docs : List ℕ) (doc n k : ℕ) → position_from (λ each. nat_eq each doc) n docs ≡ None → is_in (take k docs) doc ≡ false
 absent_from [] doc n zero h = refl
 absent_from [] doc n (suc k) h = refl

@@ -17,6 +17,7 @@ use Rattle.next_document.specs.Total.{standing}
 either : (m n : ℕ) → (m < n) ⊎ (n ≤ m)
 either m n = grind arith
 
+-- it stands in the proofs of rprec as well: neither crate stands on the other
 same_or_not : (m n : ℕ) → (m ≡ n) ⊎ (m ≢ n)
 same_or_not m n = grind arith
 
