@@ -2,15 +2,15 @@
 use Rattle.std.proofs.Common.{◌≡◌, ℕ, List, ap, sym, ◌∙◌, inl, inr}
 use Rattle.std.specs.Prelude.{Option, Some, None, Result, Ok, Err, IfSome}
 use Rattle.desk_outside.specs.Outside.{Files}
-use Rattle.qrels_reader.specs.declared.fault.FileFault.{FileFault}
-use Rattle.qrels_reader.specs.declared.fault.FileFault.TheVariants.{Memory}
+use Rattle.file_rows.specs.declared.fault.FileFault.{FileFault}
+use Rattle.file_rows.specs.declared.fault.FileFault.TheVariants.{Memory}
 use Rattle.desk_files.specs.declared.stop.Stop.{Stop}
 use Rattle.desk_files.specs.declared.stop.Stop.TheVariants as stops
 use Rattle.desk_files.specs.Files.{Refusal, Refused, NoMemory, whole_file, halt_at, or_faulty, file_as, ◌>>=◌}
 use Rattle.desk_files.specs.Outcome.{Stops}
 use Rattle.desk_files.specs.Stopped.{IsStopOf}
 use Rattle.desk_files.specs.Views.{refusal_of}
-use Rattle.qrels_reader.specs.Reading.{IsUnlessMemory}
+use Rattle.file_rows.specs.Reading.{IsUnlessMemory}
 
 -- what a whole file says to a reader
 pub said : {X : Type 0} (read : List ℕ → Result X FileFault) (files : Files) (path bytes : List ℕ) (r : Result X FileFault) → whole_file path (files path) ≡ Ok bytes → r ≡ read bytes → file_as read files path ≡ or_faulty path r

@@ -4,7 +4,8 @@ use Rattle.std.specs.List.{find, range_with_len}
 use Rattle.std.proofs.lemmas.Bool.{lt-leb}
 use Rattle.std.specs.Prelude.{Option, Some, None, Result, Ok, Err, IfSome}
 use Rattle.desk_outside.specs.Outside.{Files}
-use Rattle.qrels_reader.specs.Grouped.{JudgedTopic, qrels_of}
+use Rattle.file_rows.specs.Grouped.{TopicRows}
+use Rattle.qrels_reader.specs.Grouped.{qrels_of}
 use Rattle.run_reader.specs.Run.{Run}
 use Rattle.desk_model.specs.Desk.{Desk}
 use Rattle.topics_pool.specs.Rows.{IsNoFault, run_names, first_repeated, is_repeated, cells_of}
@@ -30,23 +31,23 @@ found_in_range p a (suc n) r e = at (p a) (found_in_range p (a + 1) n r) e
 pub repeated_in : (names : List (List ℕ)) (r : ℕ) → first_repeated names ≡ Some r → r < length names
 repeated_in names r e = omega (arith, found_in_range (is_repeated names) 0 (length names) r e)
 
-pub is_within : (qrels : List JudgedTopic) (runs : List Run) → IsNoFault qrels runs → joined qrels runs ≡ Ok (record { qrels = qrels; runs = runs })
+pub is_within : (qrels : List TopicRows) (runs : List Run) → IsNoFault qrels runs → joined qrels runs ≡ Ok (record { qrels = qrels; runs = runs })
 is_within qrels runs none =
     let loaded : Loaded = record { qrels = qrels; runs = runs } in
     let cells = cells_of qrels runs in
     let refused : Result Loaded Halt = Err (Refused (Excessive cells)) in
     ap (within qrels runs) none.names ∙ ap (λ b. cond b refused (Ok loaded)) (lt-leb (suc MOST_CELLS) cells (omega (arith, none.cells)))
 
-pub is_repeated_at : (qrels : List JudgedTopic) (runs : List Run) (r : ℕ) (name : List ℕ) → first_repeated (run_names runs) ≡ Some r → name ≡ slice_index_or (run_names runs) r [] → joined qrels runs ≡ Err (Refused (Repeated name))
+pub is_repeated_at : (qrels : List TopicRows) (runs : List Run) (r : ℕ) (name : List ℕ) → first_repeated (run_names runs) ≡ Some r → name ≡ slice_index_or (run_names runs) r [] → joined qrels runs ≡ Err (Refused (Repeated name))
 is_repeated_at qrels runs r name e is = ap (within qrels runs) e ∙ ap (λ n. Err (Refused (Repeated n))) (sym is)
 
 -- what the files come to where the qrels and the runs are read
-loads : (held : Files) (sources : Sources) (qrels : List JudgedTopic) (runs : List Run) → file_as qrels_of held sources.qrels ≡ Ok qrels → runs_of held qrels (used_by qrels) sources.runs ≡ Ok runs → loaded held sources ≡ joined qrels runs
+loads : (held : Files) (sources : Sources) (qrels : List TopicRows) (runs : List Run) → file_as qrels_of held sources.qrels ≡ Ok qrels → runs_of held qrels (used_by qrels) sources.runs ≡ Ok runs → loaded held sources ≡ joined qrels runs
 unfolding loaded_from
 loads held sources qrels runs e f =
     ap (λ q. q >>= (λ qrels. runs_of held qrels (used_by qrels) sources.runs >>= (λ runs. joined qrels runs))) e ∙ ap (λ r. r >>= (λ runs. joined qrels runs)) f
 
-module _ (sources : Sources) (qrels : List JudgedTopic) (runs : List Run) where
+module _ (sources : Sources) (qrels : List TopicRows) (runs : List Run) where
   -- a desk of the rows is one of the files
   pub makes_joined : (told : Option Files) (before now : ℕ) (result : Result Desk Stop) → IfSome told (λ held. file_as qrels_of held sources.qrels ≡ Ok qrels) → IfSome told (λ held. runs_of held qrels (used_by qrels) sources.runs ≡ Ok runs) → Joins qrels runs result → Makes told before now sources result
   makes_joined None before now (Ok desk) e f joins = (record { qrels = qrels; runs = runs }, tt, joins.1)
@@ -62,7 +63,7 @@ unfolding loaded_from
 stops_at_qrels held sources halt e = ap (λ q. q >>= (λ qrels. runs_of held qrels (used_by qrels) sources.runs >>= (λ runs. joined qrels runs))) e
 
 -- what stops at a run
-pub stops_at_runs : (held : Files) (sources : Sources) (qrels : List JudgedTopic) (halt : Halt) → file_as qrels_of held sources.qrels ≡ Ok qrels → runs_of held qrels (used_by qrels) sources.runs ≡ Err halt → loaded held sources ≡ Err halt
+pub stops_at_runs : (held : Files) (sources : Sources) (qrels : List TopicRows) (halt : Halt) → file_as qrels_of held sources.qrels ≡ Ok qrels → runs_of held qrels (used_by qrels) sources.runs ≡ Err halt → loaded held sources ≡ Err halt
 unfolding loaded_from
 stops_at_runs held sources qrels halt e f =
     ap (λ q. q >>= (λ qrels. runs_of held qrels (used_by qrels) sources.runs >>= (λ runs. joined qrels runs))) e ∙ ap (λ r. r >>= (λ runs. joined qrels runs)) f

@@ -3,7 +3,8 @@ use Rattle.std.proofs.Common.{◌≡◌, ℕ, List, [], ◌∷◌, ◌++◌, ref
 use Rattle.std.specs.Prelude.{Option, Some, None, Result, Ok, Err, IfSome}
 use Rattle.desk_outside.specs.Outside.{Files}
 use Rattle.desk_words.specs.declared.command.RunWord.{RunWord}
-use Rattle.qrels_reader.specs.Grouped.{JudgedTopic, qrels_of}
+use Rattle.file_rows.specs.Grouped.{TopicRows}
+use Rattle.qrels_reader.specs.Grouped.{qrels_of}
 use Rattle.run_reader.specs.Run.{Run, run_of}
 use Rattle.run_reader.specs.declared.used.Used.{Used}
 use Rattle.topics_pool.specs.Rows.{first_repeated, run_names}
@@ -11,24 +12,24 @@ use Rattle.desk_files.specs.Files.{Halt, ◌>>=◌, file_as}
 use Rattle.desk_files.specs.Load.{Sources, Loaded, loaded, loaded_from, runs_of, within, paths_to_open, used_by, if_read, runs_to_open, paths_of, MayOpen, DeskMayOpen, Opens}
 
 -- the names that RUN words may open are these, and then those of the words that are left
-pub record Continues (told : Option Files) (qrels : List JudgedTopic) (first : Used) (all : List RunWord) (used : Used) (names : List (List ℕ)) (words : List RunWord) : Type 0 where
+pub record Continues (told : Option Files) (qrels : List TopicRows) (first : Used) (all : List RunWord) (used : Used) (names : List (List ℕ)) (words : List RunWord) : Type 0 where
   pub paths : paths_of all ≡ names ++ paths_of words
   pub readable : IfSome told (λ held. runs_to_open held qrels first all ≡ names ++ runs_to_open held qrels used words)
 
 -- the names that were opened so far
-pub record OpensSoFar (told : Option Files) (qrels : List JudgedTopic) (first : Used) (all : List RunWord) (used : Used) (words : List RunWord) (had has : List (List ℕ)) : Type 0 where
+pub record OpensSoFar (told : Option Files) (qrels : List TopicRows) (first : Used) (all : List RunWord) (used : Used) (words : List RunWord) (had has : List (List ℕ)) : Type 0 where
   pub names : List (List ℕ)
   pub continues : Continues told qrels first all used names words
   pub added : has ≡ had ++ names
 
-if_any : (told : Option Files) (qrels : List JudgedTopic) (used : Used) (words : List RunWord) → IfSome told (λ held. runs_to_open held qrels used words ≡ [] ++ runs_to_open held qrels used words)
+if_any : (told : Option Files) (qrels : List TopicRows) (used : Used) (words : List RunWord) → IfSome told (λ held. runs_to_open held qrels used words ≡ [] ++ runs_to_open held qrels used words)
 if_any None qrels used words = tt
 if_any (Some held) qrels used words = refl
 
-pub opens_none : (told : Option Files) (qrels : List JudgedTopic) (used : Used) (words : List RunWord) (had : List (List ℕ)) → OpensSoFar told qrels used words used words had had
+pub opens_none : (told : Option Files) (qrels : List TopicRows) (used : Used) (words : List RunWord) (had : List (List ℕ)) → OpensSoFar told qrels used words used words had had
 opens_none told qrels used words had = record { names = []; continues = record { paths = refl; readable = if_any told qrels used words }; added = sym (append-nil had) }
 
-module _ (qrels : List JudgedTopic) (first : Used) (all : List RunWord) (used : Used) (word : RunWord) (words : List RunWord) (had before now : List (List ℕ)) where
+module _ (qrels : List TopicRows) (first : Used) (all : List RunWord) (used : Used) (word : RunWord) (words : List RunWord) (had before now : List (List ℕ)) where
   one_more : (names : List (List ℕ)) → before ≡ had ++ names → now ≡ before ++ word.path ∷ [] → now ≡ had ++ (names ++ word.path ∷ [])
   one_more names e f = f ∙ ap (λ xs. xs ++ word.path ∷ []) e ∙ append_assoc had names (word.path ∷ [])
 
@@ -60,12 +61,12 @@ module _ (qrels : List JudgedTopic) (first : Used) (all : List RunWord) (used : 
   pub opens_last : (told : Option Files) → OpensSoFar told qrels first all used (word ∷ words) had before → now ≡ before ++ word.path ∷ [] → Opens (MayOpen told (λ held. runs_to_open held qrels first all) (paths_of all)) had now
   opens_last told so_far e = record { names = so_far.names ++ word.path ∷ []; allowed = may_open told so_far.names so_far.continues; added = one_more so_far.names so_far.added e }
 
-may_open_all : (told : Option Files) (qrels : List JudgedTopic) (first : Used) (all : List RunWord) (used : Used) (names : List (List ℕ)) → Continues told qrels first all used names [] → MayOpen told (λ held. runs_to_open held qrels first all) (paths_of all) names
+may_open_all : (told : Option Files) (qrels : List TopicRows) (first : Used) (all : List RunWord) (used : Used) (names : List (List ℕ)) → Continues told qrels first all used names [] → MayOpen told (λ held. runs_to_open held qrels first all) (paths_of all) names
 may_open_all None qrels first all used names h = ([], h.paths)
 may_open_all (Some held) qrels first all used names h = ([], h.readable)
 
 -- all files were read
-pub opens_all : (told : Option Files) (qrels : List JudgedTopic) (first : Used) (all : List RunWord) (used : Used) (had now : List (List ℕ)) → OpensSoFar told qrels first all used [] had now → Opens (MayOpen told (λ held. runs_to_open held qrels first all) (paths_of all)) had now
+pub opens_all : (told : Option Files) (qrels : List TopicRows) (first : Used) (all : List RunWord) (used : Used) (had now : List (List ℕ)) → OpensSoFar told qrels first all used [] had now → Opens (MayOpen told (λ held. runs_to_open held qrels first all) (paths_of all)) had now
 opens_all told qrels first all used had now so_far = record { names = so_far.names; allowed = may_open_all told qrels first all used so_far.names so_far.continues; added = so_far.added }
 
 -- the qrels may be opened
@@ -74,11 +75,11 @@ may_open_qrels None sources = (paths_of sources.runs, refl)
 may_open_qrels (Some held) sources = (if_read (file_as qrels_of held sources.qrels) (λ qrels. runs_to_open held qrels (used_by qrels) sources.runs), refl)
 
 -- each of the RUN words' paths was opened
-pub opened_all : (told : Option Files) (qrels : List JudgedTopic) (first : Used) (all : List RunWord) (used : Used) (had now : List (List ℕ)) → OpensSoFar told qrels first all used [] had now → now ≡ had ++ paths_of all
+pub opened_all : (told : Option Files) (qrels : List TopicRows) (first : Used) (all : List RunWord) (used : Used) (had now : List (List ℕ)) → OpensSoFar told qrels first all used [] had now → now ≡ had ++ paths_of all
 opened_all told qrels first all used had now so_far = so_far.added ∙ ap (λ xs. had ++ xs) (sym (append-nil so_far.names) ∙ sym so_far.continues.paths)
 
 -- where all runs are read, none of their paths is left out
-all_readable : (held : Files) (qrels : List JudgedTopic) (used : Used) (words : List RunWord) (runs : List Run) → runs_of held qrels used words ≡ Ok runs → runs_to_open held qrels used words ≡ paths_of words
+all_readable : (held : Files) (qrels : List TopicRows) (used : Used) (words : List RunWord) (runs : List Run) → runs_of held qrels used words ≡ Ok runs → runs_to_open held qrels used words ≡ paths_of words
 all_readable held qrels used [] runs e = refl
 all_readable held qrels used (word ∷ words) runs e = at (file_as (run_of word.name qrels used) held word.path) (λ run runs. all_readable held qrels run.used words runs) e
   where
@@ -98,12 +99,12 @@ pub loaded_opens_all : (held : Files) (sources : Sources) (rows : Loaded) → lo
 unfolding loaded_from
 loaded_opens_all held sources rows e = at (file_as qrels_of held sources.qrels) e
   where
-    next : (qrels : List JudgedTopic) (r : Result (List Run) Halt) → runs_of held qrels (used_by qrels) sources.runs ≡ r → (r >>= (λ runs. within qrels runs (first_repeated (run_names runs)))) ≡ Ok rows →
+    next : (qrels : List TopicRows) (r : Result (List Run) Halt) → runs_of held qrels (used_by qrels) sources.runs ≡ r → (r >>= (λ runs. within qrels runs (first_repeated (run_names runs)))) ≡ Ok rows →
         runs_to_open held qrels (used_by qrels) sources.runs ≡ paths_of sources.runs
     next qrels (Err halt) is e = absurd (cc)
     next qrels (Ok runs) is e = all_readable held qrels (used_by qrels) sources.runs runs is
 
-    at : (q : Result (List JudgedTopic) Halt) → (q >>= (λ qrels. runs_of held qrels (used_by qrels) sources.runs >>= (λ runs. within qrels runs (first_repeated (run_names runs))))) ≡ Ok rows →
+    at : (q : Result (List TopicRows) Halt) → (q >>= (λ qrels. runs_of held qrels (used_by qrels) sources.runs >>= (λ runs. within qrels runs (first_repeated (run_names runs))))) ≡ Ok rows →
         (sources.qrels ∷ if_read q (λ qrels. runs_to_open held qrels (used_by qrels) sources.runs)) ≡ sources.qrels ∷ paths_of sources.runs
     at (Err halt) e = absurd (cc)
     at (Ok qrels) e = ap (λ xs. sources.qrels ∷ xs) (next qrels (runs_of held qrels (used_by qrels) sources.runs) refl e)
@@ -113,14 +114,14 @@ pub opens_qrels : (told : Option Files) (sources : Sources) (had has : List (Lis
 opens_qrels told sources had has e = record { names = sources.qrels ∷ []; allowed = may_open_qrels told sources; added = e }
 
 -- where the qrels were read, the runs may be opened after them
-may_open_runs : (told : Option Files) (sources : Sources) (qrels : List JudgedTopic) (names : List (List ℕ)) → IfSome told (λ held. file_as qrels_of held sources.qrels ≡ Ok qrels) →
+may_open_runs : (told : Option Files) (sources : Sources) (qrels : List TopicRows) (names : List (List ℕ)) → IfSome told (λ held. file_as qrels_of held sources.qrels ≡ Ok qrels) →
     MayOpen told (λ held. runs_to_open held qrels (used_by qrels) sources.runs) (paths_of sources.runs) names → DeskMayOpen told sources (sources.qrels ∷ names)
 may_open_runs None sources qrels names read may = (may.0, ap (λ xs. sources.qrels ∷ xs) may.1)
 may_open_runs (Some held) sources qrels names read may =
     (may.0, ap (λ r. sources.qrels ∷ if_read r (λ qrels. runs_to_open held qrels (used_by qrels) sources.runs)) read ∙ ap (λ xs. sources.qrels ∷ xs) may.1)
 
 -- the qrels were opened, and then runs
-pub opens_desk : (told : Option Files) (sources : Sources) (qrels : List JudgedTopic) (had between has : List (List ℕ)) → between ≡ had ++ sources.qrels ∷ [] → IfSome told (λ held. file_as qrels_of held sources.qrels ≡ Ok qrels) →
+pub opens_desk : (told : Option Files) (sources : Sources) (qrels : List TopicRows) (had between has : List (List ℕ)) → between ≡ had ++ sources.qrels ∷ [] → IfSome told (λ held. file_as qrels_of held sources.qrels ≡ Ok qrels) →
     Opens (MayOpen told (λ held. runs_to_open held qrels (used_by qrels) sources.runs) (paths_of sources.runs)) between has → Opens (DeskMayOpen told sources) had has
 opens_desk told sources qrels had between has e read opens = record {
   names = sources.qrels ∷ opens.names;

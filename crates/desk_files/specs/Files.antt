@@ -1,9 +1,9 @@
 -- What files come to, where they are known.
 use Rattle.std.specs.Prelude.{ℕ, nat_le, List, length, if◌then◌else◌, Option, Some, None, Result, Ok, Err}
 use Rattle.desk_outside.specs.Outside.{Files}
-use Rattle.qrels_reader.specs.declared.fault.FileFault.{FileFault}
-use Rattle.qrels_reader.specs.declared.fault.FileFault.TheVariants.{Line, NoTopics, NoTag, Memory}
-use Rattle.qrels_reader.specs.declared.fault.LineFault.{LineFault}
+use Rattle.file_rows.specs.declared.fault.FileFault.{FileFault}
+use Rattle.file_rows.specs.declared.fault.FileFault.TheVariants.{Line, NoTopics, NoTag, Memory}
+use Rattle.file_rows.specs.declared.fault.LineFault.{LineFault}
 use Rattle.desk_files.specs.declared.limits.TheConstants.{LONGEST_FILE}
 
 -- why files are refused

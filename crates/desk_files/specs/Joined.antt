@@ -1,7 +1,7 @@
 -- What the rows of files come to together.
 use Rattle.std.specs.Prelude.{◌≡◌, ℕ, List, Option, Result, Ok, Err}
 use Rattle.desk_outside.specs.Outside.{Files}
-use Rattle.qrels_reader.specs.Grouped.{JudgedTopic}
+use Rattle.file_rows.specs.Grouped.{TopicRows}
 use Rattle.run_reader.specs.Run.{Run}
 use Rattle.desk_model.specs.Desk.{Desk}
 use Rattle.topics_pool.specs.Rows.{IsDeskOf, first_repeated, run_names}
@@ -13,11 +13,11 @@ use Rattle.desk_files.specs.Outcome.{Stops}
 use Rattle.desk_files.specs.Views.{refusal_of}
 
 -- what the rows come to where they stand together
-abbrev pub joined : List JudgedTopic → List Run → Result Loaded Halt
+abbrev pub joined : List TopicRows → List Run → Result Loaded Halt
 joined qrels runs = within qrels runs (first_repeated (run_names runs))
 
 -- a desk is that of the rows, and a refusal is the rows'; memory may run out in the place of either
-abbrev pub Joins : List JudgedTopic → List Run → Result Desk Stop → Type 0
+abbrev pub Joins : List TopicRows → List Run → Result Desk Stop → Type 0
 Joins qrels runs (Ok desk) = (joined qrels runs ≡ Ok (record { qrels = qrels; runs = runs })) × IsDeskOf qrels runs desk
 Joins qrels runs (Err (stops.Refused refusal)) = joined qrels runs ≡ Err (Refused (refusal_of refusal))
 Joins qrels runs (Err stops.Outside) = ⊥

@@ -2,7 +2,8 @@
 use Rattle.std.specs.Prelude.{◌≡◌, ℕ, nat_lt, List, [], ◌∷◌, ◌++◌, map, if◌then◌else◌, Option, Some, None, slice_index_or, Result, Ok, Err, IfSome}
 use Rattle.desk_outside.specs.Outside.{Files}
 use Rattle.desk_words.specs.declared.command.RunWord.{RunWord}
-use Rattle.qrels_reader.specs.Grouped.{JudgedTopic, qrels_of, name_bytes_in}
+use Rattle.file_rows.specs.Grouped.{TopicRows, name_bytes_in}
+use Rattle.qrels_reader.specs.Grouped.{qrels_of}
 use Rattle.run_reader.specs.Run.{Run, run_of}
 use Rattle.run_reader.specs.declared.used.Used.{Used}
 use Rattle.desk_model.specs.Desk.{Desk}
@@ -20,21 +21,21 @@ sources qrels runs = record { qrels = qrels; runs = runs }
 
 -- what the files of a desk say
 pub record Loaded : Type 0 where
-  pub qrels : List JudgedTopic
+  pub qrels : List TopicRows
   pub runs : List Run
 
 -- the runs of RUN words in order, beside the qrels and what the files before them used
-abbrev pub runs_of : Files → List JudgedTopic → Used → List RunWord → Result (List Run) Halt
+abbrev pub runs_of : Files → List TopicRows → Used → List RunWord → Result (List Run) Halt
 runs_of files qrels used [] = Ok []
 runs_of files qrels used (word ∷ words) =
     file_as (run_of word.name qrels used) files word.path >>= (λ run. runs_of files qrels run.used words >>= (λ runs. Ok (run ∷ runs)))
 
 -- nothing but the qrels was read
-abbrev pub used_by : List JudgedTopic → Used
+abbrev pub used_by : List TopicRows → Used
 used_by qrels = record { rows = 0; name_bytes = name_bytes_in qrels }
 
 -- the rows, unless a name comes twice, or there are too many pairs and topics
-abbrev pub within : List JudgedTopic → List Run → Option ℕ → Result Loaded Halt
+abbrev pub within : List TopicRows → List Run → Option ℕ → Result Loaded Halt
 within qrels runs (Some r) = Err (Refused (Repeated (slice_index_or (run_names runs) r [])))
 within qrels runs None =
     if nat_lt MOST_CELLS (cells_of qrels runs) then Err (Refused (Excessive (cells_of qrels runs))) else Ok (record { qrels = qrels; runs = runs })
@@ -54,7 +55,7 @@ if_read (Ok x) next = next x
 if_read (Err halt) next = []
 
 -- the paths of RUN words, up to the first whose file is missing or refused
-abbrev pub runs_to_open : Files → List JudgedTopic → Used → List RunWord → List (List ℕ)
+abbrev pub runs_to_open : Files → List TopicRows → Used → List RunWord → List (List ℕ)
 runs_to_open files qrels used [] = []
 runs_to_open files qrels used (word ∷ words) =
     word.path ∷ if_read (file_as (run_of word.name qrels used) files word.path) (λ run. runs_to_open files qrels run.used words)

@@ -2,7 +2,8 @@
 ghost use Rattle.std.specs.Prelude.{◌≡◌, ◌≤◌, ◌++◌, ◌∷◌, [], ◌+◌, true, length, vec_len, IfSome, IfOk, OnOk};
 ghost use Rattle.std.specs.Option.{option_copied};
 ghost use Rattle.desk_model.specs.Name.{is_name};
-ghost use Rattle.run_reader.specs.Run.{run_of, row_count, IsWithinLimits};
+ghost use Rattle.run_reader.specs.Run.{run_of, IsWithinLimits};
+ghost use Rattle.file_rows.specs.Grouped.{row_count};
 ghost use Rattle.qrels_reader.specs.Grouped.{qrels_of};
 ghost use Rattle.run_reader.specs.declared.limits.TheConstants.{MOST_RUN_ROWS};
 ghost use Rattle.topics_pool.specs.Rows.{total_rows};

@@ -3,7 +3,7 @@ ghost use Rattle.std.specs.Prelude.{◌≡◌};
 ghost use Rattle.desk_files.specs.declared.stop.Stop.TheVariants.{Memory};
 
 use desk_model::Memory as NoMemory;
-use qrels_reader::LineFault;
+use file_rows::LineFault;
 use std::alloc::AllocError;
 
 /// Why files are refused.

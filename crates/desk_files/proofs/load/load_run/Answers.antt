@@ -1,4 +1,4 @@
-use Rattle.qrels_reader.specs.Reading.{IsUnlessMemory}
+use Rattle.file_rows.specs.Reading.{IsUnlessMemory}
 use Rattle.run_reader.specs.Run.{run_of}
 use Rattle.desk_files.proofs.Faults.{stops_at_file, faulted}
 use Rattle.topics_pool.proofs.AddedUp.{added_up, answered}

@@ -1,6 +1,6 @@
 use Rattle.std.proofs.Common.{◌≡◌, ◌+◌, [], ◌∷◌, length, drop, ap, sym, ◌∙◌, arith, length-append}
 use Rattle.std.proofs.lemmas.List.{drop_more, drop_all}
-use Rattle.run_reader.specs.Run.{row_count}
+use Rattle.file_rows.specs.Grouped.{row_count}
 use Rattle.run_reader.specs.declared.used.Used.{Used}
 use Rattle.desk_files.specs.Load.{used_by}
 use Rattle.desk_files.proofs.Runs.{reaches_more, total_rows-push}
