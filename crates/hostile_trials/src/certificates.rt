@@ -3,9 +3,11 @@ use crate::outside::{SOUND, answer};
 use std::alloc::{AllocError, Global};
 use std::test::Fail;
 
-const ABOVE: &str = "desk-certificate 1\nmeasure recall_1\nlevel 1\nfirst A\nsecond B\nclaim above\ntopics 1\ntopic 401 333333333333333333\nend\n";
+const ABOVE: &str =
+    "desk-certificate 1\nmeasure recall_1\nlevel 1\nfirst A\nsecond B\nclaim above\ntopics 1\ntopic 401 333333333333333333\nend\n";
 
-const OPEN: &str = "desk-certificate 1\nmeasure recip_rank\nlevel 1\nfirst A\nsecond B\nclaim open\ntopics 1\nlow 401 0\nhigh 401 1\ndoc u\nend\n";
+const OPEN: &str =
+    "desk-certificate 1\nmeasure recip_rank\nlevel 1\nfirst A\nsecond B\nclaim open\ntopics 1\nlow 401 0\nhigh 401 1\ndoc u\nend\n";
 
 // The status and the error line of a check of a certificate.
 fn checked(alloc: Global, text: &[u8]) -> Result<(u8, Vec<u8>), AllocError> {
@@ -26,12 +28,36 @@ fn a_bad_line_is_told(rt: HostRuntime) -> Result<(), Fail> {
     let head = "desk-certificate 1\nmeasure recall_1\n";
     let cases = [
         ("", "", "1"),
-        (head, "level 1\nfirst B\nsecond C\nclaim open\ntopics 1\nlow 401 25000000\n", "9"),
-        (head, "level 1\nfirst A\nsecond B\nclaim above\ntopics 1\ntopic 401 333333333333333333\nend", "9"),
-        (head, "level 1\nfirst A\nsecond B\nclaim above\ntopics 1\ntopic 401 333333333333333333\nend\nend\n", "10"),
-        (head, "level 01\nfirst A\nsecond B\nclaim above\ntopics 1\ntopic 401 333333333333333333\nend\n", "3"),
-        (head, "level 1\nfirst A\nsecond B\nclaim above\ntopics 1\ntopic 401 -0\nend\n", "8"),
-        (head, "level 1\nfirst A\nsecond B\nclaim above\ntopics 1\ntopic 401 33333333333333333333\nend\n", "8"),
+        (
+            head,
+            "level 1\nfirst B\nsecond C\nclaim open\ntopics 1\nlow 401 25000000\n",
+            "9",
+        ),
+        (
+            head,
+            "level 1\nfirst A\nsecond B\nclaim above\ntopics 1\ntopic 401 333333333333333333\nend",
+            "9",
+        ),
+        (
+            head,
+            "level 1\nfirst A\nsecond B\nclaim above\ntopics 1\ntopic 401 333333333333333333\nend\nend\n",
+            "10",
+        ),
+        (
+            head,
+            "level 01\nfirst A\nsecond B\nclaim above\ntopics 1\ntopic 401 333333333333333333\nend\n",
+            "3",
+        ),
+        (
+            head,
+            "level 1\nfirst A\nsecond B\nclaim above\ntopics 1\ntopic 401 -0\nend\n",
+            "8",
+        ),
+        (
+            head,
+            "level 1\nfirst A\nsecond B\nclaim above\ntopics 1\ntopic 401 33333333333333333333\nend\n",
+            "8",
+        ),
     ];
     for (first, rest, line) in cases {
         let text = format!(in alloc; "{first}{rest}")?;

@@ -93,8 +93,13 @@ fn fail_in_turn(
 {
     for call in 0..2_000u64 {
         let outside = part.failing(sizes, Some(call));
-        let Answer { status, out, err } =
-            answer(alloc, case.line, &FILES, case.lines.as_bytes(), outside)?;
+        let Answer { status, out, err } = answer(
+            alloc,
+            case.line,
+            &FILES,
+            case.lines.as_bytes(),
+            outside,
+        )?;
         if status == 0 {
             assert_eq!(rt; out.as_slice(), case.text.as_bytes());
             assert!(rt; err.is_empty());

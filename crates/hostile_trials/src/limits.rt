@@ -9,7 +9,13 @@ use std::test::Fail;
 const QRELS: &[u8] = b"401 0 d1 1\n401 0 d2 0\n";
 
 // A run line of so many bytes, and one whose document has so many.
-fn padded(alloc: Global, start: &[u8], byte: u8, count: usize, end: &[u8]) -> Result<Vec<u8>, AllocError> {
+fn padded(
+    alloc: Global,
+    start: &[u8],
+    byte: u8,
+    count: usize,
+    end: &[u8],
+) -> Result<Vec<u8>, AllocError> {
     let mut line = start.to_vec(alloc)?;
     for _ in 0..count {
         line.push(byte)?;
@@ -22,10 +28,22 @@ fn padded(alloc: Global, start: &[u8], byte: u8, count: usize, end: &[u8]) -> Re
 fn a_line_and_a_name_have_their_limits(rt: HostRuntime) -> Result<(), Fail> {
     let alloc = rt.alloc();
     let cases = [
-        (padded(alloc, b"401 Q0 d1 1 9 A", b' ', 4_081, b"\n")?, 0, ""),
-        (padded(alloc, b"401 Q0 d1 1 9 A", b' ', 4_082, b"\n")?, 1, "refused: a line 1: LineTooLong\n"),
+        (
+            padded(alloc, b"401 Q0 d1 1 9 A", b' ', 4_081, b"\n")?,
+            0,
+            "",
+        ),
+        (
+            padded(alloc, b"401 Q0 d1 1 9 A", b' ', 4_082, b"\n")?,
+            1,
+            "refused: a line 1: LineTooLong\n",
+        ),
         (padded(alloc, b"401 Q0 ", b'd', 255, b" 1 9 A\n")?, 0, ""),
-        (padded(alloc, b"401 Q0 ", b'd', 256, b" 1 9 A\n")?, 1, "refused: a line 1: NameTooLong\n"),
+        (
+            padded(alloc, b"401 Q0 ", b'd', 256, b" 1 9 A\n")?,
+            1,
+            "refused: a line 1: NameTooLong\n",
+        ),
     ];
     for (run, status, line) in &cases {
         let files: [(&str, &[u8]); 2] = [("q", QRELS), ("a", run)];
@@ -92,9 +110,24 @@ fn what_came_before_counts(rt: HostRuntime) -> Result<(), Fail> {
     let alloc = rt.alloc();
     let qrels = read_qrels(alloc, QRELS)?;
     let cases = [
-        (b"401 Q0 d 1 9 A\n".as_slice(), 20_000_000, 0, Some(LineFault::TooManyRows)),
-        (b"401 Q0 dd 1 9 A\n".as_slice(), 0, 268_435_455, Some(LineFault::TooManyNameBytes)),
-        (b"401 Q0 d 1 9 A\n".as_slice(), 19_999_999, 268_435_455, None),
+        (
+            b"401 Q0 d 1 9 A\n".as_slice(),
+            20_000_000,
+            0,
+            Some(LineFault::TooManyRows),
+        ),
+        (
+            b"401 Q0 dd 1 9 A\n".as_slice(),
+            0,
+            268_435_455,
+            Some(LineFault::TooManyNameBytes),
+        ),
+        (
+            b"401 Q0 d 1 9 A\n".as_slice(),
+            19_999_999,
+            268_435_455,
+            None,
+        ),
     ];
     for (run, rows, name_bytes, fault) in cases {
         let used = Used { rows, name_bytes };
@@ -116,7 +149,9 @@ fn a_history_has_its_limit(rt: HostRuntime) -> Result<(), Fail> {
     for _ in 0..1_000_000u32 {
         lines.extend_from_slice(b"judge ann 401 d1 1\n")?;
     }
-    lines.extend_from_slice(b"judge ann 401 d1 1\nundo ann\njudge bob 401 d1 1\njudge ann 401 d1 0\n")?;
+    lines.extend_from_slice(
+        b"judge ann 401 d1 1\nundo ann\njudge bob 401 d1 1\njudge ann 401 d1 0\n",
+    )?;
     let files: [(&str, &[u8]); 2] = [("q", QRELS), ("a", b"401 Q0 d1 1 9 A\n")];
     let large = Outside {
         room: 20_000_000,
@@ -125,6 +160,10 @@ fn a_history_has_its_limit(rt: HostRuntime) -> Result<(), Fail> {
     let line = "session --qrels q --measure P_1 a";
     let told = answer(alloc, line, &files, &lines, large)?;
     assert_eq!(rt; told.status, 0);
-    assert!(rt; told.out.ends_with(b"judged 401 d1 1\nno HistoryFull\nundone 401 d1 1\nno HistoryFull\njudged 401 d1 0\n"));
+    assert!(rt;
+        told.out.ends_with(
+            b"judged 401 d1 1\nno HistoryFull\nundone 401 d1 1\nno HistoryFull\njudged 401 d1 0\n"
+        )
+    );
     Ok(())
 }

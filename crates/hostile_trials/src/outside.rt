@@ -109,7 +109,9 @@ pub fn answer(
         calls(alloc, outside.input)?,
     );
     let failing = calls(alloc, outside.out)?;
-    let mut out = MemSink::new(alloc, outside.room, outside.taken, failing).map_err(|_| AllocError)?;
+    let mut out = MemSink::new(alloc, outside.room, outside.taken, failing).map_err(
+        |_| AllocError,
+    )?;
     let failing = calls(alloc, outside.err)?;
     let mut err = MemSink::new(alloc, ERROR_ROOM, 3, failing).map_err(|_| AllocError)?;
     let status = status_of::<Brand>(
