@@ -4,9 +4,9 @@ use Rattle.std.specs.Prelude.{map, None, Result, Ok, Err, is_ok, decimal}
 use Rattle.std.specs.Result.{IsOk}
 use Rattle.std.specs.List.{range_with_len}
 use Rattle.std.proofs.lemmas.Fmt.{decimal_digit}
-use Rattle.qrels_reader.specs.Reading.{IsUnlessMemory}
-use Rattle.qrels_reader.specs.declared.fault.FileFault.{FileFault}
-use Rattle.qrels_reader.specs.declared.fault.FileFault.TheVariants.{Memory}
+use Rattle.file_rows.specs.Reading.{IsUnlessMemory}
+use Rattle.file_rows.specs.declared.fault.FileFault.{FileFault}
+use Rattle.file_rows.specs.declared.fault.FileFault.TheVariants.{Memory}
 use Rattle.topics_pool.specs.Rows.{first_repeated}
 use Rattle.demo_texts.specs.Texts.{tag_text}
 

@@ -11,14 +11,15 @@ use Rattle.std.proofs.lemmas.List.Folds.{list_any-append}
 use Rattle.std.proofs.lemmas.List.Sums.{sum_by-cons}
 use Rattle.desk_text.specs.Lines.{lines}
 use Rattle.desk_report.specs.Table.{ended}
-use Rattle.qrels_reader.specs.Rows.{Row, name_bytes_of, has_topic, read_row}
-use Rattle.qrels_reader.specs.Reading.{rows_of, rows_from, and_then}
-use Rattle.qrels_reader.specs.Grouped.{JudgedTopic, grouped, qrels_of}
-use Rattle.qrels_reader.specs.declared.fault.FileFault.{FileFault}
-use Rattle.qrels_reader.specs.declared.fault.FileFault.TheVariants.{NoTopics}
-use Rattle.qrels_reader.proofs.Seen.{laws}
-use Rattle.qrels_reader.proofs.RowFiles.{judgements}
-use Rattle.qrels_reader.proofs.Grouping.{is_topic-grouped, name_bytes_in-grouped}
+use Rattle.file_rows.specs.Rows.{Row, name_bytes_of, has_topic}
+use Rattle.qrels_reader.specs.Rows.{read_row}
+use Rattle.file_rows.specs.Reading.{rows_of, rows_from, and_then}
+use Rattle.file_rows.specs.Grouped.{TopicRows, grouped}
+use Rattle.qrels_reader.specs.Grouped.{qrels_of}
+use Rattle.file_rows.specs.declared.fault.FileFault.{FileFault}
+use Rattle.file_rows.specs.declared.fault.FileFault.TheVariants.{NoTopics}
+use Rattle.file_rows.proofs.Seen.{laws}
+use Rattle.file_rows.proofs.Grouping.{is_topic-grouped, name_bytes_in-grouped}
 use Rattle.qrels_round_trip.specs.RoundTrip.{AreWithinLimits}
 use Rattle.qrels_round_trip.proofs.Line.{IsWritable, line_of}
 use Rattle.qrels_round_trip.proofs.Reading as reading
@@ -34,13 +35,13 @@ use Rattle.demo_desk.proofs.Nested.{of_topic, of_topics, of_topics-suc, all_of_t
 
 -- the rows of a document, by the value of its draw: one where it is listed
 abbrev rows_at : ℕ → ℕ → ℕ → List Row
-rows_at topic doc value = if is_listed doc value then (record { topic = topic_text topic; document = document_text doc; grade = pos (grade_by value) }) ∷ [] else []
+rows_at topic doc value = if is_listed doc value then (record { topic = topic_text topic; document = document_text doc; value = pos (grade_by value) }) ∷ [] else []
 
 -- none, or one
-each_of : (P : List Row → Type 0) (topic doc value : ℕ) → P [] → P ((record { topic = topic_text topic; document = document_text doc; grade = pos (grade_by value) }) ∷ []) → P (rows_at topic doc value)
+each_of : (P : List Row → Type 0) (topic doc value : ℕ) → P [] → P ((record { topic = topic_text topic; document = document_text doc; value = pos (grade_by value) }) ∷ []) → P (rows_at topic doc value)
 each_of P topic doc value none one = by (is_listed doc value)
   where
-    by : (b : Bool) → P (cond b ((record { topic = topic_text topic; document = document_text doc; grade = pos (grade_by value) }) ∷ []) [])
+    by : (b : Bool) → P (cond b ((record { topic = topic_text topic; document = document_text doc; value = pos (grade_by value) }) ∷ []) [])
     by true = one
     by false = none
 
@@ -48,7 +49,7 @@ lines_at : (topic doc value : ℕ) → judgement_lines topic doc value ≡ map l
 lines_at topic doc value = by (is_listed doc value)
   where
     row : Row
-    row = record { topic = topic_text topic; document = document_text doc; grade = pos (grade_by value) }
+    row = record { topic = topic_text topic; document = document_text doc; value = pos (grade_by value) }
 
     by : (b : Bool) → cond b (line_of row ∷ []) [] ≡ map line_of (cond b (row ∷ []) [])
     by true = refl
@@ -112,7 +113,7 @@ module _ (x documents : ℕ) (some : 0 < documents) where
   first_listed : (t : ℕ) → has_topic (topic_text t) (made x documents t 0) ≡ true
   first_listed t = by (is_listed 0 (drawn (state_after x (documents * t)) 0)) (or_true (drawn (state_after x (documents * t)) 0 % 10 == 0))
     where
-      by : (b : Bool) → b ≡ true → has_topic (topic_text t) (cond b ((record { topic = topic_text t; document = document_text 0; grade = pos (grade_by (drawn (state_after x (documents * t)) 0)) }) ∷ []) []) ≡ true
+      by : (b : Bool) → b ≡ true → has_topic (topic_text t) (cond b ((record { topic = topic_text t; document = document_text 0; value = pos (grade_by (drawn (state_after x (documents * t)) 0)) }) ∷ []) []) ≡ true
       by true e = ap (λ b. b || false) (laws.refl (topic_text t))
       by false e = absurd (cc)
 
@@ -189,13 +190,13 @@ module _ (x documents topics : ℕ) (hd : documents ≤ 2000) (ht : topics ≤ 5
 
   have_topics : HaveTopics topics (grouped all)
   have_topics = record {
-    known = λ t h. is_topic-grouped judgements (topic_text t) all ∙ has_each x documents some t topics h;
-    name_bytes = let n = name_bytes_in-grouped judgements all in let m = bytes in omega (arith, n, m);
+    known = λ t h. is_topic-grouped (topic_text t) all ∙ has_each x documents some t topics h;
+    name_bytes = let n = name_bytes_in-grouped all in let m = bytes in omega (arith, n, m);
   }
 
 -- the judgements of a text are read
 pub record IsRead (x documents topics : ℕ) : Type 0 where
-  pub qrels : List JudgedTopic
+  pub qrels : List TopicRows
   pub read : qrels_of (flat_map ended (judgements_on x documents topics)) ≡ Ok qrels
   pub topics_there : HaveTopics topics qrels
 

@@ -1,6 +1,6 @@
 -- A line of a run says its row.
-use Rattle.std.proofs.Common.{◌≡◌, ℕ, ◌+◌, ◌*◌, ◌%◌, ◌^◌, ◌<◌, ◌≤◌, List, [], ◌∷◌, ◌++◌, length, get_or, true, false, cond, refl, ap, ap₂, sym, ◌∙◌, arith, ℤ, pos, append_assoc, length-append}
-use Rattle.std.specs.Prelude.{Bool, not, ◌&&◌, ◌||◌, ◌==◌, nat_le, nat_lt, codes, decimal, Result, Ok, Err}
+use Rattle.std.proofs.Common.{◌≡◌, ℕ, ◌<◌, ◌≤◌, List, [], ◌∷◌, ◌++◌, length, get_or, true, false, refl, ap, ap₂, sym, ◌∙◌, arith, ℤ, pos, append_assoc, length-append}
+use Rattle.std.specs.Prelude.{Bool, not, ◌&&◌, ◌||◌, ◌==◌, nat_le, codes, decimal, Result, Ok, Err}
 use Rattle.std.specs.List.{list_any, list_all}
 use Rattle.std.specs.Result.{result_map_both}
 use Rattle.std.proofs.lemmas.Bool.{and_parts, le-ltb}
@@ -10,9 +10,9 @@ use Rattle.desk_text.specs.Lines.{is_separator, is_bad, is_blank, fields_of}
 use Rattle.desk_text.specs.declared.line.TheConstants.{LONGEST_LINE}
 use Rattle.desk_model.specs.Name.{is_name, is_field_byte}
 use Rattle.decimal_score.specs.Reading.{score_of}
-use Rattle.qrels_reader.specs.Reading.{field, is_long, and_then, unless, checked}
-use Rattle.qrels_reader.specs.declared.fault.LineFault.{LineFault}
-use Rattle.run_reader.specs.Rows.{RunRow, line_fault, row_of, tag_of, form_faults, formed}
+use Rattle.file_rows.specs.Reading.{field, is_long, and_then, checked}
+use Rattle.file_rows.specs.Rows.{Row}
+use Rattle.run_reader.specs.Rows.{line_fault, row_of, tag_of, form_faults, formed}
 use Rattle.qrels_round_trip.proofs.Line.{passes}
 use Rattle.desk_model.proofs.Words.{name_most}
 use Rattle.qrels_round_trip.proofs.Words.{word_good}
@@ -33,14 +33,14 @@ value_is : (s : ℕ) → s < 100000 → score_of (score_text s) ≡ Ok (score_va
 value_is s h = let made = score_read s h in made.1 ∙ ap Ok (sym (ap value_or made.1))
 
 -- a line says a row
-pub record Says (line : List ℕ) (row : RunRow) : Type 0 where
+pub record Says (line : List ℕ) (row : Row) : Type 0 where
   pub blank : is_blank line ≡ false
   pub good : list_any is_bad line ≡ false
   pub form : formed line ≡ Ok row
 
 -- the row of a place
-abbrev pub row_at : ℕ → ℕ → ℕ → RunRow
-row_at topic doc score = record { topic = topic_text topic; document = document_text doc; score = score_value score }
+abbrev pub row_at : ℕ → ℕ → ℕ → Row
+row_at topic doc score = record { topic = topic_text topic; document = document_text doc; value = score_value score }
 
 module _ (run topic doc place score : ℕ) (hr : run < 8) (ht : topic < 50) (hd : doc < 10000) (hp : place < 1000) (hs : score < 100000) where
   abbrev line : List ℕ
@@ -157,8 +157,8 @@ module _ (run topic doc place score : ℕ) (hr : run < 8) (ht : topic < 50) (hd 
 
   row_is : row_of line ≡ Ok (row_at topic doc score)
   row_is =
-      (λ i. result_map_both (λ score. record { topic = field_is 0 i; document = field_is 2 i; score = score }) line_fault (score_of (field_is 4 i)))
-      ∙ ap (result_map_both (λ score. record { topic = t; document = d; score = score }) line_fault) (value_is score hs)
+      (λ i. result_map_both (λ score. record { topic = field_is 0 i; document = field_is 2 i; value = score }) line_fault (score_of (field_is 4 i)))
+      ∙ ap (result_map_both (λ score. record { topic = t; document = d; value = score }) line_fault) (value_is score hs)
 
   pub line_says : Says line (row_at topic doc score)
   line_says = record {

@@ -1,15 +1,15 @@
 -- The scores of the demo's runs are scores.
-use Rattle.std.proofs.Common.{◌≡◌, ℕ, zero, suc, ◌+◌, ◌*◌, ◌/◌, ◌%◌, ◌^◌, ◌<◌, ◌≤◌, List, [], ◌∷◌, ◌++◌, length, drop, true, false, refl, ap, sym, subst, ◌∙◌, arith, ℤ, pos, inl, inr, length-append, append-nil}
-use Rattle.std.specs.Prelude.{Bool, ◌+ℤ◌, neg_ℤ, decimal, codes, Result, Ok, Err}
+use Rattle.std.proofs.Common.{◌≡◌, ℕ, ◌+◌, ◌*◌, ◌/◌, ◌%◌, ◌^◌, ◌<◌, ◌≤◌, List, [], ◌∷◌, ◌++◌, length, drop, true, false, refl, ap, sym, ◌∙◌, arith, ℤ, pos, inl, inr, length-append, append-nil}
+use Rattle.std.specs.Prelude.{Bool, ◌+ℤ◌, decimal, codes, Result, Ok, Err}
 use Rattle.std.specs.List.{list_all}
 use Rattle.std.specs.Char.{is_ascii_digit}
 use Rattle.std.specs.Str.{all_ascii_digits}
 use Rattle.std.proofs.Math.Nat.{one-le-pow, pow-le-pow_right, mul-le-mul_left, mul-le-mul_right}
-use Rattle.std.specs.Str.Parse.{digits_value, AllDigits}
+use Rattle.std.specs.Str.Parse.{AllDigits}
 use Rattle.std.proofs.lemmas.Bool.{and_from, and_parts, cases_lt}
 use Rattle.std.proofs.lemmas.Int.{ints}
 use Rattle.std.proofs.lemmas.Int.Digits.{digits_value-lt}
-use Rattle.std.proofs.lemmas.Fmt.{decimal_nonempty, digits_decimal, length-decimal-le}
+use Rattle.std.proofs.lemmas.Fmt.{digits_decimal, length-decimal-le}
 use Rattle.desk_text.proofs.Digits.{own}
 use Rattle.desk_model.specs.Name.{is_field_byte}
 use Rattle.decimal_score.specs.declared.score.ScoreFault.{ScoreFault}
@@ -20,7 +20,7 @@ use Rattle.decimal_score.specs.Reading.{score_of}
 use Rattle.decimal_score.proofs.Spellings.{one_spelling}
 use Rattle.decimal_score.proofs.Answer.{reads_as-score_of}
 use Rattle.qrels_round_trip.proofs.Words.{digits_bytes}
-use Rattle.demo_desk.proofs.Words.{IsFieldWord, decimal_word}
+use Rattle.demo_desk.proofs.Words.{IsFieldWord}
 use Rattle.demo_texts.specs.Texts.{score_text}
 use Rattle.demo_desk.proofs.Names.{digit_is, four}
 
