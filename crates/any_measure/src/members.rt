@@ -1,7 +1,7 @@
 use crate::any::AnyMeasure;
 use desk_model::{Mark, MeasureName, Memory, Ranking};
 use fractions::Span;
-use measure_core::{Cell, Measure, Steps};
+use measure_core::{Cell, Measure, Shift, Steps};
 use std::alloc::Global;
 use std::sync::ledger::Ledger;
 
@@ -99,6 +99,23 @@ impl Measure for AnyMeasure {
             AnyMeasure::RPrecision(m) => m.weight(a, b, marks, doc),
             AnyMeasure::Reciprocal(m) => m.weight(a, b, marks, doc),
             AnyMeasure::Biased(m) => m.weight(a, b, marks, doc),
+        }
+    }
+
+    fn shift_weights(
+        &self,
+        a: &Ranking,
+        b: &Ranking,
+        marks: &[Mark],
+        shift: Shift,
+        totals: &mut [u128],
+    ) {
+        match self {
+            AnyMeasure::Precision(m) => m.shift_weights(a, b, marks, shift, totals),
+            AnyMeasure::Recall(m) => m.shift_weights(a, b, marks, shift, totals),
+            AnyMeasure::RPrecision(m) => m.shift_weights(a, b, marks, shift, totals),
+            AnyMeasure::Reciprocal(m) => m.shift_weights(a, b, marks, shift, totals),
+            AnyMeasure::Biased(m) => m.shift_weights(a, b, marks, shift, totals),
         }
     }
 

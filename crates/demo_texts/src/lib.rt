@@ -11,6 +11,3 @@ pub use draws::Generator;
 pub use qrels::qrels_text;
 pub use run::run_text;
 pub use sizes::{DOCUMENTS, PLACES, RUNS, TOPICS};
-
-#[cfg(test)]
-mod tests;

@@ -66,22 +66,3 @@ pub fn close_line(
         Err(_) => Err(Memory),
     }
 }
-
-#[cfg(test)]
-mod tests {
-    use super::*;
-    use std::test::Fail;
-
-    #[test]
-    fn a_close_pair_shows_its_four_sums(rt: HostRuntime) -> Result<(), Fail> {
-        let totals = Totals {
-            least_lo: -1,
-            least_hi: 1,
-            most_lo: -1,
-            most_hi: 1,
-        };
-        let line = close_line(rt.alloc(), b"A", b"B", &totals).map_err(|_| AllocError)?;
-        assert_eq!(rt; line.as_slice(), b"close A B -1 1 -1 1\n".as_slice());
-        Ok(())
-    }
-}

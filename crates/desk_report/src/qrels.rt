@@ -76,19 +76,3 @@ pub fn qrels_text(
         Err(_) => Err(Memory),
     }
 }
-
-#[cfg(test)]
-mod tests {
-    use super::*;
-    use std::test::Fail;
-
-    #[test]
-    fn a_listed_document_has_a_line(rt: HostRuntime) -> Result<(), Fail> {
-        let mut out = Vec::new(rt.alloc());
-        push_document(&mut out, b"401", b"d1", Some(1), None)?;
-        push_document(&mut out, b"401", b"d2", None, None)?;
-        push_document(&mut out, b"401", b"d3", None, Some(2))?;
-        assert_eq!(rt; out.as_slice(), b"401 0 d1 -1\n401 0 d3 2\n".as_slice());
-        Ok(())
-    }
-}

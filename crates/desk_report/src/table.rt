@@ -221,25 +221,3 @@ pub fn table_text(
         Err(_) => Err(Memory),
     }
 }
-
-#[cfg(test)]
-mod tests {
-    use super::*;
-    use std::test::Fail;
-
-    #[test]
-    fn a_pair_is_printed_outward(rt: HostRuntime) -> Result<(), Fail> {
-        let totals = Totals {
-            least_lo: -1,
-            least_hi: -1,
-            most_lo: 2,
-            most_hi: 2,
-        };
-        let line = pair_line(rt.alloc(), b"A", b"B", 3, 2, &totals).map_err(|_| AllocError)?;
-        assert_eq!(rt;
-            line.as_slice(),
-            b"pair A open B -0.166667 0.333334\n".as_slice()
-        );
-        Ok(())
-    }
-}

@@ -29,7 +29,7 @@ use Rattle.session_stream.specs.declared.stream.TheConstants.{LONGEST_INPUT}
 use Rattle.desk_top.specs.Conversation.{status_at, IsSessionOn}
 use Rattle.desk_top.specs.Meaning.{Meaning, AnswersFiles, meaning_of, report_printing, check_printing, session_meaning, words_meaning}
 use Rattle.desk_top.specs.Meets.{Gives, OutputFailed, FilesFailed, Meets, Stopped, OpensWithin}
-use Rattle.desk_top.specs.Laws.{AreGood, HaltAt, IsStatusOf, IsCallOver, OtherWordsAreUsage, GoodFilesAreAnswered, MissingFileIsOutside, RefusalIsTold, StatusesAreFew}
+use Rattle.desk_top.specs.Laws.{AreGood, HaltAt, IsStatusOf, HasFiles, IsCallOver, OtherWordsAreUsage, GoodFilesAreAnswered, MissingFileIsOutside, RefusalIsTold, StatusesAreFew}
 
 -- the answers of words that ask for a command are those of the command
 command_answers : CommandIsUnique → (words : List (List ℕ)) (command : Command) → IsCommandOf words command → (known : Option Files) (input : Input) (answer : Answer) → (words_meaning words).answers known input answer → (meaning_of command).answers known input answer
@@ -150,11 +150,16 @@ halted_answer one source (Session job) files halt known input answer e at is = s
 halted_answer one source (Verify check) files halt known input answer e at is = halted_there (check_printing check) (one check) (IsStatusOf (Verify check) source) (check_ends check source) files known answer halt e at is
 halted_answer one source (Demo seed) files halt known input answer e at is = absurd at
 
-few_answers : (source : Source) (command : Command) (known : Option Files) (input : Input) (answer : Answer) → IsInput source input → (meaning_of command).answers known input answer → IsStatusOf command source answer.status ⊎ (answer.status ≡ 1) ⊎ (answer.status ≡ 3) ⊎ (answer.status ≡ 4)
-few_answers source (Table job) known input answer met is = few_statuses (report_printing reports.Table job) (IsStatusOf (Table job) source) (table_ends job source) known answer is
-few_answers source (Certify job) known input answer met is = few_statuses (report_printing reports.Certificate job) (IsStatusOf (Certify job) source) (certificate_ends job source) known answer is
-few_answers source (Session job) known input answer met is = few_sessions job source known input answer met is
-few_answers source (Verify check) known input answer met is = few_statuses (check_printing check) (IsStatusOf (Verify check) source) (check_ends check source) known answer is
+with_files : {P Q R : Type 0} → P ⊎ Q ⊎ R → P ⊎ (Unit {0} × Q) ⊎ R
+with_files (inl p) = inl p
+with_files (inr (inl q)) = inr (inl (tt, q))
+with_files (inr (inr r)) = inr (inr r)
+
+few_answers : (source : Source) (command : Command) (known : Option Files) (input : Input) (answer : Answer) → IsInput source input → (meaning_of command).answers known input answer → IsStatusOf command source answer.status ⊎ (HasFiles command × (answer.status ≡ 1)) ⊎ (answer.status ≡ 3) ⊎ (answer.status ≡ 4)
+few_answers source (Table job) known input answer met is = with_files (few_statuses (report_printing reports.Table job) (IsStatusOf (Table job) source) (table_ends job source) known answer is)
+few_answers source (Certify job) known input answer met is = with_files (few_statuses (report_printing reports.Certificate job) (IsStatusOf (Certify job) source) (certificate_ends job source) known answer is)
+few_answers source (Session job) known input answer met is = with_files (few_sessions job source known input answer met is)
+few_answers source (Verify check) known input answer met is = with_files (few_statuses (check_printing check) (IsStatusOf (Verify check) source) (check_ends check source) known answer is)
 few_answers source (Demo seed) known input answer met is = inl (ap (λ (a : Answer). a.status) is.is)
 
 module _ (meaning : Meaning) (shelf : Shelf) (input : Source) (out err : Sink) (before after status : ℕ) (meets : Meets meaning shelf input out err before after status) where
@@ -203,9 +208,9 @@ other_words words shelf input out err before after status call none = (at (ways 
 pub statuses_few : CommandIsUnique → StatusesAreFew
 statuses_few unique words command shelf input out err before after status call asks = at call.meets.answered
   where
-    at : Gives (words_meaning words) shelf input out err status ⊎ (status ≡ 3) ⊎ (status ≡ 4) → IsStatusOf command input status ⊎ (status ≡ 1) ⊎ (status ≡ 3) ⊎ (status ≡ 4)
+    at : Gives (words_meaning words) shelf input out err status ⊎ (status ≡ 3) ⊎ (status ≡ 4) → IsStatusOf command input status ⊎ (HasFiles command × (status ≡ 1)) ⊎ (status ≡ 3) ⊎ (status ≡ 4)
     at (inl gives) =
-        subst (λ n. IsStatusOf command input n ⊎ (n ≡ 1) ⊎ (n ≡ 3) ⊎ (n ≡ 4)) (sym gives.holds.ended) (few_answers input command shelf.files gives.input gives.answer gives.met (command_answers unique words command asks shelf.files gives.input gives.answer gives.is))
+        subst (λ n. IsStatusOf command input n ⊎ (HasFiles command × (n ≡ 1)) ⊎ (n ≡ 3) ⊎ (n ≡ 4)) (sym gives.holds.ended) (few_answers input command shelf.files gives.input gives.answer gives.met (command_answers unique words command asks shelf.files gives.input gives.answer gives.is))
     at (inr other) = inr (inr other)
 
 pub good_files : CommandIsUnique → OneCheck → GoodFilesAreAnswered

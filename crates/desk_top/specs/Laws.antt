@@ -38,6 +38,14 @@ IsStatusOf (Session job) input status = (status ≡ 0) ⊎ (status ≡ 1) ⊎ ((
 IsStatusOf (Verify check) input status = (status ≡ 0) ⊎ (status ≡ 5)
 IsStatusOf (Demo seed) input status = status ≡ 0
 
+-- the command has files, which can be refused
+abbrev pub HasFiles : Command → Type 0
+HasFiles (Table job) = Unit {0}
+HasFiles (Certify job) = Unit {0}
+HasFiles (Session job) = Unit {0}
+HasFiles (Verify check) = Unit {0}
+HasFiles (Demo seed) = ⊥
+
 -- a call with these words, and what is seen of it
 pub record IsCall (words : List (List ℕ)) (shelf : Shelf) (input : Source) (out err : Sink) (before after status : ℕ) : Type 0 where
   pub meets : Meets (words_meaning words) shelf input out err before after status
@@ -69,7 +77,7 @@ RefusalIsTold = (words : List (List ℕ)) (command : Command) (files : Files) (s
     (refusal : Refusal) → HaltAt command files (Refused refusal) → (Rose shelf.before shelf.after → ⊥) →
     (((status ≡ 1) × Writes err.had err.has err.before err.after (refusal_line refusal)) ⊎ (status ≡ 4)) × ReceivedNothing out
 
--- a command never ends with a status but those of its texts, 1, 3 and 4
+-- a command never ends with a status but those of its texts, 1 where it has files, 3 and 4
 abbrev pub StatusesAreFew : Type 0
 StatusesAreFew = (words : List (List ℕ)) (command : Command) (shelf : Shelf) (input : Source) (out err : Sink) (before after status : ℕ) → IsCall words shelf input out err before after status →
-    IsCommandOf words command → IsStatusOf command input status ⊎ (status ≡ 1) ⊎ (status ≡ 3) ⊎ (status ≡ 4)
+    IsCommandOf words command → IsStatusOf command input status ⊎ (HasFiles command × (status ≡ 1)) ⊎ (status ≡ 3) ⊎ (status ≡ 4)

@@ -20,6 +20,7 @@ use Rattle.pair_reports.specs.Reports.{cells_of}
 use Rattle.desk_top.specs.Report.{IsReportOf, sources_of, marks_in}
 use Rattle.desk_top.specs.Verification.{IsVerificationOf, marks_for}
 use Rattle.session_stream.specs.Hearing.{hearing_of}
+use Rattle.session_replies.specs.State.{pairs_in}
 use Rattle.session_stream.specs.Text.{accepted_in}
 use Rattle.desk_top.specs.Conversation.{IsSessionAnswer}
 use Rattle.desk_top.specs.Showing.{IsDemoAnswer, HasDemoDesk}
@@ -108,13 +109,13 @@ check_meaning check = record {
   cells = λ known taken most. most ≡ 0;
 }
 
--- a session on the files of a job: the input is read, and pairs times topics are evaluated for a first table and for each change that is accepted
+-- a session on the files of a job: the input is read, and pairs times topics are evaluated for the one table, and at most one cell for each pair for each change that is accepted
 abbrev pub session_meaning : Job → Meaning
 session_meaning job = record {
   opens = λ known names. DeskMayOpen known (sources_of job) names;
   reads = Unit {0};
   answers = λ known input answer. (found : Result Loaded Halt) × MayCome known (λ files found. loaded files (sources_of job) ≡ found) found × IsSessionAnswer job input found answer;
-  cells = λ known taken most. HasDesk known (sources_of job) (λ desk. most ≡ cells_of desk * (1 + accepted_in desk (hearing_of taken).lines []));
+  cells = λ known taken most. HasDesk known (sources_of job) (λ desk. most ≡ cells_of desk + pairs_in desk * accepted_in desk (hearing_of taken).lines []);
 }
 
 -- a demo: no file is opened, and pairs times topics are evaluated

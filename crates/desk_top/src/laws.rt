@@ -9,8 +9,8 @@ pub fn other_words_are_usage()
     ensures { OtherWordsAreUsage }
 {}
 
-/// Words of a command that is built end with a status of its texts (0, for `certify` 6 too, for `verify` 5 too), with 1, 3 or 4, and so never
-/// with 2.
+/// Words of a command end with a status of its texts (0, for `certify` 6 too, for `verify` 5 too), with 1 but for `demo`,
+/// with 3 or 4, and so never with 2.
 pub fn statuses_are_few()
     ensures { StatusesAreFew }
 {

@@ -13,6 +13,3 @@ pub use laws::{
     missing_value_is_usage, option_twice_is_usage, order_of_options_is_free, parts_say_the_command,
 };
 pub use read::read_words;
-
-#[cfg(test)]
-mod tests;

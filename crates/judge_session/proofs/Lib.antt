@@ -6,7 +6,6 @@ pub mod Finding
 pub mod Turns
 pub mod Numbers
 pub mod Lookups
-pub mod OneDocument
 pub mod Owners
 pub mod Lasts
 pub mod LookingBack

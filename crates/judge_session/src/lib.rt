@@ -11,8 +11,6 @@ mod marking;
 mod session;
 mod steps;
 mod tally;
-#[cfg(test)]
-mod tests;
 
 pub use answers::{Changed, JudgeFault, NothingToRedo, NothingToUndo};
 pub use session::Session;

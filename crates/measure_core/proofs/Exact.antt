@@ -1,25 +1,22 @@
 -- The laws of a measure whose extremes are those of completions alone, from the least case having the least difference.
-use Rattle.std.proofs.Common.{◌≡◌, ℕ, zero, suc, ◌+◌, ◌*◌, ◌^◌, ◌<◌, ◌≤◌, Bool, List, [], length, take, Option, Some, None, ℤ, pos, neg_ℤ, ◌≤ℤ◌, arith, rules, refl, ap, sym, subst}
+use Rattle.std.proofs.Common.{◌≡◌, ℕ, zero, suc, ◌+◌, ◌*◌, ◌^◌, ◌<◌, ◌≤◌, Bool, List, [], length, take, ℤ, pos, neg_ℤ, arith, rules, refl, ap, sym, subst}
 use Rattle.std.specs.List.{IsDistinct}
 use Rattle.std.proofs.lemmas.Int.{ints}
-use Rattle.std.proofs.Math.Nat.{mul-le-mul_left, mul-le-mul_right, le_of_mul-le-mul_right}
+use Rattle.std.proofs.Math.Nat.{mul-le-mul_right, le_of_mul-le-mul_right}
 use Rattle.std.proofs.lemmas.List.Sums.{count_by-le-length}
 use Rattle.std.proofs.lemmas.List.{length-take}
 use borrow.Author.Differences.{up, down}
 use Rattle.desk_model.specs.Ranking.{IsRanking}
 use Rattle.desk_model.specs.Fraction.{Fraction, over, IsAtMost, IsAtLeast}
-use Rattle.desk_model.specs.Score.{score, true_count, true_among, first_true, reciprocal}
+use Rattle.desk_model.specs.Score.{score, true_count, true_among}
 use Rattle.desk_model.specs.Extremes.{InEvery, InSome, IsGreatest, IsSmallest, Ends, AreExtremes, AreBounds}
 use Rattle.desk_model.proofs.Fractions.{at_most_in, at_most_out, at_least_in, at_least_out}
 use Rattle.desk_model.proofs.Topics.{score-den}
-use Rattle.desk_model.proofs.Counts.{IsDistinct-take}
-use Rattle.desk_model.proofs.PrecisionEnds.{prefix_within}
 use Rattle.desk_model.proofs.Exact.{at_most_least}
 use Rattle.measure_laws.specs.Cases.{least_truth, HasLeastTails}
 use Rattle.desk_model.specs.MeasureText.{IsMeasure}
 use Rattle.measure_laws.specs.Measures.{unit_of, IsExactMeasure}
 use Rattle.measure_laws.specs.Shares.{IsModest}
-use Rattle.measure_laws.proofs.RecallEnds.{count_le_universe}
 use Rattle.measure_laws.proofs.LeastEnds.{least_ends}
 use Rattle.measure_laws.proofs.Scores.{score-most, difference_low, difference_high, within_unit}
 use Rattle.measure_laws.proofs.LeastCases.{least_case_is_least}

@@ -3,3 +3,5 @@ pub mod Exact
 pub mod RunBounds
 pub mod Narrow
 pub mod Cells
+pub mod Weighing
+pub mod Shifting

@@ -8,8 +8,10 @@ ghost use Rattle.measure_laws.specs.Weights.{weight_of};
 ghost use Rattle.measure_core.specs.declared.cell.Cell.{Cell as C};
 ghost use Rattle.fractions.specs.declared.span.Span.{Span as S};
 ghost use Rattle.measure_core.specs.Laws.{AreMet, IsMet, AreValues, MeetsLaws};
+ghost use Rattle.measure_core.specs.Shifts.{HaveRoom, AreShifted};
 
 use crate::cell::Cell;
+use crate::shift::Shift;
 use crate::steps::Steps;
 use desk_model::{Mark, MeasureName, Memory, Ranking};
 use fractions::Span;
@@ -82,6 +84,33 @@ pub trait Measure: Drop {
         requires met { AreMet marks.now a.now b.now }
         requires known { doc < length marks.now }
         ensures { result ≡ weight_of (measured self.now) marks.now a.now b.now doc };
+
+    /// Adds the weights of the documents to their totals, or takes them back. Totals go by the number of the document.
+    /// It takes no memory.
+    ///
+    /// A document that neither ranking has weighs nothing. This body asks `weight` of all others; a measure may have a
+    /// faster one.
+    fn shift_weights(
+        &self,
+        a: &Ranking,
+        b: &Ranking,
+        marks: &[Mark],
+        shift: Shift,
+        totals: &mut [u128],
+    )
+        requires met { AreMet marks.now a.now b.now }
+        requires count { length totals.old ≡ length marks.now }
+        requires room { HaveRoom shift (weight_of (measured self.now) marks.now a.now b.now) totals.old }
+        ensures { AreShifted shift (weight_of (measured self.now) marks.now a.now b.now) totals.old totals.new }
+    {
+        for doc in 0..marks.len() as u32 {
+            if a.rank_of(doc).is_some() || b.rank_of(doc).is_some() {
+                let weight = self.weight(a, b, marks, doc);
+                let total = &mut totals[doc as usize];
+                *total = shift.apply(*total, weight);
+            }
+        }
+    }
 
     /// The laws: cells enclose the difference and bounds the score in every completion; the least and
     /// the most case are completions whose differences lie in their spans; swapped runs have the

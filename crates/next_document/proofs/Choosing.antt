@@ -1,18 +1,21 @@
 -- The best of the documents, document by document.
-use Rattle.std.proofs.Common.{◌≡◌, ◌⊎◌, inl, inr, ℕ, zero, suc, ◌+◌, ◌<◌, ◌≤◌, List, [], ◌∷◌, length, get_or, Option, Some, ap, sym, subst, arith}
+use Rattle.std.proofs.Common.{◌≡◌, ◌⊎◌, inl, inr, ℕ, zero, suc, ◌+◌, ◌<◌, ◌≤◌, List, [], ◌∷◌, length, get_or, Option, Some, ap, sym, ◌∙◌, subst, arith}
 use Rattle.std.specs.Prelude.{slice_get}
 use Rattle.std.proofs.lemmas.Option.{slice_get_within}
 use Rattle.desk_model.specs.declared.types.Mark.{Mark}
-use Rattle.desk_model.specs.declared.types.Mark.TheVariants.{Unjudged}
+use Rattle.desk_model.specs.declared.types.Mark.TheVariants.{Unjudged, Relevant, Other}
+use Rattle.measure_core.proofs.Shifting.{at_most}
 use Rattle.next_document.specs.Proposal.{Standing, IsUnjudged, total_weight}
 use Rattle.next_document.specs.declared.proposal.Proposal.{Proposal}
 use Rattle.next_document.specs.Best.{weight_to_beat, StandsBefore, IsBestBefore}
 
-at_most : (m n : ℕ) → m < n + 1 → (m < n) ⊎ (m ≡ n)
-at_most m n h = grind arith
-
 either : (m n : ℕ) → (m ≤ n) ⊎ (n < m)
 either m n = grind arith
+
+-- a judged document is not unjudged
+pub judged : (m : Mark) → (m ≡ Relevant) ⊎ (m ≡ Other) → m ≡ Unjudged → ⊥
+judged m (inl e) u = let bad : Relevant ≡ Unjudged = sym e ∙ u in absurd (cc)
+judged m (inr e) u = let bad : Other ≡ Unjudged = sym e ∙ u in absurd (cc)
 
 -- what stands before the next document is this one, or stands before it
 before_next : (t d topic doc : ℕ) → StandsBefore t d topic (doc + 1) → StandsBefore t d topic doc ⊎ ((t ≡ topic) × (d ≡ doc))

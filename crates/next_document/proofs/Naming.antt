@@ -13,7 +13,7 @@ use Rattle.desk_model.specs.Named.{book_at, name_at}
 use Rattle.desk_model.specs.declared.types.Mark.{Mark}
 use Rattle.desk_model.specs.declared.types.Mark.TheVariants.{Unjudged}
 use Rattle.desk_model.proofs.DeskTopics.{length-marks}
-use Rattle.desk_model.proofs.Names.{ascending_far}
+use Rattle.desk_model.proofs.Names.{ascending_far, two_ways}
 use Rattle.desk_model.proofs.Nested.{get_or-there, zipped_at}
 use Rattle.desk_model.proofs.PairPlace.{there}
 use Rattle.next_document.specs.Proposal.{Standing, IsNamedBefore, IsProposal, HaveNoWeight, IsNext, total_weight}
@@ -75,20 +75,14 @@ proposed_doc s None valid known h = tt
 proposed_doc s (Some p) valid known h = doc_known s.desk s.marks valid known p.topic p.doc h.unjudged
 
 -- ---- there is one
-not_both : (x y : List ℕ) → name_cmp x y ≡ Less → name_cmp y x ≡ Less → ⊥
-not_both x y h k =
-    let turned : name_cmp x y ≡ ordering_reverse (name_cmp y x) = nat_list_cmp_total.antisymm x y in
-    let bad : Less ≡ Greater = sym h ∙ turned ∙ ap ordering_reverse k in
-    absurd (cc)
-
 not_itself : (x : List ℕ) → name_cmp x x ≡ Less → ⊥
-not_itself x h = not_both x x h h
+not_itself x h = two_ways x x h h
 
 not_named_both : (desk : Desk) (t d topic doc : ℕ) → IsNamedBefore desk (t, d) (topic, doc) → IsNamedBefore desk (topic, doc) (t, d) → ⊥
-not_named_both desk t d topic doc (inl h) (inl k) = not_both (book_at desk t).name (book_at desk topic).name h k
+not_named_both desk t d topic doc (inl h) (inl k) = two_ways (book_at desk t).name (book_at desk topic).name h k
 not_named_both desk t d topic doc (inl h) (inr k) = not_itself (book_at desk t).name (subst (λ (n : ℕ). name_cmp (book_at desk t).name (book_at desk n).name ≡ Less) k.0 h)
 not_named_both desk t d topic doc (inr h) (inl k) = not_itself (book_at desk topic).name (subst (λ (n : ℕ). name_cmp (book_at desk topic).name (book_at desk n).name ≡ Less) h.0 k)
-not_named_both desk t d topic doc (inr h) (inr k) = not_both (name_at desk t d) (name_at desk topic doc) h.1 k.1
+not_named_both desk t d topic doc (inr h) (inr k) = two_ways (name_at desk t d) (name_at desk topic doc) h.1 k.1
 
 abbrev proposal_of : ℕ → ℕ → ℕ → Proposal
 proposal_of topic doc weight = record { topic = topic; doc = doc; weight = weight }

@@ -4,7 +4,8 @@ use Rattle.std.specs.Prelude.{slice_get, nat_lt}
 use Rattle.std.specs.List.{range_with_len}
 use Rattle.std.proofs.lemmas.Bool.Decides.{nat_tests}
 use Rattle.std.proofs.lemmas.List.{length-map}
-use Rattle.std.proofs.lemmas.List.FromFn.{length-range_with_len}
+use Rattle.std.proofs.lemmas.List.FromFn.{length-range_with_len, get_or-range_with_len}
+use Rattle.std.proofs.lemmas.Option.{slice_get-get_or}
 use Rattle.desk_model.specs.Pairs.{pairs_of, pairs_from, places_after}
 use Rattle.desk_model.specs.declared.pairs.PairPlaces.{PairPlaces}
 use Rattle.desk_model.proofs.PairPlace.{ArePlaces, there_from, pairs_from-next, pairs_from-end, places_after-placed}
@@ -13,13 +14,11 @@ use Rattle.desk_model.proofs.PairPlace.{ArePlaces, there_from, pairs_from-next, 
 abbrev pub number_pairs : ℕ → List (ℕ × ℕ)
 number_pairs n = pairs_of (range_with_len 0 n)
 
-numbered : (start n i : ℕ) → i < n → slice_get (range_with_len start n) i ≡ Some (start + i)
-numbered start zero i h = absurd (omega arith)
-numbered start (suc n) zero h = let e : start ≡ start + zero = omega arith in ap (λ (m : ℕ). Some m) e
-numbered start (suc n) (suc i) h = let e : start + 1 + i ≡ start + suc i = omega arith in numbered (start + 1) n i (omega arith) ∙ ap (λ (m : ℕ). Some m) e
-
 number_at : (n i : ℕ) → i < n → slice_get (range_with_len 0 n) i ≡ Some i
-number_at n i h = let e : 0 + i ≡ i = omega arith in numbered 0 n i h ∙ ap (λ (m : ℕ). Some m) e
+number_at n i h =
+    let long : i < length (range_with_len 0 n) = rw (length-range_with_len 0 n) h in
+    let is : 0 + i ≡ i = omega arith in
+    slice_get-get_or (range_with_len 0 n) i 0 long ∙ ap (λ (m : ℕ). Some m) (get_or-range_with_len 0 n i 0 h ∙ is)
 
 -- lists of one length have as many pairs
 as_many : {X Y : Type 0} (xs : List X) (ys : List Y) → length xs ≡ length ys → length (pairs_of xs) ≡ length (pairs_of ys)

@@ -2,3 +2,5 @@ pub mod Proposal
 pub mod Laws
 pub mod Total
 pub mod Best
+pub mod Kept
+pub mod Moved

@@ -22,7 +22,7 @@ fn weight_to_beat(best: Option<Proposal>) -> u128
 }
 
 /// The better of the best so far and another document: only a greater total replaces it.
-fn better(best: Option<Proposal>, other: Proposal) -> Option<Proposal>
+pub fn better(best: Option<Proposal>, other: Proposal) -> Option<Proposal>
     ensures kept { other.weight ≤ weight_to_beat best → result ≡ best }
     ensures replaced { weight_to_beat best < other.weight → result ≡ Some other }
 {

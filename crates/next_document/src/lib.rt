@@ -2,9 +2,15 @@
 #![tactic(auto)]
 
 mod best;
+mod best_kept;
+mod held;
 mod holders;
 pub mod laws;
 mod proposal;
+mod renewed;
+mod topic_totals;
 mod total;
+mod weights;
 
 pub use proposal::{Proposal, next};
+pub use weights::Weights;

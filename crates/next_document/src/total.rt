@@ -12,7 +12,8 @@ use crate::holders::{Holders, holders_of};
 use desk_model::{Desk, Marks, PairPlaces, Verdict};
 use measure_core::Measure;
 
-fn is_unsettled(verdict: Verdict) -> bool
+/// Whether the order of a pair is not settled.
+pub fn is_unsettled(verdict: Verdict) -> bool
     ensures { result ≡ is_unsettled verdict }
 {
     match verdict {

@@ -77,21 +77,3 @@ pub fn push_measure(out: &mut Vec<u8>, measure: &MeasureName) -> Result<(), Allo
         }
     }
 }
-
-#[cfg(test)]
-mod tests {
-    use super::*;
-    use std::test::Fail;
-
-    #[test]
-    fn numbers_and_measures_are_put(rt: HostRuntime) -> Result<(), Fail> {
-        let mut out = Vec::new(rt.alloc());
-        let measure = MeasureName::Biased { top: 8, bottom: 10 };
-        push_measure(&mut out, &measure)?;
-        push_signed(&mut out, -170)?;
-        push_grade(&mut out, -1)?;
-        push_whole(&mut out, 25)?;
-        assert_eq!(rt; out.as_slice(), b"rbp_0.8-170-125".as_slice());
-        Ok(())
-    }
-}

@@ -16,6 +16,3 @@ pub use laws::{
 };
 pub use reading::{CertFault, read_certificate};
 pub use writing::write_certificate;
-
-#[cfg(test)]
-mod tests;

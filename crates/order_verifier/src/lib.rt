@@ -13,6 +13,3 @@ mod witnesses;
 pub use laws::{answers_are_one, numbers_are_of_lines, rejected_certificates_are_no_evidence};
 pub use rejected::Rejected;
 pub use verifier::Verifier;
-
-#[cfg(test)]
-mod tests;

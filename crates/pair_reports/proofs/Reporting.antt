@@ -75,7 +75,7 @@ module _ {M : Type 0} (measured : MeasureName) (cell : List Mark → List ℕ �
 
   pub table_numbers : AreNumbersIn s.measure s.desk s.marks table.bounds table.totals
   table_numbers =
-      subst (λ b. AreNumbersIn s.measure s.desk s.marks b table.totals) (sym of.on.bounds)
+      subst (λ b. AreNumbersIn s.measure s.desk s.marks b table.totals) (sym of.on.stands.bounds)
       (subst (AreNumbersIn s.measure s.desk s.marks _) (sym of.on.stands.totals) (table_named s.measure cell bounds s.desk s.marks of.on.made.numbers valid_too of.marked))
 
   pub table_is : (level : ℕ) (name : MeasureName) (unit : ℤ) (text : List ℕ) → s.level ≡ level → name ≡ measured → unit ≡ pos (unit_of measured) → text ≡ table_text desk name level unit table.bounds table.totals → IsTableText s text

@@ -17,7 +17,6 @@ use Rattle.order_certificate.specs.declared.certificate.Certificate.{Certificate
 use Rattle.pair_table.specs.Evidence.{IsCertificateOf}
 use Rattle.pair_table.specs.Kept.{Kept, StandsFor}
 use Rattle.pair_table.specs.Numbers.{AreNumbersIn, ArePairNumbers, AreAllPairNumbers}
-use Rattle.pair_table.specs.Sums.{all_run_sums, run_numbers}
 use Rattle.next_document.specs.Proposal.{Standing, IsNext}
 use Rattle.next_document.specs.declared.proposal.Proposal.{Proposal}
 use Rattle.desk_report.specs.Close.{close_line}
@@ -43,8 +42,7 @@ cells_of desk = pair_count (length desk.runs) * length desk.topics
 -- a table stands for a desk under marks, with the numbers of the measure
 pub record IsTableOn {M : Type 0} (measured : MeasureName) (cell : List Mark → List ℕ → List ℕ → Cell) (bound : List Mark → List ℕ → Span) (s : Subject) (table : Kept M) : Type 0 where
   pub made : IsMadeFor s.measure measured cell bound
-  pub stands : StandsFor cell s.desk s.marks table
-  pub bounds : table.bounds ≡ all_run_sums bound (topics_under s.desk s.marks) (length s.desk.runs)
+  pub stands : StandsFor cell bound s.desk s.marks table
 
 -- what a table over a desk speaks of
 pub record IsSubjectOf {M : Type 0} (measured : MeasureName) (cell : List Mark → List ℕ → List ℕ → Cell) (bound : List Mark → List ℕ → Span) (desk : Desk) (table : Kept M) (s : Subject) : Type 0 where

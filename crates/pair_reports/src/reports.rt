@@ -132,7 +132,7 @@ pub fn certified_report<M: Measure>(
     requires runs { AreRuns desk.now first second }
     requires level { IsLevel level }
     requires marks { AreMarksOf desk.now marks.now }
-    requires table { StandsFor (M.cell_of table.now.measure) desk.now marks.now table.now }
+    requires table { StandsFor (M.cell_of table.now.measure) (M.bounds_of table.now.measure) desk.now marks.now table.now }
     ensures { IfOk result (λ answer. (s : Subject) → s.level ≡ level → s.marks ≡ marks.now →
         IsSubjectOf (M.measured table.now.measure) (M.cell_of table.now.measure) (M.bounds_of table.now.measure) desk.now table.now s →
         IsCertifiedAs s first second answer) }

@@ -1,19 +1,18 @@
 -- The topics of a desk are ones that a measure may be asked of.
-use Rattle.std.proofs.Common.{◌≡◌, ℕ, ◌<◌, List, length, Some, ap, sym, ◌∙◌}
+use Rattle.std.proofs.Common.{◌≡◌, ℕ, ◌<◌, List, [], length, get_or, Some, ap, sym, ◌∙◌, arith}
 use Rattle.std.specs.Prelude.{slice_get}
-use Rattle.std.specs.Option.{option_map}
 use Rattle.std.specs.List.{AllByRecursion}
-use Rattle.std.proofs.lemmas.Option.{slice_get-map}
+use Rattle.std.proofs.lemmas.Option.{slice_get-get_or}
 use Rattle.std.proofs.lemmas.List.Elements.{recursion_from_All}
-use Rattle.desk_model.proofs.DeskTopics.{topic_there, ranking_at, small_at, each_topic}
+use Rattle.desk_model.proofs.DeskTopics.{topic_there, ranking_at, small_at, each_topic, length-marks}
+use Rattle.desk_model.proofs.Nested.{get_or-there}
 use Rattle.desk_model.specs.Desk.{Desk, IsDesk, AreMarksOf, ranking_of, topics_under}
 use Rattle.desk_model.specs.Order.{Topic}
 use Rattle.desk_model.specs.declared.types.Mark.{Mark}
 use Rattle.fractions.specs.declared.span.Span.{Span}
 use Rattle.measure_core.specs.Laws.{AreMet, IsMet}
-use Rattle.measure_core.specs.Made.{ends_of}
 use Rattle.measure_core.specs.declared.cell.Cell.{Cell}
-use Rattle.pair_table.specs.Sums.{cell_ends, run_spans}
+use Rattle.pair_table.specs.Kept.{topic_at}
 
 module _ (desk : Desk) (marks : List (List Mark)) (valid : IsDesk desk) (known : AreMarksOf desk marks) where
   pub met_at : (a b t : ℕ) (m : List Mark) → a < length desk.runs → b < length desk.runs → slice_get marks t ≡ Some m → AreMet m (ranking_of desk a t) (ranking_of desk b t)
@@ -36,15 +35,16 @@ module _ (desk : Desk) (marks : List (List Mark)) (valid : IsDesk desk) (known :
       (each_topic desk marks valid known (λ (topic : Topic). IsMet topic.marks (topic.ranking a)) (λ t m e. one_met_at a t m in_a e))
 
 -- ---- what a measure is asked of two runs, and of one, on a topic
+pub topic_at_there : (desk : Desk) (marks : List (List Mark)) (t : ℕ) → AreMarksOf desk marks → t < length desk.topics → slice_get (topics_under desk marks) t ≡ Some (topic_at desk marks t)
+topic_at_there desk marks t known lt =
+    let within : t < length marks = omega (arith, lt, length-marks desk marks known) in
+    topic_there desk marks t (get_or marks t []) (slice_get-get_or marks t [] within)
+
 pub cell_there : (desk : Desk) (marks : List (List Mark)) (cell : List Mark → List ℕ → List ℕ → Cell) (a b t : ℕ) (m : List Mark) (first second : List ℕ) (r : Cell) →
-    slice_get marks t ≡ Some m → first ≡ ranking_of desk a t → second ≡ ranking_of desk b t → r ≡ cell m first second → slice_get (cell_ends cell (topics_under desk marks) a b) t ≡ Some (ends_of r)
+    slice_get marks t ≡ Some m → first ≡ ranking_of desk a t → second ≡ ranking_of desk b t → r ≡ cell m first second → r ≡ cell (get_or marks t []) (ranking_of desk a t) (ranking_of desk b t)
 cell_there desk marks cell a b t m first second r there p q e =
-    let at = λ (topic : Topic). ends_of (cell topic.marks (topic.ranking a) (topic.ranking b)) in
-    let same : r ≡ cell m (ranking_of desk a t) (ranking_of desk b t) = e ∙ ap (λ us. cell m us second) p ∙ ap (λ us. cell m (ranking_of desk a t) us) q in
-    slice_get-map at (topics_under desk marks) t ∙ ap (option_map at) (topic_there desk marks t m there) ∙ ap (λ (x : Cell). Some (ends_of x)) (sym same)
+    e ∙ ap (λ us. cell m us second) p ∙ ap (λ us. cell m (ranking_of desk a t) us) q ∙ ap (λ n. cell n (ranking_of desk a t) (ranking_of desk b t)) (sym (get_or-there marks t m [] there))
 
 pub bounds_there : (desk : Desk) (marks : List (List Mark)) (bounds : List Mark → List ℕ → Span) (a t : ℕ) (m : List Mark) (docs : List ℕ) (r : Span) →
-    slice_get marks t ≡ Some m → docs ≡ ranking_of desk a t → r ≡ bounds m docs → slice_get (run_spans bounds (topics_under desk marks) a) t ≡ Some r
-bounds_there desk marks bounds a t m docs r there p e =
-    let at = λ (topic : Topic). bounds topic.marks (topic.ranking a) in
-    slice_get-map at (topics_under desk marks) t ∙ ap (option_map at) (topic_there desk marks t m there) ∙ ap Some (sym (e ∙ ap (bounds m) p))
+    slice_get marks t ≡ Some m → docs ≡ ranking_of desk a t → r ≡ bounds m docs → r ≡ bounds (get_or marks t []) (ranking_of desk a t)
+bounds_there desk marks bounds a t m docs r there p e = e ∙ ap (bounds m) p ∙ ap (λ n. bounds n (ranking_of desk a t)) (sym (get_or-there marks t m [] there))

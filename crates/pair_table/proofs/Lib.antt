@@ -1,4 +1,7 @@
 pub mod Adding
+pub mod Summing
+pub mod Keeping
+pub mod Changing
 pub mod DeskTopics
 pub mod Zips
 pub mod Verdicts

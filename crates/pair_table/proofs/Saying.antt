@@ -1,8 +1,7 @@
 -- What is said of two runs by their cells.
-use Rattle.std.proofs.Common.{◌≡◌, ℕ, List, [], ◌∷◌, length, map, Result, Ok, Err, ap, sym, subst, ◌∙◌, refl}
+use Rattle.std.proofs.Common.{◌≡◌, ℕ, List, [], ◌∷◌, length, Result, Ok, Err, subst, refl}
 use Rattle.std.specs.Prelude.{IfOk}
 use Rattle.std.specs.List.{AllByRecursion}
-use Rattle.std.proofs.lemmas.List.{length-map}
 use Rattle.desk_model.specs.Desk.{Desk, IsDesk, AreMarksOf, topics_under}
 use Rattle.desk_model.specs.Extremes.{Ends}
 use Rattle.desk_model.specs.Order.{Topic}
@@ -11,7 +10,6 @@ use Rattle.desk_model.specs.declared.types.Mark.{Mark}
 use Rattle.desk_model.specs.declared.types.MeasureName.{MeasureName}
 use Rattle.desk_model.specs.declared.types.Totals.{Totals}
 use Rattle.desk_model.specs.declared.types.Verdict.{Verdict}
-use Rattle.desk_model.proofs.DeskTopics.{length-topics_under}
 use Rattle.fractions.specs.declared.span.Span.{Span}
 use Rattle.measure_core.specs.Laws.{MeetsLaws}
 use Rattle.measure_core.specs.Made.{ends_of}
@@ -37,14 +35,9 @@ cells_named cell topics a b =
     let f : Topic → Ends = λ topic. ends_of (cell topic.marks (topic.ranking a) (topic.ranking b)) in
     zip_made (λ e topic. e ≡ f topic) f topics (each_itself f topics)
 
-pub length-cells : (cell : List Mark → List ℕ → List ℕ → Cell) (desk : Desk) (marks : List (List Mark)) (a b : ℕ) (cells : List Cell) → AreMarksOf desk marks → map ends_of cells ≡ cell_ends cell (topics_under desk marks) a b → length cells ≡ length desk.topics
-length-cells cell desk marks a b cells known h =
-    let f : Topic → Ends = λ topic. ends_of (cell topic.marks (topic.ranking a) (topic.ranking b)) in
-    sym (length-map cells ends_of) ∙ ap length h ∙ length-map (topics_under desk marks) f ∙ length-topics_under desk marks known
-
 -- the sums of a table that stands for a desk under marks
 pub standing_sums : {M : Type 0} (name : MeasureName) (cell : List Mark → List ℕ → List ℕ → Cell) (bounds : List Mark → List ℕ → Span) (desk : Desk) (marks : List (List Mark)) (i j : ℕ) (sums : Totals) (table : Kept M) →
-    MeetsLaws name cell bounds → IsDesk desk → AreMarksOf desk marks → StandsFor cell desk marks table → AreSumsOf table.runs table.totals i j sums → sums ≡ pair_sums cell (topics_under desk marks) i j
+    MeetsLaws name cell bounds → IsDesk desk → AreMarksOf desk marks → StandsFor cell bounds desk marks table → AreSumsOf table.runs table.totals i j sums → sums ≡ pair_sums cell (topics_under desk marks) i j
 standing_sums name cell bounds desk marks i j sums table laws is_desk known stands h =
     exact_in_both name cell bounds desk marks i j sums laws is_desk known
     (subst (λ ts. AreSumsOf (length desk.runs) ts i j sums) stands.totals (subst (λ n. AreSumsOf n table.totals i j sums) stands.runs h))

@@ -1,8 +1,9 @@
 //! The certificate of two runs of a table.
-ghost use Rattle.std.specs.Prelude.{◌≡◌, ◌≢◌, ◌<◌, ◌&&◌, true, false, length, map, pos, slice_index_or, IfOk, if◌then◌else◌};
+ghost use Rattle.std.specs.Prelude.{List, ◌≡◌, ◌≢◌, ◌<◌, ◌&&◌, true, false, length, map, pos, slice_index_or, IfOk, if◌then◌else◌};
 ghost use Rattle.desk_model.specs.Desk.{AreMarksOf, topics_under};
 ghost use Rattle.desk_model.specs.Extremes.{Ends};
 ghost use Rattle.desk_model.specs.Mark.{is_unjudged};
+ghost use Rattle.desk_model.specs.declared.types.Mark.{Mark as OfMark};
 ghost use Rattle.desk_model.specs.MeasureText.{IsMeasure};
 ghost use Rattle.desk_model.specs.Name.{is_name};
 ghost use Rattle.measure_laws.specs.Cases.{least_truth};
@@ -14,16 +15,13 @@ ghost use Rattle.pair_table.specs.Sums.{cell_ends};
 ghost use Rattle.pair_table.specs.Kept.{StandsFor};
 ghost use Rattle.pair_table.specs.Evidence.{bounds_of, relevant_names, witnesses_of, Compares, SaysAbove, SaysEqual, SaysOpen, IsAnswered};
 
-use crate::sums::cell_at;
 use crate::table::Table;
 use desk_model::{Desk, Mark, Marks, Memory, Name, NameFault, Ranking, TopicBook, Totals, Verdict};
-use measure_core::{Cell, Measure, Steps};
+use measure_core::{Cell, Measure};
 use order_certificate::{
     Bounds, Certificate, Evidence, Names, TopicBound, TopicWitness, Witnesses,
 };
 use std::alloc::Global;
-use std::marker::Brand;
-use std::sync::ledger::{Blank, Ledger};
 
 /// Why two runs have no certificate.
 #[derive(Clone, Copy, PartialEq, Eq, Debug)]
@@ -44,36 +42,6 @@ fn copied(alloc: Global, name: &[u8]) -> Result<Name, Memory>
         Err(NameFault::Memory) => Err(Memory),
         Err(NameFault::BadName) => unreachable!(),
     }
-}
-
-// The cell of two runs on each topic, counted by a ledger of its own.
-fn cells<M: Measure, L: Ledger>(
-    alloc: Global,
-    measure: &M,
-    desk: &Desk,
-    marks: &Marks,
-    first: u32,
-    second: u32,
-    blank: Blank,
-) -> Result<Vec<Cell>, Memory>
-    requires name { blank.name ≡ L.name }
-    requires parts { blank.parts ≡ L.parts }
-    requires some { 0 < blank.parts }
-    requires measure { IsMeasure (M.measured measure.now) }
-    requires marks { AreMarksOf desk.now marks.now }
-    requires first { first < length desk.now.runs }
-    requires second { second < length desk.now.runs }
-    ensures { IfOk result (λ cells. map ends_of cells.items ≡ cell_ends (M.cell_of measure.now) (topics_under desk.now marks.now) first second) }
-{
-    let mut steps: Steps<L> = Steps::new(blank);
-    let mut cells = Vec::new(alloc);
-    for topic in 0..desk.topic_count() {
-        let cell = cell_at(measure, desk, marks, first, second, topic, &mut steps);
-        let Ok(()) = cells.push(cell) else {
-            return Err(Memory);
-        };
-    }
-    Ok(cells)
 }
 
 // The bound of a topic by its cell: the lower end of the least difference, and, where it is wanted, the
@@ -113,20 +81,23 @@ fn bounds_of_cells(
 // The bound of each topic for two runs.
 fn bounds<M: Measure>(
     alloc: Global,
-    measure: &M,
+    table: &Table<M>,
     desk: &Desk,
-    marks: &Marks,
     first: u32,
     second: u32,
     upper: bool,
 ) -> Result<Bounds, Memory>
-    requires measure { IsMeasure (M.measured measure.now) }
-    requires marks { AreMarksOf desk.now marks.now }
-    requires first { first < length desk.now.runs }
-    requires second { second < length desk.now.runs }
-    ensures { IfOk result (λ bounds. bounds ≡ bounds_of (λ (e : Ends). if upper then e.most_hi else pos 0) desk.now (cell_ends (M.cell_of measure.now) (topics_under desk.now marks.now) first second)) }
+    requires different { first ≢ second }
+    requires first { first < table.now.runs }
+    requires second { second < table.now.runs }
+    requires topics { length table.now.topics ≡ length desk.now.topics }
+    ensures { IfOk result (λ bounds. (marks : List (List OfMark)) → AreMarksOf desk.now marks → StandsFor (M.cell_of table.now.measure) (M.bounds_of table.now.measure) desk.now marks table.now →
+        bounds ≡ bounds_of (λ (e : Ends). if upper then e.most_hi else pos 0) desk.now (cell_ends (M.cell_of table.now.measure) (topics_under desk.now marks) first second)) }
 {
-    let cells = cells::<M, Brand>(alloc, measure, desk, marks, first, second, Blank::new(1))?;
+    // The laws speak of desks, and of measures that have a name.
+    let measure = table.measure();
+    let (_name, _runs) = (measure.name(), desk.run_count());
+    let cells = table.cells(alloc, first, second)?;
     bounds_of_cells(alloc, desk, &cells, upper)
 }
 
@@ -271,20 +242,22 @@ fn certificate<M: Measure>(
 // The certificate that the first of two runs is always above the second.
 fn above<M: Measure>(
     alloc: Global,
-    measure: &M,
+    table: &Table<M>,
     desk: &Desk,
-    marks: &Marks,
     level: u32,
     first: u32,
     second: u32,
 ) -> Result<Certificate, Memory>
-    requires measure { IsMeasure (M.measured measure.now) }
-    requires marks { AreMarksOf desk.now marks.now }
-    requires first { first < length desk.now.runs }
-    requires second { second < length desk.now.runs }
-    ensures { IfOk result (SaysAbove (HasCellEnds (M.cell_of measure.now)) (M.measured measure.now) desk.now marks.now level first second) }
+    requires different { first ≢ second }
+    requires first { first < table.now.runs }
+    requires second { second < table.now.runs }
+    requires runs { table.now.runs ≡ length desk.now.runs }
+    requires topics { length table.now.topics ≡ length desk.now.topics }
+    ensures { IfOk result (λ certificate. (marks : List (List OfMark)) → AreMarksOf desk.now marks → StandsFor (M.cell_of table.now.measure) (M.bounds_of table.now.measure) desk.now marks table.now →
+        SaysAbove (HasCellEnds (M.cell_of table.now.measure)) (M.measured table.now.measure) desk.now marks level first second certificate) }
 {
-    let bounds = bounds(alloc, measure, desk, marks, first, second, false)?;
+    let measure = table.measure();
+    let bounds = bounds(alloc, table, desk, first, second, false)?;
     certificate(
         alloc,
         measure,
@@ -299,20 +272,22 @@ fn above<M: Measure>(
 // The certificate that two runs are always equal.
 fn equal<M: Measure>(
     alloc: Global,
-    measure: &M,
+    table: &Table<M>,
     desk: &Desk,
-    marks: &Marks,
     level: u32,
     first: u32,
     second: u32,
 ) -> Result<Certificate, Memory>
-    requires measure { IsMeasure (M.measured measure.now) }
-    requires marks { AreMarksOf desk.now marks.now }
-    requires first { first < length desk.now.runs }
-    requires second { second < length desk.now.runs }
-    ensures { IfOk result (SaysEqual (HasCellEnds (M.cell_of measure.now)) (M.measured measure.now) desk.now marks.now level first second) }
+    requires different { first ≢ second }
+    requires first { first < table.now.runs }
+    requires second { second < table.now.runs }
+    requires runs { table.now.runs ≡ length desk.now.runs }
+    requires topics { length table.now.topics ≡ length desk.now.topics }
+    ensures { IfOk result (λ certificate. (marks : List (List OfMark)) → AreMarksOf desk.now marks → StandsFor (M.cell_of table.now.measure) (M.bounds_of table.now.measure) desk.now marks table.now →
+        SaysEqual (HasCellEnds (M.cell_of table.now.measure)) (M.measured table.now.measure) desk.now marks level first second certificate) }
 {
-    let bounds = bounds(alloc, measure, desk, marks, first, second, true)?;
+    let measure = table.measure();
+    let bounds = bounds(alloc, table, desk, first, second, true)?;
     certificate(
         alloc,
         measure,
@@ -373,7 +348,7 @@ impl<M: Measure> Table<M> {
         requires second { j < self.now.runs }
         requires marks { AreMarksOf desk.now marks.now }
         requires level { IsLevel level }
-        requires stands { StandsFor (M.cell_of self.now.measure) desk.now marks.now self.now }
+        requires stands { StandsFor (M.cell_of self.now.measure) (M.bounds_of self.now.measure) desk.now marks.now self.now }
         ensures answer { IsAnswered (HasCellEnds (M.cell_of self.now.measure)) (M.measured self.now.measure) desk.now marks.now level i j result }
         ensures certificate { IfOk result IsCertificate }
     {
@@ -381,9 +356,9 @@ impl<M: Measure> Table<M> {
         let measure = self.measure();
         let (_name, _runs) = (measure.name(), desk.run_count());
         let made = match self.verdict(i, j) {
-            Verdict::Above => above(alloc, measure, desk, marks, level, i, j),
-            Verdict::Below => above(alloc, measure, desk, marks, level, j, i),
-            Verdict::Equal => equal(alloc, measure, desk, marks, level, i, j),
+            Verdict::Above => above(alloc, self, desk, level, i, j),
+            Verdict::Below => above(alloc, self, desk, level, j, i),
+            Verdict::Equal => equal(alloc, self, desk, level, i, j),
             Verdict::Open => open(alloc, measure, desk, marks, level, i, j),
             Verdict::Close => return Err(EvidenceFault::Close(self.totals(i, j))),
         };

@@ -1,5 +1,5 @@
 //! Laws of tables, each the contract of a function that does nothing.
-ghost use Rattle.std.specs.Prelude.{◌≡◌, ◌≢◌, ◌<◌, ℕ, List, length};
+ghost use Rattle.std.specs.Prelude.{◌≡◌, ◌≢◌, ◌<◌, ℕ, List, length, slice_set};
 ghost use Rattle.desk_model.specs.Desk.{Desk, IsDesk, AreMarksOf, topics_under};
 ghost use Rattle.desk_model.specs.Enclosure.{AreExactEnds};
 ghost use Rattle.desk_model.specs.Order.{Topic};
@@ -16,9 +16,11 @@ ghost use Rattle.measure_core.specs.Laws.{MeetsLaws};
 ghost use Rattle.measure_core.specs.Made.{AreNumbersOfName};
 ghost use Rattle.measure_core.specs.declared.cell.Cell.{Cell};
 ghost use Rattle.pair_table.specs.Sums.{cell_ends, pair_sums, run_sums, all_pair_sums, all_run_sums};
-ghost use Rattle.pair_table.specs.Kept.{AreSumsOf};
+ghost use Rattle.pair_table.specs.Kept.{Kept, AreSumsOf, StandsFor, StandsElsewhere};
 ghost use Rattle.pair_table.specs.Numbers.{AreNumbersIn};
 ghost use Rattle.pair_table.specs.Orders.{HoldsOfPair, HoldsOfRun, total_width, IsNearZero, ForEachPair, ForTwoRuns, ForEachRun};
+
+use measure_core::Measure;
 
 /// A table of a measure whose cells and bounds are a name's has the numbers of that name.
 pub fn tables_have_named_numbers()
@@ -93,4 +95,19 @@ pub fn sums_are_exact_in_both_orders()
         (desk : Desk) (marks : List (List Mark)) (i j : ℕ) (sums : Totals) →
         MeetsLaws name cell bounds → IsDesk desk → AreMarksOf desk marks →
         AreSumsOf (length desk.runs) (all_pair_sums cell (topics_under desk marks) (length desk.runs)) i j sums → sums ≡ pair_sums cell (topics_under desk marks) i j }
+{}
+
+/// A table that stands for a desk under marks is the one that is made anew: two tables of one measure that
+/// stand for the same keep the same cells, bounds and sums, whatever changes they took over.
+pub fn standing_tables_are_one<M: Measure>()
+    ensures { (desk : Desk) (marks : List (List Mark)) (table other : Kept M) → table.measure ≡ other.measure →
+        StandsFor (M.cell_of table.measure) (M.bounds_of table.measure) desk marks table →
+        StandsFor (M.cell_of other.measure) (M.bounds_of other.measure) desk marks other → table ≡ other }
+{}
+
+/// Where the marks of one topic change, all that a table keeps of every other topic stays that of the marks.
+pub fn other_topics_stay<M: Measure>()
+    ensures { (desk : Desk) (marks : List (List Mark)) (topic : ℕ) (row : List Mark) (table : Kept M) → AreMarksOf desk marks →
+        StandsFor (M.cell_of table.measure) (M.bounds_of table.measure) desk marks table →
+        StandsElsewhere (M.cell_of table.measure) (M.bounds_of table.measure) desk (slice_set marks topic row) topic table }
 {}

@@ -3,7 +3,9 @@
 
 pub mod evidence;
 pub mod evidence_laws;
+mod kept;
 pub mod laws;
+mod numbers;
 pub mod settled;
 mod sums;
 pub mod table;

@@ -1,5 +1,6 @@
-ghost use Rattle.std.specs.Prelude.{◌≡◌, ◌≢◌, ◌+◌, ◌*◌, ◌<◌, ◌≤◌, All, [], length, map, slice_get, Some, IfOk, OnOk, OnErr};
-ghost use Rattle.desk_model.specs.Limits.{RUN_LIMIT};
+ghost use Rattle.std.specs.Prelude.{◌≡◌, ◌≢◌, ◌+◌, ◌*◌, ◌<◌, ◌≤◌, All, [], length, map, pos, slice_get, slice_set, Some, IfOk, OnOk, OnErr};
+ghost use Rattle.std.specs.List.{AllZip};
+ghost use Rattle.desk_model.specs.Limits.{RUN_LIMIT, TOPIC_LIMIT};
 ghost use Rattle.desk_model.specs.Desk.{AreMarksOf, topics_under, pair_count};
 ghost use Rattle.desk_model.specs.Pairs.{pairs_of};
 ghost use Rattle.desk_model.specs.Verdict.{totals_of, verdict};
@@ -7,24 +8,26 @@ ghost use Rattle.desk_model.specs.declared.types.Totals.{Totals as Sums};
 ghost use Rattle.desk_model.specs.MeasureText.{IsMeasure};
 ghost use Rattle.fractions.specs.Ends.{IsShort};
 ghost use Rattle.pair_table.specs.Sums.{run_numbers, all_pair_sums, all_run_sums, swapped_totals};
-ghost use Rattle.pair_table.specs.Kept.{AreSumsOf, AreModestTotals};
+ghost use Rattle.measure_core.specs.Laws.{swapped_cell};
+ghost use Rattle.pair_table.specs.Kept.{numbers_on, topic_at, all_numbers, AreTopicNumbers, IsCellOf, no_totals, no_bounds, kept_totals, kept_bounds, StandsFor, StandsElsewhere, AreSumsOf, AreModestTotals};
 
-use crate::sums::{add_cells, sum_bounds};
+use crate::kept::KeptTopic;
 use desk_model::{Desk, Marks, Memory, Totals, Verdict, verdict_of};
 use fractions::Span;
-use measure_core::{Measure, Steps};
+use measure_core::{Cell, Measure, Steps};
 use std::alloc::{AllocError, Global};
 use std::marker::Model;
 use std::sync::ledger::Ledger;
 
-/// The sums of all pairs of runs of a desk and of the bounds of all runs, over all topics, in units of
-/// a measure.
+/// The cells of all pairs of runs of a desk on each topic and the bounds of all runs, with their sums over
+/// all topics, in units of a measure. A change of marks in one topic costs the cells of that topic.
 ///
 /// Runs are numbered from 0. Pairs are in the order (0, 1), (0, 2), .. up to the last two runs.
 #[derive(Drop)]
 pub struct Table<M: Measure> {
     measure: M,
     runs: u32,
+    topics: Vec<KeptTopic>,
     totals: Vec<Totals>,
     verdicts: Vec<Verdict>,
     bounds: Vec<Span>,
@@ -35,9 +38,9 @@ impl<M: Measure> Model for Table<M> {
 
     ghost Value = { Kept M };
 
-    ghost view = { λ t. record { measure = t.measure; runs = t.runs; totals = t.totals.items; bounds = t.bounds.items } };
+    ghost view = { λ t. record { measure = t.measure; runs = t.runs; topics = t.topics.items; totals = t.totals.items; bounds = t.bounds.items } };
 
-    ghost invariant = { λ t. IsKeptTable t.runs t.totals.items t.verdicts.items t.bounds.items };
+    ghost invariant = { λ t. IsKeptTable t.runs t.topics.items t.totals.items t.verdicts.items t.bounds.items };
 }
 
 const NO_SUMS: Totals = Totals {
@@ -72,15 +75,61 @@ fn swapped_sums(totals: &Totals) -> Totals
     }
 }
 
-/// Room for the numbers of so many pairs and runs.
-fn rooms(
+/// The cell of two swapped runs.
+fn swapped(cell: Cell) -> Cell
+    requires least { IsShort cell.least }
+    requires most { IsShort cell.most }
+    ensures { result ≡ swapped_cell cell }
+{
+    Cell {
+        least: cell.most.negate(),
+        most: cell.least.negate(),
+    }
+}
+
+/// The cell of two different runs of so many. That of (j, i) is that of (i, j) swapped.
+fn cell_of_runs(kept: &KeptTopic, runs: u32, i: u32, j: u32) -> Cell
+    requires few { runs ≤ RUN_LIMIT }
+    requires numbers { length kept.now.cells ≡ length (pairs_of (run_numbers runs)) }
+    requires different { i ≢ j }
+    requires first { i < runs }
+    requires second { j < runs }
+    ensures { IsCellOf runs i j result kept.now }
+{
+    if i < j {
+        kept.cell(pair_number(runs, i, j))
+    } else {
+        swapped(kept.cell(pair_number(runs, j, i)))
+    }
+}
+
+/// Room for the numbers of so many topics, pairs and runs.
+fn topic_rooms(
+    alloc: Global,
+    topics: u32,
+    pairs: u32,
+    runs: u32,
+) -> Result<Vec<KeptTopic>, AllocError>
+    ensures count { IfOk result (λ rooms. length rooms.items ≡ topics) }
+    ensures cells { IfOk result (λ rooms. All (λ kept. length kept.cells ≡ pairs) rooms.items) }
+    ensures bounds { IfOk result (λ rooms. All (λ kept. length kept.bounds ≡ runs) rooms.items) }
+{
+    let mut rooms = Vec::with_capacity(alloc, topics as usize)?;
+    for _topic in 0..topics {
+        rooms.push(KeptTopic::new(alloc, pairs, runs)?)?;
+    }
+    Ok(rooms)
+}
+
+/// Room for the sums and verdicts of so many pairs, and for the sums of so many runs.
+fn sum_rooms(
     alloc: Global,
     pairs: u32,
     runs: u32,
 ) -> Result<(Vec<Totals>, Vec<Verdict>, Vec<Span>), AllocError>
     ensures totals { IfOk result (λ rooms. (length rooms.0.items ≡ pairs) × All (λ sums. sums ≡ totals_of []) rooms.0.items) }
     ensures verdicts { IfOk result (λ rooms. length rooms.1.items ≡ pairs) }
-    ensures bounds { IfOk result (λ rooms. length rooms.2.items ≡ runs) }
+    ensures bounds { IfOk result (λ rooms. (length rooms.2.items ≡ runs) × All (λ sums. sums ≡ record { lo = pos 0; hi = pos 0 }) rooms.2.items) }
 {
     let totals = vec![in alloc; NO_SUMS; pairs as usize]?;
     let verdicts = vec![in alloc; Verdict::Close; pairs as usize]?;
@@ -88,8 +137,9 @@ fn rooms(
     Ok((totals, verdicts, bounds))
 }
 
-fn fill_totals<M: Measure, L: Ledger>(
-    totals: &mut [Totals],
+/// Evaluates the numbers of each topic. It is one step for each pair and topic.
+fn evaluate_topics<M: Measure, L: Ledger>(
+    topics: &mut [KeptTopic],
     measure: &M,
     desk: &Desk,
     marks: &Marks,
@@ -97,27 +147,65 @@ fn fill_totals<M: Measure, L: Ledger>(
 )
     requires measure { IsMeasure (M.measured measure.now) }
     requires marks { AreMarksOf desk.now marks.now }
-    requires count { length totals.old ≡ length (pairs_of (run_numbers (length desk.now.runs))) }
-    requires none { All (λ sums. sums ≡ totals_of []) totals.old }
-    ensures totals { totals.new ≡ all_pair_sums (M.cell_of measure.now) (topics_under desk.now marks.now) (length desk.now.runs) }
-    ensures near { All AreModestTotals totals.new }
-    ensures steps { steps.new ≡ steps.old + length totals.old * length desk.now.topics }
+    requires count { length topics.old ≡ length desk.now.topics }
+    requires cells { All (λ kept. length kept.cells ≡ length (pairs_of (run_numbers (length desk.now.runs)))) topics.old }
+    requires bounds { All (λ kept. length kept.bounds ≡ length desk.now.runs) topics.old }
+    ensures numbers { topics.new ≡ all_numbers (M.cell_of measure.now) (M.bounds_of measure.now) desk.now marks.now }
+    ensures sizes { All (AreTopicNumbers (length desk.now.runs)) topics.new }
+    ensures steps { steps.new ≡ steps.old + length (pairs_of (run_numbers (length desk.now.runs))) * length desk.now.topics }
 {
     for topic in 0..desk.topic_count() {
-        add_cells(totals, measure, desk, marks, topic, steps);
+        let kept = &mut topics[topic as usize];
+        kept.evaluate(measure, desk, marks, topic, steps);
     }
 }
 
-fn fill_bounds<M: Measure>(bounds: &mut [Span], measure: &M, desk: &Desk, marks: &Marks)
+/// Adds up the numbers of the topics of so many runs.
+fn add_topics(totals: &mut [Totals], bounds: &mut [Span], topics: &[KeptTopic], runs: u32)
+    requires topics { length topics.now ≤ TOPIC_LIMIT }
+    requires sizes { All (AreTopicNumbers runs) topics.now }
+    requires totals { totals.old ≡ no_totals runs }
+    requires bounds { bounds.old ≡ no_bounds runs }
+    ensures totals { totals.new ≡ kept_totals runs topics.now }
+    ensures bounds { bounds.new ≡ kept_bounds runs topics.now }
+{
+    for topic in 0..topics.len() {
+        let kept = &topics[topic];
+        kept.add_to(totals, bounds);
+    }
+}
+
+/// Evaluates the numbers of one topic, by its number, and makes the sums those with its new numbers. It is
+/// one step for each pair.
+fn renew_topic<M: Measure, L: Ledger>(
+    topics: &mut [KeptTopic],
+    totals: &mut [Totals],
+    bounds: &mut [Span],
+    measure: &M,
+    desk: &Desk,
+    marks: &Marks,
+    topic: u32,
+    steps: &mut Steps<L>,
+)
     requires measure { IsMeasure (M.measured measure.now) }
     requires marks { AreMarksOf desk.now marks.now }
-    requires count { length bounds.old ≡ length desk.now.runs }
-    ensures bounds { bounds.new ≡ all_run_sums (M.bounds_of measure.now) (topics_under desk.now marks.now) (length desk.now.runs) }
-    ensures near { All IsShort bounds.new }
+    requires count { length topics.old ≡ length desk.now.topics }
+    requires topic { topic < length desk.now.topics }
+    requires sizes { All (AreTopicNumbers (length desk.now.runs)) topics.old }
+    requires totals { totals.old ≡ kept_totals (length desk.now.runs) topics.old }
+    requires bounds { bounds.old ≡ kept_bounds (length desk.now.runs) topics.old }
+    ensures topics { topics.new ≡ slice_set topics.old topic (numbers_on (M.cell_of measure.now) (M.bounds_of measure.now) (length desk.now.runs) (topic_at desk.now marks.now topic)) }
+    ensures sizes { All (AreTopicNumbers (length desk.now.runs)) topics.new }
+    ensures totals { totals.new ≡ kept_totals (length desk.now.runs) topics.new }
+    ensures bounds { bounds.new ≡ kept_bounds (length desk.now.runs) topics.new }
+    ensures steps { steps.new ≡ steps.old + length (pairs_of (run_numbers (length desk.now.runs))) }
 {
-    for run in 0..desk.run_count() {
-        bounds[run as usize] = sum_bounds(measure, desk, marks, run);
-    }
+    // The laws speak of desks.
+    let _runs = desk.run_count();
+    let kept = &mut topics[topic as usize];
+    kept.take_back(totals, bounds);
+    kept.evaluate(measure, desk, marks, topic, steps);
+    kept.add_to(totals, bounds);
 }
 
 fn fill_verdicts(verdicts: &mut [Verdict], totals: &[Totals])
@@ -145,27 +233,82 @@ impl<M: Measure> Table<M> {
         ensures totals { IfOk result (λ table. table.totals ≡ all_pair_sums (M.cell_of measure) (topics_under desk.now marks.now) (length desk.now.runs)) }
         ensures pairs { IfOk result (λ table. length table.totals ≡ length (pairs_of desk.now.runs)) }
         ensures bounds { IfOk result (λ table. table.bounds ≡ all_run_sums (M.bounds_of measure) (topics_under desk.now marks.now) (length desk.now.runs)) }
+        ensures stands { IfOk result (StandsFor (M.cell_of measure) (M.bounds_of measure) desk.now marks.now) }
         ensures steps { OnOk result (steps.new ≡ steps.old + pair_count (length desk.now.runs) * length desk.now.topics) }
         ensures no_steps { OnErr result (steps.new ≡ steps.old) }
     {
         // The laws speak of measures that have a name.
         let _name = measure.name();
         let runs = desk.run_count();
-        match rooms(alloc, runs * (runs - 1) / 2, runs) {
-            Ok((mut totals, mut verdicts, mut bounds)) => {
-                fill_totals(&mut totals, &measure, desk, marks, steps);
-                fill_verdicts(&mut verdicts, &totals);
-                fill_bounds(&mut bounds, &measure, desk, marks);
-                Ok(Table {
-                    measure,
-                    runs,
-                    totals,
-                    verdicts,
-                    bounds,
-                })
-            }
-            Err(_) => Err(Memory),
+        let count = runs * (runs - 1) / 2;
+        let Ok(mut topics) = topic_rooms(alloc, desk.topic_count(), count, runs) else {
+            return Err(Memory);
+        };
+        let Ok((mut totals, mut verdicts, mut bounds)) = sum_rooms(alloc, count, runs) else {
+            return Err(Memory);
+        };
+        evaluate_topics(&mut topics, &measure, desk, marks, steps);
+        add_topics(&mut totals, &mut bounds, &topics, runs);
+        fill_verdicts(&mut verdicts, &totals);
+        Ok(Table {
+            measure,
+            runs,
+            topics,
+            totals,
+            verdicts,
+            bounds,
+        })
+    }
+
+    /// Takes over new marks of one topic, by its number: the table is as one that is made anew for the desk
+    /// and these marks. It is one step for each pair, and takes no memory.
+    ///
+    /// The desk is that of the table, and all that the table keeps of every other topic is already that of
+    /// these marks.
+    pub fn change<L: Ledger>(
+        &mut self,
+        desk: &Desk,
+        marks: &Marks,
+        topic: u32,
+        steps: &mut Steps<L>,
+    )
+        requires marks { AreMarksOf desk.now marks.now }
+        requires topic { topic < length desk.now.topics }
+        requires others { StandsElsewhere (M.cell_of self.old.measure) (M.bounds_of self.old.measure) desk.now marks.now topic self.old }
+        ensures measure { self.new.measure ≡ self.old.measure }
+        ensures stands { StandsFor (M.cell_of self.old.measure) (M.bounds_of self.old.measure) desk.now marks.now self.new }
+        ensures steps { steps.new ≡ steps.old + pair_count (length desk.now.runs) }
+    {
+        // The laws speak of measures that have a name.
+        let _name = self.measure.name();
+        renew_topic(
+            &mut self.topics,
+            &mut self.totals,
+            &mut self.bounds,
+            &self.measure,
+            desk,
+            marks,
+            topic,
+            steps,
+        );
+        fill_verdicts(&mut self.verdicts, &self.totals);
+    }
+
+    /// The cells of two different runs, one for each topic. Those of (j, i) are those of (i, j) swapped.
+    pub fn cells(&self, alloc: Global, i: u32, j: u32) -> Result<Vec<Cell>, Memory>
+        requires different { i ≢ j }
+        requires first { i < self.now.runs }
+        requires second { j < self.now.runs }
+        ensures { IfOk result (λ cells. AllZip (IsCellOf self.now.runs i j) cells.items self.now.topics) }
+    {
+        let mut cells = Vec::new(alloc);
+        for topic in 0..self.topics.len() {
+            let cell = cell_of_runs(&self.topics[topic], self.runs, i, j);
+            let Ok(()) = cells.push(cell) else {
+                return Err(Memory);
+            };
         }
+        Ok(cells)
     }
 
     /// The verdict of two different runs, of the first on the second.

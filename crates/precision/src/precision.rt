@@ -11,11 +11,12 @@ ghost use Rattle.measure_core.specs.Made.{IsMadeFor};
 
 use desk_model::{Mark, MeasureName, Memory, Ranking};
 use fractions::Span;
-use measure_core::{Cell, Measure, Steps};
+use measure_core::{Cell, Measure, Shift, Steps};
 use std::alloc::Global;
 use std::marker::Model;
 use std::sync::ledger::Ledger;
 use topic_counts::counts::{is_among_first, own_counts, prefix_documents};
+use weight_walks::shift_one_side;
 
 /// The measure `P_k`, for a k from 1 to 10,000. Its unit is k: what it answers are numbers of
 /// documents.
@@ -174,6 +175,17 @@ impl Measure for Precision {
     fn weight(&self, a: &Ranking, b: &Ranking, _marks: &[Mark], doc: u32) -> u128 {
         let one_alone = is_among_first(self.k, a, doc) != is_among_first(self.k, b, doc);
         u128::from(one_alone)
+    }
+
+    fn shift_weights(
+        &self,
+        a: &Ranking,
+        b: &Ranking,
+        _marks: &[Mark],
+        shift: Shift,
+        totals: &mut [u128],
+    ) {
+        shift_one_side(self.k, a, b, shift, totals);
     }
 
     ghost laws = { laws.laws };

@@ -13,12 +13,13 @@ ghost use Rattle.desk_model.specs.declared.types.MeasureName.TheVariants.{Biased
 use crate::corrections::{Shares, alone};
 use desk_model::{Mark, MeasureName, Memory, Ranking};
 use fractions::{Powers, Span};
-use measure_core::{Cell, Measure, Steps};
+use measure_core::{Cell, Measure, Shift, Steps};
 use std::alloc::Global;
 use std::marker::Model;
 use std::sync::ledger::Ledger;
 use topic_counts::ranks::rank_in;
 use topic_counts::topic::is_true;
+use weight_walks::shift_by_ranks;
 
 /// How many units make a score of 1.
 const UNIT: i128 = 1_000_000_000_000_000_000;
@@ -205,6 +206,17 @@ impl Measure for Rbp {
         let first = self.weight_at(rank_in(a, doc)).lo;
         let second = self.weight_at(rank_in(b, doc)).lo;
         first.abs_diff(second)
+    }
+
+    fn shift_weights(
+        &self,
+        a: &Ranking,
+        b: &Ranking,
+        _marks: &[Mark],
+        shift: Shift,
+        totals: &mut [u128],
+    ) {
+        shift_by_ranks(self, a, b, shift, totals);
     }
 
     ghost laws = { λ r valid. laws.laws r.top r.bottom valid };

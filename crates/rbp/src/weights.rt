@@ -10,6 +10,7 @@ ghost use Rattle.desk_model.specs.Limits.{PARTS_OF_ONE, RANK_LIMIT};
 use crate::rbp::Rbp;
 use desk_model::Mark;
 use fractions::Span;
+use weight_walks::RankWeight;
 
 /// The sums of the weights of a run's relevant documents, and of its relevant and unjudged ones.
 #[derive(Clone, Copy)]
@@ -77,6 +78,18 @@ impl Rbp {
         }
     }
 
+    /// The weight of a rank rounded down, and none of an absent one.
+    #[inline]
+    fn low_at(&self, rank: Option<u32>) -> u64
+        requires { IsRankWithin RANK_LIMIT rank }
+        ensures { result ≡ low_weight self.now.top self.now.bottom rank }
+    {
+        match rank {
+            None => 0,
+            Some(rank) => self.parts_at(rank).low,
+        }
+    }
+
     /// The sums of the weights of a run's documents.
     pub fn weights(&self, marks: &[Mark], docs: &[u32]) -> Weights
         requires known { All (λ doc. doc < length marks.now) docs.now }
@@ -123,4 +136,19 @@ impl Rbp {
         let kept = self.powers.low(ranks);
         if kept > 0 { kept - 1 } else { 0 }
     }
+}
+
+impl RankWeight for Rbp {
+    ghost use Rattle.std.specs.Prelude.{refl};
+    ghost use Rattle.std.specs.Int.{abs_diff};
+    ghost use Rattle.measure_laws.specs.Powers.{low_weight};
+
+    ghost weigh = { λ r x y. abs_diff (low_weight r.top r.bottom x) (low_weight r.top r.bottom y) };
+
+    #[inline]
+    fn weight_at(&self, first: Option<u32>, second: Option<u32>) -> u64 {
+        self.low_at(first).abs_diff(self.low_at(second))
+    }
+
+    ghost absent = { λ _. refl };
 }

@@ -13,12 +13,13 @@ ghost use Rattle.recall.specs.LeastCase.{AreCounts, least_relevant};
 
 use desk_model::{Mark, MeasureName, Memory, Ranking};
 use fractions::{Span, span_of};
-use measure_core::{Cell, Measure, Steps};
+use measure_core::{Cell, Measure, Shift, Steps};
 use std::alloc::Global;
 use std::marker::Model;
 use std::sync::ledger::Ledger;
 use topic_counts::counts::{Counts, is_among_first, own_counts, prefix_documents};
 use topic_counts::topic::all_documents;
+use weight_walks::shift_one_side;
 
 /// How many units make a score of 1.
 const UNIT: i128 = 1_000_000_000_000_000_000;
@@ -211,6 +212,17 @@ impl Measure for Recall {
     fn weight(&self, a: &Ranking, b: &Ranking, _marks: &[Mark], doc: u32) -> u128 {
         let one_alone = is_among_first(self.k, a, doc) != is_among_first(self.k, b, doc);
         u128::from(one_alone)
+    }
+
+    fn shift_weights(
+        &self,
+        a: &Ranking,
+        b: &Ranking,
+        _marks: &[Mark],
+        shift: Shift,
+        totals: &mut [u128],
+    ) {
+        shift_one_side(self.k, a, b, shift, totals);
     }
 
     ghost laws = { laws.laws };

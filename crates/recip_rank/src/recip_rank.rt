@@ -12,14 +12,15 @@ ghost use Rattle.measure_core.specs.Numbers.{exact_least};
 use crate::firsts::{Firsts, first_rank, least, span};
 use desk_model::{Mark, MeasureName, Memory, Ranking};
 use fractions::Span;
-use measure_core::{Cell, Measure, Steps};
+use measure_core::{Cell, Measure, Shift, Steps};
 use std::alloc::Global;
 use std::sync::ledger::Ledger;
 use topic_counts::ranks::rank_in;
 use topic_counts::topic::is_true;
+use weight_walks::{RankWeight, shift_by_ranks};
 
 /// How many units make a score of 1.
-const UNIT: u128 = 1_000_000_000_000_000_000;
+const UNIT: u64 = 1_000_000_000_000_000_000;
 
 /// The measure `recip_rank`. Its unit is 10^18.
 #[derive(Debug, Drop)]
@@ -44,13 +45,13 @@ fn least_span(a: &Ranking, b: &Ranking, marks: &[Mark]) -> Span
 }
 
 /// One unit over a rank, rounded down; nothing for an absent one.
-fn worth(rank: Option<u32>) -> u128
+fn worth(rank: Option<u32>) -> u64
     requires { IsRankWithin RANK_LIMIT rank }
     ensures { result ≡ reciprocal_weight rank }
 {
     match rank {
         None => 0,
-        Some(rank) => UNIT / u128::from(rank),
+        Some(rank) => UNIT / u64::from(rank),
     }
 }
 
@@ -79,6 +80,21 @@ fn values(alloc: Global, choice: Option<u32>, marks: &[Mark]) -> Result<Vec<bool
     Ok(values)
 }
 
+impl RankWeight for RecipRank {
+    ghost use Rattle.std.specs.Prelude.{refl};
+    ghost use Rattle.std.specs.Int.{abs_diff};
+    ghost use Rattle.measure_laws.specs.Weights.{reciprocal_weight};
+
+    ghost weigh = { λ _ x y. abs_diff (reciprocal_weight x) (reciprocal_weight y) };
+
+    #[inline]
+    fn weight_at(&self, first: Option<u32>, second: Option<u32>) -> u64 {
+        worth(first).abs_diff(worth(second))
+    }
+
+    ghost absent = { λ _. refl };
+}
+
 impl Measure for RecipRank {
     ghost use Rattle.desk_model.specs.declared.types.MeasureName.TheVariants.{Reciprocal as R};
     ghost use Rattle.measure_core.specs.Numbers.{exact_cell, exact_bounds};
@@ -95,7 +111,7 @@ impl Measure for RecipRank {
     }
 
     fn unit(&self) -> i128 {
-        UNIT as i128
+        i128::from(UNIT)
     }
 
     fn cell<L: Ledger>(
@@ -148,7 +164,18 @@ impl Measure for RecipRank {
     }
 
     fn weight(&self, a: &Ranking, b: &Ranking, _marks: &[Mark], doc: u32) -> u128 {
-        worth(rank_in(a, doc)).abs_diff(worth(rank_in(b, doc)))
+        u128::from(self.weight_at(rank_in(a, doc), rank_in(b, doc)))
+    }
+
+    fn shift_weights(
+        &self,
+        a: &Ranking,
+        b: &Ranking,
+        _marks: &[Mark],
+        shift: Shift,
+        totals: &mut [u128],
+    ) {
+        shift_by_ranks(self, a, b, shift, totals);
     }
 
     ghost laws = { λ _ _. laws.laws };

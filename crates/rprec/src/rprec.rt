@@ -15,11 +15,12 @@ use crate::shared::Shared;
 use crate::values::{values, wanted_for};
 use desk_model::{Mark, MeasureName, Memory, Ranking};
 use fractions::{Span, span_of};
-use measure_core::{Cell, Measure, Steps};
+use measure_core::{Cell, Measure, Shift, Steps};
 use std::alloc::Global;
 use std::sync::ledger::Ledger;
 use topic_counts::counts::{Counts, is_among_first};
 use topic_counts::topic::all_documents;
+use weight_walks::shift_one_side;
 
 /// How many units make a score of 1.
 const UNIT: i128 = 1_000_000_000_000_000_000;
@@ -159,6 +160,17 @@ impl Measure for Rprec {
         let depth = topic(marks).relevant.max(1);
         let one_alone = is_among_first(depth, a, doc) != is_among_first(depth, b, doc);
         u128::from(one_alone)
+    }
+
+    fn shift_weights(
+        &self,
+        a: &Ranking,
+        b: &Ranking,
+        marks: &[Mark],
+        shift: Shift,
+        totals: &mut [u128],
+    ) {
+        shift_one_side(topic(marks).relevant.max(1), a, b, shift, totals);
     }
 
     ghost laws = { λ _ _. laws.laws };

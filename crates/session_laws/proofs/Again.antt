@@ -36,22 +36,12 @@ use Rattle.qrels_round_trip.proofs.Runs.{runs_kept}
 use Rattle.desk_files.specs.Files.{Halt, ◌>>=◌, halt_at, or_faulty, file_as, whole_file}
 use Rattle.desk_files.specs.Load.{Sources, sources, Loaded, loaded_from, runs_of, used_by, within}
 use Rattle.desk_files.specs.declared.limits.TheConstants.{LONGEST_FILE}
+use Rattle.topics_pool.proofs.AddedUp.{added_up}
+use Rattle.session_replies.proofs.Marks.{mark_counted}
 use Rattle.session_laws.specs.Replaced.{marks_by, IsDeskAgain, IsRunRefused, ComesAgain, FilesComeAgain}
 use Rattle.session_laws.proofs.Loading.{if_short, steps, file_read, file_again, AreWithin, within_again, AreLoaded, taken_apart}
 
 -- ---- the runs
--- a run uses its rows
-rows_used : (given : Option (List ℕ)) (qrels : List JudgedTopic) (used : Used) (bytes : List ℕ) (run : Run) → run_of given qrels used bytes ≡ Ok run → run.used.rows ≡ used.rows + row_count run.topics
-rows_used given qrels used bytes run e = by (name_of given (lines bytes)) (rows_of (read_row qrels used) bytes) e
-  where
-    by : (name : Option (List ℕ)) (r : Result (List RunRow) FileFault) → and_then r (named name used) ≡ Ok run → run.used.rows ≡ used.rows + row_count run.topics
-    by name (Err fault) e = absurd (cc)
-    by None (Ok rows) e = absurd (cc)
-    by (Some name) (Ok rows) e =
-        let made : Run = record { name = name; topics = grouped rows; used = used_with used rows } in
-        let own : made ≡ run = cc in
-        subst (λ (r : Run). r.used.rows ≡ used.rows + row_count r.topics) own (ap (λ n. used.rows + n) (sym (row_count-grouped rows)))
-
 -- the same runs, or one is refused
 abbrev ComeAgain : List RunWord → List Run → Result (List Run) Halt → Type 0
 ComeAgain words runs (Ok others) = map said_by others ≡ map said_by runs
@@ -80,12 +70,12 @@ module _ (files again : Files) (qrels said : List JudgedTopic) (same : HaveSameN
       let read = file_read (run_of word.name qrels used) files word.path run first.found in
       let made = rest.made in
       let own : run ∷ rest.value ≡ runs = cc in
-      let counted = rows_used word.name qrels used read.bytes run read.says in
+      let counted = added_up word.name qrels used read.bytes run read.says in
       let moved = file_again (run_of word.name qrels used) (run_of word.name said others) files again word.path run read at.0 in
       subst (λ runs. ComeAgain (word ∷ words) runs (runs_of again said others (word ∷ words))) own
       (subst (λ r. ComeAgain (word ∷ words) (run ∷ rest.value) (r >>= (λ run. runs_of again said run.used words >>= (λ runs. Ok (run ∷ runs))))) (sym moved)
       (run_then word words run rest.value others (run_of word.name said others read.bytes) (runs_kept word.name qrels said used others read.bytes run same fewer read.says)
-      (λ later is. rows_used word.name said others read.bytes later is) (omega (arith, counted, fewer)) (λ now below. runs_again words run.used now rest.value below at.1 rest.found)))
+      (λ later is. added_up word.name said others read.bytes later is) (omega (arith, counted, fewer)) (λ now below. runs_again words run.used now rest.value below at.1 rest.found)))
 
 -- ---- all together
 distinct_names : (bytes : List ℕ) (qrels : List JudgedTopic) → qrels_of bytes ≡ Ok qrels → IsDistinct bytes_eq (names_of qrels)
@@ -107,11 +97,6 @@ within_kept bytes text qrels said runs others read read_text same kept h =
     record { names = ap first_repeated names ∙ h.names; cells = ap (nat_lt MOST_CELLS) cells ∙ h.cells }
 
 -- ---- the marks
-mark_counted : (level : ℕ) (grade : Option ℤ) → mark_of (counted_grade grade) level ≡ mark_of grade level
-mark_counted level None = refl
-mark_counted level (Some (pos n)) = refl
-mark_counted level (Some (negsuc n)) = refl
-
 marks_counted : (level : ℕ) (books : List Book) → map (file_marks level) books ≡ marks_by level (map (λ (book : Book). map counted_grade book.grades) books)
 marks_counted level [] = refl
 marks_counted level (book ∷ books) =

@@ -11,6 +11,3 @@ pub use laws::{
     requests_are_of_their_form, requests_are_within_limits,
 };
 pub use types::{Heard, Request};
-
-#[cfg(test)]
-mod tests;

@@ -104,7 +104,7 @@ marks_of_desk s changes valid =
     (λ t lt. length-marks_at s valid t changes lt)
 
 -- ---- no changes
-mark_counted : (level : ℕ) (grade : Option ℤ) → mark_of (counted_grade grade) level ≡ mark_of grade level
+pub mark_counted : (level : ℕ) (grade : Option ℤ) → mark_of (counted_grade grade) level ≡ mark_of grade level
 mark_counted level None = refl
 mark_counted level (Some (pos n)) = refl
 mark_counted level (Some (negsuc n)) = refl

@@ -1,7 +1,7 @@
 -- What a session keeps between its lines.
 pub use Rattle.pair_reports.specs.Reports.{cells_of}
-use Rattle.std.specs.Prelude.{◌≡◌, ℕ, ◌*◌, ◌+◌, ◌≤◌, List, codes, Option, None, Some, IfSome}
-use Rattle.desk_model.specs.Desk.{Desk}
+use Rattle.std.specs.Prelude.{◌≡◌, ℕ, ◌*◌, ◌+◌, ◌≤◌, List, length, codes, Option, None, Some, IfSome}
+use Rattle.desk_model.specs.Desk.{Desk, pair_count}
 use Rattle.desk_model.specs.MeasureText.{IsMeasure}
 use Rattle.desk_model.specs.declared.types.Mark.{Mark}
 use Rattle.desk_model.specs.declared.types.MeasureName.{MeasureName}
@@ -12,6 +12,7 @@ use Rattle.judge_session.specs.InForce.{IsSessionOf}
 use Rattle.pair_reports.specs.Reports.{Subject, AreRuns, IsTableOn, IsTableText, IsPairText, IsNextText}
 use Rattle.pair_reports.specs.declared.reports.Certified.{Certified}
 use Rattle.pair_reports.specs.declared.reports.Certified.TheVariants as certified
+use Rattle.pair_table.specs.Kept.{Kept, StandsFor}
 use Rattle.session_lines.specs.Request.{Heard, Asked, Quit}
 use Rattle.session_replies.specs.Replies.{Setting, marks_after, subject_after, changes_after, accepted, IsCertified, IsReply}
 use Rattle.session_replies.specs.declared.state.Judging.{Judging}
@@ -71,9 +72,19 @@ abbrev pub owed : {T : Type 0} → Desk → Option T → ℕ
 owed desk None = cells_of desk
 owed desk (Some table) = 0
 
--- the cells that were evaluated, with those that are owed, are at most those that were owed before, and those of one table where a change was accepted
+-- the pairs of runs: the cells of one topic
+abbrev pub pairs_in : Desk → ℕ
+pairs_in desk = pair_count (length desk.runs)
+
+-- a table that is there was taken over to new marks, and where none is there none was made
+abbrev pub TakesOver : {M : Type 0} → Numbers M → Desk → List (List Mark) → Option (Kept M) → Option (Kept M) → Type 0
+TakesOver n desk marks None new = new ≡ None
+TakesOver n desk marks (Some old) None = ⊥
+TakesOver n desk marks (Some old) (Some new) = (new.measure ≡ old.measure) × StandsFor (n.cell new.measure) (n.bound new.measure) desk marks new
+
+-- the cells that were evaluated, with those that are owed, are at most those that were owed before, and those of one topic where a change was accepted
 abbrev pub CountsLine : {M : Type 0} → Setting → Heard → Judging M → Judging M → ℕ → ℕ → Type 0
-CountsLine s heard old new before after = after + owed s.desk new.table ≤ before + owed s.desk old.table + accepted s.desk heard old.session * cells_of s.desk
+CountsLine s heard old new before after = after + owed s.desk new.table ≤ before + owed s.desk old.table + accepted s.desk heard old.session * pairs_in s.desk
 
 -- a line was answered: the session is ready for the next one, the changes are those after the line, and the text is its reply
 pub record Answers {M : Type 0} (n : Numbers M) (s : Setting) (heard : Heard) (old new : Judging M) (text : List ℕ) : Type 0 where

@@ -1,23 +1,27 @@
 // Lines that judge, undo and redo.
-ghost use Rattle.std.specs.Prelude.{◌≡◌, ◌≢◌, ◌<◌, ◌≤ℤ◌, [], None, true, length, slice_index_or, slice_set, pos, negsuc, codes, IfOk, OnOk};
+ghost use Rattle.std.specs.Prelude.{◌≡◌, ◌≢◌, ◌+◌, ◌<◌, ◌≤◌, ◌≤ℤ◌, [], true, length, slice_index_or, slice_set, pos, negsuc, codes, IfOk, IfSome, OnOk, OnErr};
+ghost use Rattle.desk_model.specs.Desk.{AreMarksOf};
 ghost use Rattle.desk_model.specs.Mark.{mark_of};
 ghost use Rattle.desk_model.specs.Name.{is_name};
 ghost use Rattle.judge_session.specs.InForce.{IsOfDesk};
 ghost use Rattle.desk_model.specs.Named.{book_at};
 ghost use Rattle.desk_report.specs.Judging.{changed_line};
 ghost use Rattle.desk_report.specs.Table.{ended};
+ghost use Rattle.pair_table.specs.Kept.{StandsFor, StandsElsewhere};
 ghost use Rattle.session_lines.specs.Request as lines;
 ghost use Rattle.session_replies.specs.Replies.{refusal, fault_word};
-ghost use Rattle.session_replies.specs.State.{setting_of, IsReady, Answers, CountsLine};
+ghost use Rattle.session_replies.specs.State.{setting_of, IsReady, Answers, CountsLine, TakesOver, owed, pairs_in};
 
 use crate::state::{Given, Judging};
 use crate::telling::refused;
-use desk_model::Memory;
 use desk_model::grading::mark;
+use desk_model::{Desk, Marks, Memory};
 use desk_report::changed_line;
 use judge_session::{Changed, JudgeFault, NothingToRedo, NothingToUndo};
-use measure_core::Measure;
+use measure_core::{Measure, Steps};
+use pair_table::Table;
 use std::alloc::Global;
+use std::sync::ledger::Ledger;
 
 // The refusal of a judgement.
 fn refused_judgement(alloc: Global, fault: JudgeFault) -> Result<Vec<u8>, Memory>
@@ -32,33 +36,65 @@ fn refused_judgement(alloc: Global, fault: JudgeFault) -> Result<Vec<u8>, Memory
     }
 }
 
+// Takes a table that is there over to marks, of which those of one topic are new.
+fn take_over<M: Measure, L: Ledger>(
+    table: &mut Option<Table<M>>,
+    desk: &Desk,
+    marks: &Marks,
+    topic: u32,
+    steps: &mut Steps<L>,
+)
+    requires marks { AreMarksOf desk.now marks.now }
+    requires topic { topic < length desk.now.topics }
+    requires others { IfSome table.old (λ table. StandsElsewhere (M.cell_of table.measure) (M.bounds_of table.measure) desk.now marks.now topic table) }
+    ensures table { TakesOver (record { name = M.measured; cell = M.cell_of; bound = M.bounds_of }) desk.now marks.now table.old table.new }
+    ensures steps { steps.new + owed desk.now table.new ≤ steps.old + owed desk.now table.old + pairs_in desk.now }
+{
+    if let Some(table) = table {
+        table.change(desk, marks, topic, steps);
+    }
+}
+
 impl<M: Measure> Judging<M> {
-    // Takes over a change: the mark of its document. A table of the marks before is given up.
-    fn follow(
+    // Takes over a change: the mark of its document, and a table that is there.
+    fn follow<L: Ledger>(
         &mut self,
         alloc: Global,
         given: &Given<'_>,
         word: &[u8],
         changed: &Changed,
+        steps: &mut Steps<L>,
     ) -> Result<Vec<u8>, Memory>
         requires document { IsOfDesk given.now.desk.now changed.now }
+        requires marks { AreMarksOf given.now.desk.now self.old.marks }
         requires topic { changed.now.topic < length self.old.marks }
         requires doc { changed.now.doc < length (slice_index_or self.old.marks changed.now.topic []) }
-        ensures marks { self.new.marks ≡ slice_set self.old.marks changed.now.topic
-            (slice_set (slice_index_or self.old.marks changed.now.topic []) changed.now.doc (mark_of changed.now.grade given.now.level)) }
-        ensures table { self.new.table ≡ None }
+        requires table { IfSome self.old.table (λ table. StandsFor (M.cell_of table.measure) (M.bounds_of table.measure) given.now.desk.now self.old.marks table) }
+        ensures marks { OnOk result (self.new.marks ≡ slice_set self.old.marks changed.now.topic
+            (slice_set (slice_index_or self.old.marks changed.now.topic []) changed.now.doc (mark_of changed.now.grade given.now.level))) }
+        ensures table { OnOk result (TakesOver (record { name = M.measured; cell = M.cell_of; bound = M.bounds_of }) given.now.desk.now self.new.marks self.old.table self.new.table) }
         ensures session { self.new.session ≡ self.old.session }
         ensures line { IfOk result (λ line. line.items
             ≡ ended (changed_line word.now (book_at given.now.desk.now changed.now.topic).name (slice_index_or (book_at given.now.desk.now changed.now.topic).docs changed.now.doc []) changed.now.grade)) }
+        ensures steps { steps.new + owed given.now.desk.now self.new.table ≤ steps.old + owed given.now.desk.now self.old.table + pairs_in given.now.desk.now }
+        ensures stopped { OnErr result (steps.new ≡ steps.old) }
     {
+        // Where memory runs out, nothing was evaluated.
+        let line = changed_line(alloc, word, given.desk, changed)?;
         let mark = mark(changed.grade, given.level);
         self.marks.set(changed.topic, changed.doc, mark);
-        self.table = None;
-        changed_line(alloc, word, given.desk, changed)
+        take_over(
+            &mut self.table,
+            given.desk,
+            &self.marks,
+            changed.topic,
+            steps,
+        );
+        Ok(line)
     }
 
     /// The reply to `judge WHO TOPIC DOC GRADE`.
-    pub fn judge(
+    pub fn judge<L: Ledger>(
         &mut self,
         alloc: Global,
         given: &Given<'_>,
@@ -66,6 +102,7 @@ impl<M: Measure> Judging<M> {
         topic: &[u8],
         doc: &[u8],
         grade: i32,
+        steps: &mut Steps<L>,
     ) -> Result<Vec<u8>, Memory>
         requires ready { IsReady (record { name = M.measured; cell = M.cell_of; bound = M.bounds_of }) (setting_of given.now) self.old }
         requires named { is_name who.now ≡ true }
@@ -73,7 +110,9 @@ impl<M: Measure> Judging<M> {
         requires high { grade ≤ℤ pos 1000 }
         ensures answers { IfOk result (λ text. Answers (record { name = M.measured; cell = M.cell_of; bound = M.bounds_of }) (setting_of given.now)
             (lines.Asked (lines.Judge who.now topic.now doc.now grade)) self.old self.new text.items) }
-        ensures counts { CountsLine (setting_of given.now) (lines.Asked (lines.Judge who.now topic.now doc.now grade)) self.old self.new 0 0 }
+        ensures counts { CountsLine (setting_of given.now) (lines.Asked (lines.Judge who.now topic.now doc.now grade)) self.old self.new steps.old steps.new }
+        // Where memory runs out, nothing was evaluated.
+        ensures stopped { OnErr result (steps.new ≡ steps.old) }
     {
         // The grades of a valid desk are one for each document.
         let _topics = given.desk.topic_count();
@@ -81,37 +120,53 @@ impl<M: Measure> Judging<M> {
             .session
             .judge(alloc, given.desk, who, topic, doc, grade)
         {
-            Ok(changed) => self.follow(alloc, given, b"judged", &changed),
+            Ok(changed) => self.follow(alloc, given, b"judged", &changed, steps),
             Err(fault) => refused_judgement(alloc, fault),
         }
     }
 
     /// The reply to `undo WHO`.
-    pub fn undo(&mut self, alloc: Global, given: &Given<'_>, who: &[u8]) -> Result<Vec<u8>, Memory>
+    pub fn undo<L: Ledger>(
+        &mut self,
+        alloc: Global,
+        given: &Given<'_>,
+        who: &[u8],
+        steps: &mut Steps<L>,
+    ) -> Result<Vec<u8>, Memory>
         requires { IsReady (record { name = M.measured; cell = M.cell_of; bound = M.bounds_of }) (setting_of given.now) self.old }
         ensures answers { IfOk result (λ text. Answers (record { name = M.measured; cell = M.cell_of; bound = M.bounds_of }) (setting_of given.now)
             (lines.Asked (lines.Undo who.now)) self.old self.new text.items) }
-        ensures counts { CountsLine (setting_of given.now) (lines.Asked (lines.Undo who.now)) self.old self.new 0 0 }
+        ensures counts { CountsLine (setting_of given.now) (lines.Asked (lines.Undo who.now)) self.old self.new steps.old steps.new }
+        // Where memory runs out, nothing was evaluated.
+        ensures stopped { OnErr result (steps.new ≡ steps.old) }
     {
         // The grades of a valid desk are one for each document.
         let _topics = given.desk.topic_count();
         match self.session.undo(given.desk, who) {
-            Ok(changed) => self.follow(alloc, given, b"undone", &changed),
+            Ok(changed) => self.follow(alloc, given, b"undone", &changed, steps),
             Err(NothingToUndo) => refused(alloc, b"NothingToUndo"),
         }
     }
 
     /// The reply to `redo WHO`.
-    pub fn redo(&mut self, alloc: Global, given: &Given<'_>, who: &[u8]) -> Result<Vec<u8>, Memory>
+    pub fn redo<L: Ledger>(
+        &mut self,
+        alloc: Global,
+        given: &Given<'_>,
+        who: &[u8],
+        steps: &mut Steps<L>,
+    ) -> Result<Vec<u8>, Memory>
         requires { IsReady (record { name = M.measured; cell = M.cell_of; bound = M.bounds_of }) (setting_of given.now) self.old }
         ensures answers { IfOk result (λ text. Answers (record { name = M.measured; cell = M.cell_of; bound = M.bounds_of }) (setting_of given.now)
             (lines.Asked (lines.Redo who.now)) self.old self.new text.items) }
-        ensures counts { CountsLine (setting_of given.now) (lines.Asked (lines.Redo who.now)) self.old self.new 0 0 }
+        ensures counts { CountsLine (setting_of given.now) (lines.Asked (lines.Redo who.now)) self.old self.new steps.old steps.new }
+        // Where memory runs out, nothing was evaluated.
+        ensures stopped { OnErr result (steps.new ≡ steps.old) }
     {
         // The grades of a valid desk are one for each document.
         let _topics = given.desk.topic_count();
         match self.session.redo(given.desk, who) {
-            Ok(changed) => self.follow(alloc, given, b"redone", &changed),
+            Ok(changed) => self.follow(alloc, given, b"redone", &changed, steps),
             Err(NothingToRedo) => refused(alloc, b"NothingToRedo"),
         }
     }

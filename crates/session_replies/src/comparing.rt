@@ -117,7 +117,7 @@ fn report_text<M: Measure>(
 ) -> Result<Vec<u8>, Memory>
     requires level { IsLevel given.now.level }
     requires marks { AreMarksOf given.now.desk.now marks.now }
-    requires table { StandsFor (M.cell_of table.now.measure) given.now.desk.now marks.now table.now }
+    requires table { StandsFor (M.cell_of table.now.measure) (M.bounds_of table.now.measure) given.now.desk.now marks.now table.now }
     requires runs { AreRunsOf given.now.desk.now report }
     ensures { IfOk result (λ text. (s : Subject) → s.level ≡ given.now.level → s.marks ≡ marks.now →
         IsSubjectOf (M.measured table.now.measure) (M.cell_of table.now.measure) (M.bounds_of table.now.measure) given.now.desk.now table.now s →

@@ -49,9 +49,9 @@ fn answer<P: Maker, L: Ledger>(
             topic,
             doc,
             grade,
-        } => judging.judge(alloc, given, who, topic, doc, grade),
-        Request::Undo { who } => judging.undo(alloc, given, who),
-        Request::Redo { who } => judging.redo(alloc, given, who),
+        } => judging.judge(alloc, given, who, topic, doc, grade, steps),
+        Request::Undo { who } => judging.undo(alloc, given, who, steps),
+        Request::Redo { who } => judging.redo(alloc, given, who, steps),
         Request::Table => make_report(alloc, judging, given, Report::Table, maker, steps),
         Request::Pair { first, second } => match find_runs(given.desk, first, second) {
             Ok(runs) => make_report(alloc, judging, given, Report::Pair(runs), maker, steps),
@@ -78,8 +78,9 @@ fn answer<P: Maker, L: Ledger>(
 /// The reply of a session to one line, without its line feed, by the judgements in force before it. It leaves the
 /// session ready for the next line.
 ///
-/// A judgement, an undo or a redo that is accepted sets the mark of its document and gives up the table. A table is made
-/// at the first line after it that needs one: one step for each pair and topic. A line that is refused changes nothing.
+/// A table is made at the first line that needs one: one step for each pair and topic. From then on, a judgement, an undo
+/// or a redo that is accepted renews the topic of its document, also where its grade stays: one step for each pair. A line
+/// that is refused changes nothing.
 ///
 /// # Errors
 /// `Memory`: out of memory. The reply is lost, and the session may stand before or after the line.

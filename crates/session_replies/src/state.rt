@@ -20,7 +20,7 @@ pub struct Given<'a> {
 }
 
 /// What a session keeps between its lines: the changes so far, the marks of the documents by the judgements in force,
-/// and a table of these marks, where one was asked for since the last change.
+/// and a table of these marks, once a line asked for one.
 #[derive(Drop)]
 pub struct Judging<M: Measure> {
     pub session: Session,

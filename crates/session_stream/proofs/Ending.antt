@@ -11,7 +11,7 @@ use Rattle.desk_outside.proofs.Told.{append_known-nil, prepend_known-nil, prepen
 use Rattle.desk_model.specs.Desk.{Desk}
 use Rattle.judge_session.specs.declared.change.Change.{Change}
 use Rattle.session_replies.specs.Replies.{Setting}
-use Rattle.session_replies.specs.State.{cells_of}
+use Rattle.session_replies.specs.State.{cells_of, pairs_in}
 use Rattle.desk_text.specs.Lines.{whole_lines, unended}
 use Rattle.session_stream.specs.Hearing.{End, Done, TooLong, Failed, has_quit, before_quit, heard_to_end, hearing_of}
 use Rattle.session_stream.specs.Text.{AreReplies, accepted_in, joined, HasReplies, EndsSession, EvaluatesWithin}
@@ -105,11 +105,10 @@ module _ (s : Setting) where
   few_more : (all some : List (List ℕ)) → Begins some all → accepted_in s.desk some [] ≤ accepted_in s.desk all []
   few_more all some begins = let e = ap (λ ls. accepted_in s.desk ls []) begins.1 ∙ accepted-append s.desk some begins.0 [] in omega (arith, e)
 
-  pub within_cells : (input : Source) (taken : Input) (before after : ℕ) (ls : List (List ℕ)) → IsTaken input taken → Begins ls (hearing_of taken).lines → after ≤ (before + cells_of s.desk) + cells_of s.desk * accepted_in s.desk ls [] → EvaluatesWithin s input before after
+  pub within_cells : (input : Source) (taken : Input) (before after : ℕ) (ls : List (List ℕ)) → IsTaken input taken → Begins ls (hearing_of taken).lines → after ≤ (before + cells_of s.desk) + pairs_in s.desk * accepted_in s.desk ls [] → EvaluatesWithin s input before after
   within_cells input taken before after ls is begins le =
-      let few = mul-le-mul_left (cells_of s.desk) (few_more (hearing_of taken).lines ls begins) in
-      let one_more = mul-add (cells_of s.desk) 1 (accepted_in s.desk (hearing_of taken).lines []) in
-      (taken, is, omega (arith, few, one_more, le))
+      let few = mul-le-mul_left (pairs_in s.desk) (few_more (hearing_of taken).lines ls begins) in
+      (taken, is, omega (arith, few, le))
 
   -- nothing was taken
   pub no_memory_yet : (rest had : Option (List ℕ)) (a b d e : ℕ) → EndsSession s (record { rest = rest; left = rest; before = a; after = b }) (record { had = had; has = had; before = d; after = e }) (Err faults.Memory)

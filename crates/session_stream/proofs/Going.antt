@@ -10,7 +10,7 @@ use Rattle.desk_model.specs.Desk.{Desk}
 use Rattle.judge_session.specs.declared.change.Change.{Change}
 use Rattle.session_lines.specs.Request.{Heard, Blank, TooLong, Bad, Asked, Request, Judge, Undo, Redo, Table, Pair, Certify, Pool, Qrels, Quit, heard_of}
 use Rattle.session_replies.specs.Replies.{Setting, IsReply, changes_after, accepted}
-use Rattle.session_replies.specs.State.{cells_of}
+use Rattle.session_replies.specs.State.{cells_of, pairs_in}
 use Rattle.desk_text.specs.Lines.{whole_lines, unended, HasNoLineFeed}
 use Rattle.session_stream.specs.Hearing.{ends, is_quit, has_quit}
 use Rattle.session_stream.specs.Text.{AreReplies, changes_over, accepted_in, joined}
@@ -34,7 +34,7 @@ talks_on s had has first total taken line all c is in_line t =
       replies = subst (λ ls. AreReplies s [] ls t.texts) same t.replies;
       received = t.received;
       changes_are = subst (λ ls. c ≡ changes_over s.desk ls []) same t.changes_are;
-      cells = subst (λ ls. total ≤ first + cells_of s.desk * accepted_in s.desk ls []) same t.cells;
+      cells = subst (λ ls. total ≤ first + pairs_in s.desk * accepted_in s.desk ls []) same t.cells;
     }
 
 -- what one more line adds to the changes that are accepted
@@ -70,7 +70,7 @@ module _ (s : Setting) (had has : Option (List ℕ)) (first total : ℕ) (taken 
   own = whole_lines-ended taken line in_line
 
   -- a line that ends, and its reply
-  pub talks_after : (has' : Option (List ℕ)) (total' : ℕ) (text all : List ℕ) → all ≡ taken ++ (line ++ 10 ∷ []) → ends the_line ≡ false → IsReply s c (heard_of the_line) text → has' ≡ append_known has text → total' ≤ total + cells_of s.desk * accepted s.desk (heard_of the_line) c →
+  pub talks_after : (has' : Option (List ℕ)) (total' : ℕ) (text all : List ℕ) → all ≡ taken ++ (line ++ 10 ∷ []) → ends the_line ≡ false → IsReply s c (heard_of the_line) text → has' ≡ append_known has text → total' ≤ total + pairs_in s.desk * accepted s.desk (heard_of the_line) c →
       Talks s had has' first total' all (changes_after s.desk (heard_of the_line) c)
   talks_after has' total' text all at goes is put cells = record {
     no_quit = ap has_quit (ap whole_lines at ∙ own) ∙ still_none (whole_lines taken) the_line t.no_quit goes;
@@ -79,7 +79,7 @@ module _ (s : Setting) (had has : Option (List ℕ)) (first total : ℕ) (taken 
         (replies-append s [] (whole_lines taken) t.texts the_line text t.replies (subst (λ k. IsReply s k (heard_of the_line) text) t.changes_are is));
     received = whole_after had has has' (joined t.texts) text t.received put ∙ ap (append_known had) (sym (joined-append t.texts text));
     changes_are = ap (changes_after s.desk (heard_of the_line)) t.changes_are ∙ sym (changes-append s.desk (whole_lines taken) (the_line ∷ []) []) ∙ ap (λ ls. changes_over s.desk ls []) (sym (ap whole_lines at ∙ own));
-    cells = more_cells (accepted_in s.desk (whole_lines all) []) 0 total total' first (cells_of s.desk) (accepted_in s.desk (whole_lines taken) []) (accepted s.desk (heard_of the_line) c)
+    cells = more_cells (accepted_in s.desk (whole_lines all) []) 0 total total' first (pairs_in s.desk) (accepted_in s.desk (whole_lines taken) []) (accepted s.desk (heard_of the_line) c)
         (ap (λ ls. accepted_in s.desk ls []) (ap whole_lines at ∙ own) ∙ accepted_more s.desk (whole_lines taken) the_line c t.changes_are) t.cells cells;
   }
 
@@ -87,7 +87,7 @@ module _ (s : Setting) (had has : Option (List ℕ)) (first total : ℕ) (taken 
   ended_piece = taken ++ (line ++ 10 ∷ [])
 
   -- a line that is `quit`
-  pub quits_at : (has' : Option (List ℕ)) (steps : ℕ) (rest all : List ℕ) → all ≡ ended_piece ++ rest → ends the_line ≡ true → has' ≡ has → steps ≤ total + cells_of s.desk * accepted s.desk (heard_of the_line) c → Quits s had has' first steps all
+  pub quits_at : (has' : Option (List ℕ)) (steps : ℕ) (rest all : List ℕ) → all ≡ ended_piece ++ rest → ends the_line ≡ true → has' ≡ has → steps ≤ total + pairs_in s.desk * accepted s.desk (heard_of the_line) c → Quits s had has' first steps all
   quits_at has' steps rest all is quit same cells = record {
     begun = ended_piece;
     rest = rest;
@@ -100,11 +100,11 @@ module _ (s : Setting) (had has : Option (List ℕ)) (first total : ℕ) (taken 
     texts = t.texts;
     replies = t.replies;
     received = same ∙ t.received;
-    cells = let none = ap (λ n. cells_of s.desk * n) (quit_accepts s.desk (heard_of the_line) c quit) in omega (arith, cells, none, t.cells);
+    cells = let none = ap (λ n. pairs_in s.desk * n) (quit_accepts s.desk (heard_of the_line) c quit) in omega (arith, cells, none, t.cells);
   }
 
   -- a line whose reply could not be put
-  pub breaks_at : (has' : Option (List ℕ)) (steps : ℕ) (rest all text : List ℕ) → all ≡ ended_piece ++ rest → ends the_line ≡ false → IsReply s c (heard_of the_line) text → 0 < length text → AppendsPrefix has has' text → steps ≤ total + cells_of s.desk * accepted s.desk (heard_of the_line) c →
+  pub breaks_at : (has' : Option (List ℕ)) (steps : ℕ) (rest all text : List ℕ) → all ≡ ended_piece ++ rest → ends the_line ≡ false → IsReply s c (heard_of the_line) text → 0 < length text → AppendsPrefix has has' text → steps ≤ total + pairs_in s.desk * accepted s.desk (heard_of the_line) c →
       StopsIn s (IsBroken had has') first steps all
   unfolding talks_after
   breaks_at has' steps rest all text is goes reply some prefix cells =

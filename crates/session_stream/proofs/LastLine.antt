@@ -10,7 +10,7 @@ use Rattle.desk_text.specs.Lines.{lines}
 use Rattle.judge_session.specs.declared.change.Change.{Change}
 use Rattle.pair_table.specs.Kept.{Kept}
 use Rattle.session_lines.specs.Request.{heard_of, Blank}
-use Rattle.session_replies.specs.State.{owed, cells_of}
+use Rattle.session_replies.specs.State.{owed, cells_of, pairs_in}
 use Rattle.session_replies.specs.Replies.{Setting, IsReply, accepted}
 use Rattle.desk_text.specs.Lines.{whole_lines, unended}
 use Rattle.session_stream.specs.Hearing.{End, Done, ends, has_quit, before_quit, hearing_of}
@@ -103,13 +103,13 @@ module _ {M : Type 0} (s : Setting) (input : Source) (whole out : Sink) (before 
   pub last_cells : (result : Result Next Fault) → AnswersLine s (unended bytes) c c' out result → TakesSteps s.desk (unended bytes) c table now steps steps' result → EvaluatesWithin s input before steps'
   last_cells (Ok next.More) a k =
       let l = last_of s whole.had out.had (before + cells_of s.desk) (steps + owed s.desk table) bytes c t (unended bytes) a.1 refl a.0 a.2 in
-      within_cells s input (Whole bytes) before steps' l.ls (rest, end) (heard_is l.ls l.own) (let e = ap (λ n. cells_of s.desk * n) l.accepted_is in omega (arith, e, k, t.cells))
+      within_cells s input (Whole bytes) before steps' l.ls (rest, end) (heard_is l.ls l.own) (let e = ap (λ n. pairs_in s.desk * n) l.accepted_is in omega (arith, e, k, t.cells))
   last_cells (Ok next.Quit) a k =
       within_cells s input (Whole bytes) before steps' (whole_lines bytes) (rest, end) (heard_is (whole_lines bytes) (last_quit s whole.had out.had (before + cells_of s.desk) (steps + owed s.desk table) bytes c t (unended bytes) refl a.0))
-      (let none = ap (λ n. cells_of s.desk * n) (quit_accepts s.desk (heard_of (unended bytes)) c a.0) in omega (arith, none, k, t.cells))
+      (let none = ap (λ n. pairs_in s.desk * n) (quit_accepts s.desk (heard_of (unended bytes)) c a.0) in omega (arith, none, k, t.cells))
   last_cells (Err faults.Input) a k = absurd a
   last_cells (Err faults.Output) a k =
       let l = last_of s whole.had out.had (before + cells_of s.desk) (steps + owed s.desk table) bytes c t (unended bytes) a.2 refl a.1 a.3 in
-      within_cells s input (Whole bytes) before steps' l.ls (rest, end) (heard_is l.ls l.own) (let e = ap (λ n. cells_of s.desk * n) l.accepted_is in omega (arith, e, k, t.cells))
+      within_cells s input (Whole bytes) before steps' l.ls (rest, end) (heard_is l.ls l.own) (let e = ap (λ n. pairs_in s.desk * n) l.accepted_is in omega (arith, e, k, t.cells))
   last_cells (Err faults.Memory) a k =
       within_cells s input (Cut bytes) before steps' (whole_lines bytes) rest ([], ap (λ h. h.lines) (heard_whole (Cut bytes) le t.no_quit) ∙ sym (append-nil (whole_lines bytes))) (omega (arith, k, t.cells))

@@ -8,7 +8,7 @@ use Rattle.judge_session.specs.declared.change.Change.{Change}
 use Rattle.session_lines.specs.Request.{heard_of}
 use Rattle.desk_model.specs.Desk.{Desk}
 use Rattle.pair_table.specs.Kept.{Kept}
-use Rattle.session_replies.specs.State.{owed, cells_of}
+use Rattle.session_replies.specs.State.{owed, cells_of, pairs_in}
 use Rattle.session_replies.specs.Replies.{Setting, IsReply, changes_after, accepted}
 use Rattle.session_stream.specs.Hearing.{ends, has_quit}
 use Rattle.session_stream.specs.Text.{AreReplies, changes_over, accepted_in, joined}
@@ -18,14 +18,14 @@ use Rattle.session_stream.specs.declared.stream.Fault.TheVariants as faults
 use Rattle.session_stream.specs.declared.stream.Next.{Next}
 use Rattle.session_stream.specs.declared.stream.Next.TheVariants as next
 
--- bytes were taken, none of whose lines is `quit`; the output has exactly the replies to those that ended; and the steps, with those of a table that is owed, are within those of the first table and one for each accepted change
+-- bytes were taken, none of whose lines is `quit`; the output has exactly the replies to those that ended; and the steps, with those of a table that is owed, are within those of the first table and of one topic for each accepted change
 pub record Talks (s : Setting) (had has : Option (List ℕ)) (first total : ℕ) (taken : List ℕ) (changes : List Change) : Type 0 where
   pub no_quit : has_quit (whole_lines taken) ≡ false
   pub texts : List (List ℕ)
   pub replies : AreReplies s [] (whole_lines taken) texts
   pub received : has ≡ append_known had (joined texts)
   pub changes_are : changes ≡ changes_over s.desk (whole_lines taken) []
-  pub cells : total ≤ first + cells_of s.desk * accepted_in s.desk (whole_lines taken) []
+  pub cells : total ≤ first + pairs_in s.desk * accepted_in s.desk (whole_lines taken) []
 
 -- a reply was put, if there is one; or the output failed at it
 abbrev pub IsPut : Sink → List ℕ → Result Next Fault → Type 0
@@ -35,10 +35,10 @@ IsPut out text (Err faults.Output) = Rose out.before out.after × (0 < length te
 IsPut out text (Err faults.Memory) = ⊥
 IsPut out text (Err faults.Input) = ⊥
 
--- the steps at a line, with those of a table that is owed: one table more where it is a change that is accepted, and none where memory ran out
+-- the steps at a line, with those of a table that is owed: those of one topic where it is a change that is accepted, and none where memory ran out
 abbrev pub TakesSteps : {M : Type 0} → Desk → List ℕ → List Change → Option (Kept M) → Option (Kept M) → ℕ → ℕ → Result Next Fault → Type 0
 TakesSteps desk line changes table now before after (Err faults.Memory) = after ≤ before + owed desk table
-TakesSteps desk line changes table now before after result = after + owed desk now ≤ (before + owed desk table) + cells_of desk * accepted desk (heard_of line) changes
+TakesSteps desk line changes table now before after result = after + owed desk now ≤ (before + owed desk table) + pairs_in desk * accepted desk (heard_of line) changes
 
 -- what a line came to: its reply was put, or it is `quit`; or its reply could not be put, or not be made
 abbrev pub AnswersLine : Setting → List ℕ → List Change → List Change → Sink → Result Next Fault → Type 0
@@ -61,7 +61,7 @@ pub record Quits (s : Setting) (had has : Option (List ℕ)) (first steps : ℕ)
   pub texts : List (List ℕ)
   pub replies : AreReplies s [] lines texts
   pub received : has ≡ append_known had (joined texts)
-  pub cells : steps ≤ first + cells_of s.desk * accepted_in s.desk lines []
+  pub cells : steps ≤ first + pairs_in s.desk * accepted_in s.desk lines []
 
 -- there are replies to the lines of a prefix of taken bytes, none of them `quit`, and something holds of their text
 pub record StopsIn (s : Setting) (fact : List ℕ → Type 0) (first steps : ℕ) (taken : List ℕ) : Type 0 where
@@ -72,7 +72,7 @@ pub record StopsIn (s : Setting) (fact : List ℕ → Type 0) (first steps : ℕ
   pub texts : List (List ℕ)
   pub replies : AreReplies s [] (whole_lines begun) texts
   pub holds : fact (joined texts)
-  pub cells : steps ≤ first + cells_of s.desk * accepted_in s.desk (whole_lines begun) []
+  pub cells : steps ≤ first + pairs_in s.desk * accepted_in s.desk (whole_lines begun) []
 
 -- the output failed at a text, and has a prefix of it
 abbrev pub IsBroken : Option (List ℕ) → Option (List ℕ) → List ℕ → Type 0

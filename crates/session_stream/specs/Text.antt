@@ -7,7 +7,7 @@ use Rattle.desk_model.specs.Desk.{Desk}
 use Rattle.judge_session.specs.declared.change.Change.{Change}
 use Rattle.session_lines.specs.Request.{heard_of}
 use Rattle.session_replies.specs.Replies.{Setting, IsReply, changes_after, accepted}
-use Rattle.session_replies.specs.State.{cells_of}
+use Rattle.session_replies.specs.State.{cells_of, pairs_in}
 use Rattle.session_stream.specs.Hearing.{End, Failed, hearing_of}
 use Rattle.session_stream.specs.declared.stream.Ended.{Ended}
 use Rattle.session_stream.specs.declared.stream.Ended.TheVariants as ended
@@ -54,7 +54,7 @@ EndsSession s input out (Err faults.Input) = HasReplies s (IsInput input) (λ en
 EndsSession s input out (Err faults.Output) = Rose out.before out.after × HasReplies s (IsPart input) (λ end text. (0 < length text) × ReceivedPrefix out text)
 EndsSession s input out (Err faults.Memory) = HasReplies s (IsPart input) (λ end text. ReceivedAll out text)
 
--- at most pairs times topics for a first table and for each accepted change that was taken
+-- at most pairs times topics for the one table, and at most one for each pair for each accepted change that was taken
 abbrev pub EvaluatesWithin : Setting → Source → ℕ → ℕ → Type 0
 EvaluatesWithin s input before after =
-    (taken : Input) × IsTaken input taken × (after ≤ before + cells_of s.desk * (1 + accepted_in s.desk (hearing_of taken).lines []))
+    (taken : Input) × IsTaken input taken × (after ≤ before + (cells_of s.desk + pairs_in s.desk * accepted_in s.desk (hearing_of taken).lines []))

@@ -8,5 +8,4 @@ pub mod Numbers
 pub mod Walks
 pub mod Shares
 pub mod Named
-pub mod OneDocument
 pub mod OwnWalk

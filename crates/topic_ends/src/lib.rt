@@ -15,8 +15,6 @@ pub mod recall;
 pub mod reciprocal;
 pub mod relevance;
 pub mod rprecision;
-#[cfg(test)]
-mod tests;
 pub mod walk;
 
 pub use ends::TopicEnds;

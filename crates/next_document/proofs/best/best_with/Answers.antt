@@ -4,7 +4,7 @@ use Rattle.desk_model.specs.declared.types.Mark.{Mark}
 use Rattle.desk_model.specs.declared.types.Mark.TheVariants.{Unjudged, Relevant, Other}
 use Rattle.next_document.specs.Proposal.{IsUnjudged}
 use Rattle.next_document.specs.Total.{standing}
-use Rattle.next_document.proofs.Choosing.{best_stays, best_of_two}
+use Rattle.next_document.proofs.Choosing.{judged, best_stays, best_of_two}
 use Rattle.next_document.proofs.best.best_with.Goals as goal
 
 pub returns-in-Unjudged : goal.returns-in-Unjudged
@@ -14,10 +14,6 @@ returns-in-Unjudged g c =
     let unjudged : IsUnjudged s c.args.topic c.args.doc =
     slice_get-get_or (get_or c.args.marks.now c.args.topic []) c.args.doc Unjudged c.requires.doc ∙ ap (λ (marks : List Mark). Some (get_or marks c.args.doc Unjudged)) here ∙ ap (λ (m : Mark). Some m) c.in-Unjudged.is in
     best_of_two s c.args.topic c.args.doc c.total-weight.result c.args.best c.better.result c.requires.best unjudged c.total-weight.ensures c.better.ensures.kept c.better.ensures.replaced
-
-judged : (m : Mark) → (m ≡ Relevant) ⊎ (m ≡ Other) → m ≡ Unjudged → ⊥
-judged m (inl e) u = let bad : Relevant ≡ Unjudged = sym e ∙ u in absurd (cc)
-judged m (inr e) u = let bad : Other ≡ Unjudged = sym e ∙ u in absurd (cc)
 
 pub returns-in-Relevant : goal.returns-in-Relevant
 returns-in-Relevant g c =

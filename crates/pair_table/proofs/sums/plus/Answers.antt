@@ -6,5 +6,6 @@ use Rattle.pair_table.proofs.sums.plus.Goals as goal
 pub returns : goal.returns
 returns c =
     let near = c.requires.totals in
-    let modest = c.requires.cell in
-    totals_same _ _ _ _ _ _ _ _ (omega (arith, ints, near.0, modest.least.0)) (omega (arith, ints, near.1, modest.least.1)) (omega (arith, ints, near.2, modest.most.0)) (omega (arith, ints, near.3, modest.most.1))
+    let least = c.requires.least in
+    let most = c.requires.most in
+    totals_same _ _ _ _ _ _ _ _ (omega (arith, ints, near.0, least)) (omega (arith, ints, near.1, least)) (omega (arith, ints, near.2, most)) (omega (arith, ints, near.3, most))

@@ -1,15 +1,24 @@
-use Rattle.std.proofs.Common.{◌<◌, ap, sym, subst, ◌∙◌}
+use Rattle.std.proofs.Common.{◌<◌, length, ap, sym, subst, ◌∙◌}
 use Rattle.std.proofs.lemmas.Result.{IfOk-at_ok}
 use Rattle.desk_model.specs.Desk.{topics_under}
 use Rattle.desk_model.specs.MeasureText.{IsMeasure}
 use Rattle.desk_model.specs.Verdict.{verdict}
 use Rattle.desk_model.specs.declared.types.Verdict.TheVariants.{Above, Below, Equal, Open}
-use Rattle.pair_table.specs.Evidence.{SaysAbove, SaysEqual, SaysOpen}
-use Rattle.pair_table.specs.Numbers.{HasCellEnds}
+use Rattle.pair_table.specs.Evidence.{SaysOpen}
 use Rattle.pair_table.proofs.Certified.{cells_certificate}
+use Rattle.pair_table.proofs.Keeping.{length-all_numbers}
 use Rattle.pair_table.proofs.Saying.{standing_sums, summed_cells, answered_by}
 use Rattle.pair_table.proofs.table.Table.evidence.Goals as goal
 use Rattle.pair_table.proofs.table.Table.evidence.Goals.{in-Above, in-Below, in-Equal, in-Open}
+
+pub above-made-requires-clause-topics : goal.above-made-requires-clause-topics
+above-made-requires-clause-topics g c = ap length c.requires.stands.topics ∙ length-all_numbers (g.M.Measure.cell_of c.args.self.now.measure) (g.M.Measure.bounds_of c.args.self.now.measure) c.args.desk.now c.args.marks.now c.requires.marks
+
+pub above-made-requires-in-Below-clause-topics : goal.above-made-requires-in-Below-clause-topics
+above-made-requires-in-Below-clause-topics g c = ap length c.requires.stands.topics ∙ length-all_numbers (g.M.Measure.cell_of c.args.self.now.measure) (g.M.Measure.bounds_of c.args.self.now.measure) c.args.desk.now c.args.marks.now c.requires.marks
+
+pub equal-made-requires-clause-topics : goal.equal-made-requires-clause-topics
+equal-made-requires-clause-topics g c = ap length c.requires.stands.topics ∙ length-all_numbers (g.M.Measure.cell_of c.args.self.now.measure) (g.M.Measure.bounds_of c.args.self.now.measure) c.args.desk.now c.args.marks.now c.requires.marks
 
 pub returns-in-Close-clause-answer : goal.returns-in-Close-clause-answer
 returns-in-Close-clause-answer g c =
@@ -43,11 +52,11 @@ returns-in-Ok-clause-answer g c =
     let told = standing_sums name cell bounds desk marks i j sums table laws c.run_count-runs.ensures.desk c.requires.marks c.requires.stands c.verdict.ensures.1 in
     elim c.match-verdict.branch [
       | in-Above w ↦ answered_by cell name desk marks level i j made sums Above told (sym w.in-Above.is ∙ c.verdict.ensures.2)
-          (subst (λ m. SaysAbove (HasCellEnds (g.M.Measure.cell_of m)) (g.M.Measure.measured m) desk marks level i j made) c.measure-measure.ensures (IfOk-at_ok _ (sym w.made-is ∙ c.in-Ok.is) w.above-made.ensures))
+          (IfOk-at_ok _ (sym w.made-is ∙ c.in-Ok.is) w.above-made.ensures marks c.requires.marks c.requires.stands)
       | in-Below w ↦ answered_by cell name desk marks level i j made sums Below told (sym w.in-Below.is ∙ c.verdict.ensures.2)
-          (subst (λ m. SaysAbove (HasCellEnds (g.M.Measure.cell_of m)) (g.M.Measure.measured m) desk marks level j i made) c.measure-measure.ensures (IfOk-at_ok _ (sym w.made-is ∙ c.in-Ok.is) w.above-made-in-Below.ensures))
+          (IfOk-at_ok _ (sym w.made-is ∙ c.in-Ok.is) w.above-made-in-Below.ensures marks c.requires.marks c.requires.stands)
       | in-Equal w ↦ answered_by cell name desk marks level i j made sums Equal told (sym w.in-Equal.is ∙ c.verdict.ensures.2)
-          (subst (λ m. SaysEqual (HasCellEnds (g.M.Measure.cell_of m)) (g.M.Measure.measured m) desk marks level i j made) c.measure-measure.ensures (IfOk-at_ok _ (sym w.made-is ∙ c.in-Ok.is) w.equal-made.ensures))
+          (IfOk-at_ok _ (sym w.made-is ∙ c.in-Ok.is) w.equal-made.ensures marks c.requires.marks c.requires.stands)
       | in-Open w ↦ answered_by cell name desk marks level i j made sums Open told (sym w.in-Open.is ∙ c.verdict.ensures.2)
           (subst (λ m. SaysOpen (g.M.Measure.measured m) desk marks level i j made) c.measure-measure.ensures (IfOk-at_ok _ (sym w.made-is ∙ c.in-Ok.is) w.open-made.ensures))
     ]

@@ -1,0 +1,47 @@
+// Texts of numbers, measures, pairs and pools, by hand.
+use desk_model::{MeasureName, Totals};
+use desk_report::{close_line, pair_line, pool_line};
+use judgement_pool::PoolCount;
+use number_texts::{push_grade, push_measure, push_signed, push_whole};
+use std::alloc::AllocError;
+use std::test::Fail;
+
+#[test]
+fn numbers_and_measures_are_put(rt: HostRuntime) -> Result<(), Fail> {
+    let mut out = Vec::new(rt.alloc());
+    let measure = MeasureName::Biased { top: 8, bottom: 10 };
+    push_measure(&mut out, &measure)?;
+    push_signed(&mut out, -170)?;
+    push_grade(&mut out, -1)?;
+    push_whole(&mut out, 25)?;
+    assert_eq!(rt; out.as_slice(), b"rbp_0.8-170-125".as_slice());
+    Ok(())
+}
+
+#[test]
+fn numbers_of_a_pair_and_a_pool_are_shown(rt: HostRuntime) -> Result<(), Fail> {
+    let alloc = rt.alloc();
+    let totals = Totals {
+        least_lo: -1,
+        least_hi: 1,
+        most_lo: 2,
+        most_hi: 2,
+    };
+    // Means are rounded outward.
+    let line = pair_line(alloc, b"A", b"B", 3, 2, &totals).map_err(|_| AllocError)?;
+    assert_eq!(rt;
+        line.as_slice(),
+        b"pair A close B -0.166667 0.333334\n".as_slice()
+    );
+    let line = close_line(alloc, b"A", b"B", &totals).map_err(|_| AllocError)?;
+    assert_eq!(rt; line.as_slice(), b"close A B -1 1 2 2\n".as_slice());
+    let count = PoolCount {
+        size: 3,
+        judged: 2,
+        relevant: 1,
+        unjudged: 1,
+    };
+    let line = pool_line(alloc, &count).map_err(|_| AllocError)?;
+    assert_eq!(rt; line.as_slice(), b"pool 3 2 1 1\n".as_slice());
+    Ok(())
+}

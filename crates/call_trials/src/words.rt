@@ -1,0 +1,40 @@
+// A line of each command, in other forms than the plain one.
+use desk_words::{Command, WordsFault, read_words};
+use std::alloc::Global;
+use std::test::Fail;
+
+fn command_of(alloc: Global, line: &str) -> Result<Result<Command, WordsFault>, Fail> {
+    let mut words = Vec::new(alloc);
+    for word in line.split(' ') {
+        words.push(String::from_str(alloc, word)?)?;
+    }
+    Ok(read_words(alloc, words.as_slice()))
+}
+
+fn word_of(command: &Result<Command, WordsFault>) -> &'static str {
+    match command {
+        Ok(Command::Table(_)) => "table",
+        Ok(Command::Certify(_)) => "certify",
+        Ok(Command::Session(_)) => "session",
+        Ok(Command::Verify(_)) => "verify",
+        Ok(Command::Demo { .. }) => "demo",
+        Err(WordsFault::Usage) => "usage",
+        Err(WordsFault::Memory) => "memory",
+    }
+}
+
+#[test]
+fn each_command_is_read(rt: HostRuntime) -> Result<(), Fail> {
+    for (line, want) in [
+        ("table a --level=2 --measure=Rprec b --qrels=-q c", "table"),
+        ("certify --measure recip_rank --qrels q a -- --b", "certify"),
+        ("session --qrels q --measure rbp_0.50 A=x=y", "session"),
+        ("verify --cert c --qrels q A=a -", "verify"),
+        ("demo 4294967295", "demo"),
+        ("table --qrels -q --measure P_2 a", "usage"),
+    ] {
+        let command = command_of(rt.alloc(), line)?;
+        assert!(rt; word_of(&command) == want, "{line}");
+    }
+    Ok(())
+}

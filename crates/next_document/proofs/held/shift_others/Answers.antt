@@ -1,0 +1,84 @@
+use Rattle.std.proofs.Common.{◌≡◌, ℕ, ◌+◌, ◌<◌, List, [], length, map, get_or, ap, sym, ◌∙◌, subst, arith}
+use Rattle.std.specs.Prelude.{Vec, vec_len}
+use Rattle.std.specs.Vec.{with_items}
+use Rattle.std.specs.declared.alloc.Global.{Global}
+use Rattle.std.proofs.lemmas.List.{length-map, map-set, with_items_is}
+use Rattle.std.proofs.Math.ListN.{set}
+use Rattle.desk_model.specs.Desk.{Desk, AreMarksOf}
+use Rattle.desk_model.specs.declared.types.Mark.{Mark}
+use Rattle.desk_model.proofs.DeskTopics.{length-marks}
+use Rattle.desk_model.proofs.Nested.{inner}
+use Rattle.next_document.specs.Moved.{pair_weights}
+use Rattle.next_document.specs.Kept.{AreOver}
+use Rattle.measure_core.specs.Shifts.{HaveRoom, AreShifted}
+use Rattle.measure_core.specs.declared.shift.Shift.{Shift}
+use Rattle.next_document.proofs.Others.{AreShiftedBelow, changed_passed, shifted_topic, shifted_over}
+use Rattle.next_document.proofs.held.shift_others.Goals as goal
+use Rattle.next_document.proofs.held.shift_others.Goals.{then-topic-changed, else-topic-changed}
+
+abbrev lists : List (Vec ℕ Global) → List (List ℕ)
+lists vecs = map (λ (each : Vec ℕ Global). each.items) vecs
+
+as_many : (desk : Desk) (marks : List (List Mark)) (totals : List (Vec ℕ Global)) → AreMarksOf desk marks → AreOver marks (lists totals) → length totals ≡ length desk.topics
+as_many desk marks totals known over = sym (length-map totals (λ (each : Vec ℕ Global). each.items)) ∙ over.topics ∙ length-marks desk marks known
+
+pub bounds-totals-topic : goal.bounds-totals-topic
+bounds-totals-topic g c =
+    omega (arith, c.loop-topic-test.true, c.topic_count-topic-end.ensures.count, as_many c.args.desk.now c.args.marks.now c.args.totals.now c.requires.marks c.requires.over, c.loop-topic.auto.totals)
+
+-- what the vector of a topic holds is what it held at first
+held_at : (shift : Shift) (weights : ℕ → ℕ → ℕ) (changed topic : ℕ) (old now : List (Vec ℕ Global)) (v : Vec ℕ Global) (items : List ℕ) → AreShiftedBelow shift weights changed topic (lists old) (lists now) → topic < length now → v ≡ get_or now topic v →
+    items ≡ (get_or now topic v).items → (items ≡ get_or (lists now) topic []) × (items ≡ get_or (lists old) topic [])
+held_at shift weights changed topic old now v items h lt is value =
+    let here : items ≡ get_or (lists now) topic [] = value ∙ ap (λ (w : Vec ℕ Global). w.items) (sym is) ∙ sym (inner now topic v lt is) in (here, here ∙ h.kept topic (omega arith))
+
+pub shift_pair-requires-clause-count : goal.shift_pair-requires-clause-count
+shift_pair-requires-clause-count g c =
+    let topic = c.loop-topic.topic in
+    let many = as_many c.args.desk.now c.args.marks.now c.args.totals.now c.requires.marks c.requires.over in
+    let within : topic < length c.loop-topic.totals = omega (arith, c.loop-topic-test.true, c.topic_count-topic-end.ensures.count, many, c.loop-topic.auto.totals) in
+    let held = held_at c.args.shift _ c.args.changed topic c.args.totals.now c.loop-topic.totals c.index-totals-topic.result c.deref_mut.result.now c.loop-topic.invariant within c.index-totals-topic.is c.deref_mut.ensures.value in
+    ap length held.1 ∙ c.requires.over.docs topic (omega (arith, length-marks c.args.desk.now c.args.marks.now c.requires.marks, c.loop-topic-test.true, c.topic_count-topic-end.ensures.count))
+
+pub shift_pair-requires-clause-room : goal.shift_pair-requires-clause-room
+shift_pair-requires-clause-room g c =
+    let topic = c.loop-topic.topic in
+    let weights = pair_weights (g.M.Measure.measured c.args.measure.now) c.args.desk.now c.args.marks.now c.args.pair in
+    let many = as_many c.args.desk.now c.args.marks.now c.args.totals.now c.requires.marks c.requires.over in
+    let within : topic < length c.loop-topic.totals = omega (arith, c.loop-topic-test.true, c.topic_count-topic-end.ensures.count, many, c.loop-topic.auto.totals) in
+    let held = held_at c.args.shift weights c.args.changed topic c.args.totals.now c.loop-topic.totals c.index-totals-topic.result c.deref_mut.result.now c.loop-topic.invariant within c.index-totals-topic.is c.deref_mut.ensures.value in
+    subst (λ (xs : List ℕ). HaveRoom c.args.shift (weights topic) xs) (sym held.1)
+    (c.requires.room topic (omega (arith, length-marks c.args.desk.now c.args.marks.now c.requires.marks, c.loop-topic-test.true, c.topic_count-topic-end.ensures.count)) c.if-topic-changed.true)
+
+pub loop-topic-preserved : goal.loop-topic-preserved
+loop-topic-preserved g c =
+    let topic = c.loop-topic.topic in
+    let shift = c.args.shift in
+    let changed = c.args.changed in
+    let old = lists c.args.totals.now in
+    let weights = pair_weights (g.M.Measure.measured c.args.measure.now) c.args.desk.now c.args.marks.now c.args.pair in
+    let many = as_many c.args.desk.now c.args.marks.now c.args.totals.now c.requires.marks c.requires.over in
+    let within : topic < length c.loop-topic.totals = omega (arith, c.loop-topic-test.true, c.topic_count-topic-end.ensures.count, many, c.loop-topic.auto.totals) in
+    let inside : topic < length old = omega (arith, within, c.loop-topic.auto.totals, length-map c.args.totals.now (λ (each : Vec ℕ Global). each.items)) in
+    elim c.if-topic-changed.branch [
+      | then-topic-changed w ↦
+          let now = w.shift_pair.new.totals in
+          let held = held_at shift weights changed topic c.args.totals.now c.loop-topic.totals w.index-totals-topic.result w.deref_mut.result.now c.loop-topic.invariant within w.index-totals-topic.is w.deref_mut.ensures.value in
+          let is : AreShifted shift (weights topic) (get_or (lists c.loop-topic.totals) topic []) now = subst (λ (xs : List ℕ). AreShifted shift (weights topic) xs now) held.0 w.shift_pair.ensures in
+          let v : Vec ℕ Global = get_or c.loop-topic.totals topic w.index-totals-topic.result in
+          let long : length now ≡ vec_len v = w.shift_pair.ensures.count ∙ w.deref_mut.ensures.len in
+          subst (AreShiftedBelow shift weights changed (topic + 1) old)
+          (sym (ap lists w.totals-is ∙ map-set (λ (each : Vec ℕ Global). each.items) c.loop-topic.totals topic (with_items v now) ∙ ap (λ (xs : List ℕ). set (lists c.loop-topic.totals) topic xs) (with_items_is v now long)))
+          (shifted_topic shift weights changed old (lists c.loop-topic.totals) topic now c.loop-topic.invariant w.if-topic-changed.true inside is)
+      | else-topic-changed w ↦
+          subst (AreShiftedBelow shift weights changed (topic + 1) old) (sym (ap lists w.totals-is)) (changed_passed shift weights changed old (lists c.loop-topic.totals) topic c.loop-topic.invariant w.if-topic-changed.false)
+    ]
+
+pub returns-clause-over : goal.returns-clause-over
+returns-clause-over g c =
+    shifted_over c.args.shift (pair_weights (g.M.Measure.measured c.args.measure.now) c.args.desk.now c.args.marks.now c.args.pair) c.args.changed (lists c.args.totals.now) (lists c.loop-topic.totals) c.args.marks.now c.loop-topic.topic
+    c.loop-topic.invariant (omega (arith, length-marks c.args.desk.now c.args.marks.now c.requires.marks, c.loop-topic-test.false, c.topic_count-topic-end.ensures.count)) c.requires.over
+
+pub returns-clause-shifted : goal.returns-clause-shifted
+returns-clause-shifted g c topic lt apart =
+    c.loop-topic.invariant.done topic (omega (arith, lt, length-marks c.args.desk.now c.args.marks.now c.requires.marks, c.loop-topic-test.false, c.topic_count-topic-end.ensures.count)) apart

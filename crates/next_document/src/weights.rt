@@ -1,0 +1,106 @@
+// The totals of all documents, kept while marks and verdicts change.
+ghost use Rattle.std.specs.Prelude.{◌≡◌, ◌<◌, length, IfOk};
+ghost use Rattle.desk_model.specs.Desk.{AreMarksOf};
+ghost use Rattle.desk_model.specs.Pairs.{pairs_of};
+
+use crate::best_kept::best_with_kept_topic;
+use crate::proposal::Proposal;
+use crate::renewed::renew;
+use crate::topic_totals::all_totals;
+use desk_model::{Desk, Marks, Memory, Verdict};
+use measure_core::Measure;
+use std::alloc::Global;
+use std::marker::Model;
+
+/// A total for each document, the sum of its weights over the pairs that are not settled, kept while judgements
+/// change marks and verdicts. It holds a copy of the verdicts that its totals stand for.
+#[derive(Drop)]
+pub struct Weights {
+    // By topic, and in it by document.
+    totals: Vec<Vec<u128>>,
+    verdicts: Vec<Verdict>,
+}
+
+impl Model for Weights {
+    ghost use Rattle.std.specs.Prelude.{map};
+    ghost use Rattle.next_document.specs.Kept.{Kept, AreNumbered};
+
+    ghost Value = { Kept };
+
+    ghost view = { λ w. record { totals = map (λ each. each.items) w.totals.items; verdicts = w.verdicts.items } };
+
+    ghost invariant = { λ w. AreNumbered (map (λ each. each.items) w.totals.items) };
+}
+
+impl Weights {
+    ghost use Rattle.next_document.specs.Kept.{AreOver, AreKeptFor, AreKeptBut, IsNextWhereKept};
+
+    /// The totals under these marks and verdicts. The verdicts are those of the pairs in the order of a table. An error
+    /// is out of memory.
+    pub fn new<M: Measure>(
+        alloc: Global,
+        measure: &M,
+        desk: &Desk,
+        marks: &Marks,
+        verdicts: &[Verdict],
+    ) -> Result<Weights, Memory>
+        requires marks { AreMarksOf desk.now marks.now }
+        requires verdicts { length verdicts.now ≡ length (pairs_of desk.now.runs) }
+        ensures totals { IfOk result (AreKeptFor (M.measured measure.now) desk.now marks.now) }
+        ensures held { IfOk result (λ weights. weights.verdicts ≡ verdicts.now) }
+    {
+        let _name = measure.name();
+        let totals = all_totals(alloc, measure, desk, marks, verdicts)?;
+        match verdicts.to_vec(alloc) {
+            Ok(verdicts) => Ok(Weights { totals, verdicts }),
+            Err(_) => Err(Memory),
+        }
+    }
+
+    /// Renews the totals after a change of marks in one topic, and holds other verdicts.
+    ///
+    /// Before it, the totals of every other topic are those under these marks and the verdicts held, and those of the
+    /// changed topic may be any. After it, all totals are those under these marks and these verdicts, of which any may
+    /// differ from the ones held before. It takes no memory.
+    pub fn change<M: Measure>(
+        &mut self,
+        measure: &M,
+        desk: &Desk,
+        marks: &Marks,
+        verdicts: &[Verdict],
+        topic: u32,
+    )
+        requires marks { AreMarksOf desk.now marks.now }
+        requires verdicts { length verdicts.now ≡ length (pairs_of desk.now.runs) }
+        requires topic { topic < length desk.now.topics }
+        requires held { length self.old.verdicts ≡ length (pairs_of desk.now.runs) }
+        requires others { AreKeptBut topic (M.measured measure.now) desk.now marks.now self.old }
+        ensures totals { AreKeptFor (M.measured measure.now) desk.now marks.now self.new }
+        ensures held { self.new.verdicts ≡ verdicts.now }
+    {
+        let _name = measure.name();
+        renew(
+            measure,
+            desk,
+            marks,
+            verdicts,
+            topic,
+            &mut self.verdicts,
+            &mut self.totals,
+        );
+    }
+
+    /// The document to judge next, by the kept totals: equal to what `next` answers of the same measure, desk, marks and
+    /// verdicts. It looks at each document once, and takes no memory.
+    pub fn next(&self, marks: &Marks) -> Option<Proposal>
+        requires { AreOver marks.now self.now.totals }
+        ensures { IsNextWhereKept marks.now self.now result }
+    {
+        let mut best = None;
+        for topic in 0..self.totals.len() as u32 {
+            let totals = &self.totals[topic as usize];
+            best = best_with_kept_topic(marks.topic(topic), totals, topic, best);
+        }
+        best
+    }
+}

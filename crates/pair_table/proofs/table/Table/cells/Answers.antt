@@ -1,0 +1,25 @@
+use Rattle.std.proofs.Common.{◌≡◌, ◌+◌, ◌<◌, [], ◌∷◌, ◌++◌, take, length, Some, ap, sym, subst, ◌∙◌, arith}
+use Rattle.std.specs.Prelude.{slice_get}
+use Rattle.std.specs.List.{AllZip}
+use Rattle.std.proofs.lemmas.Grind.{common_steps}
+use Rattle.std.proofs.lemmas.Option.{slice_get-get_or}
+use Rattle.pair_table.specs.Kept.{Kept, IsCellOf}
+use Rattle.pair_table.proofs.Keeping.{cells_more}
+use Rattle.pair_table.proofs.table.Table.cells.Goals as goal
+
+pub loop-topic-preserved : goal.loop-topic-preserved
+loop-topic-preserved g c =
+    let i = c.args.i in
+    let j = c.args.j in
+    let t = c.loop-topic.topic in
+    let table = c.self.inside in
+    let cells = c.loop-topic.cells.items in
+    let kept = c.index.result.now in
+    let within : t < length table.topics.items = grind (arith, common_steps) in
+    let there : slice_get table.topics.items t ≡ Some kept = slice_get-get_or table.topics.items t kept within ∙ ap Some (sym c.index.ensures) in
+    let before : AllZip (IsCellOf table.runs i j) cells (take t table.topics.items) = subst (λ (k : Kept _). AllZip (IsCellOf k.runs i j) cells (take t k.topics)) (sym c.self.view_is) c.loop-topic.invariant.beside in
+    let after = cells_more table.runs i j t cells table.topics.items c.cell_of_runs-cell.result kept before there c.cell_of_runs-cell.ensures in
+    record {
+      beside = subst (λ l. AllZip (IsCellOf c.args.self.now.runs i j) l (take (t + 1) c.args.self.now.topics)) (sym c.in-Ok.ensures.items)
+          (subst (λ (k : Kept _). AllZip (IsCellOf k.runs i j) (cells ++ c.cell_of_runs-cell.result ∷ []) (take (t + 1) k.topics)) c.self.view_is after);
+    }

@@ -1,0 +1,98 @@
+// The cells and bounds of a topic.
+ghost use Rattle.std.specs.Prelude.{◌≡◌, ◌+◌, ◌<◌, All, length, map};
+ghost use Rattle.desk_model.specs.Desk.{IsDesk, AreMarksOf};
+ghost use Rattle.desk_model.specs.MeasureText.{IsMeasure};
+ghost use Rattle.desk_model.specs.Pairs.{pairs_of};
+ghost use Rattle.measure_core.specs.Laws.{SpanIsModest, CellIsModest};
+ghost use Rattle.pair_table.specs.Sums.{run_numbers};
+ghost use Rattle.pair_table.specs.Kept.{numbers_on, topic_at};
+
+use crate::kept::KeptCell;
+use desk_model::{Desk, Marks, PairPlaces};
+use fractions::Span;
+use measure_core::{Cell, Measure, Steps};
+use std::sync::ledger::Ledger;
+
+// The cell of two runs on a topic, by their numbers. It is one step.
+fn cell_at<M: Measure, L: Ledger>(
+    measure: &M,
+    desk: &Desk,
+    marks: &Marks,
+    first: u32,
+    second: u32,
+    topic: u32,
+    steps: &mut Steps<L>,
+) -> Cell
+    requires measure { IsMeasure (M.measured measure.now) }
+    requires desk { IsDesk desk.now }
+    requires marks { AreMarksOf desk.now marks.now }
+    requires first { first < length desk.now.runs }
+    requires second { second < length desk.now.runs }
+    requires topic { topic < length desk.now.topics }
+    ensures cell { let at = topic_at desk.now marks.now topic in result ≡ M.cell_of measure.now at.marks (at.ranking first) (at.ranking second) }
+    ensures modest { CellIsModest result }
+    ensures step { steps.new ≡ steps.old + 1 }
+{
+    let a = desk.ranking(first, topic);
+    let b = desk.ranking(second, topic);
+    measure.cell(a, b, marks.topic(topic), steps)
+}
+
+// The bounds of a run on a topic, by their numbers.
+fn bounds_at<M: Measure>(measure: &M, desk: &Desk, marks: &Marks, run: u32, topic: u32) -> Span
+    requires measure { IsMeasure (M.measured measure.now) }
+    requires desk { IsDesk desk.now }
+    requires marks { AreMarksOf desk.now marks.now }
+    requires run { run < length desk.now.runs }
+    requires topic { topic < length desk.now.topics }
+    ensures bounds { let at = topic_at desk.now marks.now topic in result ≡ M.bounds_of measure.now at.marks (at.ranking run) }
+    ensures modest { SpanIsModest result }
+{
+    measure.bounds(desk.ranking(run, topic), marks.topic(topic))
+}
+
+/// Evaluates the cell of each pair on a topic, by its number. It is one step for each.
+pub fn evaluate_cells<M: Measure, L: Ledger>(
+    cells: &mut [KeptCell],
+    measure: &M,
+    desk: &Desk,
+    marks: &Marks,
+    topic: u32,
+    steps: &mut Steps<L>,
+)
+    requires measure { IsMeasure (M.measured measure.now) }
+    requires marks { AreMarksOf desk.now marks.now }
+    requires topic { topic < length desk.now.topics }
+    requires count { length cells.old ≡ length (pairs_of (run_numbers (length desk.now.runs))) }
+    ensures cells { cells.new ≡ (numbers_on (M.cell_of measure.now) (M.bounds_of measure.now) (length desk.now.runs) (topic_at desk.now marks.now topic)).cells }
+    ensures modest { All CellIsModest cells.new }
+    ensures steps { steps.new ≡ steps.old + length cells.old }
+{
+    let runs = desk.run_count();
+    let mut at = PairPlaces::START;
+    for place in 0..cells.len() {
+        let cell = cell_at(measure, desk, marks, at.first, at.second, topic, steps);
+        cells[place] = KeptCell::of(cell);
+        at = at.next(runs);
+    }
+}
+
+/// Evaluates the bounds of each run on a topic, by its number.
+pub fn evaluate_bounds<M: Measure>(
+    bounds: &mut [Span],
+    measure: &M,
+    desk: &Desk,
+    marks: &Marks,
+    topic: u32,
+)
+    requires measure { IsMeasure (M.measured measure.now) }
+    requires marks { AreMarksOf desk.now marks.now }
+    requires topic { topic < length desk.now.topics }
+    requires count { length bounds.old ≡ length desk.now.runs }
+    ensures bounds { bounds.new ≡ (numbers_on (M.cell_of measure.now) (M.bounds_of measure.now) (length desk.now.runs) (topic_at desk.now marks.now topic)).bounds }
+    ensures modest { All SpanIsModest bounds.new }
+{
+    for run in 0..desk.run_count() {
+        bounds[run as usize] = bounds_at(measure, desk, marks, run, topic);
+    }
+}

@@ -1,0 +1,21 @@
+use Rattle.std.proofs.Common.{[], sym, subst}
+use Rattle.std.specs.Prelude.{IfSome, slice_index_or, slice_set}
+use Rattle.desk_model.specs.Desk.{AreMarksOf}
+use Rattle.pair_table.specs.Kept.{StandsElsewhere}
+use Rattle.session_replies.proofs.Following.{marks_with, table_elsewhere}
+use Rattle.session_replies.proofs.state.Judging.follow.Goals as goal
+
+pub take_over-requires-clause-marks : goal.take_over-requires-clause-marks
+take_over-requires-clause-marks g c =
+    let desk = c.args.given.now.desk.now in
+    let told = c.args.changed.now in
+    subst (AreMarksOf desk) (sym c.set.ensures) (marks_with desk.topics c.args.self.now.marks told.topic told.doc c.mark-mark.result c.requires.marks)
+
+pub take_over-requires-clause-others : goal.take_over-requires-clause-others
+take_over-requires-clause-others g c =
+    let desk = c.args.given.now.desk.now in
+    let told = c.args.changed.now in
+    let old = c.args.self.now in
+    subst (λ ms. IfSome old.table (λ t. StandsElsewhere (g.M.Measure.cell_of t.measure) (g.M.Measure.bounds_of t.measure) desk ms told.topic t)) (sym c.set.ensures)
+    (table_elsewhere (record { name = g.M.Measure.measured; cell = g.M.Measure.cell_of; bound = g.M.Measure.bounds_of }) desk old.marks told.topic (slice_set (slice_index_or old.marks told.topic []) told.doc c.mark-mark.result) old.table c.requires.marks
+    c.requires.table)

@@ -1,7 +1,0 @@
-use Rattle.std.proofs.Common.{◌≡◌, [], ◌∷◌, rules}
-use Rattle.topic_ends.proofs.OneDocument.{one_ranked}
-use Rattle.topic_ends.proofs.tests.run_of.Goals as goal
-
-pub new-requires : goal.new-requires
-new-requires c =
-    let items : c.in_ok-to_vec.field-0.items ≡ c.args.doc ∷ [] = search rules in one_ranked c.args.universe c.args.doc c.in_ok-to_vec.field-0.items items c.requires

@@ -1,0 +1,3 @@
+pub mod Walking
+pub mod Sides
+pub mod Alone

@@ -1,0 +1,9 @@
+//! Quick passes over two rankings, which add the weights of their documents to totals or take them back.
+#![tactic(auto)]
+
+pub mod by_ranks;
+pub mod one_side;
+mod places;
+
+pub use by_ranks::{RankWeight, shift_by_ranks};
+pub use one_side::shift_one_side;
