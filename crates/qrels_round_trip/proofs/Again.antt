@@ -13,16 +13,17 @@ use Rattle.desk_model.specs.Book.{Book, IsBook}
 use Rattle.desk_model.specs.Desk.{Desk}
 use Rattle.judge_session.specs.InForce.{counted_grade}
 use Rattle.desk_report.specs.Judging.{qrels_text}
-use Rattle.qrels_reader.specs.Rows.{Row, read_row}
-use Rattle.qrels_reader.specs.Reading.{rows_of, rows_from, and_then}
-use Rattle.qrels_reader.specs.Grouped.{JudgedTopic, judged_of, grouped, names_of, documents_on, qrels_of}
-use Rattle.qrels_reader.specs.declared.fault.FileFault.{FileFault}
-use Rattle.qrels_reader.specs.declared.fault.FileFault.TheVariants.{NoTopics}
-use Rattle.qrels_reader.proofs.Seen.{IsDistinct}
-use Rattle.qrels_reader.proofs.Mapped.{list_any-map}
-use Rattle.qrels_reader.proofs.RowFiles.{judgements}
-use Rattle.qrels_reader.proofs.Grouping.{is_topic-grouped, members_on-grouped}
-use Rattle.run_reader.specs.Run.{Run, RunTopic, Scored, rows_in as rows_of_topic}
+use Rattle.file_rows.specs.Rows.{Row}
+use Rattle.qrels_reader.specs.Rows.{read_row}
+use Rattle.file_rows.specs.Reading.{rows_of, rows_from, and_then}
+use Rattle.file_rows.specs.Grouped.{TopicRows, valued_of, grouped, names_of, Valued, rows_in as rows_of_topic}
+use Rattle.qrels_reader.specs.Grouped.{qrels_of}
+use Rattle.file_rows.specs.declared.fault.FileFault.{FileFault}
+use Rattle.file_rows.specs.declared.fault.FileFault.TheVariants.{NoTopics}
+use Rattle.file_rows.proofs.Seen.{IsDistinct}
+use Rattle.file_rows.proofs.Mapped.{list_any-map}
+use Rattle.file_rows.proofs.Grouping.{is_topic-grouped, members_on-grouped}
+use Rattle.run_reader.specs.Run.{Run}
 use Rattle.topic_universe.specs.Names.{HaveSameNames}
 use Rattle.topic_universe.specs.Universe.{listed, retrieved}
 use Rattle.topics_pool.specs.Rows.{IsDeskOf, IsBookOf, topic_names, grade_in}
@@ -38,7 +39,7 @@ use Rattle.qrels_round_trip.proofs.Listed.{read_grouped, listed_said, all_have_r
 
 -- ---- what the text says
 -- rows that are read, grouped, or a limit is passed
-abbrev IsSaid : List Row → Result (List JudgedTopic) FileFault → Type 0
+abbrev IsSaid : List Row → Result (List TopicRows) FileFault → Type 0
 IsSaid rows (Ok said) = (said ≡ grouped rows) × AreWithinLimits rows
 IsSaid rows (Err fault) = IsLimitPassed rows fault
 
@@ -52,7 +53,7 @@ weaker : {X : Type 0} (P Q : X → Type 0) → ((x : X) → P x → Q x) → (xs
 weaker P Q f [] h = tt
 weaker P Q f (x ∷ xs) h = (f x h.0, weaker P Q f xs h.1)
 
-module _ (bytes : List ℕ) (qrels : List JudgedTopic) (runs : List Run) (desk : Desk) (grades : List (List (Option ℤ))) (judged : IsJudged bytes qrels runs desk grades) where
+module _ (bytes : List ℕ) (qrels : List TopicRows) (runs : List Run) (desk : Desk) (grades : List (List (Option ℤ))) (judged : IsJudged bytes qrels runs desk grades) where
   sound : AllByRecursion IsBook desk.topics
   sound = recursion_from_All IsBook desk.topics judged.of_rows.valid.books
 
@@ -92,9 +93,9 @@ sandwich a l true r e f g = sym (f refl)
 sandwich a true false r e f g = absurd (true≢false (sym (g refl)))
 sandwich a false false r e f g = sym e
 
-any_said : (topic q : List ℕ) (rows : List Row) → list_any (bytes_eq q) (listed (map judged_of rows)) ≡ is_said topic q rows
+any_said : (topic q : List ℕ) (rows : List Row) → list_any (bytes_eq q) (listed (map valued_of rows)) ≡ is_said topic q rows
 any_said topic q rows =
-    sym (list_any-map (bytes_eq q) (λ judged. judged.document) (map judged_of rows)) ∙ sym (list_any-map (λ judged. bytes_eq q judged.document) judged_of rows)
+    sym (list_any-map (bytes_eq q) (λ judged. judged.document) (map valued_of rows)) ∙ sym (list_any-map (λ judged. bytes_eq q judged.document) valued_of rows)
 
 pub record IsSame (book : Book) (own : List (Option ℤ)) (again : Book) : Type 0 where
   pub docs : again.docs ≡ book.docs
@@ -103,24 +104,24 @@ pub record IsSame (book : Book) (own : List (Option ℤ)) (again : Book) : Type 
 -- runs that say the same retrieve the same documents
 same_retrieved : (topic : List ℕ) (runs others : List Run) → map said_by others ≡ map said_by runs → flat_map (retrieved topic) others ≡ flat_map (retrieved topic) runs
 same_retrieved topic runs others kept =
-    let of_topics : List ℕ × List RunTopic → List (List ℕ) = λ p. map (λ (scored : Scored). scored.document) (rows_of_topic topic p.1) in
+    let of_topics : List ℕ × List TopicRows → List (List ℕ) = λ p. map (λ (scored : Valued). scored.document) (rows_of_topic topic p.1) in
     sym (flat_map-map of_topics said_by others) ∙ ap (flat_map of_topics) kept ∙ flat_map-map of_topics said_by runs
 
-module _ (qrels : List JudgedTopic) (runs others : List Run) (same_runs : map said_by others ≡ map said_by runs) (rows : List Row) (book again : Book) (own : List (Option ℤ)) (sound : IsBook book) (of_qrels : IsBookOf qrels runs book) (sound_again : IsBook again) (of_said : IsBookOf (grouped rows) others again)
+module _ (qrels : List TopicRows) (runs others : List Run) (same_runs : map said_by others ≡ map said_by runs) (rows : List Row) (book again : Book) (own : List (Option ℤ)) (sound : IsBook book) (of_qrels : IsBookOf qrels runs book) (sound_again : IsBook again) (of_said : IsBookOf (grouped rows) others again)
     (named : again.name ≡ book.name) (are : AreGradesOf book own) (has : HasOwnRows rows book own)
   where
-    own_documents : documents_on again.name (grouped rows) ≡ map judged_of (rows_of_book book own)
-    own_documents = ap (λ name. documents_on name (grouped rows)) named ∙ members_on-grouped judgements book.name rows ∙ ap (map judged_of) has.are
+    own_documents : rows_of_topic again.name (grouped rows) ≡ map valued_of (rows_of_book book own)
+    own_documents = ap (λ name. rows_of_topic name (grouped rows)) named ∙ members_on-grouped book.name rows ∙ ap (map valued_of) has.are
 
     same_docs : again.docs ≡ book.docs
     same_docs = one_names again.docs book.docs sound_again.ascending sound.ascending (λ q.
         let retrieved_is = list_any (bytes_eq q) (flat_map (retrieved book.name) runs) in
-        of_said.universe q ∙ list_any-append (bytes_eq q) (listed (documents_on again.name (grouped rows))) (flat_map (retrieved again.name) others)
+        of_said.universe q ∙ list_any-append (bytes_eq q) (listed (rows_of_topic again.name (grouped rows))) (flat_map (retrieved again.name) others)
         ∙ ap₂ (λ documents name. list_any (bytes_eq q) (listed documents) || list_any (bytes_eq q) (flat_map (retrieved name) others)) own_documents named
-        ∙ ap (λ names. list_any (bytes_eq q) (listed (map judged_of (rows_of_book book own))) || list_any (bytes_eq q) names) (same_retrieved book.name runs others same_runs)
+        ∙ ap (λ names. list_any (bytes_eq q) (listed (map valued_of (rows_of_book book own))) || list_any (bytes_eq q) names) (same_retrieved book.name runs others same_runs)
         ∙ ap (λ b. b || retrieved_is) (any_said book.name q (rows_of_book book own))
-        ∙ sandwich (list_any (bytes_eq q) book.docs) (list_any (bytes_eq q) (listed (documents_on book.name qrels))) (is_said book.name q (rows_of_book book own)) retrieved_is
-        (of_qrels.universe q ∙ list_any-append (bytes_eq q) (listed (documents_on book.name qrels)) (flat_map (retrieved book.name) runs))
+        ∙ sandwich (list_any (bytes_eq q) book.docs) (list_any (bytes_eq q) (listed (rows_of_topic book.name qrels))) (is_said book.name q (rows_of_book book own)) retrieved_is
+        (of_qrels.universe q ∙ list_any-append (bytes_eq q) (listed (rows_of_topic book.name qrels)) (flat_map (retrieved book.name) runs))
         (has_row book.name q book.docs book.grades own) (listed_said qrels runs book sound of_qrels own are.count q))
 
     same_judgements : map counted_grade again.grades ≡ own
@@ -148,7 +149,7 @@ record AreSame (books : List Book) (grades : List (List (Option ℤ))) (again : 
   pub docs : map (λ (book : Book). book.docs) again ≡ map (λ (book : Book). book.docs) books
   pub judgements : map (λ (book : Book). map counted_grade book.grades) again ≡ grades
 
-all_again : (qrels : List JudgedTopic) (runs others : List Run) → map said_by others ≡ map said_by runs → (rows : List Row) (books again : List Book) (grades : List (List (Option ℤ))) → topic_names again ≡ topic_names books → AllByRecursion IsBook books → AllByRecursion (IsBookOf qrels runs) books →
+all_again : (qrels : List TopicRows) (runs others : List Run) → map said_by others ≡ map said_by runs → (rows : List Row) (books again : List Book) (grades : List (List (Option ℤ))) → topic_names again ≡ topic_names books → AllByRecursion IsBook books → AllByRecursion (IsBookOf qrels runs) books →
     AllByRecursion IsBook again → AllByRecursion (IsBookOf (grouped rows) others) again → AllZip AreGradesOf books grades → AllZip (HasOwnRows rows) books grades → AreSame books grades again
 all_again qrels runs others same_runs rows [] [] [] named s o t p are has = record { docs = refl; judgements = refl }
 all_again qrels runs others same_runs rows [] [] (own ∷ grades) named s o t p are has = absurd are
@@ -169,7 +170,7 @@ all_again qrels runs others same_runs rows (b ∷ books) (a ∷ again) (own ∷ 
 pub text_says : TextSaysJudgements
 text_says bytes qrels runs desk grades judged within = by (qrels_of (qrels_text desk grades)) (said bytes qrels runs desk grades judged)
   where
-    by : (r : Result (List JudgedTopic) FileFault) → IsSaid (rows_in_force desk grades) r → r ≡ Ok (grouped (rows_in_force desk grades))
+    by : (r : Result (List TopicRows) FileFault) → IsSaid (rows_in_force desk grades) r → r ≡ Ok (grouped (rows_in_force desk grades))
     by (Ok said) h = ap Ok h.0
     by (Err fault) h = absurd (elim h.1 [ inl w ↦ (let over = w.1 in let most = within.count in omega arith) | inr w ↦ (let over = w.1 in let most = within.name_bytes in omega arith) ])
 
@@ -181,7 +182,7 @@ are_kept bytes qrels said_topics runs desk grades judged e =
     let rows = rows_in_force desk grades in
     let own : said_topics ≡ grouped rows = (subst (IsSaid rows) e (said bytes qrels runs desk grades judged)).0 in
     let same : HaveSameNames (names_of said_topics) (topic_names desk.topics) =
-    λ q. ap (λ topics. list_any (bytes_eq q) (names_of topics)) own ∙ is_topic-grouped judgements q rows ∙ topics_are q desk.topics grades (have_rows bytes qrels runs desk grades judged) in (
+    λ q. ap (λ topics. list_any (bytes_eq q) (names_of topics)) own ∙ is_topic-grouped q rows ∙ topics_are q desk.topics grades (have_rows bytes qrels runs desk grades judged) in (
       λ q. same q ∙ judged.of_rows.topics q,
       λ others again same_runs is_again.
           let of_grouped : IsDeskOf (grouped rows) others again = subst (λ topics. IsDeskOf topics others again) own is_again in

@@ -3,10 +3,7 @@ use Rattle.std.proofs.Common.{◌≡◌, ℕ, ◌<◌, ◌≤◌, List, [], ◌�
 use Rattle.std.specs.Prelude.{Bool, not, ◌&&◌, ◌||◌, nat_le, map, flat_map, Option}
 use Rattle.std.specs.List.{list_any, zip, AllZip, AllByRecursion}
 use Rattle.std.specs.Str.{bytes_eq}
-use Rattle.std.specs.Ordering.{is_lt, ordering_reverse}
-use Rattle.std.specs.declared.cmp.Ordering.TheVariants.{Less}
 use Rattle.std.proofs.lemmas.Bool.{lt-leb}
-use Rattle.std.proofs.lemmas.Cmp.{nat_list_cmp_total}
 use Rattle.std.proofs.lemmas.Map.Keys.{sorted_head, sorted_tail}
 use Rattle.std.proofs.lemmas.Map.Made.{length-le_from_is_member}
 use Rattle.std.proofs.lemmas.List.Folds.{list_any-append}
@@ -16,11 +13,10 @@ use Rattle.small_lemmas.proofs.Lists.{all-append}
 use Rattle.desk_model.specs.Name.{is_name, name_cmp, AreAscending}
 use Rattle.desk_model.specs.Book.{Book, IsBook}
 use Rattle.desk_model.proofs.Names.{same_name, none_above}
-use Rattle.qrels_reader.specs.Rows.{Row, rows_on, has_topic, topics_of}
+use Rattle.file_rows.specs.Rows.{Row, rows_on, has_topic, topics_of}
 use Rattle.qrels_reader.specs.declared.limits.TheConstants.{MOST_TOPICS}
-use Rattle.qrels_reader.proofs.Seen.{laws, IsDistinct, IsDistinct-first_seen, all_differ}
-use Rattle.qrels_reader.proofs.RowFiles.{judgements}
-use Rattle.qrels_reader.proofs.Grouping.{has_topic-topics}
+use Rattle.file_rows.proofs.Seen.{laws, IsDistinct, IsDistinct-first_seen, all_differ}
+use Rattle.file_rows.proofs.Grouping.{has_topic-topics}
 use Rattle.topics_pool.specs.Rows.{topic_names}
 use Rattle.qrels_round_trip.specs.RoundTrip.{rows_of_book, AreGradesOf}
 use Rattle.qrels_round_trip.proofs.Line.{IsWritable}
@@ -82,7 +78,7 @@ few_topics names before row few old here = by (has_topic row.topic before) refl
     by true e = ap (λ b. not b && nat_le MOST_TOPICS (length (topics_of before))) e
     by false e =
         let all = row.topic ∷ topics_of before in
-        let distinct : IsDistinct all = (has_topic-topics judgements row.topic before ∙ e, IsDistinct-first_seen (map (λ r. r.topic) before)) in
+        let distinct : IsDistinct all = (has_topic-topics row.topic before ∙ e, IsDistinct-first_seen (map (λ r. r.topic) before)) in
         let most = length-le_from_is_member laws all names (all_differ all distinct) (λ q in_all. among q (bytes_eq q row.topic) refl in_all) in
         ap (λ b. not (has_topic row.topic before) && b) (lt-leb MOST_TOPICS (length (topics_of before)) (omega arith)) ∙ last (not (has_topic row.topic before))
       where
@@ -92,7 +88,7 @@ few_topics names before row few old here = by (has_topic row.topic before) refl
 
         among : (q : List ℕ) (b : Bool) → bytes_eq q row.topic ≡ b → (bytes_eq q row.topic || list_any (bytes_eq q) (topics_of before)) ≡ true → list_any (bytes_eq q) names ≡ true
         among q true f g = ap (λ n. list_any (bytes_eq n) names) (same_name q row.topic f) ∙ here
-        among q false f g = any_among names q before old (sym (has_topic-topics judgements q before) ∙ sym (ap (λ b. b || list_any (bytes_eq q) (topics_of before)) f) ∙ g)
+        among q false f g = any_among names q before old (sym (has_topic-topics q before) ∙ sym (ap (λ b. b || list_any (bytes_eq q) (topics_of before)) f) ∙ g)
 
 pub are_new : (names : List (List ℕ)) (before rows : List Row) → length names ≤ MOST_TOPICS → AllByRecursion (IsOf names) before → AllByRecursion (IsOf names) rows → AreFresh before rows → AreNew before rows
 are_new names before [] few old new fresh = tt

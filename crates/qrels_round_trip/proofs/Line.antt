@@ -12,10 +12,11 @@ use Rattle.desk_text.specs.Lines.{is_separator, is_bad, is_blank, fields_of}
 use Rattle.desk_text.specs.Numbers.{read_on, is_digits, is_signed, is_negative, after_sign, with_sign, signed_value, whole_of}
 use Rattle.desk_text.specs.declared.line.TheConstants.{LONGEST_LINE}
 use Rattle.desk_text.proofs.Digits.{own}
-use Rattle.desk_model.specs.Name.{is_name, is_field_byte}
+use Rattle.desk_model.specs.Name.{is_name}
 use Rattle.desk_report.specs.Judging.{qrels_line}
-use Rattle.qrels_reader.specs.Reading.{field, is_long, unless}
-use Rattle.qrels_reader.specs.Rows.{Row, grade_of, row_of, form_faults}
+use Rattle.file_rows.specs.Reading.{field, is_long, unless}
+use Rattle.file_rows.specs.Rows.{Row}
+use Rattle.qrels_reader.specs.Rows.{grade_of, row_of, form_faults}
 use Rattle.desk_model.proofs.Words.{IsWord, name_word, name_most, name_bytes, fields_word, fields_last, ink_no_separator}
 use Rattle.qrels_round_trip.proofs.Words.{IsSmall, signed_word, signed_bytes, word_good}
 
@@ -23,11 +24,11 @@ use Rattle.qrels_round_trip.proofs.Words.{IsSmall, signed_word, signed_bytes, wo
 pub record IsWritable (row : Row) : Type 0 where
   pub topic : is_name row.topic ≡ true
   pub document : is_name row.document ≡ true
-  pub grade : IsSmall row.grade
+  pub grade : IsSmall row.value
 
 -- the line of a row
 abbrev pub line_of : Row → List ℕ
-line_of row = qrels_line row.topic row.document row.grade
+line_of row = qrels_line row.topic row.document row.value
 
 -- ---- a number that is written is read
 is_true : (b : Bool) → T b → b ≡ true
@@ -84,7 +85,7 @@ signed_short (negsuc n) h = let most = length-decimal-le 19 (suc n) (omega arith
 
 module _ (row : Row) (h : IsWritable row) where
   abbrev grade : List ℕ
-  grade = signed_decimal row.grade
+  grade = signed_decimal row.value
 
   -- the parts, each after a space
   parted : line_of row ≡ row.topic ++ 32 ∷ (codes "0" ++ 32 ∷ (row.document ++ 32 ∷ grade))
@@ -97,13 +98,13 @@ module _ (row : Row) (h : IsWritable row) where
       ∙ fields_word row.topic (codes "0" ++ 32 ∷ (row.document ++ 32 ∷ grade)) (name_word row.topic h.topic)
       ∙ ap (λ fs. row.topic ∷ fs) (fields_word (codes "0") (row.document ++ 32 ∷ grade) zero_word
       ∙ ap (λ fs. codes "0" ∷ fs) (fields_word row.document grade (name_word row.document h.document)
-      ∙ ap (λ fs. row.document ∷ fs) (fields_last grade (signed_word row.grade h.grade))))
+      ∙ ap (λ fs. row.document ∷ fs) (fields_last grade (signed_word row.value h.grade))))
 
   pub line_short : length (line_of row) ≤ LONGEST_LINE
   line_short =
       let topic = name_most row.topic h.topic in
       let document = name_most row.document h.document in
-      let number = signed_short row.grade h.grade in
+      let number = signed_short row.value h.grade in
       omega (arith, ap length parted, length-append row.topic (32 ∷ (codes "0" ++ 32 ∷ (row.document ++ 32 ∷ grade))), length-append row.document (32 ∷ grade))
 
   good_after : (v w : List ℕ) → list_any is_bad v ≡ false → list_any is_bad w ≡ false → list_any is_bad (v ++ 32 ∷ w) ≡ false
@@ -113,7 +114,7 @@ module _ (row : Row) (h : IsWritable row) where
   line_good =
       let topic = word_good row.topic (name_bytes row.topic h.topic) in
       let document = word_good row.document (name_bytes row.document h.document) in
-      let number = word_good grade (signed_bytes row.grade h.grade) in
+      let number = word_good grade (signed_bytes row.value h.grade) in
       ap (list_any is_bad) parted
       ∙ good_after row.topic (codes "0" ++ 32 ∷ (row.document ++ 32 ∷ grade)) topic (good_after (codes "0") (row.document ++ 32 ∷ grade) refl (good_after row.document grade document number))
 
@@ -133,14 +134,14 @@ module _ (row : Row) (h : IsWritable row) where
   field_is : (i : ℕ) → field (line_of row) i ≡ get_or (row.topic ∷ codes "0" ∷ row.document ∷ grade ∷ []) i []
   field_is i = ap (λ fs. get_or fs i []) line_fields
 
-  grade_is : grade_of (line_of row) ≡ Some row.grade
-  grade_is = ap (whole_of (negsuc 999) (pos 1000)) (field_is 3) ∙ grade_read row.grade h.grade
+  grade_is : grade_of (line_of row) ≡ Some row.value
+  grade_is = ap (whole_of (negsuc 999) (pos 1000)) (field_is 3) ∙ grade_read row.value h.grade
 
   short_name : (name : List ℕ) → is_name name ≡ true → is_long name ≡ false
   short_name name named = le-ltb 255 (length name) (name_most name named)
 
   pub row_is : row_of (line_of row) ≡ row
-  row_is = λ i. record { topic = field_is 0 i; document = field_is 2 i; grade = ap (λ g. unwrap_or g (pos 0)) grade_is i }
+  row_is = λ i. record { topic = field_is 0 i; document = field_is 2 i; value = ap (λ g. unwrap_or g (pos 0)) grade_is i }
 
   -- the form of the line is right
   pub form_right : {A : Type 0} (a : A) → unless (form_faults (line_of row)) a ≡ Ok a

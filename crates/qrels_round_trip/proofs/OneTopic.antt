@@ -7,14 +7,13 @@ use Rattle.std.proofs.lemmas.List.Folds.{list_any-append}
 use Rattle.std.proofs.lemmas.Int.{ints}
 use Rattle.desk_model.specs.Name.{is_name}
 use Rattle.judge_session.specs.InForce.{counted_grade}
-use Rattle.qrels_reader.specs.Rows.{Row, rows_on, has_document}
-use Rattle.qrels_reader.specs.Grouped.{Judged, judged_of}
+use Rattle.file_rows.specs.Rows.{Row, rows_on, has_document}
+use Rattle.file_rows.specs.Grouped.{Valued, valued_of}
 use Rattle.small_lemmas.proofs.Tests.{neither}
 use Rattle.small_lemmas.proofs.Lists.{all-append}
 use Rattle.desk_model.proofs.Names.{same_name}
-use Rattle.qrels_reader.proofs.Seen.{laws, IsDistinct}
-use Rattle.qrels_reader.proofs.RowFiles.{judgements}
-use Rattle.qrels_reader.proofs.Grouping.{rows_on-append}
+use Rattle.file_rows.proofs.Seen.{laws, IsDistinct}
+use Rattle.file_rows.proofs.Grouping.{rows_on-append}
 use Rattle.topics_pool.proofs.Finding.{among-at}
 use Rattle.topics_pool.specs.Rows.{grade_in}
 use Rattle.qrels_round_trip.specs.RoundTrip.{rows_of_document, IsGradeInForce}
@@ -31,7 +30,7 @@ said_grade (Some file) None = Some (negsuc 0)
 said_grade file (Some grade) = Some grade
 
 -- a document has no row, or one
-one_or_none : (P : List Row → Type 0) (topic doc : List ℕ) (file grade : Option ℤ) → P [] → ((g : ℤ) → P ((record { topic = topic; document = doc; grade = g }) ∷ [])) → P (rows_of_document topic doc file grade)
+one_or_none : (P : List Row → Type 0) (topic doc : List ℕ) (file grade : Option ℤ) → P [] → ((g : ℤ) → P ((record { topic = topic; document = doc; value = g }) ∷ [])) → P (rows_of_document topic doc file grade)
 one_or_none P topic doc None None none one = none
 one_or_none P topic doc (Some f) None none one = one (negsuc 0)
 one_or_none P topic doc None (Some g) none one = one g
@@ -96,7 +95,7 @@ module _ (topic : List ℕ) where
   writable (doc ∷ docs) (f ∷ files) (g ∷ grades) t d h =
       all-append IsWritable (rows_of_document topic doc f g) (rows_of topic docs files grades) (writable_document doc f g t d.0 h.0) (writable docs files grades t d.1 h.1)
 
-  pub each_row : (Q : Row → Type 0) → ((doc : List ℕ) (g : ℤ) → Q (record { topic = topic; document = doc; grade = g })) → (docs : List (List ℕ)) (files grades : List (Option ℤ)) → AllByRecursion Q (rows_of topic docs files grades)
+  pub each_row : (Q : Row → Type 0) → ((doc : List ℕ) (g : ℤ) → Q (record { topic = topic; document = doc; value = g })) → (docs : List (List ℕ)) (files grades : List (Option ℤ)) → AllByRecursion Q (rows_of topic docs files grades)
   each_row Q q [] files grades = tt
   each_row Q q (doc ∷ docs) [] grades = tt
   each_row Q q (doc ∷ docs) (f ∷ files) [] = tt
@@ -142,12 +141,12 @@ module _ (topic : List ℕ) where
       ∙ or_second (is_said doc (rows_of_document topic x y g)) (is_said doc (rows_of topic docs files grades)) (listed_row docs files grades i doc f d e (omega arith))
 
   -- ---- the grade that is said of a document
-  skipped : (q doc : List ℕ) (f g : Option ℤ) (rows : List Row) → bytes_eq q doc ≡ false → grade_in (map judged_of (rows_of_document topic doc f g ++ rows)) q ≡ grade_in (map judged_of rows) q
+  skipped : (q doc : List ℕ) (f g : Option ℤ) (rows : List Row) → bytes_eq q doc ≡ false → grade_in (map valued_of (rows_of_document topic doc f g ++ rows)) q ≡ grade_in (map valued_of rows) q
   skipped q doc f g rows e =
-      one_or_none (λ own. grade_in (map judged_of (own ++ rows)) q ≡ grade_in (map judged_of rows) q) topic doc f g refl
-      (λ n. ap (λ b. option_map (λ (judged : Judged). judged.grade) (cond b (Some (record { document = doc; grade = n })) (find (λ judged. bytes_eq q judged.document) (map judged_of rows)))) e)
+      one_or_none (λ own. grade_in (map valued_of (own ++ rows)) q ≡ grade_in (map valued_of rows) q) topic doc f g refl
+      (λ n. ap (λ b. option_map (λ (judged : Valued). judged.value) (cond b (Some (record { document = doc; value = n })) (find (λ judged. bytes_eq q judged.document) (map valued_of rows)))) e)
 
-  none_said : (q : List ℕ) (docs : List (List ℕ)) (files grades : List (Option ℤ)) → list_any (bytes_eq q) docs ≡ false → grade_in (map judged_of (rows_of topic docs files grades)) q ≡ None
+  none_said : (q : List ℕ) (docs : List (List ℕ)) (files grades : List (Option ℤ)) → list_any (bytes_eq q) docs ≡ false → grade_in (map valued_of (rows_of topic docs files grades)) q ≡ None
   none_said q [] files grades h = refl
   none_said q (doc ∷ docs) [] grades h = refl
   none_said q (doc ∷ docs) (f ∷ files) [] h = refl
@@ -155,18 +154,18 @@ module _ (topic : List ℕ) where
       let parts = neither (bytes_eq q doc) (list_any (bytes_eq q) docs) h in
       skipped q doc f g (rows_of topic docs files grades) parts.0 ∙ none_said q docs files grades parts.1
 
-  found_first : (doc : List ℕ) (n : ℤ) (rows : List Row) → grade_in (map judged_of ((record { topic = topic; document = doc; grade = n }) ∷ rows)) doc ≡ Some n
+  found_first : (doc : List ℕ) (n : ℤ) (rows : List Row) → grade_in (map valued_of ((record { topic = topic; document = doc; value = n }) ∷ rows)) doc ≡ Some n
   found_first doc n rows =
-      ap (λ b. option_map (λ (judged : Judged). judged.grade) (cond b (Some (record { document = doc; grade = n })) (find (λ judged. bytes_eq doc judged.document) (map judged_of rows)))) (laws.refl doc)
+      ap (λ b. option_map (λ (judged : Valued). judged.value) (cond b (Some (record { document = doc; value = n })) (find (λ judged. bytes_eq doc judged.document) (map valued_of rows)))) (laws.refl doc)
 
-  first_said : (doc : List ℕ) (f g : Option ℤ) (rows : List Row) → grade_in (map judged_of rows) doc ≡ None → grade_in (map judged_of (rows_of_document topic doc f g ++ rows)) doc ≡ said_grade f g
+  first_said : (doc : List ℕ) (f g : Option ℤ) (rows : List Row) → grade_in (map valued_of rows) doc ≡ None → grade_in (map valued_of (rows_of_document topic doc f g ++ rows)) doc ≡ said_grade f g
   first_said doc None None rows none = none
   first_said doc (Some f) None rows none = found_first doc (negsuc 0) rows
   first_said doc None (Some g) rows none = found_first doc g rows
   first_said doc (Some f) (Some g) rows none = found_first doc g rows
 
   pub said_of : (docs : List (List ℕ)) (files grades : List (Option ℤ)) (i : ℕ) (doc : List ℕ) (f g : Option ℤ) → IsDistinct docs → slice_get docs i ≡ Some doc → slice_get files i ≡ Some f → slice_get grades i ≡ Some g →
-      grade_in (map judged_of (rows_of topic docs files grades)) doc ≡ said_grade f g
+      grade_in (map valued_of (rows_of topic docs files grades)) doc ≡ said_grade f g
   said_of [] files grades i doc f g distinct d e h = absurd (cc)
   said_of (x ∷ docs) [] grades i doc f g distinct d e h = absurd (cc)
   said_of (x ∷ docs) (y ∷ files) [] i doc f g distinct d e h = absurd (cc)
@@ -174,7 +173,7 @@ module _ (topic : List ℕ) where
       let is_doc : x ≡ doc = cc in
       let is_file : y ≡ f = cc in
       let is_grade : z ≡ g = cc in
-      ap (λ w. grade_in (map judged_of (rows_of topic (x ∷ docs) (y ∷ files) (z ∷ grades))) w) (sym is_doc)
+      ap (λ w. grade_in (map valued_of (rows_of topic (x ∷ docs) (y ∷ files) (z ∷ grades))) w) (sym is_doc)
       ∙ first_said x y z (rows_of topic docs files grades) (none_said x docs files grades distinct.0) ∙ ap₂ said_grade is_file is_grade
   said_of (x ∷ docs) (y ∷ files) (z ∷ grades) (suc i) doc f g distinct d e h =
       skipped doc x y z (rows_of topic docs files grades) (apart x doc docs distinct.0 (among-at docs i doc d))
@@ -192,9 +191,9 @@ module _ (topic : List ℕ) where
       (fresh_topic (before ++ rows_of_document topic doc f g) docs files grades distinct.1 (λ d in_docs.
       let old = none d (or_second (bytes_eq d doc) (list_any (bytes_eq d) docs) in_docs) in
       one_or_none (λ own. has_document topic d (before ++ own) ≡ false) topic doc f g (ap (has_document topic d) (append-nil before) ∙ old)
-      (λ n. pushed d (record { topic = topic; document = doc; grade = n }) refl old (apart doc d docs distinct.0 in_docs))))
+      (λ n. pushed d (record { topic = topic; document = doc; value = n }) refl old (apart doc d docs distinct.0 in_docs))))
     where
       pushed : (d : List ℕ) (row : Row) → row.topic ≡ topic → has_document topic d before ≡ false → bytes_eq d row.document ≡ false → has_document topic d (before ++ row ∷ []) ≡ false
       pushed d row is old other =
-          ap (list_any (λ r. bytes_eq d r.document)) (rows_on-append judgements topic before row true (ap (bytes_eq topic) is ∙ laws.refl topic))
+          ap (list_any (λ r. bytes_eq d r.document)) (rows_on-append topic before row true (ap (bytes_eq topic) is ∙ laws.refl topic))
           ∙ list_any-append (λ r. bytes_eq d r.document) (rows_on topic before) (row ∷ []) ∙ ap₂ (λ a b. a || (b || false)) old other

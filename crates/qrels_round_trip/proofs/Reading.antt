@@ -6,13 +6,15 @@ use Rattle.std.specs.Result.{result_map_both}
 use Rattle.std.proofs.lemmas.Bool.{leb-true, leb-false, ltb-true, ltb-false}
 use Rattle.std.proofs.lemmas.List.Sums.{sum_by-append, sum_by-cons}
 use Rattle.desk_text.specs.Lines.{is_blank}
-use Rattle.qrels_reader.specs.Reading.{read_line, rows_from, and_then, unless, with_row}
-use Rattle.qrels_reader.specs.Rows.{Row, name_bytes_of, row_of, form_faults, row_faults, read_row, has_topic, has_document, topics_of}
-use Rattle.qrels_reader.specs.declared.fault.FileFault.{FileFault}
-use Rattle.qrels_reader.specs.declared.fault.FileFault.TheVariants.{Line}
-use Rattle.qrels_reader.specs.declared.fault.LineFault.{LineFault}
-use Rattle.qrels_reader.specs.declared.fault.LineFault.TheVariants.{RepeatedDocument, TooManyTopics, TooManyRows, TooManyNameBytes}
-use Rattle.qrels_reader.specs.declared.limits.TheConstants.{MOST_TOPICS, MOST_QRELS_ROWS, MOST_NAME_BYTES}
+use Rattle.file_rows.specs.Reading.{read_line, rows_from, and_then, unless, with_row}
+use Rattle.file_rows.specs.Rows.{Row, name_bytes_of, has_topic, has_document, topics_of}
+use Rattle.qrels_reader.specs.Rows.{row_of, form_faults, row_faults, read_row}
+use Rattle.file_rows.specs.declared.fault.FileFault.{FileFault}
+use Rattle.file_rows.specs.declared.fault.FileFault.TheVariants.{Line}
+use Rattle.file_rows.specs.declared.fault.LineFault.{LineFault}
+use Rattle.file_rows.specs.declared.fault.LineFault.TheVariants.{RepeatedDocument, TooManyTopics, TooManyRows, TooManyNameBytes}
+use Rattle.qrels_reader.specs.declared.limits.TheConstants.{MOST_TOPICS, MOST_QRELS_ROWS}
+use Rattle.file_rows.specs.declared.limits.TheConstants.{MOST_NAME_BYTES}
 use Rattle.qrels_round_trip.specs.RoundTrip.{AreWithinLimits, IsLimitPassed}
 use Rattle.qrels_round_trip.proofs.Line.{IsWritable, line_of, line_not_blank, form_right, row_is}
 

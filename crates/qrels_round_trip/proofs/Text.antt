@@ -11,7 +11,7 @@ use Rattle.desk_model.specs.Book.{Book}
 use Rattle.desk_model.specs.Desk.{Desk}
 use Rattle.desk_report.specs.Table.{ended}
 use Rattle.desk_report.specs.Judging.{qrels_lines_of, topic_qrels_lines, qrels_text}
-use Rattle.qrels_reader.specs.Rows.{Row}
+use Rattle.file_rows.specs.Rows.{Row}
 use Rattle.qrels_round_trip.specs.RoundTrip.{rows_of_document, rows_of_book, rows_in_force}
 use Rattle.qrels_round_trip.proofs.Line.{IsWritable, line_of, line_good}
 

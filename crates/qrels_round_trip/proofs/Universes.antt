@@ -8,9 +8,9 @@ use Rattle.desk_model.specs.Limits.{CELL_LIMIT}
 use Rattle.desk_model.specs.Book.{Book}
 use Rattle.desk_model.specs.Ranking.{IsRanking}
 use Rattle.desk_model.specs.Desk.{Desk, IsDesk, AreRankingsOver, pair_count, ranking_of}
-use Rattle.qrels_reader.specs.Grouped.{JudgedTopic}
-use Rattle.qrels_reader.proofs.Mapped.{map-map}
-use Rattle.run_reader.specs.Run.{Run, RunTopic, rows_in}
+use Rattle.file_rows.specs.Grouped.{TopicRows, rows_in}
+use Rattle.file_rows.proofs.Mapped.{map-map}
+use Rattle.run_reader.specs.Run.{Run}
 use Rattle.trec_order.specs.Order.{IsTrecOrder}
 use Rattle.topics_pool.specs.Rows.{IsDeskOf, topic_names}
 use Rattle.topics_pool.proofs.OneDesk.{one_desk}
@@ -37,7 +37,7 @@ over_same (x ∷ xs) (y ∷ ys) (r ∷ rs) e h =
     let later : map (λ (book : Book). book.docs) xs ≡ map (λ (book : Book). book.docs) ys = cc in
     (subst (λ docs. IsRanking (length docs) r) first h.0, over_same xs ys rs later h.1)
 
-module _ (qrels said : List JudgedTopic) (runs others : List Run) (desk again : Desk) (is_desk : IsDeskOf qrels runs desk) (is_again : IsDeskOf said others again)
+module _ (qrels said : List TopicRows) (runs others : List Run) (desk again : Desk) (is_desk : IsDeskOf qrels runs desk) (is_again : IsDeskOf said others again)
     (names : topic_names again.topics ≡ topic_names desk.topics) (docs : map (λ (book : Book). book.docs) again.topics ≡ map (λ (book : Book). book.docs) desk.topics) (same_runs : map said_by others ≡ map said_by runs)
   where
     -- the desk with the other's topics
@@ -77,7 +77,7 @@ module _ (qrels said : List JudgedTopic) (runs others : List Run) (desk again : 
 
     run_names_are : map (λ (run : Run). run.name) runs ≡ map (λ (run : Run). run.name) others
     run_names_are =
-        let name : List ℕ × List RunTopic → List ℕ = λ p. p.0 in
+        let name : List ℕ × List TopicRows → List ℕ = λ p. p.0 in
         sym (map-map name said_by (λ (run : Run). run.name) (λ run. refl) runs) ∙ ap (map name) (sym same_runs) ∙ map-map name said_by (λ (run : Run). run.name) (λ run. refl) others
 
     -- is the other

@@ -5,13 +5,15 @@ use Rattle.desk_model.specs.Book.{Book}
 use Rattle.desk_model.specs.Desk.{Desk}
 use Rattle.judge_session.specs.InForce.{counted_grade}
 use Rattle.desk_report.specs.Judging.{qrels_text}
-use Rattle.qrels_reader.specs.Rows.{Row, name_bytes_of}
-use Rattle.qrels_reader.specs.Grouped.{JudgedTopic, grouped, names_of, qrels_of}
-use Rattle.qrels_reader.specs.declared.fault.FileFault.{FileFault}
-use Rattle.qrels_reader.specs.declared.fault.FileFault.TheVariants.{Line}
-use Rattle.qrels_reader.specs.declared.fault.LineFault.TheVariants.{TooManyRows, TooManyNameBytes}
-use Rattle.qrels_reader.specs.declared.limits.TheConstants.{MOST_QRELS_ROWS, MOST_NAME_BYTES}
-use Rattle.run_reader.specs.Run.{Run, RunTopic, run_of}
+use Rattle.file_rows.specs.Rows.{Row, name_bytes_of}
+use Rattle.file_rows.specs.Grouped.{TopicRows, grouped, names_of}
+use Rattle.qrels_reader.specs.Grouped.{qrels_of}
+use Rattle.file_rows.specs.declared.fault.FileFault.{FileFault}
+use Rattle.file_rows.specs.declared.fault.FileFault.TheVariants.{Line}
+use Rattle.file_rows.specs.declared.fault.LineFault.TheVariants.{TooManyRows, TooManyNameBytes}
+use Rattle.qrels_reader.specs.declared.limits.TheConstants.{MOST_QRELS_ROWS}
+use Rattle.file_rows.specs.declared.limits.TheConstants.{MOST_NAME_BYTES}
+use Rattle.run_reader.specs.Run.{Run, run_of}
 use Rattle.run_reader.specs.declared.used.Used.{Used}
 use Rattle.topic_universe.specs.Names.{HaveSameNames}
 use Rattle.topics_pool.specs.Rows.{IsDeskOf, topic_names}
@@ -27,7 +29,7 @@ pub record AreGradesOf (book : Book) (grades : List (Option ℤ)) : Type 0 where
   pub each : AllByRecursion IsGradeInForce grades
 
 -- the desk of a judgements file and of runs, and a grade in force, or none, for each document of each topic
-pub record IsJudged (bytes : List ℕ) (qrels : List JudgedTopic) (runs : List Run) (desk : Desk) (grades : List (List (Option ℤ))) : Type 0 where
+pub record IsJudged (bytes : List ℕ) (qrels : List TopicRows) (runs : List Run) (desk : Desk) (grades : List (List (Option ℤ))) : Type 0 where
   pub read : qrels_of bytes ≡ Ok qrels
   pub of_rows : IsDeskOf qrels runs desk
   pub in_force : AllZip AreGradesOf desk.topics grades
@@ -35,8 +37,8 @@ pub record IsJudged (bytes : List ℕ) (qrels : List JudgedTopic) (runs : List R
 -- the row of a document by its grade in the file and its grade in force; none where it is neither listed nor judged
 abbrev pub rows_of_document : List ℕ → List ℕ → Option ℤ → Option ℤ → List Row
 rows_of_document topic doc None None = []
-rows_of_document topic doc (Some file) None = (record { topic = topic; document = doc; grade = negsuc 0 }) ∷ []
-rows_of_document topic doc file (Some grade) = (record { topic = topic; document = doc; grade = grade }) ∷ []
+rows_of_document topic doc (Some file) None = (record { topic = topic; document = doc; value = negsuc 0 }) ∷ []
+rows_of_document topic doc file (Some grade) = (record { topic = topic; document = doc; value = grade }) ∷ []
 
 abbrev pub rows_of_book : Book → List (Option ℤ) → List Row
 rows_of_book book grades = flat_map (λ p. rows_of_document book.name p.0 p.1.0 p.1.1) (zip book.docs (zip book.grades grades))
@@ -64,7 +66,7 @@ pub record HasJudgements (desk : Desk) (grades : List (List (Option ℤ))) (agai
   pub rankings : again.rankings ≡ desk.rankings
 
 -- what a run says: its name, and its kept rows by topic
-abbrev pub said_by : Run → List ℕ × List RunTopic
+abbrev pub said_by : Run → List ℕ × List TopicRows
 said_by run = (run.name, run.topics)
 
 -- the same run is read, or the limit on the bytes of document names is passed
@@ -75,19 +77,19 @@ IsSameRun run (Err fault) = (line : ℕ) × (fault ≡ Line line TooManyNameByte
 -- within the limits the text says its rows
 abbrev pub TextSaysJudgements : Type 0
 TextSaysJudgements =
-    (bytes : List ℕ) (qrels : List JudgedTopic) (runs : List Run) (desk : Desk) (grades : List (List (Option ℤ))) → IsJudged bytes qrels runs desk grades →
+    (bytes : List ℕ) (qrels : List TopicRows) (runs : List Run) (desk : Desk) (grades : List (List (Option ℤ))) → IsJudged bytes qrels runs desk grades →
     AreWithinLimits (rows_in_force desk grades) → qrels_of (qrels_text desk grades) ≡ Ok (grouped (rows_in_force desk grades))
 
 -- past them it is refused, and for nothing else
 abbrev pub LimitsAloneRefuse : Type 0
 LimitsAloneRefuse =
-    (bytes : List ℕ) (qrels : List JudgedTopic) (runs : List Run) (desk : Desk) (grades : List (List (Option ℤ))) (fault : FileFault) → IsJudged bytes qrels runs desk grades →
+    (bytes : List ℕ) (qrels : List TopicRows) (runs : List Run) (desk : Desk) (grades : List (List (Option ℤ))) (fault : FileFault) → IsJudged bytes qrels runs desk grades →
     qrels_of (qrels_text desk grades) ≡ Err fault → IsLimitPassed (rows_in_force desk grades) fault
 
 -- what the text says has the topics of the file, and a desk of it and of the same runs has the same judgements and universes
 abbrev pub JudgementsAreKept : Type 0
 JudgementsAreKept =
-    (bytes : List ℕ) (qrels said : List JudgedTopic) (runs : List Run) (desk : Desk) (grades : List (List (Option ℤ))) → IsJudged bytes qrels runs desk grades →
+    (bytes : List ℕ) (qrels said : List TopicRows) (runs : List Run) (desk : Desk) (grades : List (List (Option ℤ))) → IsJudged bytes qrels runs desk grades →
     qrels_of (qrels_text desk grades) ≡ Ok said →
     HaveSameNames (names_of said) (names_of qrels)
     × ((others : List Run) (again : Desk) → map said_by others ≡ map said_by runs → IsDeskOf said others again → HasJudgements desk grades again)
@@ -95,5 +97,5 @@ JudgementsAreKept =
 -- the bytes of a run, read beside a file with the same topics, where earlier files have no more rows of runs
 abbrev pub RunsAreKept : Type 0
 RunsAreKept =
-    (given : Option (List ℕ)) (qrels said : List JudgedTopic) (used others : Used) (bytes : List ℕ) (run : Run) → HaveSameNames (names_of said) (names_of qrels) →
+    (given : Option (List ℕ)) (qrels said : List TopicRows) (used others : Used) (bytes : List ℕ) (run : Run) → HaveSameNames (names_of said) (names_of qrels) →
     others.rows ≤ used.rows → run_of given qrels used bytes ≡ Ok run → IsSameRun run (run_of given said others bytes)
