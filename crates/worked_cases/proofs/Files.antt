@@ -2,22 +2,24 @@
 use Rattle.std.proofs.Common.{◌≡◌, ◌^◌, List, [], ◌∷◌, ◌++◌, replicate, refl, Some, None, pos, negsuc}
 use Rattle.std.specs.Prelude.{codes, Ok, Err}
 use Rattle.decimal_score.specs.Reading.{score_of, zeros_of}
-use Rattle.qrels_reader.specs.Reading.{read_line}
-use Rattle.qrels_reader.specs.Rows.{Row, read_row}
-use Rattle.qrels_reader.specs.Grouped.{JudgedTopic, qrels_of}
-use Rattle.qrels_reader.specs.declared.fault.LineFault.TheVariants.{BadByte, BadFieldCount, NameTooLong, BadGrade, BadScore, RepeatedDocument}
-use Rattle.qrels_reader.specs.declared.fault.FileFault.TheVariants.{Line, NoTopics, NoTag}
+use Rattle.file_rows.specs.Reading.{read_line}
+use Rattle.file_rows.specs.Rows.{Row}
+use Rattle.qrels_reader.specs.Rows.{read_row}
+use Rattle.file_rows.specs.Grouped.{TopicRows}
+use Rattle.qrels_reader.specs.Grouped.{qrels_of}
+use Rattle.file_rows.specs.declared.fault.LineFault.TheVariants.{BadByte, BadFieldCount, NameTooLong, BadGrade, BadScore, RepeatedDocument}
+use Rattle.file_rows.specs.declared.fault.FileFault.TheVariants.{Line, NoTopics, NoTag}
 use Rattle.run_reader.specs.Run.{run_of, name_of}
 use Rattle.run_reader.specs.declared.used.Used.{Used}
 
 -- ---- judgements
-pub one_judgement : qrels_of (codes "401 0 d1 1") ≡ Ok (record { name = codes "401"; documents = record { document = codes "d1"; grade = pos 1 } ∷ [] } ∷ [])
+pub one_judgement : qrels_of (codes "401 0 d1 1") ≡ Ok (record { name = codes "401"; rows = record { document = codes "d1"; value = pos 1 } ∷ [] } ∷ [])
 one_judgement = refl
 
 -- topics and documents stand as they first came, a negative grade is kept as it is, and a blank line is passed over
 pub judgements_of_two_topics : qrels_of (codes "402 0 d7 -1" ++ 10 ∷ 32 ∷ 10 ∷ codes "401 0 d1 1" ++ 10 ∷ codes "402 0 d3 +2" ++ 10 ∷ [])
-    ≡ Ok (record { name = codes "402"; documents = record { document = codes "d7"; grade = negsuc 0 } ∷ record { document = codes "d3"; grade = pos 2 } ∷ [] }
-    ∷ record { name = codes "401"; documents = record { document = codes "d1"; grade = pos 1 } ∷ [] } ∷ [])
+    ≡ Ok (record { name = codes "402"; rows = record { document = codes "d7"; value = negsuc 0 } ∷ record { document = codes "d3"; value = pos 2 } ∷ [] }
+    ∷ record { name = codes "401"; rows = record { document = codes "d1"; value = pos 1 } ∷ [] } ∷ [])
 judgements_of_two_topics = refl
 
 pub no_judgements : qrels_of [] ≡ Err NoTopics
@@ -32,7 +34,7 @@ document_judged_twice = refl
 
 -- a document may stand on two topics
 pub same_document_on_two_topics : qrels_of (codes "401 0 d1 1" ++ 10 ∷ codes "402 0 d1 0")
-    ≡ Ok (record { name = codes "401"; documents = record { document = codes "d1"; grade = pos 1 } ∷ [] } ∷ record { name = codes "402"; documents = record { document = codes "d1"; grade = pos 0 } ∷ [] } ∷ [])
+    ≡ Ok (record { name = codes "401"; rows = record { document = codes "d1"; value = pos 1 } ∷ [] } ∷ record { name = codes "402"; rows = record { document = codes "d1"; value = pos 0 } ∷ [] } ∷ [])
 same_document_on_two_topics = refl
 
 pub line_of_three_fields : qrels_of (codes "401 0 d1") ≡ Err (Line 1 BadFieldCount)
@@ -53,7 +55,7 @@ document_of_256_bytes = refl
 
 -- ---- single lines after the rows before them
 abbrev d1_judged : Row
-d1_judged = record { topic = codes "401"; document = codes "d1"; grade = pos 1 }
+d1_judged = record { topic = codes "401"; document = codes "d1"; value = pos 1 }
 
 pub row_of_a_line : read_row [] (codes "401 0 d1 1") ≡ Ok (Some d1_judged)
 row_of_a_line = refl
@@ -75,8 +77,8 @@ pub faulty_line_read : read_line read_row 7 (d1_judged ∷ []) (codes "401 0 d1 
 faulty_line_read = refl
 
 -- ---- runs, beside judgements on topic 401 alone
-abbrev judged_401 : List JudgedTopic
-judged_401 = record { name = codes "401"; documents = record { document = codes "d1"; grade = pos 1 } ∷ [] } ∷ []
+abbrev judged_401 : List TopicRows
+judged_401 = record { name = codes "401"; rows = record { document = codes "d1"; value = pos 1 } ∷ [] } ∷ []
 
 abbrev nothing_used : Used
 nothing_used = record { rows = 0; name_bytes = 0 }
@@ -84,7 +86,7 @@ nothing_used = record { rows = 0; name_bytes = 0 }
 -- the row of topic 403 is dropped; the name is the tag
 pub run_with_a_row_of_another_topic : run_of None judged_401 nothing_used (codes "403 Q0 x 1 2 T" ++ 10 ∷ codes "401 Q0 d1 1 1 T") ≡ Ok (record {
   name = codes "T";
-  topics = record { name = codes "401"; rows = record { document = codes "d1"; score = pos (10 ^ 999) } ∷ [] } ∷ [];
+  topics = record { name = codes "401"; rows = record { document = codes "d1"; value = pos (10 ^ 999) } ∷ [] } ∷ [];
   used = record { rows = 1; name_bytes = 2 };
 })
 unfolding score_of zeros_of

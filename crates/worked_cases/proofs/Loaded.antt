@@ -4,8 +4,7 @@ use Rattle.std.specs.Prelude.{ℕ, codes, Ok, Err}
 use Rattle.std.specs.Str.{bytes_eq}
 use Rattle.decimal_score.specs.Reading.{score_of, zeros_of}
 use Rattle.desk_outside.specs.Outside.{Files}
-use Rattle.qrels_reader.specs.declared.fault.LineFault.TheVariants.{RepeatedDocument}
-use Rattle.run_reader.specs.declared.used.Used.{Used}
+use Rattle.file_rows.specs.declared.fault.LineFault.TheVariants.{RepeatedDocument}
 use Rattle.desk_files.specs.Files.{Missing, Refused, BadLine, LacksTopics, LacksTag, Repeated}
 use Rattle.desk_files.specs.Load.{Sources, sources, loaded, loaded_from}
 
@@ -27,14 +26,14 @@ run_B = Some (codes "401 Q0 d2 1 1 B")
 
 -- both runs count what the files before them used
 pub files_without_a_fault : loaded (holding judgements run_A run_B) from ≡ Ok (record {
-  qrels = record { name = codes "401"; documents = record { document = codes "d1"; grade = pos 1 } ∷ [] } ∷ [];
+  qrels = record { name = codes "401"; rows = record { document = codes "d1"; value = pos 1 } ∷ [] } ∷ [];
   runs = record {
     name = codes "A";
-    topics = record { name = codes "401"; rows = record { document = codes "d1"; score = pos (10 ^ 999) } ∷ [] } ∷ [];
+    topics = record { name = codes "401"; rows = record { document = codes "d1"; value = pos (10 ^ 999) } ∷ [] } ∷ [];
     used = record { rows = 1; name_bytes = 4 };
   } ∷ record {
     name = codes "B";
-    topics = record { name = codes "401"; rows = record { document = codes "d2"; score = pos (10 ^ 999) } ∷ [] } ∷ [];
+    topics = record { name = codes "401"; rows = record { document = codes "d2"; value = pos (10 ^ 999) } ∷ [] } ∷ [];
     used = record { rows = 2; name_bytes = 6 };
   } ∷ [];
 })

@@ -12,8 +12,8 @@ use Rattle.desk_model.specs.Name.{is_name}
 use Rattle.desk_model.specs.Ranking.{IsRanking}
 use Rattle.desk_model.specs.declared.types.Mark.{Mark}
 use Rattle.desk_model.specs.declared.types.Mark.TheVariants.{Unjudged, Relevant, Other}
-use Rattle.qrels_reader.specs.Grouped.{JudgedTopic, documents_on}
-use Rattle.run_reader.specs.Run.{Run, Scored, rows_on_topic}
+use Rattle.file_rows.specs.Grouped.{TopicRows, rows_in, Valued}
+use Rattle.run_reader.specs.Run.{Run, rows_on_topic}
 use Rattle.trec_order.specs.Order.{trec_cmp, IsTrecOrder}
 use Rattle.trec_order.proofs.Unique.{one_order}
 use Rattle.topics_pool.specs.Names.{HaveSameNames}
@@ -23,8 +23,8 @@ use Rattle.topics_pool.specs.declared.fault.DeskFault.TheVariants.{SameName, Too
 use Rattle.worked_cases.proofs.Names.{different}
 
 -- a row: a document and the value of its score
-abbrev row : List ℕ → ℤ → Scored
-row document score = record { document = document; score = score }
+abbrev row : List ℕ → ℤ → Valued
+row document score = record { document = document; value = score }
 
 -- ---- the greater score stands first, and of equal scores the greater name
 pub greater_score_first : trec_cmp (row (codes "d1") (pos 2)) (row (codes "d9") (pos 1)) ≡ Less
@@ -60,8 +60,8 @@ unfolding IsStrictlySortedBy
 order_of_no_rows = record { ranked = []; once = record { moves = []; below = tt; is = refl }; ordered = tt; are_names = refl }
 
 -- ---- the judgements list c with grade 2 and a with grade 0 on topic 401; the first run has c and d, the second e and a
-abbrev qrels : List JudgedTopic
-qrels = record { name = codes "401"; documents = record { document = codes "c"; grade = pos 2 } ∷ record { document = codes "a"; grade = pos 0 } ∷ [] } ∷ []
+abbrev qrels : List TopicRows
+qrels = record { name = codes "401"; rows = record { document = codes "c"; value = pos 2 } ∷ record { document = codes "a"; value = pos 0 } ∷ [] } ∷ []
 
 abbrev first_run : Run
 first_run = record { name = codes "one"; topics = record { name = codes "401"; rows = row (codes "c") (pos 9) ∷ row (codes "d") (pos 8) ∷ [] } ∷ []; used = record { rows = 2; name_bytes = 4 } }
@@ -103,10 +103,10 @@ universe_without_a_retrieved_document h = let e = h (codes "e") in absurd (cc)
 pub universe_of_no_rows : HaveSameNames [] (names_on [] [] (codes "401"))
 universe_of_no_rows name = refl
 
-pub grade_that_is_listed : grade_in (record { document = codes "c"; grade = pos 2 } ∷ []) (codes "c") ≡ Some (pos 2)
+pub grade_that_is_listed : grade_in (record { document = codes "c"; value = pos 2 } ∷ []) (codes "c") ≡ Some (pos 2)
 grade_that_is_listed = refl
 
-pub grade_that_is_not_listed : grade_in (record { document = codes "c"; grade = pos 2 } ∷ []) (codes "d") ≡ None
+pub grade_that_is_not_listed : grade_in (record { document = codes "c"; value = pos 2 } ∷ []) (codes "d") ≡ None
 grade_that_is_not_listed = refl
 
 -- what holds of the value that is there
@@ -114,12 +114,12 @@ there : (P : List ℕ → Type 0) (x name : List ℕ) → P x → Some x ≡ Som
 there P x name p e = let same : x ≡ name = cc in subst P same p
 
 abbrev graded_as : Option ℤ → List ℕ → Type 0
-graded_as grade name = grade ≡ grade_in (documents_on (codes "401") qrels) name
+graded_as grade name = grade ≡ grade_in (rows_in (codes "401") qrels) name
 
 pub book_of_the_rows : IsBookOf qrels (first_run ∷ second_run ∷ []) book
 book_of_the_rows = record { universe = universe_of_the_rows; grades = graded }
   where
-    graded : (doc : ℕ) (name : List ℕ) → slice_get book.docs doc ≡ Some name → file_grade_of book doc ≡ grade_in (documents_on book.name qrels) name
+    graded : (doc : ℕ) (name : List ℕ) → slice_get book.docs doc ≡ Some name → file_grade_of book doc ≡ grade_in (rows_in book.name qrels) name
     graded zero name h = there (graded_as (Some (pos 0))) (codes "a") name refl h
     graded (suc zero) name h = there (graded_as (Some (pos 2))) (codes "c") name refl h
     graded (suc (suc zero)) name h = there (graded_as None) (codes "d") name refl h
@@ -207,7 +207,7 @@ pub desk_of_no_rows : IsDeskOf [] [] (record { topics = []; runs = []; rankings 
 desk_of_no_rows h = let e = h.valid.some_topic in absurd (omega arith)
 
 -- a desk that lists a topic twice is of no rows
-pub desk_with_its_topic_twice : (rows : List JudgedTopic) (runs : List Run) (rankings : List (List (List ℕ))) → IsDeskOf rows runs (record { topics = book ∷ book ∷ []; runs = desk.runs; rankings = rankings }) → ⊥
+pub desk_with_its_topic_twice : (rows : List TopicRows) (runs : List Run) (rankings : List (List (List ℕ))) → IsDeskOf rows runs (record { topics = book ∷ book ∷ []; runs = desk.runs; rankings = rankings }) → ⊥
 unfolding IsStrictlySortedBy
 desk_with_its_topic_twice rows runs rankings h = let e = h.valid.ascending.0.0 in absurd (cc)
 
