@@ -39,10 +39,6 @@ digits_after s = and_from _ _ (digit_is (s / 100 % 10) (omega arith)) (and_from 
 score_is : (s : ℕ) → score_text s ≡ decimal (s / 1000) ++ 46 ∷ thousandths s
 score_is s = ap (λ ds. decimal (s / 1000) ++ 46 ∷ ds) (after_point s)
 
--- bytes that are digits, in the words of the library
-digits_from : (ds : List ℕ) → all_ascii_digits ds ≡ true → AllDigits 10 ds
-digits_from ds h = own.to ds h
-
 digits-append : (xs ys : List ℕ) → all_ascii_digits xs ≡ true → all_ascii_digits ys ≡ true → all_ascii_digits (xs ++ ys) ≡ true
 digits-append [] ys h k = k
 digits-append (x ∷ xs) ys h k = let parts = and_parts (is_ascii_digit x) (all_ascii_digits xs) h in and_from _ _ parts.0 (digits-append xs ys parts.1 k)
@@ -82,14 +78,14 @@ module _ (s : ℕ) (h : s < 100000) where
     is_sign = inl refl;
     is_mantissa = inl refl;
     is_exponent = inr (refl, refl);
-    whole_digits = digits_from whole whole_digits;
-    fraction_digits = digits_from (thousandths s) (digits_after s);
+    whole_digits = own.to whole whole_digits;
+    fraction_digits = own.to (thousandths s) (digits_after s);
     some_digit = omega arith;
   }
 
   small : number_of parts < 10 ^ 5
   small =
-      let lt = digits_value-lt 10 (whole ++ thousandths s) (digits_from (whole ++ thousandths s) (digits-append whole (thousandths s) whole_digits (digits_after s))) in
+      let lt = digits_value-lt 10 (whole ++ thousandths s) (own.to (whole ++ thousandths s) (digits-append whole (thousandths s) whole_digits (digits_after s))) in
       let w = whole_short in
       let le : length (whole ++ thousandths s) ≤ 5 = omega (arith, w, length-append whole (thousandths s)) in
       let most : 10 ^ length (whole ++ thousandths s) ≤ 10 ^ 5 = pow-le-pow_right (omega arith) le in

@@ -1,6 +1,7 @@
 use Rattle.std.proofs.Common.{[], ◌∷◌, ◌++◌, None, ap, ◌∙◌, arith}
 use Rattle.std.proofs.lemmas.List.Sums.{sum_by-cons}
-use Rattle.run_reader.specs.Run.{Run, run_of, row_count}
+use Rattle.run_reader.specs.Run.{Run, run_of}
+use Rattle.file_rows.specs.Grouped.{row_count}
 use Rattle.run_reader.specs.declared.used.Used.{Used}
 use Rattle.topics_pool.specs.Rows.{total_rows}
 use Rattle.topics_pool.proofs.AddedUp.{added_up, answered}
