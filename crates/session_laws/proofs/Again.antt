@@ -1,5 +1,5 @@
 -- The files of a desk again, with the judgements in force as their judgements file.
-use Rattle.std.proofs.Common.{◌≡◌, ℕ, suc, ◌+◌, ◌*◌, ◌≤◌, List, [], ◌∷◌, Bool, true, false, length, map, Option, Some, None, Result, Ok, Err, ℤ, pos, negsuc, inl, inr, refl, ap, ap₂, sym, subst, ◌∙◌, arith}
+use Rattle.std.proofs.Common.{◌≡◌, ℕ, suc, ◌+◌, ◌*◌, ◌≤◌, List, [], ◌∷◌, Bool, true, false, length, map, Option, Result, Ok, Err, ℤ, inl, inr, refl, ap, ap₂, sym, subst, ◌∙◌, arith}
 use Rattle.std.specs.Prelude.{nat_le, nat_lt}
 use Rattle.std.specs.List.{AllByRecursion, IsDistinct}
 use Rattle.std.specs.Str.{bytes_eq}
@@ -8,24 +8,20 @@ use Rattle.std.proofs.lemmas.List.{length-map}
 use Rattle.std.proofs.lemmas.Map.Made.{length-from_same_keys}
 use Rattle.desk_outside.specs.Outside.{Files}
 use Rattle.desk_words.specs.declared.command.RunWord.{RunWord}
-use Rattle.desk_text.specs.Lines.{lines}
 use Rattle.desk_model.specs.Book.{Book}
 use Rattle.desk_model.specs.Desk.{Desk, file_marks, pair_count}
 use Rattle.desk_model.specs.Mark.{mark_of}
 use Rattle.judge_session.specs.InForce.{counted_grade}
 use Rattle.desk_report.specs.Judging.{qrels_text}
-use Rattle.qrels_reader.specs.Reading.{and_then, rows_of}
-use Rattle.qrels_reader.specs.Rows.{topics_of}
-use Rattle.qrels_reader.specs.Grouped.{JudgedTopic, names_of, qrels_of}
-use Rattle.qrels_reader.specs.declared.fault.FileFault.{FileFault}
-use Rattle.qrels_reader.proofs.Seen.{laws, all_differ, IsDistinct-first_seen}
-use Rattle.qrels_reader.proofs.Mapped.{map-map}
-use Rattle.qrels_reader.proofs.RowFiles.{judgements}
-use Rattle.qrels_reader.proofs.Grouping.{names-grouped}
-use Rattle.run_reader.specs.Rows.{RunRow, read_row}
-use Rattle.run_reader.specs.Run.{Run, RunTopic, run_of, named, name_of, grouped, used_with, row_count}
+use Rattle.file_rows.specs.Rows.{topics_of}
+use Rattle.file_rows.specs.Grouped.{TopicRows, names_of, row_count}
+use Rattle.qrels_reader.specs.Grouped.{qrels_of}
+use Rattle.file_rows.specs.declared.fault.FileFault.{FileFault}
+use Rattle.file_rows.proofs.Seen.{laws, all_differ, IsDistinct-first_seen}
+use Rattle.file_rows.proofs.Mapped.{map-map}
+use Rattle.file_rows.proofs.Grouping.{names-grouped}
+use Rattle.run_reader.specs.Run.{Run, run_of}
 use Rattle.run_reader.specs.declared.used.Used.{Used}
-use Rattle.run_reader.proofs.Grouping.{row_count-grouped}
 use Rattle.topic_universe.specs.Names.{HaveSameNames}
 use Rattle.topics_pool.specs.Rows.{run_names, first_repeated, cells_of}
 use Rattle.topics_pool.specs.declared.limits.TheConstants.{MOST_CELLS}
@@ -47,13 +43,13 @@ abbrev ComeAgain : List RunWord → List Run → Result (List Run) Halt → Type
 ComeAgain words runs (Ok others) = map said_by others ≡ map said_by runs
 ComeAgain words runs (Err halt) = IsRunRefused words halt
 
-module _ (files again : Files) (qrels said : List JudgedTopic) (same : HaveSameNames (names_of said) (names_of qrels)) where
+module _ (files again : Files) (qrels said : List TopicRows) (same : HaveSameNames (names_of said) (names_of qrels)) where
   run_then : (word : RunWord) (words : List RunWord) (run : Run) (rest : List Run) (others : Used) (r : Result Run FileFault) → IsSameRun run r → ((later : Run) → r ≡ Ok later → later.used.rows ≡ others.rows + row_count later.topics) →
       others.rows + row_count run.topics ≤ run.used.rows → ((used : Used) → used.rows ≤ run.used.rows → ComeAgain words rest (runs_of again said used words)) →
       ComeAgain (word ∷ words) (run ∷ rest) (or_faulty word.path r >>= (λ run. runs_of again said run.used words >>= (λ runs. Ok (run ∷ runs))))
   run_then word words run rest others (Err fault) is counted fewer next = (word, 0, is.0, refl, ap (halt_at word.path) is.1)
   run_then word words run rest others (Ok later) is counted fewer next =
-      let rows : row_count later.topics ≡ row_count run.topics = ap (λ (p : List ℕ × List RunTopic). row_count p.1) is in
+      let rows : row_count later.topics ≡ row_count run.topics = ap (λ (p : List ℕ × List TopicRows). row_count p.1) is in
       all (runs_of again said later.used words) (next later.used (omega (arith, counted later refl, rows, fewer)))
     where
       all : (q : Result (List Run) Halt) → ComeAgain words rest q → ComeAgain (word ∷ words) (run ∷ rest) (q >>= (λ runs. Ok (later ∷ runs)))
@@ -78,16 +74,16 @@ module _ (files again : Files) (qrels said : List JudgedTopic) (same : HaveSameN
       (λ later is. added_up word.name said others read.bytes later is) (omega (arith, counted, fewer)) (λ now below. runs_again words run.used now rest.value below at.1 rest.found)))
 
 -- ---- all together
-distinct_names : (bytes : List ℕ) (qrels : List JudgedTopic) → qrels_of bytes ≡ Ok qrels → IsDistinct bytes_eq (names_of qrels)
+distinct_names : (bytes : List ℕ) (qrels : List TopicRows) → qrels_of bytes ≡ Ok qrels → IsDistinct bytes_eq (names_of qrels)
 distinct_names bytes qrels e =
     let g = read_grouped bytes qrels e in
     subst (λ topics. IsDistinct bytes_eq (names_of topics)) (sym g.are)
-    (subst (IsDistinct bytes_eq) (sym (names-grouped judgements g.rows)) (all_differ (topics_of g.rows) (IsDistinct-first_seen (map (λ row. row.topic) g.rows))))
+    (subst (IsDistinct bytes_eq) (sym (names-grouped g.rows)) (all_differ (topics_of g.rows) (IsDistinct-first_seen (map (λ row. row.topic) g.rows))))
 
-within_kept : (bytes text : List ℕ) (qrels said : List JudgedTopic) (runs others : List Run) → qrels_of bytes ≡ Ok qrels → qrels_of text ≡ Ok said → HaveSameNames (names_of said) (names_of qrels) → map said_by others ≡ map said_by runs →
+within_kept : (bytes text : List ℕ) (qrels said : List TopicRows) (runs others : List Run) → qrels_of bytes ≡ Ok qrels → qrels_of text ≡ Ok said → HaveSameNames (names_of said) (names_of qrels) → map said_by others ≡ map said_by runs →
     AreWithin qrels runs → AreWithin said others
 within_kept bytes text qrels said runs others read read_text same kept h =
-    let name : List ℕ × List RunTopic → List ℕ = λ p. p.0 in
+    let name : List ℕ × List TopicRows → List ℕ = λ p. p.0 in
     let names : run_names others ≡ run_names runs =
     sym (map-map name said_by (λ (run : Run). run.name) (λ run. refl) others) ∙ ap (map name) kept ∙ map-map name said_by (λ (run : Run). run.name) (λ run. refl) runs in
     let many : length others ≡ length runs = sym (length-map others said_by) ∙ ap length kept ∙ length-map runs said_by in
@@ -112,17 +108,17 @@ module _ (files again : Files) (from : Sources) (path : List ℕ) (rows : Loaded
     abbrev Comes : Result Loaded Halt → Type 0
     Comes = ComesAgain (sources path from.runs) (qrels_text desk grades) desk grades
 
-    abbrev with_judgements : List JudgedTopic → Result Loaded Halt
+    abbrev with_judgements : List TopicRows → Result Loaded Halt
     with_judgements said = runs_of again said (used_by said) from.runs >>= (λ runs. within said runs (first_repeated (run_names runs)))
 
-    by_runs : (said : List JudgedTopic) → qrels_of (qrels_text desk grades) ≡ Ok said → (q : Result (List Run) Halt) → ComeAgain from.runs rows.runs q → Comes (q >>= (λ runs. within said runs (first_repeated (run_names runs))))
+    by_runs : (said : List TopicRows) → qrels_of (qrels_text desk grades) ≡ Ok said → (q : Result (List Run) Halt) → ComeAgain from.runs rows.runs q → Comes (q >>= (λ runs. within said runs (first_repeated (run_names runs))))
     by_runs said e (Err halt) h = inr h
     by_runs said e (Ok others) h =
         let kept = are_kept apart.judgements.bytes rows.qrels said rows.runs desk grades judged e in
         subst Comes (sym (within_again said others (within_kept apart.judgements.bytes (qrels_text desk grades) rows.qrels said rows.runs others apart.judgements.says e kept.0 h apart.together)))
         (λ later is. desk_again desk later grades (kept.1 others later h is))
 
-    by_text : (r : Result (List JudgedTopic) FileFault) → qrels_of (qrels_text desk grades) ≡ r → Comes (or_faulty path r >>= with_judgements)
+    by_text : (r : Result (List TopicRows) FileFault) → qrels_of (qrels_text desk grades) ≡ r → Comes (or_faulty path r >>= with_judgements)
     by_text (Err fault) e = inl (inr (fault, refl, limits_refuse apart.judgements.bytes rows.qrels rows.runs desk grades fault judged e))
     by_text (Ok said) e =
         let kept = are_kept apart.judgements.bytes rows.qrels said rows.runs desk grades judged e in

@@ -15,15 +15,16 @@ use Rattle.judge_session.specs.Session.{is_live_by, is_undone_by, with_live, wit
 use Rattle.judge_session.specs.InForce.{counted_grade, grade_after, grades_in_force, is_live_on, judgeable}
 use Rattle.judge_session.specs.declared.change.Change.{Change}
 use Rattle.judge_session.specs.declared.answers.JudgeFault.{JudgeFault}
-use Rattle.qrels_reader.specs.Reading.{unless, field, read_line, rows_from, rows_of, with_row}
-use Rattle.qrels_reader.specs.Rows.{Row, row_of, rows_on, grade_of, form_faults, row_faults, read_row}
-use Rattle.qrels_reader.specs.Grouped.{JudgedTopic, Judged, judged_of, grouped, documents_on, qrels_of}
-use Rattle.qrels_reader.specs.declared.fault.FileFault.TheVariants.{Line, NoTopics}
+use Rattle.file_rows.specs.Reading.{unless, field, read_line, rows_from, rows_of, with_row}
+use Rattle.file_rows.specs.Rows.{Row, rows_on}
+use Rattle.qrels_reader.specs.Rows.{row_of, grade_of, form_faults, row_faults, read_row}
+use Rattle.file_rows.specs.Grouped.{TopicRows, Valued, valued_of, grouped, rows_in}
+use Rattle.qrels_reader.specs.Grouped.{qrels_of}
+use Rattle.file_rows.specs.declared.fault.FileFault.TheVariants.{Line, NoTopics}
 use Rattle.qrels_reader.specs.declared.limits.TheConstants.{LEAST_GRADE, GREATEST_GRADE}
 use Rattle.qrels_reader.proofs.Grades.{whole_of_within}
-use Rattle.qrels_reader.proofs.RowFiles.{judgements}
-use Rattle.qrels_reader.proofs.Grouping.{members_on-grouped}
-use Rattle.qrels_reader.proofs.Right.{parted, last, mapped}
+use Rattle.file_rows.proofs.Grouping.{members_on-grouped}
+use Rattle.file_rows.proofs.Chains.{parted, last, mapped}
 use Rattle.run_reader.specs.Run.{Run}
 use Rattle.topics_pool.specs.Rows.{IsBookOf, grade_in}
 use Rattle.qrels_round_trip.specs.RoundTrip.{IsGradeInForce, AreGradesOf}
@@ -62,9 +63,9 @@ all_mapped P Q f g (x ∷ xs) h = (g x h.0, all_mapped P Q f g xs h.1)
 
 -- ---- the grades of a judgements file
 abbrev SmallRows : List Row → Type 0
-SmallRows rows = AllByRecursion (λ (row : Row). IsSmall row.grade) rows
+SmallRows rows = AllByRecursion (λ (row : Row). IsSmall row.value) rows
 
-row_small : (line : List ℕ) → IsSmall (row_of line).grade
+row_small : (line : List ℕ) → IsSmall (row_of line).value
 row_small line = by (grade_of line) refl
   where
     by : (o : Option ℤ) → grade_of line ≡ o → IsSmall (unwrap_or o (pos 0))
@@ -81,7 +82,7 @@ line_small number rows line kept h e = by (is_blank line) e
         let own : row_of line ≡ made.value = last (form_faults line) (row_of line) made.value made.found in
         let some : Some made.value ≡ kept = last (row_faults rows made.value) (Some made.value) kept made.made in
         subst (λ o. SmallRows (with_row rows o)) some
-        (all_push (λ (row : Row). IsSmall row.grade) rows made.value h (subst (λ (row : Row). IsSmall row.grade) own (row_small line)))
+        (all_push (λ (row : Row). IsSmall row.value) rows made.value h (subst (λ (row : Row). IsSmall row.value) own (row_small line)))
 
 rows_small : (number : ℕ) (rows : List Row) (ls : List (List ℕ)) (all : List Row) → SmallRows rows → rows_from read_row number rows ls ≡ Ok all → SmallRows all
 rows_small number rows [] all h e = let own : rows ≡ all = cc in subst SmallRows own h
@@ -89,12 +90,12 @@ rows_small number rows (line ∷ ls) all h e =
     let made = parted (read_line read_row number rows line) (λ row. rows_from read_row (number + 1) (with_row rows row) ls) all e in
     rows_small (number + 1) (with_row rows made.value) ls all (line_small number rows line made.value h made.found) made.made
 
-record AreSmall (qrels : List JudgedTopic) : Type 0 where
+record AreSmall (qrels : List TopicRows) : Type 0 where
   pub rows : List Row
   pub small : SmallRows rows
   pub are : grouped rows ≡ qrels
 
-qrels_small : (bytes : List ℕ) (qrels : List JudgedTopic) → qrels_of bytes ≡ Ok qrels → AreSmall qrels
+qrels_small : (bytes : List ℕ) (qrels : List TopicRows) → qrels_of bytes ≡ Ok qrels → AreSmall qrels
 qrels_small bytes qrels e =
     let made = parted (rows_of read_row bytes) (λ rows. cond (length rows == 0) (Err NoTopics) (Ok (grouped rows))) qrels e in
     by made.value (rows_small 1 [] (lines bytes) made.value tt made.found) (length made.value == 0) made.made
@@ -103,21 +104,21 @@ qrels_small bytes qrels e =
     by rows small true e = absurd (cc)
     by rows small false e = record { rows = rows; small = small; are = cc }
 
-found_small : (name : List ℕ) (documents : List Judged) → AllByRecursion (λ (j : Judged). IsSmall j.grade) documents → IsSmallGrade (grade_in documents name)
+found_small : (name : List ℕ) (documents : List Valued) → AllByRecursion (λ (j : Valued). IsSmall j.value) documents → IsSmallGrade (grade_in documents name)
 found_small name [] h = tt
 found_small name (j ∷ documents) h = by (bytes_eq name j.document) (found_small name documents h.1)
   where
-    by : (b : Bool) → IsSmallGrade (grade_in documents name) → IsSmallGrade (option_map (λ (j : Judged). j.grade) (cond b (Some j) (find (λ judged. bytes_eq name judged.document) documents)))
+    by : (b : Bool) → IsSmallGrade (grade_in documents name) → IsSmallGrade (option_map (λ (j : Valued). j.value) (cond b (Some j) (find (λ judged. bytes_eq name judged.document) documents)))
     by true k = h.0
     by false k = k
 
-file_small : (qrels : List JudgedTopic) → AreSmall qrels → (topic name : List ℕ) → IsSmallGrade (grade_in (documents_on topic qrels) name)
+file_small : (qrels : List TopicRows) → AreSmall qrels → (topic name : List ℕ) → IsSmallGrade (grade_in (rows_in topic qrels) name)
 file_small qrels are topic name =
-    subst (λ q. IsSmallGrade (grade_in (documents_on topic q) name)) are.are
-    (found_small name (documents_on topic (grouped are.rows))
-    (subst (AllByRecursion (λ (j : Judged). IsSmall j.grade)) (sym (members_on-grouped judgements topic are.rows))
-    (all_mapped (λ (row : Row). IsSmall row.grade) (λ (j : Judged). IsSmall j.grade) judged_of (λ row h. h) (rows_on topic are.rows)
-    (all_kept (λ (row : Row). IsSmall row.grade) (λ (row : Row). bytes_eq topic row.topic) are.rows are.small))))
+    subst (λ q. IsSmallGrade (grade_in (rows_in topic q) name)) are.are
+    (found_small name (rows_in topic (grouped are.rows))
+    (subst (AllByRecursion (λ (j : Valued). IsSmall j.value)) (sym (members_on-grouped topic are.rows))
+    (all_mapped (λ (row : Row). IsSmall row.value) (λ (j : Valued). IsSmall j.value) valued_of (λ row h. h) (rows_on topic are.rows)
+    (all_kept (λ (row : Row). IsSmall row.value) (λ (row : Row). bytes_eq topic row.topic) are.rows are.small))))
 
 -- ---- the changes
 abbrev SmallChange : Change → Type 0
@@ -174,12 +175,12 @@ topic_in_force : (topic n : ℕ) (changes : List Change) (grades : List (Option 
 topic_in_force topic n changes [] h g = tt
 topic_in_force topic n changes (grade ∷ grades) h g = (counted_in_force (grade_after grade topic n changes) (after_small grade topic n changes g.0 h), topic_in_force topic (n + 1) changes grades h g.1)
 
-book_small : (qrels : List JudgedTopic) (runs : List Run) (book : Book) → AreSmall qrels → IsBookOf qrels runs book → length book.grades ≡ length book.docs → AllByRecursion IsSmallGrade book.grades
+book_small : (qrels : List TopicRows) (runs : List Run) (book : Book) → AreSmall qrels → IsBookOf qrels runs book → length book.grades ≡ length book.docs → AllByRecursion IsSmallGrade book.grades
 book_small qrels runs book are of graded =
     recursion_from_All IsSmallGrade book.grades (λ k d lt.
     let within : k < length book.docs = omega (arith, lt, graded) in
     let name = get_or book.docs k [] in
-    let file : get_or book.grades k None ≡ grade_in (documents_on book.name qrels) name = of.grades k name (slice_get-get_or book.docs k [] within) in
+    let file : get_or book.grades k None ≡ grade_in (rows_in book.name qrels) name = of.grades k name (slice_get-get_or book.docs k [] within) in
     let one : Some (get_or book.grades k d) ≡ Some (get_or book.grades k None) = sym (slice_get-get_or book.grades k d lt) ∙ slice_get-get_or book.grades k None lt in
     let own : get_or book.grades k None ≡ get_or book.grades k d = cc in
     subst IsSmallGrade own (subst IsSmallGrade (sym file) (file_small qrels are book.name name)))

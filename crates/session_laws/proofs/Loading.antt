@@ -2,8 +2,9 @@
 use Rattle.std.proofs.Common.{◌≡◌, ℕ, List, Bool, true, false, length, cond, refl, ap, subst, ◌∙◌}
 use Rattle.std.specs.Prelude.{nat_le, nat_lt, Option, Some, None, Result, Ok, Err}
 use Rattle.desk_outside.specs.Outside.{Files}
-use Rattle.qrels_reader.specs.Grouped.{JudgedTopic, qrels_of}
-use Rattle.qrels_reader.specs.declared.fault.FileFault.{FileFault}
+use Rattle.file_rows.specs.Grouped.{TopicRows}
+use Rattle.qrels_reader.specs.Grouped.{qrels_of}
+use Rattle.file_rows.specs.declared.fault.FileFault.{FileFault}
 use Rattle.run_reader.specs.Run.{Run}
 use Rattle.topics_pool.specs.Rows.{run_names, first_repeated, cells_of}
 use Rattle.topics_pool.specs.declared.limits.TheConstants.{MOST_CELLS}
@@ -55,11 +56,11 @@ file_again read other files again path x is same =
     ∙ ap (λ b. if_short path is.bytes b >>= (λ bytes. or_faulty path (other bytes))) is.short
 
 -- ---- all rows together
-pub record AreWithin (qrels : List JudgedTopic) (runs : List Run) : Type 0 where
+pub record AreWithin (qrels : List TopicRows) (runs : List Run) : Type 0 where
   pub names : first_repeated (run_names runs) ≡ None
   pub cells : nat_lt MOST_CELLS (cells_of qrels runs) ≡ false
 
-pub rows_within : (qrels : List JudgedTopic) (runs : List Run) (rows : Loaded) → within qrels runs (first_repeated (run_names runs)) ≡ Ok rows → AreWithin qrels runs × (record { qrels = qrels; runs = runs } ≡ rows)
+pub rows_within : (qrels : List TopicRows) (runs : List Run) (rows : Loaded) → within qrels runs (first_repeated (run_names runs)) ≡ Ok rows → AreWithin qrels runs × (record { qrels = qrels; runs = runs } ≡ rows)
 rows_within qrels runs rows e = by (first_repeated (run_names runs)) refl e
   where
     own : Loaded
@@ -73,7 +74,7 @@ rows_within qrels runs rows e = by (first_repeated (run_names runs)) refl e
     by (Some r) names e = absurd (cc)
     by None names e = small (nat_lt MOST_CELLS (cells_of qrels runs)) refl names e
 
-pub within_again : (qrels : List JudgedTopic) (runs : List Run) → AreWithin qrels runs → within qrels runs (first_repeated (run_names runs)) ≡ Ok (record { qrels = qrels; runs = runs })
+pub within_again : (qrels : List TopicRows) (runs : List Run) → AreWithin qrels runs → within qrels runs (first_repeated (run_names runs)) ≡ Ok (record { qrels = qrels; runs = runs })
 within_again qrels runs h =
     let own : Loaded = record { qrels = qrels; runs = runs } in
     ap (within qrels runs) h.names ∙ ap (λ b. cond b (Err (Refused (Excessive (cells_of qrels runs)))) (Ok own)) h.cells

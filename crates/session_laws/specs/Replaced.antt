@@ -7,9 +7,9 @@ use Rattle.desk_model.specs.Desk.{Desk, file_marks}
 use Rattle.desk_model.specs.Mark.{mark_of}
 use Rattle.desk_model.specs.declared.types.Mark.{Mark}
 use Rattle.desk_report.specs.Judging.{qrels_text}
-use Rattle.qrels_reader.specs.Rows.{Row}
-use Rattle.qrels_reader.specs.declared.fault.FileFault.{FileFault}
-use Rattle.qrels_reader.specs.declared.fault.LineFault.TheVariants.{TooManyNameBytes}
+use Rattle.file_rows.specs.Rows.{Row}
+use Rattle.file_rows.specs.declared.fault.FileFault.{FileFault}
+use Rattle.file_rows.specs.declared.fault.LineFault.TheVariants.{TooManyNameBytes}
 use Rattle.topics_pool.specs.Rows.{IsDeskOf}
 use Rattle.qrels_round_trip.specs.RoundTrip.{AreGradesOf, HasJudgements, IsLimitPassed, rows_in_force}
 use Rattle.session_replies.specs.Replies.{all_in_force}
