@@ -1,5 +1,5 @@
 -- The files of a desk again, with the judgements in force as their judgements file.
-use Rattle.std.proofs.Common.{◌≡◌, ℕ, suc, ◌+◌, ◌*◌, ◌≤◌, List, [], ◌∷◌, Bool, true, false, length, map, Option, Some, None, Result, Ok, Err, ℤ, pos, negsuc, inl, inr, refl, ap, ap₂, sym, subst, ◌∙◌, arith}
+use Rattle.std.proofs.Common.{◌≡◌, ℕ, suc, ◌+◌, ◌*◌, ◌≤◌, List, [], ◌∷◌, Bool, true, false, length, map, Option, Result, Ok, Err, ℤ, inl, inr, refl, ap, ap₂, sym, subst, ◌∙◌, arith}
 use Rattle.std.specs.Prelude.{nat_le, nat_lt}
 use Rattle.std.specs.List.{AllByRecursion, IsDistinct}
 use Rattle.std.specs.Str.{bytes_eq}
@@ -8,22 +8,19 @@ use Rattle.std.proofs.lemmas.List.{length-map}
 use Rattle.std.proofs.lemmas.Map.Made.{length-from_same_keys}
 use Rattle.desk_outside.specs.Outside.{Files}
 use Rattle.desk_words.specs.declared.command.RunWord.{RunWord}
-use Rattle.desk_text.specs.Lines.{lines}
 use Rattle.desk_model.specs.Book.{Book}
 use Rattle.desk_model.specs.Desk.{Desk, file_marks, pair_count}
 use Rattle.desk_model.specs.Mark.{mark_of}
 use Rattle.judge_session.specs.InForce.{counted_grade}
 use Rattle.desk_report.specs.Judging.{qrels_text}
-use Rattle.file_rows.specs.Reading.{and_then, rows_of}
-use Rattle.file_rows.specs.Rows.{topics_of, Row}
-use Rattle.file_rows.specs.Grouped.{TopicRows, names_of, grouped, row_count}
+use Rattle.file_rows.specs.Rows.{topics_of}
+use Rattle.file_rows.specs.Grouped.{TopicRows, names_of, row_count}
 use Rattle.qrels_reader.specs.Grouped.{qrels_of}
 use Rattle.file_rows.specs.declared.fault.FileFault.{FileFault}
 use Rattle.file_rows.proofs.Seen.{laws, all_differ, IsDistinct-first_seen}
 use Rattle.file_rows.proofs.Mapped.{map-map}
-use Rattle.file_rows.proofs.Grouping.{names-grouped, row_count-grouped}
-use Rattle.run_reader.specs.Rows.{read_row}
-use Rattle.run_reader.specs.Run.{Run, run_of, named, name_of, used_with}
+use Rattle.file_rows.proofs.Grouping.{names-grouped}
+use Rattle.run_reader.specs.Run.{Run, run_of}
 use Rattle.run_reader.specs.declared.used.Used.{Used}
 use Rattle.topic_universe.specs.Names.{HaveSameNames}
 use Rattle.topics_pool.specs.Rows.{run_names, first_repeated, cells_of}
