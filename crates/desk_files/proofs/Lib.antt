@@ -1,6 +1,5 @@
 pub mod Reading
 pub mod Stopping
-pub mod Faults
 pub mod Runs
 pub mod Opening
 pub mod Joining

@@ -1,16 +1,65 @@
-// Files that are read whole.
-ghost use Rattle.std.specs.Prelude.{◌≡◌, ◌≤◌, ◌++◌, ◌∷◌, []};
+// Files that are taken in pieces, or whole.
+ghost use Rattle.std.specs.Prelude.{◌≡◌, ◌≤◌, ◌++◌, ◌∷◌, [], true, IfErr, OnOk};
+ghost use Rattle.desk_outside.specs.Outside.{Opens};
 ghost use Rattle.desk_files.specs.Files.{whole_file};
-ghost use Rattle.desk_files.specs.Outcome.{Gives};
+ghost use Rattle.desk_files.specs.Outcome.{Gives, Stops};
 
 use crate::limits::LONGEST_FILE;
 use crate::stop::{Refusal, Stop};
+use crate::taker::Taker;
 use desk_outside::Shelf;
 use std::alloc::Global;
 
-const ROOM: usize = 65536;
+const ROOM: usize = 65_536;
 
-/// A whole file, if it is not too long. It is read to its end, or until one byte more than the limit was taken.
+/// Opens a file, to be fed from its first byte on.
+pub fn open_file<'a, F: Shelf>(files: &mut F, path: &'a str) -> Result<(), Stop<'a>>
+    ensures stops { IfErr result (λ stop. Stops (F.files files.old) (F.faults files.old) (F.faults files.new) stop (λ held. whole_file path.now (held path.now))) }
+    ensures open { OnOk result (F.is_open files.new ≡ true) }
+    ensures content { OnOk result (Opens (F.files files.old) path.now (F.rest files.new)) }
+    ensures files { F.files files.new ≡ F.files files.old }
+    ensures opened { F.opened files.new ≡ F.opened files.old ++ path.now ∷ [] }
+    ensures later { F.faults files.old ≤ F.faults files.new }
+{
+    let Ok(()) = files.open(path) else {
+        return Err(Stop::Outside);
+    };
+    Ok(())
+}
+
+/// Feeds the open file, of this path, to a taker that took nothing yet, if it is not too long. It is read in pieces to its end,
+/// or until one byte more than the limit was taken.
+pub fn feed_file<'a, F: Shelf, T: Taker>(
+    files: &mut F,
+    path: &'a str,
+    taker: &mut T,
+) -> Result<(), Stop<'a>>
+    requires open { F.is_open files.old ≡ true }
+    requires content { Opens (F.files files.old) path.now (F.rest files.old) }
+    requires none { T.taken taker.old ≡ [] }
+    ensures gives { Gives (F.files files.old) (F.faults files.old) (F.faults files.new) (λ _. T.taken taker.new) result (λ held. whole_file path.now (held path.now)) }
+    ensures beside { T.beside taker.new ≡ T.beside taker.old }
+    ensures files { F.files files.new ≡ F.files files.old }
+    ensures opened { F.opened files.new ≡ F.opened files.old }
+    ensures later { F.faults files.old ≤ F.faults files.new }
+{
+    let mut count = 0;
+    let mut room = [0u8; ROOM];
+    'pieces: while count <= LONGEST_FILE {
+        let most = ROOM.min(LONGEST_FILE + 1 - count);
+        let Ok(read) = files.read(&mut room[..most]) else {
+            return Err(Stop::Outside);
+        };
+        if read == 0 {
+            return Ok(());
+        }
+        taker.take(&room[..read])?;
+        count += read;
+    }
+    Err(Stop::Refused(Refusal::TooLong(path)))
+}
+
+/// A whole file, if it is not too long.
 pub fn read_file<'a, F: Shelf>(
     alloc: Global,
     files: &mut F,
@@ -21,20 +70,8 @@ pub fn read_file<'a, F: Shelf>(
     ensures opened { F.opened files.new ≡ F.opened files.old ++ path.now ∷ [] }
     ensures later { F.faults files.old ≤ F.faults files.new }
 {
-    let Ok(()) = files.open(path) else {
-        return Err(Stop::Outside);
-    };
+    open_file(files, path)?;
     let mut bytes = Vec::new(alloc);
-    let mut room = [0u8; ROOM];
-    'pieces: while bytes.len() <= LONGEST_FILE {
-        let most = ROOM.min(LONGEST_FILE + 1 - bytes.len());
-        let Ok(count) = files.read(&mut room[..most]) else {
-            return Err(Stop::Outside);
-        };
-        if count == 0 {
-            return Ok(bytes);
-        }
-        bytes.extend_from_slice(&room[..count])?;
-    }
-    Err(Stop::Refused(Refusal::TooLong(path)))
+    feed_file(files, path, &mut bytes)?;
+    Ok(bytes)
 }

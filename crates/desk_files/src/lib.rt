@@ -8,6 +8,7 @@ mod files;
 mod limits;
 mod load;
 mod stop;
+mod taker;
 
 pub use certificate::load_certificate;
 pub use check::load_check;

@@ -12,12 +12,12 @@ ghost use Rattle.desk_files.specs.Load.{runs_of, used_by, runs_to_open, paths_of
 ghost use Rattle.desk_files.specs.Outcome.{Gives};
 ghost use Rattle.desk_files.specs.Stopped.{IsStopOf};
 
-use crate::files::read_file;
+use crate::files::{feed_file, open_file};
 use crate::stop::{Refusal, Stop};
 use desk_outside::Shelf;
 use desk_words::RunWord;
-use qrels_reader::{FileFault, Qrels, read_qrels};
-use run_reader::{RunRows, Used, read_run};
+use qrels_reader::{FileFault, Qrels, QrelsReader};
+use run_reader::{RunReader, RunRows, Used};
 use std::alloc::{AllocError, Global};
 
 // Why a command stops at a file whose reading ended so.
@@ -43,8 +43,10 @@ pub fn load_qrels<'a, F: Shelf>(
     ensures opened { F.opened files.new ≡ F.opened files.old ++ path.now ∷ [] }
     ensures later { F.faults files.old ≤ F.faults files.new }
 {
-    let bytes = read_file(alloc, files, path)?;
-    match read_qrels(alloc, &bytes) {
+    open_file(files, path)?;
+    let mut reader = QrelsReader::new(alloc)?;
+    feed_file(files, path, &mut reader)?;
+    match reader.finish() {
         Ok(qrels) => Ok(qrels),
         Err(fault) => Err(stop_of(path, fault)),
     }
@@ -77,8 +79,10 @@ pub fn load_run<'a, F: Shelf>(
     ensures later { F.faults files.old ≤ F.faults files.new }
 {
     let path = word.path.as_str();
-    let bytes = read_file(alloc, files, path)?;
-    match read_run(alloc, &bytes, given_name(word), qrels, used) {
+    open_file(files, path)?;
+    let mut reader = RunReader::new(alloc, given_name(word), used, qrels)?;
+    feed_file(files, path, &mut reader)?;
+    match reader.finish() {
         Ok(run) => Ok(run),
         Err(fault) => Err(stop_of(path, fault)),
     }

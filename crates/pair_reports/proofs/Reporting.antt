@@ -6,7 +6,7 @@ use Rattle.std.proofs.lemmas.Int.{ints}
 use Rattle.std.proofs.lemmas.Option.{unwrap_or-slice_get}
 use Rattle.std.proofs.lemmas.Slice.Zip.{get_or-zip, length-zip}
 use Rattle.std.proofs.Math.Nat.{min-le_left, min-le_right}
-use Rattle.desk_model.specs.Desk.{Desk, IsDesk, topics_under}
+use Rattle.desk_model.specs.Desk.{Desk, IsDesk, AreMarksOf, topics_under}
 use Rattle.desk_model.specs.Pairs.{pairs_of}
 use Rattle.desk_model.specs.Verdict.{verdict}
 use Rattle.desk_model.specs.declared.types.Mark.{Mark}
@@ -30,12 +30,14 @@ use Rattle.pair_table.proofs.Answered.{named_answer}
 use Rattle.pair_table.proofs.DeskTopics.{topics_met}
 use Rattle.pair_table.proofs.Named.{pair_named, table_named}
 use Rattle.pair_table.proofs.Saying.{standing_sums}
+use Rattle.next_document.specs.Kept.{Kept as Weights, AreKeptFor, IsNextWhereKept}
 use Rattle.next_document.specs.Proposal.{Standing, IsNext}
+use Rattle.next_document.specs.Total.{standing}
 use Rattle.next_document.specs.declared.proposal.Proposal.{Proposal}
 use Rattle.desk_report.specs.Close.{close_line}
 use Rattle.desk_report.specs.Judging.{next_line}
 use Rattle.desk_report.specs.Table.{AreNearTotals, table_text, pair_line, ended}
-use Rattle.pair_reports.specs.Reports.{Subject, IsSubjectOf, IsTableText, IsPairText, IsCertificateText, IsCloseText, IsNextText, standing_of, run_name, AreRuns}
+use Rattle.pair_reports.specs.Reports.{Subject, IsSubjectOf, IsTableText, IsPairText, IsCertificateText, IsCloseText, IsNextText, AreWeightsOf, standing_of, run_name, AreRuns}
 
 -- ---- the sums of two runs are not large
 one_of : (pairs : List (ℕ × ℕ)) (totals : List Totals) (k : ℕ) (pair : ℕ × ℕ) (sums : Totals) → All AreModestTotals totals → k < length (zip pairs totals) → get_or (zip pairs totals) k (pair, sums) ≡ (pair, sums) → AreModestTotals sums
@@ -61,6 +63,21 @@ sums_are_near runs totals a b sums modest (inr (k, lt, is)) =
 -- ---- names of runs
 named_run : (desk : Desk) (run : ℕ) (name : List ℕ) → slice_get desk.runs run ≡ Some name → name ≡ run_name desk run
 named_run desk run name is = sym (ap (λ o. unwrap_or o []) is) ∙ unwrap_or-slice_get desk.runs run []
+
+-- ---- the next document by totals that are kept
+pub kept_next_is : (desk : Desk) (marks : List (List Mark)) (weights : Weights) (proposal : Option Proposal) (s : Subject) (text : List ℕ) → IsDesk desk → AreMarksOf desk marks → IsNextWhereKept marks weights proposal →
+    s.desk ≡ desk → s.marks ≡ marks → AreWeightsOf s weights → text ≡ ended (next_line desk proposal) → IsNextText s text
+kept_next_is desk marks weights proposal s text valid known next over marked of is =
+    let kept : AreKeptFor s.measure desk marks weights = subst (λ d. AreKeptFor s.measure d marks weights) over (subst (λ ms. AreKeptFor s.measure s.desk ms weights) marked of.kept) in
+    let same : standing s.measure desk marks weights.verdicts ≡ standing_of s of.totals = λ i. record { measure = s.measure; desk = sym over i; marks = sym marked i; verdicts = of.decided i } in
+    record {
+      valid = subst IsDesk (sym over) valid;
+      totals = of.totals;
+      summed = of.summed;
+      proposal = proposal;
+      next = subst (λ (standing : Standing). IsNext standing proposal) same (next s.measure desk valid known kept).next;
+      is = is ∙ ap (λ d. ended (next_line d proposal)) (sym over);
+    }
 
 -- ---- texts
 module _ {M : Type 0} (measured : MeasureName) (cell : List Mark → List ℕ → List ℕ → Cell) (bounds : List Mark → List ℕ → Span) (desk : Desk) (valid : IsDesk desk) (table : Kept M) (s : Subject) (of : IsSubjectOf measured cell bounds desk table s) where

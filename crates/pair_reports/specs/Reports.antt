@@ -1,8 +1,6 @@
 -- What is printed of a table of pairs: the whole table, the line of two runs, their certificate or close line, and the line of the next document to judge.
 use Rattle.std.specs.Prelude.{◌≡◌, ℕ, ◌*◌, ◌<◌, List, length, map, slice_index_or, [], pos, Option}
-use Rattle.std.specs.List.{AllZip}
 use Rattle.desk_model.specs.Desk.{Desk, IsDesk, AreMarksOf, pair_count, topics_under}
-use Rattle.desk_model.specs.Pairs.{pairs_of}
 use Rattle.desk_model.specs.Verdict.{verdict}
 use Rattle.desk_model.specs.declared.types.Mark.{Mark}
 use Rattle.desk_model.specs.declared.types.MeasureName.{MeasureName}
@@ -17,6 +15,7 @@ use Rattle.order_certificate.specs.declared.certificate.Certificate.{Certificate
 use Rattle.pair_table.specs.Evidence.{IsCertificateOf}
 use Rattle.pair_table.specs.Kept.{Kept, StandsFor}
 use Rattle.pair_table.specs.Numbers.{AreNumbersIn, ArePairNumbers, AreAllPairNumbers}
+use Rattle.next_document.specs.Kept.{Kept as Weights, AreKeptFor}
 use Rattle.next_document.specs.Proposal.{Standing, IsNext}
 use Rattle.next_document.specs.declared.proposal.Proposal.{Proposal}
 use Rattle.desk_report.specs.Close.{close_line}
@@ -97,6 +96,13 @@ pub record IsCloseText (s : Subject) (a b : ℕ) (text : List ℕ) : Type 0 wher
 -- how the runs stand by the sums of each pair
 abbrev pub standing_of : Subject → List Totals → Standing
 standing_of s totals = record { measure = s.measure; desk = s.desk; marks = s.marks; verdicts = map verdict totals }
+
+-- what is kept are the totals of documents by the sums of each pair
+pub record AreWeightsOf (s : Subject) (weights : Weights) : Type 0 where
+  pub totals : List Totals
+  pub summed : AreAllPairNumbers s.measure s.desk s.marks totals
+  pub decided : weights.verdicts ≡ map verdict totals
+  pub kept : AreKeptFor s.measure s.desk s.marks weights
 
 -- the text is the line of the next document to judge
 pub record IsNextText (s : Subject) (text : List ℕ) : Type 0 where

@@ -3,4 +3,6 @@
 
 mod reports;
 
-pub use reports::{Certified, certified_report, next_report, pair_report, table_on, table_report};
+pub use reports::{
+    Certified, certified_report, kept_next_report, next_report, pair_report, table_on, table_report,
+};

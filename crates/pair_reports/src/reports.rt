@@ -2,14 +2,16 @@
 ghost use Rattle.std.specs.Prelude.{◌≡◌, ◌+◌, ℕ, length, IfOk, OnOk, OnErr};
 ghost use Rattle.desk_model.specs.Desk.{AreMarksOf};
 ghost use Rattle.desk_model.specs.MeasureText.{IsMeasure};
+ghost use Rattle.desk_model.specs.declared.types.MeasureName.{MeasureName as Measured};
+ghost use Rattle.next_document.specs.Kept.{AreKeptFor};
 ghost use Rattle.order_certificate.specs.Certificate.{IsLevel};
 ghost use Rattle.pair_table.specs.Kept.{StandsFor};
-ghost use Rattle.pair_reports.specs.Reports.{Subject, subject, IsTableOn, IsSubjectOf, IsTableText, IsPairText, IsCertifiedAs, IsNextText, AreRuns, cells_of};
+ghost use Rattle.pair_reports.specs.Reports.{Subject, subject, IsTableOn, IsSubjectOf, IsTableText, IsPairText, IsCertifiedAs, IsNextText, AreWeightsOf, AreRuns, cells_of};
 
 use desk_model::{Desk, Marks, MeasureName, Memory};
 use desk_report::{close_line, next_line_text, pair_line, table_text};
 use measure_core::{Maker, Measure, Steps};
-use next_document::next;
+use next_document::{Weights, next};
 use order_certificate::write_certificate;
 use pair_table::{EvidenceFault, Table};
 use std::alloc::Global;
@@ -172,6 +174,28 @@ pub fn next_report<M: Measure>(
     // A report speaks of a valid desk, which every desk is, and a table has sums for each pair.
     let (_runs, _sums) = (desk.run_count(), table.all_totals());
     let proposal = next(table.measure(), desk, marks, table.verdicts());
+    let text = next_line_text(alloc, desk, proposal.as_ref())?;
+    Ok(text)
+}
+
+/// The line of the document to judge next on a desk under marks, as `next_report` makes it, by totals that are kept for
+/// the desk and these marks. It looks at each document once.
+///
+/// # Errors
+/// `Memory`: out of memory.
+pub fn kept_next_report(
+    alloc: Global,
+    desk: &Desk,
+    marks: &Marks,
+    weights: &Weights,
+) -> Result<Vec<u8>, Memory>
+    requires marks { AreMarksOf desk.now marks.now }
+    requires kept { (measure : Measured) × AreKeptFor measure desk.now marks.now weights.now }
+    ensures { IfOk result (λ text. (s : Subject) → s.desk ≡ desk.now → s.marks ≡ marks.now → AreWeightsOf s weights.now → IsNextText s text.items) }
+{
+    // A report speaks of a valid desk, which every desk is.
+    let _runs = desk.run_count();
+    let proposal = weights.next(marks);
     let text = next_line_text(alloc, desk, proposal.as_ref())?;
     Ok(text)
 }

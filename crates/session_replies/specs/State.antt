@@ -1,15 +1,18 @@
 -- What a session keeps between its lines.
 pub use Rattle.pair_reports.specs.Reports.{cells_of}
-use Rattle.std.specs.Prelude.{◌≡◌, ℕ, ◌*◌, ◌+◌, ◌≤◌, List, length, codes, Option, None, Some, IfSome}
+use Rattle.std.specs.Prelude.{◌≡◌, ℕ, ◌*◌, ◌+◌, ◌≤◌, List, length, map, codes, Option, None, Some, IfSome}
 use Rattle.desk_model.specs.Desk.{Desk, pair_count}
 use Rattle.desk_model.specs.MeasureText.{IsMeasure}
+use Rattle.desk_model.specs.Pairs.{pairs_of}
+use Rattle.desk_model.specs.Verdict.{verdict}
 use Rattle.desk_model.specs.declared.types.Mark.{Mark}
 use Rattle.desk_model.specs.declared.types.MeasureName.{MeasureName}
 use Rattle.fractions.specs.declared.span.Span.{Span}
 use Rattle.measure_core.specs.declared.cell.Cell.{Cell}
+use Rattle.next_document.specs.Kept.{Kept as Weights, AreKeptFor, AreKeptBut}
 use Rattle.order_certificate.specs.Certificate.{IsLevel}
 use Rattle.judge_session.specs.InForce.{IsSessionOf}
-use Rattle.pair_reports.specs.Reports.{Subject, AreRuns, IsTableOn, IsTableText, IsPairText, IsNextText}
+use Rattle.pair_reports.specs.Reports.{Subject, AreRuns, IsTableOn, IsTableText, IsPairText}
 use Rattle.pair_reports.specs.declared.reports.Certified.{Certified}
 use Rattle.pair_reports.specs.declared.reports.Certified.TheVariants as certified
 use Rattle.pair_table.specs.Kept.{Kept, StandsFor}
@@ -41,7 +44,6 @@ AreRunsOf desk report = Unit {0}
 -- the text is that of a report
 abbrev pub IsReported : Subject → Report → List ℕ → Type 0
 IsReported s reports.Table text = IsTableText s text
-IsReported s reports.Next text = IsNextText s text
 IsReported s (reports.Pair runs) text = IsPairText s runs.0 runs.1 text
 IsReported s (reports.Certificate runs) text = IsCertified s runs.0 runs.1 text
 
@@ -61,11 +63,24 @@ pub record Numbers (M : Type 0) : Type 0 where
   pub cell : M → List Mark → List ℕ → List ℕ → Cell
   pub bound : M → List Mark → List ℕ → Span
 
--- the changes are of the desk, the marks are those by the judgements in force, and a table that is there is one of these marks
+-- totals of documents that are there are those under these marks by the verdicts of a table, which is there as well
+abbrev pub AreWeightsFor : {M : Type 0} → Numbers M → Desk → List (List Mark) → Option Weights → Option (Kept M) → Type 0
+AreWeightsFor n desk marks None table = Unit {0}
+AreWeightsFor n desk marks (Some weights) None = ⊥
+AreWeightsFor n desk marks (Some weights) (Some table) = AreKeptFor (n.name table.measure) desk marks weights × (weights.verdicts ≡ map verdict table.totals)
+
+-- the totals of all topics but one are those under these marks, by a verdict of each pair
+abbrev pub AreWeightsElsewhere : {M : Type 0} → Numbers M → ℕ → Desk → List (List Mark) → Option Weights → Option (Kept M) → Type 0
+AreWeightsElsewhere n topic desk marks None table = Unit {0}
+AreWeightsElsewhere n topic desk marks (Some weights) None = ⊥
+AreWeightsElsewhere n topic desk marks (Some weights) (Some table) = AreKeptBut topic (n.name table.measure) desk marks weights × (length weights.verdicts ≡ length (pairs_of desk.runs))
+
+-- the changes are of the desk, the marks are those by the judgements in force, and a table and totals that are there are those of these marks
 pub record IsReady {M : Type 0} (n : Numbers M) (s : Setting) (kept : Judging M) : Type 0 where
   pub on_desk : IsSessionOf s.desk kept.session
   pub marked : kept.marks ≡ marks_after s kept.session
   pub table : IfSome kept.table (λ table. IsTableOn (n.name table.measure) (n.cell table.measure) (n.bound table.measure) (subject_after s kept.session) table)
+  pub weights : AreWeightsFor n s.desk kept.marks kept.weights kept.table
 
 -- the cells that a table costs, where none is there
 abbrev pub owed : {T : Type 0} → Desk → Option T → ℕ

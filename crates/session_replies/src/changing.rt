@@ -10,7 +10,7 @@ ghost use Rattle.desk_report.specs.Table.{ended};
 ghost use Rattle.pair_table.specs.Kept.{StandsFor, StandsElsewhere};
 ghost use Rattle.session_lines.specs.Request as lines;
 ghost use Rattle.session_replies.specs.Replies.{refusal, fault_word};
-ghost use Rattle.session_replies.specs.State.{setting_of, IsReady, Answers, CountsLine, TakesOver, owed, pairs_in};
+ghost use Rattle.session_replies.specs.State.{setting_of, IsReady, Answers, CountsLine, TakesOver, AreWeightsFor, AreWeightsElsewhere, owed, pairs_in};
 
 use crate::state::{Given, Judging};
 use crate::telling::refused;
@@ -19,6 +19,7 @@ use desk_model::{Desk, Marks, Memory};
 use desk_report::changed_line;
 use judge_session::{Changed, JudgeFault, NothingToRedo, NothingToUndo};
 use measure_core::{Measure, Steps};
+use next_document::Weights;
 use pair_table::Table;
 use std::alloc::Global;
 use std::sync::ledger::Ledger;
@@ -36,9 +37,10 @@ fn refused_judgement(alloc: Global, fault: JudgeFault) -> Result<Vec<u8>, Memory
     }
 }
 
-// Takes a table that is there over to marks, of which those of one topic are new.
+// Takes a table that is there over to marks, of which those of one topic are new, and with it totals that are there.
 fn take_over<M: Measure, L: Ledger>(
     table: &mut Option<Table<M>>,
+    weights: &mut Option<Weights>,
     desk: &Desk,
     marks: &Marks,
     topic: u32,
@@ -47,16 +49,21 @@ fn take_over<M: Measure, L: Ledger>(
     requires marks { AreMarksOf desk.now marks.now }
     requires topic { topic < length desk.now.topics }
     requires others { IfSome table.old (λ table. StandsElsewhere (M.cell_of table.measure) (M.bounds_of table.measure) desk.now marks.now topic table) }
+    requires totals { AreWeightsElsewhere (record { name = M.measured; cell = M.cell_of; bound = M.bounds_of }) topic desk.now marks.now weights.old table.old }
     ensures table { TakesOver (record { name = M.measured; cell = M.cell_of; bound = M.bounds_of }) desk.now marks.now table.old table.new }
+    ensures totals { AreWeightsFor (record { name = M.measured; cell = M.cell_of; bound = M.bounds_of }) desk.now marks.now weights.new table.new }
     ensures steps { steps.new + owed desk.now table.new ≤ steps.old + owed desk.now table.old + pairs_in desk.now }
 {
     if let Some(table) = table {
         table.change(desk, marks, topic, steps);
+        if let Some(weights) = weights {
+            weights.change(table.measure(), desk, marks, table.verdicts(), topic);
+        }
     }
 }
 
 impl<M: Measure> Judging<M> {
-    // Takes over a change: the mark of its document, and a table that is there.
+    // Takes over a change: the mark of its document, and a table and totals that are there.
     fn follow<L: Ledger>(
         &mut self,
         alloc: Global,
@@ -70,9 +77,11 @@ impl<M: Measure> Judging<M> {
         requires topic { changed.now.topic < length self.old.marks }
         requires doc { changed.now.doc < length (slice_index_or self.old.marks changed.now.topic []) }
         requires table { IfSome self.old.table (λ table. StandsFor (M.cell_of table.measure) (M.bounds_of table.measure) given.now.desk.now self.old.marks table) }
+        requires totals { AreWeightsFor (record { name = M.measured; cell = M.cell_of; bound = M.bounds_of }) given.now.desk.now self.old.marks self.old.weights self.old.table }
         ensures marks { OnOk result (self.new.marks ≡ slice_set self.old.marks changed.now.topic
             (slice_set (slice_index_or self.old.marks changed.now.topic []) changed.now.doc (mark_of changed.now.grade given.now.level))) }
         ensures table { OnOk result (TakesOver (record { name = M.measured; cell = M.cell_of; bound = M.bounds_of }) given.now.desk.now self.new.marks self.old.table self.new.table) }
+        ensures totals { AreWeightsFor (record { name = M.measured; cell = M.cell_of; bound = M.bounds_of }) given.now.desk.now self.new.marks self.new.weights self.new.table }
         ensures session { self.new.session ≡ self.old.session }
         ensures line { IfOk result (λ line. line.items
             ≡ ended (changed_line word.now (book_at given.now.desk.now changed.now.topic).name (slice_index_or (book_at given.now.desk.now changed.now.topic).docs changed.now.doc []) changed.now.grade)) }
@@ -85,6 +94,7 @@ impl<M: Measure> Judging<M> {
         self.marks.set(changed.topic, changed.doc, mark);
         take_over(
             &mut self.table,
+            &mut self.weights,
             given.desk,
             &self.marks,
             changed.topic,

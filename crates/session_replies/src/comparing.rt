@@ -3,16 +3,19 @@ ghost use Rattle.std.specs.Prelude.{◌≡◌, ◌+◌, ◌≤◌, Some, IfOk, I
 ghost use Rattle.desk_model.specs.Desk.{AreMarksOf};
 ghost use Rattle.desk_model.specs.Name.{number_of};
 ghost use Rattle.order_certificate.specs.Certificate.{IsLevel};
-ghost use Rattle.pair_reports.specs.Reports.{Subject, IsSubjectOf, AreRuns};
+ghost use Rattle.pair_reports.specs.Reports.{Subject, IsSubjectOf, IsNextText, AreRuns};
 ghost use Rattle.pair_table.specs.Kept.{StandsFor};
 ghost use Rattle.session_replies.specs.Replies.{refusal, subject_after, IsRunRefusal};
-ghost use Rattle.session_replies.specs.State.{setting_of, IsSetting, IsReady, IsReported, AreRunsOf, owed, word_of, shown_text};
+ghost use Rattle.session_replies.specs.State.{setting_of, IsSetting, IsReady, IsReported, AreRunsOf, AreWeightsFor, owed, word_of, shown_text};
 
 use crate::state::{Given, Judging};
 use crate::telling::refused;
 use desk_model::{Desk, Marks, Memory};
 use measure_core::{Maker, Measure, Steps};
-use pair_reports::{Certified, certified_report, next_report, pair_report, table_on, table_report};
+use next_document::Weights;
+use pair_reports::{
+    Certified, certified_report, kept_next_report, pair_report, table_on, table_report,
+};
 use pair_table::Table;
 use std::alloc::Global;
 use std::sync::ledger::Ledger;
@@ -29,8 +32,6 @@ pub enum RunFault {
 pub enum Report {
     /// The whole table.
     Table,
-    /// The document to judge next.
-    Next,
     /// The line of two different runs.
     Pair((u32, u32)),
     /// The certificate of two different runs, or their close line.
@@ -126,7 +127,6 @@ fn report_text<M: Measure>(
     let (desk, level) = (given.desk, given.level);
     match report {
         Report::Table => table_report(alloc, desk, level, table),
-        Report::Next => next_report(alloc, desk, marks, table),
         Report::Pair((first, second)) => pair_report(alloc, desk, table, first, second),
         Report::Certificate((first, second)) => {
             let answer = certified_report(alloc, desk, marks, level, table, first, second)?;
@@ -160,6 +160,86 @@ pub fn make_report<P: Maker, L: Ledger>(
     prepare(alloc, judging, given, maker, steps)?;
     match &judging.table {
         Some(table) => report_text(alloc, given, &judging.marks, table, report),
+        None => unreachable!(),
+    }
+}
+
+// Makes the totals of the documents by a table, where none are there.
+fn weigh<M: Measure>(
+    alloc: Global,
+    desk: &Desk,
+    marks: &Marks,
+    table: &Table<M>,
+    weights: &mut Option<Weights>,
+) -> Result<(), Memory>
+    requires marks { AreMarksOf desk.now marks.now }
+    requires table { StandsFor (M.cell_of table.now.measure) (M.bounds_of table.now.measure) desk.now marks.now table.now }
+    requires totals { AreWeightsFor (record { name = M.measured; cell = M.cell_of; bound = M.bounds_of }) desk.now marks.now weights.old (Some table.now) }
+    ensures totals { AreWeightsFor (record { name = M.measured; cell = M.cell_of; bound = M.bounds_of }) desk.now marks.now weights.new (Some table.now) }
+    ensures there { OnOk result (IsSome weights.new) }
+{
+    if weights.is_none() {
+        let made = Weights::new(alloc, table.measure(), desk, marks, table.verdicts())?;
+        *weights = Some(made);
+    }
+    Ok(())
+}
+
+// The line of the next document by a table that is there.
+fn next_text<M: Measure>(
+    alloc: Global,
+    desk: &Desk,
+    marks: &Marks,
+    table: &Table<M>,
+    weights: &mut Option<Weights>,
+) -> Result<Vec<u8>, Memory>
+    requires marks { AreMarksOf desk.now marks.now }
+    requires table { StandsFor (M.cell_of table.now.measure) (M.bounds_of table.now.measure) desk.now marks.now table.now }
+    requires totals { AreWeightsFor (record { name = M.measured; cell = M.cell_of; bound = M.bounds_of }) desk.now marks.now weights.old (Some table.now) }
+    ensures totals { AreWeightsFor (record { name = M.measured; cell = M.cell_of; bound = M.bounds_of }) desk.now marks.now weights.new (Some table.now) }
+    ensures text { IfOk result (λ text. (s : Subject) → s.marks ≡ marks.now →
+        IsSubjectOf (M.measured table.now.measure) (M.cell_of table.now.measure) (M.bounds_of table.now.measure) desk.now table.now s →
+        IsNextText s text.items) }
+{
+    // A report speaks of a valid desk, which every desk is.
+    let _runs = desk.run_count();
+    weigh(alloc, desk, marks, table, weights)?;
+    match weights {
+        Some(weights) => kept_next_report(alloc, desk, marks, weights),
+        None => unreachable!(),
+    }
+}
+
+/// The line of the document to judge next, by the judgements in force. Its table and its totals are made where none
+/// are there.
+///
+/// # Errors
+/// `Memory`: out of memory.
+pub fn make_next<P: Maker, L: Ledger>(
+    alloc: Global,
+    judging: &mut Judging<P::Made>,
+    given: &Given<'_>,
+    maker: &P,
+    steps: &mut Steps<L>,
+) -> Result<Vec<u8>, Memory>
+    requires setting { IsSetting (setting_of given.now) }
+    requires ready { IsReady (record { name = P.Made.measured; cell = P.Made.cell_of; bound = P.Made.bounds_of }) (setting_of given.now) judging.old }
+    ensures ready { IsReady (record { name = P.Made.measured; cell = P.Made.cell_of; bound = P.Made.bounds_of }) (setting_of given.now) judging.new }
+    ensures session { judging.new.session ≡ judging.old.session }
+    ensures told { IfOk result (λ text. IsNextText (subject_after (setting_of given.now) judging.old.session) text.items) }
+    ensures steps { steps.new + owed given.now.desk.now judging.new.table ≤ steps.old + owed given.now.desk.now judging.old.table }
+{
+    // A report speaks of a valid desk, which every desk is.
+    let _topics = given.desk.topic_count();
+    prepare(alloc, judging, given, maker, steps)?;
+    match &judging.table {
+        Some(table) => next_text(
+            alloc,
+            given.desk,
+            &judging.marks,
+            table,
+            &mut judging.weights,
+        ),
         None => unreachable!(),
     }
 }

@@ -6,7 +6,7 @@ ghost use Rattle.session_lines.specs.Request.{heard_of};
 ghost use Rattle.session_lines.specs.Said.{request_said};
 ghost use Rattle.session_replies.specs.State.{setting_of, IsSetting, IsReady, Answers, IsAnswered, CountsLine, owed};
 
-use crate::comparing::{Report, find_runs, make_report, refused_runs};
+use crate::comparing::{Report, find_runs, make_next, make_report, refused_runs};
 use crate::state::{Given, Judging};
 use crate::telling::{pool, qrels, refused};
 use desk_model::Memory;
@@ -69,7 +69,7 @@ fn answer<P: Maker, L: Ledger>(
             Err(fault) => refused_runs(alloc, fault),
         },
         Request::Pool { topic, depth } => pool(alloc, given, &judging.marks, topic, depth),
-        Request::Next => make_report(alloc, judging, given, Report::Next, maker, steps),
+        Request::Next => make_next(alloc, judging, given, maker, steps),
         Request::Qrels => qrels(alloc, given.desk, &judging.session),
         Request::Quit => Ok(Vec::new(alloc)),
     }
@@ -80,7 +80,8 @@ fn answer<P: Maker, L: Ledger>(
 ///
 /// A table is made at the first line that needs one: one step for each pair and topic. From then on, a judgement, an undo
 /// or a redo that is accepted renews the topic of its document, also where its grade stays: one step for each pair. A line
-/// that is refused changes nothing.
+/// that is refused changes nothing. The totals of the documents are made at the first line that asks for the next one, and
+/// from then on renewed with the table; they take no step.
 ///
 /// # Errors
 /// `Memory`: out of memory. The reply is lost, and the session may stand before or after the line.

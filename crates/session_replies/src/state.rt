@@ -7,6 +7,7 @@ ghost use Rattle.session_replies.specs.State.{IsReady};
 use desk_model::{Desk, Marks, MeasureName, Memory};
 use judge_session::Session;
 use measure_core::Measure;
+use next_document::Weights;
 use pair_table::Table;
 use std::alloc::Global;
 
@@ -20,12 +21,14 @@ pub struct Given<'a> {
 }
 
 /// What a session keeps between its lines: the changes so far, the marks of the documents by the judgements in force,
-/// and a table of these marks, once a line asked for one.
+/// a table of these marks, once a line asked for one, and the totals of the documents by this table, once a line asked
+/// for the next document.
 #[derive(Drop)]
 pub struct Judging<M: Measure> {
     pub session: Session,
     pub marks: Marks,
     pub table: Option<Table<M>>,
+    pub weights: Option<Weights>,
 }
 
 impl<M: Measure> Judging<M> {
@@ -47,6 +50,7 @@ impl<M: Measure> Judging<M> {
             session: Session::new(alloc),
             marks,
             table: None,
+            weights: None,
         })
     }
 }

@@ -1,5 +1,5 @@
 use Rattle.std.proofs.Common.{ap, sym, subst, ◌∙◌, length, ◌<◌}
-use Rattle.std.specs.Prelude.{IfSome, map}
+use Rattle.std.specs.Prelude.{IfSome}
 use Rattle.std.proofs.lemmas.List.{length-map}
 use Rattle.desk_model.specs.Named.{book_at}
 use Rattle.desk_model.specs.Pairs.{pairs_of}

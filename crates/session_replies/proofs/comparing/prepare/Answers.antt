@@ -1,8 +1,9 @@
-use Rattle.std.proofs.Common.{sym, subst}
+use Rattle.std.proofs.Common.{ap, not, sym, subst, ◌∙◌}
 use Rattle.desk_model.specs.Desk.{AreMarksOf}
 use Rattle.pair_reports.specs.Reports.{IsTableOn, subject}
 use Rattle.session_replies.specs.State.{setting_of}
 use Rattle.session_replies.proofs.Marks.{marks_of_desk}
+use Rattle.session_replies.proofs.Weighing.{weights_where_none}
 use Rattle.session_replies.proofs.comparing.prepare.Goals as goal
 
 pub table_on-requires-clause-marks : goal.table_on-requires-clause-marks
@@ -19,4 +20,5 @@ returns-in_ok-table-clause-ready g c =
       on_desk = c.requires.ready.on_desk;
       marked = c.requires.ready.marked;
       table = subst (λ marks. IsTableOn (M.measured kept.measure) (M.cell_of kept.measure) (M.bounds_of kept.measure) (subject s.measure s.level s.desk marks) kept) c.requires.ready.marked (c.in_ok-table.ensures.table s.level);
+      weights = weights_where_none (record { name = M.measured; cell = M.cell_of; bound = M.bounds_of }) s.desk c.args.judging.now.marks c.args.judging.now.weights c.args.judging.now.table kept (c.is_none.ensures ∙ ap not c.if-is_none.true) c.requires.ready.weights;
     }

@@ -2,7 +2,9 @@ use Rattle.std.proofs.Common.{[], sym, subst}
 use Rattle.std.specs.Prelude.{IfSome, slice_index_or, slice_set}
 use Rattle.desk_model.specs.Desk.{AreMarksOf}
 use Rattle.pair_table.specs.Kept.{StandsElsewhere}
+use Rattle.session_replies.specs.State.{Numbers, AreWeightsElsewhere}
 use Rattle.session_replies.proofs.Following.{marks_with, table_elsewhere}
+use Rattle.session_replies.proofs.Weighing.{weights_elsewhere}
 use Rattle.session_replies.proofs.state.Judging.follow.Goals as goal
 
 pub take_over-requires-clause-marks : goal.take_over-requires-clause-marks
@@ -19,3 +21,12 @@ take_over-requires-clause-others g c =
     subst (λ ms. IfSome old.table (λ t. StandsElsewhere (g.M.Measure.cell_of t.measure) (g.M.Measure.bounds_of t.measure) desk ms told.topic t)) (sym c.set.ensures)
     (table_elsewhere (record { name = g.M.Measure.measured; cell = g.M.Measure.cell_of; bound = g.M.Measure.bounds_of }) desk old.marks told.topic (slice_set (slice_index_or old.marks told.topic []) told.doc c.mark-mark.result) old.table c.requires.marks
     c.requires.table)
+
+pub take_over-requires-clause-totals : goal.take_over-requires-clause-totals
+take_over-requires-clause-totals g c =
+    let desk = c.args.given.now.desk.now in
+    let told = c.args.changed.now in
+    let old = c.args.self.now in
+    let n : Numbers _ = record { name = g.M.Measure.measured; cell = g.M.Measure.cell_of; bound = g.M.Measure.bounds_of } in
+    subst (λ ms. AreWeightsElsewhere n told.topic desk ms old.weights old.table) (sym c.set.ensures)
+    (weights_elsewhere n desk old.marks told.topic told.doc c.mark-mark.result old.weights old.table c.requires.topic c.requires.table c.requires.totals)

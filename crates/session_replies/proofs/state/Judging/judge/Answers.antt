@@ -45,7 +45,7 @@ returns-in-Ok-clause-answers g c =
     (λ text line marks table.
     followed _ s c.topic_count-topics.ensures.desk heard old c.follow.new.self now told c.requires.ready.marked c.in-Ok.ensures.document c.in-Ok.ensures.desk said.in_force
     (λ file t d apart. ap (grade_after file t d) list ∙ judged_elsewhere who told.topic told.doc grade old.session file t d (not_both told.topic t told.doc d apart))
-    c.follow.ensures.session marks table (table_made _ s (marks_after s old.session) old.table c.requires.ready.table) changes (codes "judged") text.items
+    c.follow.ensures.session marks table c.follow.ensures.totals (table_made _ s (marks_after s old.session) old.table c.requires.ready.table) changes (codes "judged") text.items
     (λ is. is ∙ ap (change_reply s.desk (codes "judged") told.topic told.doc) changes ∙ sym (ap (judge_reply s.desk (changes_after s.desk heard old.session)) said.place))
     line)
     c.follow.ensures.line c.follow.ensures.marks c.follow.ensures.table

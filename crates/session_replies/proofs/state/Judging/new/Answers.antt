@@ -11,4 +11,5 @@ returns-clause-ready g c = λ measure.
       on_desk = subst (IsSessionOf c.args.desk.now) (sym c.new.ensures) tt;
       marked = c.in_ok-marks.ensures ∙ marks_at_start s ∙ ap (marks_after s) (sym c.new.ensures);
       table = tt;
+      weights = tt;
     }

@@ -48,7 +48,7 @@ returns-in-Ok-clause-answers g c =
     (λ text line marks table.
     followed _ s c.topic_count-topics.ensures.desk heard old c.follow.new.self now told c.requires.marked c.in-Ok.ensures.document c.in-Ok.ensures.desk grade
     (λ file t d apart. ap (grade_after file t d) changes ∙ undone_elsewhere t d change (not_both change.topic t change.doc d (λ e f. apart (sym topic ∙ e) (sym doc ∙ f))) who old.session file found.1)
-    c.follow.ensures.session marks table (table_made _ s (marks_after s old.session) old.table c.requires.table) changes (codes "undone") text.items
+    c.follow.ensures.session marks table c.follow.ensures.totals (table_made _ s (marks_after s old.session) old.table c.requires.table) changes (codes "undone") text.items
     (λ is. is
     ∙ ap (λ t. change_reply s.desk (codes "undone") t told.doc now) (sym topic)
     ∙ ap (λ d. change_reply s.desk (codes "undone") change.topic d now) (sym doc)

@@ -1,0 +1,81 @@
+-- The totals of a session.
+use Rattle.std.proofs.Common.{◌≡◌, ◌≢◌, ◌⊎◌, inl, inr, ℕ, ◌<◌, List, [], length, map, get_or, Option, Some, None, ap, sym, subst, ◌∙◌, arith}
+use Rattle.std.specs.Prelude.{IfSome, sum, is_some, false}
+use Rattle.std.proofs.Math.ListN.{set}
+use Rattle.std.proofs.lemmas.List.{length-map, length-set, get_or-set_same, get_or-set_other}
+use Rattle.desk_model.specs.Desk.{Desk, IsDesk, ranking_of, topics_under}
+use Rattle.desk_model.specs.Pairs.{pairs_of}
+use Rattle.desk_model.specs.Verdict.{verdict}
+use Rattle.desk_model.specs.declared.types.Mark.{Mark}
+use Rattle.desk_model.specs.declared.types.MeasureName.{MeasureName}
+use Rattle.desk_model.specs.declared.types.Verdict.{Verdict}
+use Rattle.fractions.specs.declared.span.Span.{Span}
+use Rattle.measure_core.specs.declared.cell.Cell.{Cell}
+use Rattle.measure_laws.specs.Weights.{weight_of}
+use Rattle.next_document.specs.Kept.{Kept as Weights, AreKeptFor, AreKeptBut}
+use Rattle.next_document.specs.Proposal.{total_weight, unsettled_pairs}
+use Rattle.next_document.specs.Total.{standing}
+use Rattle.pair_reports.specs.Reports.{Subject, IsSubjectOf, AreWeightsOf}
+use Rattle.pair_reports.proofs.Reporting.{table_numbers}
+use Rattle.pair_table.specs.Kept.{Kept, StandsFor}
+use Rattle.pair_table.specs.Sums.{pair_sums, run_numbers}
+use Rattle.pair_table.proofs.PairNumbers.{length-pairs_of}
+use Rattle.session_replies.specs.State.{Numbers, AreWeightsFor, AreWeightsElsewhere}
+
+-- a table has a verdict for each pair
+pub verdict_each : {M : Type 0} (cell : List Mark → List ℕ → List ℕ → Cell) (bound : List Mark → List ℕ → Span) (desk : Desk) (marks : List (List Mark)) (table : Kept M) → StandsFor cell bound desk marks table →
+    length (map verdict table.totals) ≡ length (pairs_of desk.runs)
+verdict_each cell bound desk marks table h =
+    length-map table.totals verdict ∙ ap length h.totals
+    ∙ length-map (pairs_of (run_numbers (length desk.runs))) (λ (pair : ℕ × ℕ). pair_sums cell (topics_under desk marks) pair.0 pair.1) ∙ length-pairs_of desk.runs 0
+
+-- ---- the marks of one topic are others
+same_or_not : (m n : ℕ) → (m ≡ n) ⊎ (m ≢ n)
+same_or_not m n = grind arith
+
+module _ (measure : MeasureName) (desk : Desk) (marks : List (List Mark)) (topic : ℕ) (row : List Mark) where
+  total_elsewhere : (verdicts : List Verdict) (t doc : ℕ) → t ≢ topic → total_weight (standing measure desk (set marks topic row) verdicts) t doc ≡ total_weight (standing measure desk marks verdicts) t doc
+  total_elsewhere verdicts t doc apart =
+      ap (λ (r : List Mark). sum (map (λ (pair : ℕ × ℕ). weight_of measure r (ranking_of desk pair.0 t) (ranking_of desk pair.1 t) doc) (unsettled_pairs (standing measure desk marks verdicts)))) (get_or-set_other marks topic t row [] apart)
+
+  kept_elsewhere : (weights : Weights) → topic < length marks → length row ≡ length (get_or marks topic []) → AreKeptFor measure desk marks weights → AreKeptBut topic measure desk (set marks topic row) weights
+  kept_elsewhere weights within count h = record {
+    over = record {
+      topics = h.over.topics ∙ sym (length-set marks topic row);
+      docs = λ t lt. h.over.docs t (omega (arith, lt, length-set marks topic row)) ∙ sym (elim (same_or_not t topic) [
+        | inl e ↦ subst (λ (u : ℕ). length (get_or (set marks topic row) u []) ≡ length (get_or marks u [])) (sym e) (ap length (get_or-set_same marks topic row [] within) ∙ count)
+        | inr apart ↦ ap length (get_or-set_other marks topic t row [] apart)
+      ]);
+    };
+    each = λ t lt apart doc inside.
+        h.each t (omega (arith, lt, length-set marks topic row)) doc (omega (arith, inside, ap length (get_or-set_other marks topic t row [] apart))) ∙ sym (total_elsewhere weights.verdicts t doc apart);
+  }
+
+-- totals that are there are those of every other topic for the marks with another mark of one document
+pub weights_elsewhere : {M : Type 0} (n : Numbers M) (desk : Desk) (marks : List (List Mark)) (topic doc : ℕ) (mark : Mark) (weights : Option Weights) (table : Option (Kept M)) → topic < length marks →
+    IfSome table (λ t. StandsFor (n.cell t.measure) (n.bound t.measure) desk marks t) → AreWeightsFor n desk marks weights table →
+    AreWeightsElsewhere n topic desk (set marks topic (set (get_or marks topic []) doc mark)) weights table
+weights_elsewhere n desk marks topic doc mark None table within stands h = tt
+weights_elsewhere n desk marks topic doc mark (Some weights) None within stands h = absurd h
+weights_elsewhere n desk marks topic doc mark (Some weights) (Some t) within stands h = (
+  kept_elsewhere (n.name t.measure) desk marks topic (set (get_or marks topic []) doc mark) weights within (length-set (get_or marks topic []) doc mark) h.0,
+  ap length h.1 ∙ verdict_each (n.cell t.measure) (n.bound t.measure) desk marks t stands,
+)
+
+-- where no table is there, there are no totals, and so none of another table
+pub weights_where_none : {M : Type 0} (n : Numbers M) (desk : Desk) (marks : List (List Mark)) (weights : Option Weights) (table : Option (Kept M)) (made : Kept M) → is_some table ≡ false → AreWeightsFor n desk marks weights table →
+    AreWeightsFor n desk marks weights (Some made)
+weights_where_none n desk marks None table made none h = tt
+weights_where_none n desk marks (Some weights) None made none h = absurd h
+weights_where_none n desk marks (Some weights) (Some t) made none h = absurd (cc)
+
+-- ---- what is said of totals that are there
+pub weights_ready : {M : Type 0} (measured : MeasureName) (cell : List Mark → List ℕ → List ℕ → Cell) (bound : List Mark → List ℕ → Span) (desk : Desk) (marks : List (List Mark)) (table : Kept M) (weights : Weights) (s : Subject) → IsDesk desk →
+    AreKeptFor measured desk marks weights × (weights.verdicts ≡ map verdict table.totals) → s.marks ≡ marks → IsSubjectOf measured cell bound desk table s → AreWeightsOf s weights
+weights_ready measured cell bound desk marks table weights s valid h marked of = record {
+  totals = table.totals;
+  summed = (table_numbers measured cell bound desk valid table s of).pairs;
+  decided = h.1;
+  kept = subst (λ m. AreKeptFor m s.desk s.marks weights) of.on.made.named
+      (subst (λ d. AreKeptFor measured d s.marks weights) (sym of.over) (subst (λ ms. AreKeptFor measured desk ms weights) (sym marked) h.0));
+}

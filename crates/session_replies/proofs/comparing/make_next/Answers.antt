@@ -1,0 +1,23 @@
+use Rattle.std.proofs.Common.{ap, sym, subst, ◌∙◌}
+use Rattle.std.proofs.lemmas.Result.{IfOk-weaker}
+use Rattle.desk_model.specs.Desk.{AreMarksOf}
+use Rattle.session_replies.specs.Replies.{subject_after, marks_after}
+use Rattle.session_replies.specs.State.{setting_of}
+use Rattle.session_replies.proofs.Marks.{marks_of_desk}
+use Rattle.session_replies.proofs.Tables.{subject_ready}
+use Rattle.session_replies.proofs.comparing.make_next.Goals as goal
+
+pub next_text-requires-clause-marks : goal.next_text-requires-clause-marks
+next_text-requires-clause-marks g c =
+    let s = setting_of c.args.given.now in
+    subst (AreMarksOf s.desk) (sym c.in_ok-prepare.ensures.ready.marked) (marks_of_desk s c.prepare.new.judging.session c.topic_count-topics.ensures.desk)
+
+pub returns-clause-told : goal.returns-clause-told
+returns-clause-told g c =
+    let s = setting_of c.args.given.now in
+    let before = c.args.judging.now.session in
+    let kept = c.in_ok-prepare.ensures in
+    IfOk-weaker c.next_text.result _ _
+    (λ text told. told (subject_after s before) (sym (kept.ready.marked ∙ ap (marks_after s) kept.session))
+    (subject_ready _ s c.prepare.new.judging c.in-Some.table before c.topic_count-topics.ensures.desk kept.ready c.in-Some.is kept.session))
+    c.next_text.ensures.text
