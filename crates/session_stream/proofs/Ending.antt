@@ -1,14 +1,13 @@
 -- How a session ends.
-use Rattle.std.proofs.Common.{◌≡◌, ℕ, ◌+◌, ◌*◌, ◌≤◌, ◌<◌, Bool, true, false, cond, List, [], ◌∷◌, ◌++◌, take, drop, length, refl, ap, sym, subst, ◌∙◌, arith, append_assoc, append-nil, length-append, length-drop}
+use Rattle.std.proofs.Common.{◌≡◌, ℕ, ◌+◌, ◌*◌, ◌≤◌, ◌<◌, true, false, List, [], ◌∷◌, ◌++◌, take, drop, length, refl, ap, sym, subst, ◌∙◌, arith, append_assoc, append-nil, length-append, length-drop}
 use Rattle.std.specs.Prelude.{Option, Some, None, IfSome, Ok, Err}
 use Rattle.std.specs.Io.KnownBytes.{append_known, prepend_known, IsAtEnd}
-use Rattle.std.proofs.lemmas.List.{take_all, take-append-drop, length-take}
-use Rattle.std.proofs.Math.Nat.{mul-le-mul_left, mul-add}
-use Rattle.desk_outside.specs.Outside.{Rose, AppendsPrefix}
-use Rattle.desk_outside.specs.Inputs.{Input, Whole, Cut, bytes_in, IsInput, IsPart, IsTaken}
-use Rattle.desk_outside.specs.Seen.{Source, Sink, ReceivedAll, ReceivedPrefix}
+use Rattle.std.proofs.lemmas.List.{take-append-drop, length-take}
+use Rattle.std.proofs.Math.Nat.{mul-le-mul_left}
+use Rattle.desk_outside.specs.Outside.{Rose}
+use Rattle.desk_outside.specs.Inputs.{Input, Whole, Cut, IsPart, IsTaken}
+use Rattle.desk_outside.specs.Seen.{Source, Sink, ReceivedAll}
 use Rattle.desk_outside.proofs.Told.{append_known-nil, prepend_known-nil, prepend_known-prepend}
-use Rattle.desk_model.specs.Desk.{Desk}
 use Rattle.judge_session.specs.declared.change.Change.{Change}
 use Rattle.session_replies.specs.Replies.{Setting}
 use Rattle.session_replies.specs.State.{cells_of, pairs_in}
@@ -20,7 +19,7 @@ use Rattle.session_stream.specs.declared.stream.Fault.{Fault}
 use Rattle.session_stream.specs.declared.stream.TheConstants.{LONGEST_INPUT}
 use Rattle.session_stream.specs.declared.stream.Ended.TheVariants as ended
 use Rattle.session_stream.specs.declared.stream.Fault.TheVariants as faults
-use Rattle.session_stream.proofs.Hearing.{Begins, heard_whole, heard_to_quit, heard_too_long, heard_first, within_limit, no_quit_before}
+use Rattle.session_stream.proofs.Hearing.{Begins, heard_whole, heard_to_quit, heard_too_long, heard_first, within_limit}
 use Rattle.session_stream.proofs.Replies.{accepted-append}
 
 -- all bytes of an input of which some were taken

@@ -1,24 +1,18 @@
 -- A session that goes on, line by line.
-use Rattle.std.proofs.Common.{◌≡◌, ℕ, ◌+◌, ◌*◌, ◌≤◌, ◌<◌, Bool, true, false, List, [], ◌∷◌, ◌++◌, take, drop, length, refl, ap, sym, subst, ◌∙◌, arith, append_assoc, append-nil, length-append}
-use Rattle.std.specs.Prelude.{Option, Ok, Err, Result}
+use Rattle.std.proofs.Common.{◌≡◌, ℕ, ◌+◌, ◌*◌, ◌≤◌, ◌<◌, true, false, List, [], ◌∷◌, ◌++◌, length, refl, ap, sym, subst, ◌∙◌, arith, length-append}
+use Rattle.std.specs.Prelude.{Option}
 use Rattle.std.specs.Io.KnownBytes.{append_known}
-use Rattle.std.proofs.Math.Seq.{take-add}
-use Rattle.desk_outside.specs.Outside.{Rose, AppendsPrefix}
-use Rattle.desk_outside.specs.Seen.{Sink}
-use Rattle.desk_outside.proofs.Told.{append_known-append, whole_after, prefix_after}
+use Rattle.desk_outside.specs.Outside.{AppendsPrefix}
+use Rattle.desk_outside.proofs.Told.{whole_after, prefix_after}
 use Rattle.desk_model.specs.Desk.{Desk}
 use Rattle.judge_session.specs.declared.change.Change.{Change}
 use Rattle.session_lines.specs.Request.{Heard, Blank, TooLong, Bad, Asked, Request, Judge, Undo, Redo, Table, Pair, Certify, Pool, Qrels, Quit, heard_of}
 use Rattle.session_replies.specs.Replies.{Setting, IsReply, changes_after, accepted}
-use Rattle.session_replies.specs.State.{cells_of, pairs_in}
+use Rattle.session_replies.specs.State.{pairs_in}
 use Rattle.desk_text.specs.Lines.{whole_lines, unended, HasNoLineFeed}
 use Rattle.session_stream.specs.Hearing.{ends, is_quit, has_quit}
 use Rattle.session_stream.specs.Text.{AreReplies, changes_over, accepted_in, joined}
-use Rattle.session_stream.specs.Held.{Talks, AnswersLine, Quits, StopsIn, IsBroken, AnswersPiece}
-use Rattle.session_stream.specs.declared.stream.Fault.{Fault}
-use Rattle.session_stream.specs.declared.stream.Fault.TheVariants as faults
-use Rattle.session_stream.specs.declared.stream.Next.{Next}
-use Rattle.session_stream.specs.declared.stream.Next.TheVariants as next
+use Rattle.session_stream.specs.Held.{Talks, Quits, StopsIn, IsBroken}
 use Rattle.desk_text.proofs.WholeLines.{whole_lines-append_more}
 use Rattle.session_stream.proofs.LineEnds.{whole_lines-ended}
 use Rattle.session_stream.proofs.Hearing.{still_none}

@@ -4,9 +4,9 @@ use Rattle.std.specs.Prelude.{◌==◌, ◌-◌, nat_lt}
 use Rattle.std.proofs.lemmas.Bool.{lt-ltb, le-ltb}
 use Rattle.std.proofs.lemmas.List.{take_all, take-append-le}
 use Rattle.std.proofs.Math.Seq.{take-append-add}
-use Rattle.desk_text.specs.Lines.{lines, whole_lines, onto_whole}
-use Rattle.desk_outside.specs.Inputs.{Input, Whole, Cut, bytes_in}
-use Rattle.session_stream.specs.Hearing.{End, Done, TooLong, Failed, Hearing, ends, has_quit, before_quit, heard_to_end, ended_lines, hearing_of}
+use Rattle.desk_text.specs.Lines.{whole_lines, onto_whole}
+use Rattle.desk_outside.specs.Inputs.{Input, Cut, bytes_in}
+use Rattle.session_stream.specs.Hearing.{Done, TooLong, Hearing, ends, has_quit, before_quit, heard_to_end, ended_lines, hearing_of}
 use Rattle.session_stream.specs.declared.stream.TheConstants.{LONGEST_INPUT}
 
 -- one list begins another

@@ -1,20 +1,20 @@
 -- The last line of an input, which needs no line feed.
-use Rattle.std.proofs.Common.{◌≡◌, ℕ, ◌+◌, ◌*◌, ◌≤◌, ◌<◌, Bool, true, false, cond, List, [], ◌∷◌, ◌++◌, take, drop, length, refl, ap, sym, subst, ◌∙◌, arith, append_assoc, append-nil, length-append}
-use Rattle.std.specs.Prelude.{Option, Some, None, IfSome, Ok, Err, Result}
+use Rattle.std.proofs.Common.{◌≡◌, ℕ, ◌+◌, ◌*◌, ◌≤◌, ◌<◌, true, false, cond, List, [], ◌∷◌, ◌++◌, length, refl, ap, sym, subst, ◌∙◌, arith, append-nil, length-append}
+use Rattle.std.specs.Prelude.{Option, IfSome, Ok, Err, Result}
 use Rattle.std.specs.Io.KnownBytes.{append_known, prepend_known, IsAtEnd}
 use Rattle.desk_outside.specs.Outside.{Rose, AppendsPrefix}
-use Rattle.desk_outside.specs.Inputs.{Input, Whole, Cut, bytes_in, IsInput, IsPart, IsTaken}
+use Rattle.desk_outside.specs.Inputs.{Whole, Cut, IsInput, IsPart}
 use Rattle.desk_outside.specs.Seen.{Source, Sink, ReceivedAll, ReceivedPrefix}
-use Rattle.desk_outside.proofs.Told.{append_known-nil, whole_after, prefix_after}
+use Rattle.desk_outside.proofs.Told.{whole_after, prefix_after}
 use Rattle.desk_text.specs.Lines.{lines}
 use Rattle.judge_session.specs.declared.change.Change.{Change}
 use Rattle.pair_table.specs.Kept.{Kept}
-use Rattle.session_lines.specs.Request.{heard_of, Blank}
+use Rattle.session_lines.specs.Request.{heard_of}
 use Rattle.session_replies.specs.State.{owed, cells_of, pairs_in}
 use Rattle.session_replies.specs.Replies.{Setting, IsReply, accepted}
 use Rattle.desk_text.specs.Lines.{whole_lines, unended}
-use Rattle.session_stream.specs.Hearing.{End, Done, ends, has_quit, before_quit, hearing_of}
-use Rattle.session_stream.specs.Text.{AreReplies, accepted_in, joined, HasReplies, EndsSession, EvaluatesWithin}
+use Rattle.session_stream.specs.Hearing.{Done, ends, before_quit, hearing_of}
+use Rattle.session_stream.specs.Text.{AreReplies, accepted_in, joined, EndsSession, EvaluatesWithin}
 use Rattle.session_stream.specs.Held.{Talks, TakesSteps, AnswersLine}
 use Rattle.session_stream.specs.declared.stream.TheConstants.{LONGEST_INPUT}
 use Rattle.session_stream.specs.declared.stream.Ended.{Ended}

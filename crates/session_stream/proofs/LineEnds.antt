@@ -2,7 +2,7 @@
 use Rattle.std.proofs.Common.{◌≡◌, ℕ, List, [], ◌∷◌, ◌++◌, ap, sym, ◌∙◌, append_assoc, append-nil, cond, length, arith}
 use Rattle.std.proofs.lemmas.Bool.{lt-ltb}
 use Rattle.std.specs.Prelude.{filter}
-use Rattle.desk_text.specs.Lines.{lines, whole_lines, unended, last_line, is_filled, HasNoLineFeed}
+use Rattle.desk_text.specs.Lines.{lines, whole_lines, unended, is_filled, HasNoLineFeed}
 use Rattle.desk_text.proofs.WholeLines.{whole_lines-append_ended, unended-append_ended, lines-whole_lines}
 
 pub whole_lines-ended : (text line : List ℕ) → HasNoLineFeed line → whole_lines (text ++ (line ++ 10 ∷ [])) ≡ whole_lines text ++ (unended text ++ line) ∷ []

@@ -1,18 +1,16 @@
 -- What the lines of a piece come to.
-use Rattle.std.proofs.Common.{◌≡◌, ℕ, ◌+◌, ◌*◌, ◌-◌, ◌≤◌, ◌<◌, Bool, true, false, cond, List, [], ◌∷◌, ◌++◌, take, drop, length, refl, ap, sym, subst, ◌∙◌, arith, append_assoc, append-nil, length-append, length-drop}
+use Rattle.std.proofs.Common.{◌≡◌, ℕ, ◌+◌, ◌-◌, ◌≤◌, ◌<◌, Bool, true, false, cond, List, [], ◌∷◌, ◌++◌, take, drop, length, refl, ap, sym, subst, ◌∙◌, arith, append_assoc, length-append, length-drop}
 use Rattle.std.specs.Prelude.{Option, Ok, Err, Result}
 use Rattle.std.proofs.Math.Seq.{take-add}
 use Rattle.std.proofs.lemmas.List.{take-append-drop, length-take}
 use Rattle.desk_outside.specs.Outside.{Rose, AppendsPrefix}
 use Rattle.pair_table.specs.Kept.{Kept}
-use Rattle.session_replies.specs.State.{owed, cells_of}
-use Rattle.desk_outside.specs.Seen.{Sink, sink}
+use Rattle.session_replies.specs.State.{owed}
+use Rattle.desk_outside.specs.Seen.{Sink}
 use Rattle.desk_outside.proofs.Told.{slice_from}
-use Rattle.desk_model.specs.Desk.{Desk}
 use Rattle.judge_session.specs.declared.change.Change.{Change}
-use Rattle.session_lines.specs.Request.{heard_of}
-use Rattle.session_replies.specs.Replies.{Setting, accepted}
-use Rattle.desk_text.specs.Lines.{whole_lines, unended, kept_line, longer, IsPushed}
+use Rattle.session_replies.specs.Replies.{Setting}
+use Rattle.desk_text.specs.Lines.{unended, kept_line, longer, IsPushed}
 use Rattle.session_stream.specs.Held.{Talks, TakesSteps, AnswersLine, AnswersPiece}
 use Rattle.desk_text.specs.declared.arriving.Pushed.{Pushed}
 use Rattle.session_stream.specs.declared.stream.Fault.{Fault}

@@ -1,9 +1,9 @@
 -- Replies to one more line.
-use Rattle.std.proofs.Common.{◌≡◌, ℕ, ◌+◌, ◌≤◌, List, [], ◌∷◌, ◌++◌, refl, ap, sym, subst, ◌∙◌, arith, append_assoc, append-nil}
+use Rattle.std.proofs.Common.{◌≡◌, ℕ, ◌+◌, List, [], ◌∷◌, ◌++◌, refl, ap, sym, ◌∙◌, arith, append_assoc, append-nil}
 use Rattle.desk_model.specs.Desk.{Desk}
 use Rattle.judge_session.specs.declared.change.Change.{Change}
 use Rattle.session_lines.specs.Request.{heard_of}
-use Rattle.session_replies.specs.Replies.{Setting, IsReply, changes_after, accepted}
+use Rattle.session_replies.specs.Replies.{Setting, IsReply, changes_after}
 use Rattle.session_stream.specs.Text.{changes_over, accepted_in, AreReplies, joined}
 
 pub changes-append : (desk : Desk) (ls ms : List (List ℕ)) (c : List Change) → changes_over desk (ls ++ ms) c ≡ changes_over desk ms (changes_over desk ls c)

@@ -8,7 +8,7 @@ use Rattle.judge_session.specs.declared.change.Change.{Change}
 use Rattle.session_lines.specs.Request.{heard_of}
 use Rattle.desk_model.specs.Desk.{Desk}
 use Rattle.pair_table.specs.Kept.{Kept}
-use Rattle.session_replies.specs.State.{owed, cells_of, pairs_in}
+use Rattle.session_replies.specs.State.{owed, pairs_in}
 use Rattle.session_replies.specs.Replies.{Setting, IsReply, changes_after, accepted}
 use Rattle.session_stream.specs.Hearing.{ends, has_quit}
 use Rattle.session_stream.specs.Text.{AreReplies, changes_over, accepted_in, joined}

@@ -1,4 +1,4 @@
-use Rattle.std.proofs.Common.{◌≡◌, ◌≤◌, ◌+◌, ap, sym, subst, arith, refl, ◌∙◌, take, drop, [], ◌++◌, append-nil}
+use Rattle.std.proofs.Common.{◌+◌, ap, arith, refl, take, drop, ◌++◌}
 use Rattle.std.specs.Prelude.{Ok, Err}
 use Rattle.std.proofs.lemmas.List.{length-take}
 use Rattle.desk_outside.specs.Seen.{source, sink}

@@ -1,4 +1,4 @@
-use Rattle.std.proofs.Common.{◌≡◌, ◌≤◌, ◌+◌, ◌-◌}
+use Rattle.std.proofs.Common.{◌≤◌, ◌+◌, ◌-◌}
 use Rattle.session_replies.specs.State.{setting_of, cells_of, IsReady, owed}
 use Rattle.session_stream.specs.Held.{IsHeld}
 use Rattle.session_stream.proofs.stream.answer_input.Given as goal

@@ -1,9 +1,9 @@
-use Rattle.std.proofs.Common.{◌≡◌, ◌+◌, ap, sym, subst, arith, refl, ◌∙◌, ◌++◌, take, drop}
+use Rattle.std.proofs.Common.{◌+◌, arith, refl, ◌++◌, take}
 use Rattle.session_replies.specs.State.{setting_of, owed}
 use Rattle.desk_outside.specs.Seen.{sink}
-use Rattle.desk_text.specs.Lines.{unended, kept_line}
-use Rattle.session_stream.proofs.Going.{talks_on, talks_after, quits_at}
-use Rattle.session_stream.proofs.Pieces.{taken_on, taken_ended, line_on, line_cleared, line_so_far, used_within, whole_piece, line_goes, line_stops, quit_not_more, err_not_more}
+use Rattle.desk_text.specs.Lines.{unended}
+use Rattle.session_stream.proofs.Going.{talks_on}
+use Rattle.session_stream.proofs.Pieces.{taken_on, line_on, line_cleared, line_so_far, used_within, line_goes, line_stops, quit_not_more, err_not_more}
 use Rattle.std.specs.Prelude.{Ok, Err}
 use Rattle.session_stream.specs.declared.stream.Next.TheVariants as next
 use Rattle.session_stream.proofs.stream.answer_piece.Goals as goal

@@ -17,3 +17,6 @@ returns-in_default-new-clause-cells g c = no_cells_yet (setting_of c.args.given.
 
 pub answer_input-requires-clause-owes : goal.answer_input-requires-clause-owes
 answer_input-requires-clause-owes g c = ap (owed c.args.given.now.desk.now) c.in-Ok-new.ensures.table
+
+pub answer_input-requires-clause-ready : goal.answer_input-requires-clause-ready
+answer_input-requires-clause-ready g c = c.in-Ok-new.ensures.ready c.args.given.now.measure.now
