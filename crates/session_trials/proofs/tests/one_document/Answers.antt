@@ -2,7 +2,7 @@ use Rattle.std.proofs.Common.{◌≡◌, [], ◌∷◌, None, List, ℕ, ap, map
 use Rattle.desk_model.specs.Book.{Book}
 use Rattle.desk_model.specs.Desk.{IsDesk}
 use Rattle.desk_model.specs.Ranking.{IsRanking}
-use Rattle.judge_session.proofs.OneDocument.{no_ranks, one_book, one_desk}
+use Rattle.session_trials.proofs.OneDocument.{no_ranks, one_book, one_desk}
 use Rattle.session_trials.proofs.tests.one_document.Goals as goal
 
 pub new-requires-5 : goal.new-requires-5

@@ -1,7 +1,7 @@
 use Rattle.std.proofs.Common.{[], ◌∷◌, Option, List, ℕ, sym, subst}
 use Rattle.std.specs.Prelude.{ℤ}
 use Rattle.desk_model.specs.Book.{IsBook}
-use Rattle.judge_session.proofs.OneDocument.{one_book}
+use Rattle.session_trials.proofs.OneDocument.{one_book}
 use Rattle.session_trials.proofs.tests.one_topic.Goals as goal
 
 pub new-requires : goal.new-requires
