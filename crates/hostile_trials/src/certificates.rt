@@ -1,5 +1,5 @@
 // Certificates that were cut, changed or forged.
-use crate::outside::{SOUND, answer};
+use crate::outside::{SOUND, run_line};
 use std::alloc::{AllocError, Global};
 use std::test::Fail;
 
@@ -18,7 +18,7 @@ fn checked(alloc: Global, text: &[u8]) -> Result<(u8, Vec<u8>), AllocError> {
         ("c", b"401 Q0 z1 1 2 C\n401 Q0 z2 2 1 C\n"),
         ("v", text),
     ];
-    let told = answer(alloc, "verify --qrels q --cert v a b c", &files, b"", SOUND)?;
+    let told = run_line(alloc, "verify --qrels q --cert v a b c", &files, b"", SOUND)?;
     Ok((told.status, told.err))
 }
 

@@ -1,7 +1,7 @@
 // Each call of the outside fails once, in turn.
 ghost use Rattle.std.specs.Prelude.{◌≡◌, ◌<◌};
 
-use crate::outside::{Answer, FailingCall, Outside, SOUND, answer};
+use crate::outside::{Answer, FailingCall, Outside, SOUND, run_line};
 use std::alloc::{AllocError, Global};
 use std::process::Abort;
 use std::test::Fail;
@@ -93,7 +93,7 @@ fn fail_in_turn(
 {
     for call in 0..2_000u64 {
         let outside = part.failing(sizes, Some(call));
-        let Answer { status, out, err } = answer(
+        let Answer { status, out, err } = run_line(
             alloc,
             case.line,
             &FILES,
@@ -132,7 +132,7 @@ fn an_error_output_that_fails_changes_no_status(rt: HostRuntime) -> Result<(), F
         err: Some(0),
         ..SOUND
     };
-    let told = answer(alloc, "table --qrels q a", &FILES, b"", outside)?;
+    let told = run_line(alloc, "table --qrels q a", &FILES, b"", outside)?;
     assert_eq!(rt; told.status, 2);
     assert!(rt; told.out.is_empty() && told.err.is_empty());
     Ok(())
@@ -148,7 +148,7 @@ fn a_failure_goes_before_a_faulty_line(rt: HostRuntime) -> Result<(), Fail> {
             files: Some(call),
             ..SOUND
         };
-        assert_eq!(rt; answer(alloc, line, &FILES, b"", outside)?.status, status);
+        assert_eq!(rt; run_line(alloc, line, &FILES, b"", outside)?.status, status);
     }
     Ok(())
 }

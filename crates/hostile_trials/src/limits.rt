@@ -1,5 +1,5 @@
 // Limits that are met, and passed by one.
-use crate::outside::{Outside, SOUND, answer};
+use crate::outside::{Outside, SOUND, run_line};
 use file_rows::{FileFault, LineFault};
 use qrels_reader::read_qrels;
 use run_reader::{Used, read_run};
@@ -47,7 +47,7 @@ fn a_line_and_a_name_have_their_limits(rt: HostRuntime) -> Result<(), Fail> {
     ];
     for (run, status, line) in &cases {
         let files: [(&str, &[u8]); 2] = [("q", QRELS), ("a", run)];
-        let told = answer(alloc, "table --qrels q --measure P_1 a", &files, b"", SOUND)?;
+        let told = run_line(alloc, "table --qrels q --measure P_1 a", &files, b"", SOUND)?;
         assert_eq!(rt; told.status, *status);
         assert_eq!(rt; told.err.as_slice(), line.as_bytes());
     }
@@ -66,11 +66,9 @@ fn many_topics(alloc: Global, topics: u32) -> Result<Vec<u8>, AllocError> {
 #[test]
 fn topics_have_their_limit(rt: HostRuntime) -> Result<(), Fail> {
     let alloc = rt.alloc();
-    let files: [(&str, &[u8]); 2] = [
-        ("q", &many_topics(alloc, 10_001)?),
-        ("a", b"0 Q0 d 1 9 A\n"),
-    ];
-    let told = answer(alloc, "table --qrels q --measure P_1 a", &files, b"", SOUND)?;
+    let qrels = many_topics(alloc, 10_001)?;
+    let files: [(&str, &[u8]); 2] = [("q", &qrels), ("a", b"0 Q0 d 1 9 A\n")];
+    let told = run_line(alloc, "table --qrels q --measure P_1 a", &files, b"", SOUND)?;
     assert_eq!(rt; told.status, 1);
     assert_eq!(rt;
         told.err.as_slice(),
@@ -94,11 +92,9 @@ fn cells_have_their_limit(rt: HostRuntime) -> Result<(), Fail> {
         (307, 1, "refused: desk: TooManyCells 10020480\n"),
         (306, 0, ""),
     ] {
-        let files: [(&str, &[u8]); 2] = [
-            ("q", &many_topics(alloc, topics)?),
-            ("a", b"0 Q0 d 1 9 A\n"),
-        ];
-        let answered = answer(alloc, &line, &files, b"", large)?;
+        let qrels = many_topics(alloc, topics)?;
+        let files: [(&str, &[u8]); 2] = [("q", &qrels), ("a", b"0 Q0 d 1 9 A\n")];
+        let answered = run_line(alloc, &line, &files, b"", large)?;
         assert_eq!(rt; answered.status, status);
         assert_eq!(rt; answered.err.as_slice(), told.as_bytes());
     }
@@ -158,7 +154,7 @@ fn a_history_has_its_limit(rt: HostRuntime) -> Result<(), Fail> {
         ..SOUND
     };
     let line = "session --qrels q --measure P_1 a";
-    let told = answer(alloc, line, &files, &lines, large)?;
+    let told = run_line(alloc, line, &files, &lines, large)?;
     assert_eq!(rt; told.status, 0);
     assert!(rt;
         told.out.ends_with(

@@ -91,7 +91,7 @@ fn status_of<L: Ledger>(
 }
 
 /// What the call of a command line answers over files, an input and an outside.
-pub fn answer(
+pub fn run_line(
     alloc: Global,
     line: &str,
     files: &[(&str, &[u8])],
