@@ -5,3 +5,5 @@ pub mod Narrow
 pub mod Cells
 pub mod Weighing
 pub mod Shifting
+pub mod Filling
+pub mod RunPairs

@@ -2,14 +2,20 @@
 #![tactic(auto)]
 
 pub mod cell;
+pub mod kept;
 pub mod laws;
 pub mod maker;
 pub mod measure;
+pub mod rankings;
+pub mod room;
 pub mod shift;
 pub mod steps;
 
 pub use cell::Cell;
+pub use kept::KeptCell;
 pub use maker::Maker;
 pub use measure::Measure;
+pub use rankings::TopicRankings;
+pub use room::CellRoom;
 pub use shift::Shift;
 pub use steps::Steps;

@@ -1,19 +1,24 @@
-ghost use Rattle.std.specs.Prelude.{◌≡◌, ℕ, ◌+◌, ◌<◌, List, length, pos, IfOk};
+ghost use Rattle.std.specs.Prelude.{◌≡◌, ℕ, ◌+◌, ◌<◌, All, List, length, pos, IfOk};
 ghost use Rattle.desk_model.specs.declared.types.Mark.{Mark as M};
 ghost use Rattle.desk_model.specs.declared.types.MeasureName.{MeasureName as N};
 ghost use Rattle.desk_model.specs.MeasureText.{IsMeasure};
+ghost use Rattle.desk_model.specs.Pairs.{pairs_of};
 ghost use Rattle.measure_laws.specs.Measures.{unit_of};
 ghost use Rattle.measure_laws.specs.Cases.{least_truth};
 ghost use Rattle.measure_laws.specs.Weights.{weight_of};
 ghost use Rattle.measure_core.specs.declared.cell.Cell.{Cell as C};
 ghost use Rattle.fractions.specs.declared.span.Span.{Span as S};
-ghost use Rattle.measure_core.specs.Laws.{AreMet, IsMet, AreValues, MeetsLaws};
+ghost use Rattle.measure_core.specs.Laws.{AreMet, IsMet, AreValues, CellIsModest, MeetsLaws};
+ghost use Rattle.measure_core.specs.Pairs.{AreAllMet, pair_cells, run_numbers, runs_on};
 ghost use Rattle.measure_core.specs.Shifts.{HaveRoom, AreShifted};
 
 use crate::cell::Cell;
+use crate::kept::KeptCell;
+use crate::rankings::TopicRankings;
+use crate::room::CellRoom;
 use crate::shift::Shift;
 use crate::steps::Steps;
-use desk_model::{Mark, MeasureName, Memory, Ranking};
+use desk_model::{Mark, MeasureName, Memory, PairPlaces, Ranking};
 use fractions::Span;
 use std::alloc::Global;
 use std::sync::ledger::Ledger;
@@ -110,6 +115,55 @@ pub trait Measure: Drop {
                 *total = shift.apply(*total, weight);
             }
         }
+    }
+
+    /// The cells of all pairs of runs on a topic, in pair order, each by `cell`. It is one step for each
+    /// pair, and takes no memory.
+    fn each_cell<L: Ledger>(
+        &self,
+        rankings: &TopicRankings<'_>,
+        marks: &[Mark],
+        cells: &mut [KeptCell],
+        steps: &mut Steps<L>,
+    )
+        requires measure { IsMeasure (measured self.now) }
+        requires met { AreAllMet marks.now rankings.now }
+        requires count { length cells.old ≡ length (pairs_of (run_numbers (runs_on rankings.now))) }
+        ensures cells { cells.new ≡ pair_cells (cell_of self.now marks.now) rankings.now }
+        ensures modest { All CellIsModest cells.new }
+        ensures steps { steps.new ≡ steps.old + length cells.old }
+    {
+        let runs = rankings.runs();
+        let mut at = PairPlaces::START;
+        for place in 0..cells.len() {
+            let a = rankings.ranking(at.first);
+            let b = rankings.ranking(at.second);
+            cells[place] = KeptCell::of(self.cell(a, b, marks, steps));
+            at = at.next(runs);
+        }
+    }
+
+    /// The cells of all pairs of runs on a topic, in pair order. It is one step for each pair, and takes
+    /// no memory.
+    ///
+    /// This body asks `cell` of each pair; a measure may have a faster one, which keeps in the room what
+    /// several pairs need.
+    fn cells<L: Ledger>(
+        &self,
+        rankings: &TopicRankings<'_>,
+        marks: &[Mark],
+        _room: &mut CellRoom,
+        cells: &mut [KeptCell],
+        steps: &mut Steps<L>,
+    )
+        requires measure { IsMeasure (measured self.now) }
+        requires met { AreAllMet marks.now rankings.now }
+        requires count { length cells.old ≡ length (pairs_of (run_numbers (runs_on rankings.now))) }
+        ensures cells { cells.new ≡ pair_cells (cell_of self.now marks.now) rankings.now }
+        ensures modest { All CellIsModest cells.new }
+        ensures steps { steps.new ≡ steps.old + length cells.old }
+    {
+        self.each_cell(rankings, marks, cells, steps);
     }
 
     /// The laws: cells enclose the difference and bounds the score in every completion; the least and

@@ -4,7 +4,6 @@ use Rattle.std.proofs.lemmas.Int.{ints}
 use Rattle.desk_model.specs.declared.types.Totals.{Totals}
 use Rattle.measure_laws.specs.Shares.{IsModest}
 use Rattle.fractions.specs.Ends.{IsNear}
-use Rattle.measure_core.specs.declared.cell.Cell.{Cell}
 use Rattle.pair_table.specs.Kept.{IsAtMostInSize}
 
 pub within_step : (n : ℕ) (z w : ℤ) → IsAtMostInSize n z → IsModest w → IsAtMostInSize (n + 1) (z +ℤ w)
@@ -19,12 +18,3 @@ pub totals_same : (a b c d a' b' c' d' : ℤ) → a ≡ a' → b ≡ b' → c �
 totals_same a b c d a' b' c' d' e f g h =
     ap (λ z. record { least_lo = z; least_hi = b; most_lo = c; most_hi = d }) e ∙ ap (λ z. record { least_lo = a'; least_hi = z; most_lo = c; most_hi = d }) f
     ∙ ap (λ z. record { least_lo = a'; least_hi = b'; most_lo = z; most_hi = d }) g ∙ ap (λ z. record { least_lo = a'; least_hi = b'; most_lo = c'; most_hi = z }) h
-
--- the four ends of a cell
-pub cell_same : (a b c d : ℤ) (x : Cell) → a ≡ x.least.lo → b ≡ x.least.hi → c ≡ x.most.lo → d ≡ x.most.hi →
-    (let y : Cell = record { least = record { lo = a; hi = b }; most = record { lo = c; hi = d } } in y) ≡ x
-cell_same a b c d x p q r s =
-    ap (λ z. record { least = record { lo = z; hi = b }; most = record { lo = c; hi = d } }) p
-    ∙ ap (λ z. record { least = record { lo = x.least.lo; hi = z }; most = record { lo = c; hi = d } }) q
-    ∙ ap (λ z. record { least = x.least; most = record { lo = z; hi = d } }) r
-    ∙ ap (λ z. record { least = x.least; most = record { lo = x.most.lo; hi = z } }) s

@@ -11,7 +11,7 @@ use Rattle.desk_model.specs.Order.{Topic}
 use Rattle.desk_model.specs.declared.types.Mark.{Mark}
 use Rattle.fractions.specs.declared.span.Span.{Span}
 use Rattle.measure_core.specs.Laws.{AreMet, IsMet}
-use Rattle.measure_core.specs.declared.cell.Cell.{Cell}
+use Rattle.measure_core.specs.Pairs.{AreAllMet}
 use Rattle.pair_table.specs.Kept.{topic_at}
 
 module _ (desk : Desk) (marks : List (List Mark)) (valid : IsDesk desk) (known : AreMarksOf desk marks) where
@@ -24,6 +24,9 @@ module _ (desk : Desk) (marks : List (List Mark)) (valid : IsDesk desk) (known :
 
   pub one_met_at : (a t : ℕ) (m : List Mark) → a < length desk.runs → slice_get marks t ≡ Some m → IsMet m (ranking_of desk a t)
   one_met_at a t m in_a e = record { ranking = ranking_at desk marks valid known a t m in_a e; small = small_at desk marks valid known t m e }
+
+  pub all_met_at : (t : ℕ) (m : List Mark) → slice_get marks t ≡ Some m → AreAllMet m (record { desk = desk; topic = t })
+  all_met_at t m e = record { each = λ run in_range. ranking_at desk marks valid known run t m in_range e; small = small_at desk marks valid known t m e }
 
   -- each topic is one that a measure may be asked of, for two runs
   pub topics_met : (a b : ℕ) → a < length desk.runs → b < length desk.runs → AllByRecursion (λ (topic : Topic). AreMet topic.marks (topic.ranking a) (topic.ranking b)) (topics_under desk marks)
@@ -39,11 +42,6 @@ pub topic_at_there : (desk : Desk) (marks : List (List Mark)) (t : ℕ) → AreM
 topic_at_there desk marks t known lt =
     let within : t < length marks = omega (arith, lt, length-marks desk marks known) in
     topic_there desk marks t (get_or marks t []) (slice_get-get_or marks t [] within)
-
-pub cell_there : (desk : Desk) (marks : List (List Mark)) (cell : List Mark → List ℕ → List ℕ → Cell) (a b t : ℕ) (m : List Mark) (first second : List ℕ) (r : Cell) →
-    slice_get marks t ≡ Some m → first ≡ ranking_of desk a t → second ≡ ranking_of desk b t → r ≡ cell m first second → r ≡ cell (get_or marks t []) (ranking_of desk a t) (ranking_of desk b t)
-cell_there desk marks cell a b t m first second r there p q e =
-    e ∙ ap (λ us. cell m us second) p ∙ ap (λ us. cell m (ranking_of desk a t) us) q ∙ ap (λ n. cell n (ranking_of desk a t) (ranking_of desk b t)) (sym (get_or-there marks t m [] there))
 
 pub bounds_there : (desk : Desk) (marks : List (List Mark)) (bounds : List Mark → List ℕ → Span) (a t : ℕ) (m : List Mark) (docs : List ℕ) (r : Span) →
     slice_get marks t ≡ Some m → docs ≡ ranking_of desk a t → r ≡ bounds m docs → r ≡ bounds (get_or marks t []) (ranking_of desk a t)

@@ -26,7 +26,7 @@ use Rattle.measure_core.specs.declared.cell.Cell.{Cell}
 use Rattle.pair_table.specs.Kept.{TopicNumbers, numbers_on, all_numbers, AreTopicNumbers, IsCellOf, with_cell, without_cell, with_span, without_span, no_totals, no_bounds, kept_totals, kept_bounds, each_with, sums_by, AreWithin, SpanIsWithin, IsAtMostInSize, AreModestTotals, TotalsCanGrow, BoundsCanGrow, IsKeptTable}
 use Rattle.pair_table.specs.Sums.{all_pair_sums, all_run_sums, pair_sums, run_sums, run_numbers}
 use Rattle.pair_table.proofs.Adding.{totals_same, within_step, within_near}
-use Rattle.pair_table.proofs.PairNumbers.{length-run_numbers}
+use Rattle.measure_core.proofs.RunPairs.{length-run_numbers}
 use Rattle.pair_table.proofs.Summing.{all_each, sums_more, length-sums, sums_renewed, sums_made, sums_sized}
 use Rattle.pair_table.proofs.Zips.{all_then}
 

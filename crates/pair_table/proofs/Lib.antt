@@ -8,7 +8,6 @@ pub mod Verdicts
 pub mod Orders
 pub mod Named
 pub mod Swapped
-pub mod Filling
 pub mod PairNumbers
 pub mod Listing
 pub mod Documents

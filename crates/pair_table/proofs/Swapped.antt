@@ -19,7 +19,8 @@ use Rattle.pair_table.specs.Sums.{run_numbers, cell_ends, pair_sums, all_pair_su
 use Rattle.pair_table.specs.Kept.{AreSumsOf, IsCellOf, numbers_on}
 use Rattle.pair_table.proofs.DeskTopics.{topics_met}
 use Rattle.pair_table.proofs.Orders.{MetBy}
-use Rattle.pair_table.proofs.Adding.{cell_same, totals_same}
+use Rattle.measure_core.proofs.Cells.{ends_same}
+use Rattle.pair_table.proofs.Adding.{totals_same}
 use Rattle.pair_table.proofs.Zips.{all_then, made_beside, IsPairBelow, pairs_below}
 
 neg_adds : (z w v u : ℤ) → z ≡ neg_ℤ w → v ≡ neg_ℤ u → z +ℤ v ≡ neg_ℤ (w +ℤ u)
@@ -29,7 +30,7 @@ pub swapped_twice : (t : Totals) → swapped_totals (swapped_totals t) ≡ t
 swapped_twice t = totals_same _ _ _ _ t.least_lo t.least_hi t.most_lo t.most_hi (neg_twice t.least_lo) (neg_twice t.least_hi) (neg_twice t.most_lo) (neg_twice t.most_hi)
 
 pub cell_swapped_twice : (c : Cell) → swapped_cell (swapped_cell c) ≡ c
-cell_swapped_twice c = cell_same _ _ _ _ c (neg_twice c.least.lo) (neg_twice c.least.hi) (neg_twice c.most.lo) (neg_twice c.most.hi)
+cell_swapped_twice c = ends_same _ _ _ _ c (neg_twice c.least.lo) (neg_twice c.least.hi) (neg_twice c.most.lo) (neg_twice c.most.hi)
 
 -- the sum of one end of each topic is that of the other end, negated
 sum_swapped : (f g : Ends → ℤ) (F G : Topic → Ends) (topics : List Topic) → AllByRecursion (λ (topic : Topic). f (F topic) ≡ neg_ℤ (g (G topic))) topics → whole_sum (map f (map F topics)) ≡ neg_ℤ (whole_sum (map g (map G topics)))

@@ -1,6 +1,5 @@
 -- The sums over all topics of a measure's cells and bounds, for each pair of runs and each run.
 use Rattle.std.specs.Prelude.{ℕ, List, map, neg_ℤ, ◌+ℤ◌}
-use Rattle.std.specs.List.{range_with_len}
 use Rattle.desk_model.specs.Extremes.{Ends}
 use Rattle.desk_model.specs.Order.{Topic}
 use Rattle.desk_model.specs.Pairs.{pairs_of}
@@ -9,11 +8,8 @@ use Rattle.desk_model.specs.declared.types.Mark.{Mark}
 use Rattle.desk_model.specs.declared.types.Totals.{Totals}
 use Rattle.fractions.specs.declared.span.Span.{Span}
 use Rattle.measure_core.specs.Made.{ends_of}
+pub use Rattle.measure_core.specs.Pairs.{run_numbers}
 use Rattle.measure_core.specs.declared.cell.Cell.{Cell}
-
--- the numbers of so many runs
-abbrev pub run_numbers : ℕ → List ℕ
-run_numbers runs = range_with_len 0 runs
 
 -- the ends of the cell of two runs on each topic
 abbrev pub cell_ends : (List Mark → List ℕ → List ℕ → Cell) → List Topic → ℕ → ℕ → List Ends

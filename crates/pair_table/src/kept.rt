@@ -4,8 +4,7 @@ ghost use Rattle.desk_model.specs.Desk.{AreMarksOf};
 ghost use Rattle.desk_model.specs.MeasureText.{IsMeasure};
 ghost use Rattle.desk_model.specs.Pairs.{pairs_of};
 ghost use Rattle.fractions.specs.Ends.{IsShort};
-ghost use Rattle.measure_laws.specs.Shares.{IsModest};
-ghost use Rattle.measure_core.specs.Laws.{CellIsModest, SpanIsModest};
+ghost use Rattle.measure_core.specs.Laws.{SpanIsModest};
 ghost use Rattle.pair_table.specs.Sums.{run_numbers};
 ghost use Rattle.pair_table.specs.Kept.{numbers_on, topic_at, AreTopicNumbers, each_with, with_cell, without_cell, with_span, without_span, TotalsCanGrow, BoundsCanGrow};
 
@@ -13,70 +12,10 @@ use crate::numbers::{evaluate_bounds, evaluate_cells};
 use crate::sums::{add_bounds, add_cells, take_bounds_back, take_cells_back};
 use desk_model::{Desk, Marks, Totals};
 use fractions::Span;
-use measure_core::{Cell, Measure, Steps};
+use measure_core::{Cell, CellRoom, KeptCell, Measure, Steps};
 use std::alloc::{AllocError, Global};
 use std::marker::Model;
 use std::sync::ledger::Ledger;
-
-/// A cell in 32 bytes: its ends lie from -2*10^18 to 2*10^18.
-#[derive(Clone, Copy)]
-pub struct KeptCell {
-    pub least_lo: i64,
-    pub least_hi: i64,
-    pub most_lo: i64,
-    pub most_hi: i64,
-}
-
-impl Model for KeptCell {
-    ghost use Rattle.measure_core.specs.declared.cell.Cell.{Cell as C};
-
-    ghost Value = { C };
-
-    ghost view = { λ k. record { least = record { lo = k.least_lo; hi = k.least_hi }; most = record { lo = k.most_lo; hi = k.most_hi } } };
-
-    ghost inverse = { λ c. record { least_lo = c.least.lo; least_hi = c.least.hi; most_lo = c.most.lo; most_hi = c.most.hi } };
-}
-
-// An end of a cell in 64 bits.
-fn kept_end(end: i128) -> i64
-    requires { IsModest end }
-    ensures { result ≡ end }
-{
-    end as i64
-}
-
-impl KeptCell {
-    /// The same cell, kept.
-    pub fn of(cell: Cell) -> KeptCell
-        requires { CellIsModest cell }
-        ensures { result ≡ cell }
-    {
-        KeptCell {
-            least_lo: kept_end(cell.least.lo),
-            least_hi: kept_end(cell.least.hi),
-            most_lo: kept_end(cell.most.lo),
-            most_hi: kept_end(cell.most.hi),
-        }
-    }
-
-    /// The cell that is kept.
-    pub fn cell(&self) -> Cell
-        ensures cell { result ≡ self.now }
-        ensures least { IsShort result.least }
-        ensures most { IsShort result.most }
-    {
-        Cell {
-            least: Span {
-                lo: self.least_lo as i128,
-                hi: self.least_hi as i128,
-            },
-            most: Span {
-                lo: self.most_lo as i128,
-                hi: self.most_hi as i128,
-            },
-        }
-    }
-}
 
 /// The cell of each pair of runs on a topic, in pair order, and the bounds of each run.
 #[derive(Drop)]
@@ -112,13 +51,15 @@ impl KeptTopic {
         Ok(KeptTopic { cells, bounds })
     }
 
-    /// Evaluates the cells and bounds of a topic, by its number. It is one step for each pair.
+    /// Evaluates the cells and bounds of a topic, by its number, in a room whose contents are anything. It
+    /// is one step for each pair.
     pub fn evaluate<M: Measure, L: Ledger>(
         &mut self,
         measure: &M,
         desk: &Desk,
         marks: &Marks,
         topic: u32,
+        room: &mut CellRoom,
         steps: &mut Steps<L>,
     )
         requires measure { IsMeasure (M.measured measure.now) }
@@ -130,7 +71,7 @@ impl KeptTopic {
         ensures sizes { AreTopicNumbers (length desk.now.runs) self.new }
         ensures steps { steps.new ≡ steps.old + length (pairs_of (run_numbers (length desk.now.runs))) }
     {
-        evaluate_cells(&mut self.cells, measure, desk, marks, topic, steps);
+        evaluate_cells(&mut self.cells, measure, desk, marks, topic, room, steps);
         evaluate_bounds(&mut self.bounds, measure, desk, marks, topic);
     }
 

@@ -7,36 +7,10 @@ ghost use Rattle.measure_core.specs.Laws.{SpanIsModest, CellIsModest};
 ghost use Rattle.pair_table.specs.Sums.{run_numbers};
 ghost use Rattle.pair_table.specs.Kept.{numbers_on, topic_at};
 
-use crate::kept::KeptCell;
-use desk_model::{Desk, Marks, PairPlaces};
+use desk_model::{Desk, Marks};
 use fractions::Span;
-use measure_core::{Cell, Measure, Steps};
+use measure_core::{CellRoom, KeptCell, Measure, Steps, TopicRankings};
 use std::sync::ledger::Ledger;
-
-// The cell of two runs on a topic, by their numbers. It is one step.
-fn cell_at<M: Measure, L: Ledger>(
-    measure: &M,
-    desk: &Desk,
-    marks: &Marks,
-    first: u32,
-    second: u32,
-    topic: u32,
-    steps: &mut Steps<L>,
-) -> Cell
-    requires measure { IsMeasure (M.measured measure.now) }
-    requires desk { IsDesk desk.now }
-    requires marks { AreMarksOf desk.now marks.now }
-    requires first { first < length desk.now.runs }
-    requires second { second < length desk.now.runs }
-    requires topic { topic < length desk.now.topics }
-    ensures cell { let at = topic_at desk.now marks.now topic in result ≡ M.cell_of measure.now at.marks (at.ranking first) (at.ranking second) }
-    ensures modest { CellIsModest result }
-    ensures step { steps.new ≡ steps.old + 1 }
-{
-    let a = desk.ranking(first, topic);
-    let b = desk.ranking(second, topic);
-    measure.cell(a, b, marks.topic(topic), steps)
-}
 
 // The bounds of a run on a topic, by their numbers.
 fn bounds_at<M: Measure>(measure: &M, desk: &Desk, marks: &Marks, run: u32, topic: u32) -> Span
@@ -51,13 +25,15 @@ fn bounds_at<M: Measure>(measure: &M, desk: &Desk, marks: &Marks, run: u32, topi
     measure.bounds(desk.ranking(run, topic), marks.topic(topic))
 }
 
-/// Evaluates the cell of each pair on a topic, by its number. It is one step for each.
+/// Evaluates the cell of each pair on a topic, by its number, in a room whose contents are anything. It
+/// is one step for each.
 pub fn evaluate_cells<M: Measure, L: Ledger>(
     cells: &mut [KeptCell],
     measure: &M,
     desk: &Desk,
     marks: &Marks,
     topic: u32,
+    room: &mut CellRoom,
     steps: &mut Steps<L>,
 )
     requires measure { IsMeasure (M.measured measure.now) }
@@ -68,13 +44,10 @@ pub fn evaluate_cells<M: Measure, L: Ledger>(
     ensures modest { All CellIsModest cells.new }
     ensures steps { steps.new ≡ steps.old + length cells.old }
 {
-    let runs = desk.run_count();
-    let mut at = PairPlaces::START;
-    for place in 0..cells.len() {
-        let cell = cell_at(measure, desk, marks, at.first, at.second, topic, steps);
-        cells[place] = KeptCell::of(cell);
-        at = at.next(runs);
-    }
+    // The laws speak of desks.
+    let _runs = desk.run_count();
+    let rankings = TopicRankings::new(desk, topic);
+    measure.cells(&rankings, marks.topic(topic), room, cells, steps);
 }
 
 /// Evaluates the bounds of each run on a topic, by its number.

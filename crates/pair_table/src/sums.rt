@@ -5,10 +5,9 @@ ghost use Rattle.fractions.specs.Ends.{IsShort};
 ghost use Rattle.measure_core.specs.Laws.{SpanIsModest};
 ghost use Rattle.pair_table.specs.Kept.{AreWithin, SpanIsWithin, each_with, with_cell, without_cell, with_span, without_span, TotalsCanGrow, BoundsCanGrow};
 
-use crate::kept::KeptCell;
 use desk_model::Totals;
 use fractions::Span;
-use measure_core::Cell;
+use measure_core::{Cell, KeptCell};
 
 fn plus(totals: &Totals, cell: Cell) -> Totals
     requires totals { AreWithin (TOPIC_LIMIT + 1) totals.now }

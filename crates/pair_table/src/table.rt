@@ -14,7 +14,7 @@ ghost use Rattle.pair_table.specs.Kept.{numbers_on, topic_at, all_numbers, AreTo
 use crate::kept::KeptTopic;
 use desk_model::{Desk, Marks, Memory, Totals, Verdict, verdict_of};
 use fractions::Span;
-use measure_core::{Cell, Measure, Steps};
+use measure_core::{Cell, CellRoom, Measure, Steps};
 use std::alloc::{AllocError, Global};
 use std::marker::Model;
 use std::sync::ledger::Ledger;
@@ -31,6 +31,8 @@ pub struct Table<M: Measure> {
     totals: Vec<Totals>,
     verdicts: Vec<Verdict>,
     bounds: Vec<Span>,
+    // What the measure finds the cells of a topic in.
+    room: CellRoom,
 }
 
 impl<M: Measure> Model for Table<M> {
@@ -137,12 +139,25 @@ fn sum_rooms(
     Ok((totals, verdicts, bounds))
 }
 
-/// Evaluates the numbers of each topic. It is one step for each pair and topic.
+/// How many documents the topic has that has the most.
+fn most_documents(desk: &Desk) -> u32
+    ensures { All (λ book. length book.docs ≤ result) desk.now.topics }
+{
+    let mut most = 0;
+    for t in 0..desk.topic_count() {
+        most = desk.topic(t).doc_count().max(most);
+    }
+    most
+}
+
+/// Evaluates the numbers of each topic, one after the other in one room. It is one step for each pair and
+/// topic.
 fn evaluate_topics<M: Measure, L: Ledger>(
     topics: &mut [KeptTopic],
     measure: &M,
     desk: &Desk,
     marks: &Marks,
+    room: &mut CellRoom,
     steps: &mut Steps<L>,
 )
     requires measure { IsMeasure (M.measured measure.now) }
@@ -156,7 +171,7 @@ fn evaluate_topics<M: Measure, L: Ledger>(
 {
     for topic in 0..desk.topic_count() {
         let kept = &mut topics[topic as usize];
-        kept.evaluate(measure, desk, marks, topic, steps);
+        kept.evaluate(measure, desk, marks, topic, room, steps);
     }
 }
 
@@ -175,8 +190,8 @@ fn add_topics(totals: &mut [Totals], bounds: &mut [Span], topics: &[KeptTopic], 
     }
 }
 
-/// Evaluates the numbers of one topic, by its number, and makes the sums those with its new numbers. It is
-/// one step for each pair.
+/// Evaluates the numbers of one topic, by its number, in a room whose contents are anything, and makes the
+/// sums those with its new numbers. It is one step for each pair.
 fn renew_topic<M: Measure, L: Ledger>(
     topics: &mut [KeptTopic],
     totals: &mut [Totals],
@@ -185,6 +200,7 @@ fn renew_topic<M: Measure, L: Ledger>(
     desk: &Desk,
     marks: &Marks,
     topic: u32,
+    room: &mut CellRoom,
     steps: &mut Steps<L>,
 )
     requires measure { IsMeasure (M.measured measure.now) }
@@ -204,7 +220,7 @@ fn renew_topic<M: Measure, L: Ledger>(
     let _runs = desk.run_count();
     let kept = &mut topics[topic as usize];
     kept.take_back(totals, bounds);
-    kept.evaluate(measure, desk, marks, topic, steps);
+    kept.evaluate(measure, desk, marks, topic, room, steps);
     kept.add_to(totals, bounds);
 }
 
@@ -247,7 +263,10 @@ impl<M: Measure> Table<M> {
         let Ok((mut totals, mut verdicts, mut bounds)) = sum_rooms(alloc, count, runs) else {
             return Err(Memory);
         };
-        evaluate_topics(&mut topics, &measure, desk, marks, steps);
+        let Ok(mut room) = CellRoom::new(alloc, most_documents(desk), runs) else {
+            return Err(Memory);
+        };
+        evaluate_topics(&mut topics, &measure, desk, marks, &mut room, steps);
         add_topics(&mut totals, &mut bounds, &topics, runs);
         fill_verdicts(&mut verdicts, &totals);
         Ok(Table {
@@ -257,6 +276,7 @@ impl<M: Measure> Table<M> {
             totals,
             verdicts,
             bounds,
+            room,
         })
     }
 
@@ -289,6 +309,7 @@ impl<M: Measure> Table<M> {
             desk,
             marks,
             topic,
+            &mut self.room,
             steps,
         );
         fill_verdicts(&mut self.verdicts, &self.totals);

@@ -3,8 +3,8 @@ use Rattle.fractions.specs.declared.span.Span.{Span}
 use Rattle.measure_core.specs.Laws.{SpanIsModest}
 use Rattle.pair_table.specs.Kept.{topic_at}
 use Rattle.pair_table.specs.Sums.{run_numbers}
-use Rattle.pair_table.proofs.Filling.{filled_none, filled_more, filled_whole}
-use Rattle.pair_table.proofs.PairNumbers.{number_at, length-run_numbers}
+use Rattle.measure_core.proofs.Filling.{filled_none, filled_more, filled_whole}
+use Rattle.measure_core.proofs.RunPairs.{number_at, length-run_numbers}
 use Rattle.pair_table.proofs.numbers.evaluate_bounds.Goals as goal
 
 pub loop-run-init : goal.loop-run-init

@@ -2,7 +2,7 @@ use Rattle.std.proofs.Common.{length}
 use Rattle.measure_core.specs.Laws.{SpanIsModest}
 use Rattle.pair_table.specs.Kept.{topic_at}
 use Rattle.pair_table.specs.Sums.{run_numbers}
-use Rattle.pair_table.proofs.Filling.{IsFilled}
+use Rattle.measure_core.proofs.Filling.{IsFilled}
 use Rattle.pair_table.proofs.numbers.evaluate_bounds.Given as goal
 
 abbrev pub invariant-loop-run : goal.invariant-loop-run

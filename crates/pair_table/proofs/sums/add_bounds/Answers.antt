@@ -6,7 +6,7 @@ use Rattle.desk_model.proofs.Nested.{length-zip}
 use Rattle.desk_model.specs.Limits.{TOPIC_LIMIT}
 use Rattle.fractions.specs.declared.span.Span.{Span}
 use Rattle.pair_table.specs.Kept.{with_span, SpanIsWithin}
-use Rattle.pair_table.proofs.Filling.{refilled_none, refilled_here, refilled_more, filled_whole}
+use Rattle.measure_core.proofs.Filling.{refilled_none, refilled_here, refilled_more, filled_whole}
 use Rattle.pair_table.proofs.sums.add_bounds.Goals as goal
 
 abbrev nothing : Span

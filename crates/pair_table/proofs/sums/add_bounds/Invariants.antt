@@ -1,7 +1,7 @@
 use Rattle.std.specs.List.{zip}
 use Rattle.fractions.specs.declared.span.Span.{Span}
 use Rattle.pair_table.specs.Kept.{with_span}
-use Rattle.pair_table.proofs.Filling.{IsRefilled}
+use Rattle.measure_core.proofs.Filling.{IsRefilled}
 use Rattle.pair_table.proofs.sums.add_bounds.Given as goal
 
 abbrev pub invariant-loop-run : goal.invariant-loop-run

@@ -2,7 +2,7 @@ use Rattle.std.specs.List.{zip}
 use Rattle.desk_model.specs.declared.types.Totals.{Totals}
 use Rattle.measure_core.specs.declared.cell.Cell.{Cell}
 use Rattle.pair_table.specs.Kept.{with_cell}
-use Rattle.pair_table.proofs.Filling.{IsRefilled}
+use Rattle.measure_core.proofs.Filling.{IsRefilled}
 use Rattle.pair_table.proofs.sums.add_cells.Given as goal
 
 abbrev pub invariant-loop-place : goal.invariant-loop-place

@@ -9,7 +9,7 @@ use Rattle.desk_model.specs.Limits.{TOPIC_LIMIT}
 use Rattle.desk_model.specs.declared.types.Totals.{Totals}
 use Rattle.measure_core.specs.declared.cell.Cell.{Cell}
 use Rattle.pair_table.specs.Kept.{without_cell, AreWithin}
-use Rattle.pair_table.proofs.Filling.{refilled_none, refilled_here, refilled_more, filled_whole}
+use Rattle.measure_core.proofs.Filling.{refilled_none, refilled_here, refilled_more, filled_whole}
 use Rattle.pair_table.proofs.sums.take_cells_back.Goals as goal
 
 abbrev nothing : Totals

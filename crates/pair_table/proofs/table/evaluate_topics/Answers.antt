@@ -3,7 +3,7 @@ use Rattle.desk_model.specs.Desk.{topics_under}
 use Rattle.desk_model.proofs.DeskTopics.{length-topics_under}
 use Rattle.pair_table.specs.Kept.{TopicNumbers, AreTopicNumbers, numbers_on, topic_at}
 use Rattle.pair_table.proofs.DeskTopics.{topic_at_there}
-use Rattle.pair_table.proofs.Filling.{refilled_none, refilled_here, refilled_more, filled_whole}
+use Rattle.measure_core.proofs.Filling.{refilled_none, refilled_here, refilled_more, filled_whole}
 use Rattle.pair_table.proofs.table.evaluate_topics.Goals as goal
 
 pub loop-topic-init : goal.loop-topic-init

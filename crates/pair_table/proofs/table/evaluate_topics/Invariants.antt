@@ -3,7 +3,7 @@ use Rattle.desk_model.specs.Desk.{topics_under}
 use Rattle.desk_model.specs.Pairs.{pairs_of}
 use Rattle.pair_table.specs.Kept.{AreTopicNumbers, numbers_on}
 use Rattle.pair_table.specs.Sums.{run_numbers}
-use Rattle.pair_table.proofs.Filling.{IsRefilled}
+use Rattle.measure_core.proofs.Filling.{IsRefilled}
 use Rattle.pair_table.proofs.table.evaluate_topics.Given as goal
 
 abbrev pub invariant-loop-topic : goal.invariant-loop-topic

@@ -2,7 +2,7 @@ use Rattle.std.proofs.Common.{get_or, pos, arith}
 use Rattle.std.proofs.lemmas.Option.{slice_get-get_or}
 use Rattle.desk_model.specs.Verdict.{verdict}
 use Rattle.desk_model.specs.declared.types.Totals.{Totals}
-use Rattle.pair_table.proofs.Filling.{filled_none, filled_more, filled_whole}
+use Rattle.measure_core.proofs.Filling.{filled_none, filled_more, filled_whole}
 use Rattle.pair_table.proofs.table.fill_verdicts.Goals as goal
 
 pub loop-place-init : goal.loop-place-init

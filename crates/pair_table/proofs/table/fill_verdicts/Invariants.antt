@@ -1,5 +1,5 @@
 use Rattle.desk_model.specs.Verdict.{verdict}
-use Rattle.pair_table.proofs.Filling.{IsFilled}
+use Rattle.measure_core.proofs.Filling.{IsFilled}
 use Rattle.pair_table.proofs.table.fill_verdicts.Given as goal
 
 abbrev pub invariant-loop-place : goal.invariant-loop-place

@@ -11,7 +11,8 @@ use Rattle.pair_table.specs.Kept.{TopicNumbers, AreTopicNumbers, kept_totals, ke
 use Rattle.pair_table.specs.Sums.{run_numbers, pair_sums}
 use Rattle.pair_table.proofs.Changing.{made_stands}
 use Rattle.pair_table.proofs.Keeping.{constant, kept_again, kept_along, length-all_numbers}
-use Rattle.pair_table.proofs.PairNumbers.{length-pairs, length-pairs_of, length-run_numbers}
+use Rattle.measure_core.proofs.RunPairs.{length-run_numbers}
+use Rattle.pair_table.proofs.PairNumbers.{length-pairs, length-pairs_of}
 use Rattle.pair_table.proofs.table.Table.new.Goals as goal
 
 pub evaluate_topics-requires-clause-cells : goal.evaluate_topics-requires-clause-cells
