@@ -2,16 +2,18 @@ ghost use Rattle.std.specs.Prelude.{◌≡◌, ◌≤◌, length, IfOk};
 ghost use Rattle.desk_model.specs.Limits.{DEPTH_LIMIT, DOCUMENT_LIMIT};
 ghost use Rattle.desk_model.specs.Completion.{with_picked};
 ghost use Rattle.desk_model.specs.Ranking.{IsRanking};
-ghost use Rattle.desk_model.specs.Extremes.{AreExtremes, AreBounds};
+ghost use Rattle.desk_model.specs.Extremes.{AreBounds};
 ghost use Rattle.desk_model.specs.MeasureText.{IsMeasure};
 ghost use Rattle.desk_model.specs.declared.types.MeasureName.TheVariants.{Precision as P};
 ghost use Rattle.measure_laws.specs.Prefixes.{only_second};
 ghost use Rattle.measure_core.specs.Laws.{AreValues};
 ghost use Rattle.measure_core.specs.Made.{IsMadeFor};
 
+use crate::own::cell_between;
 use desk_model::{Mark, MeasureName, Memory, Ranking};
 use fractions::Span;
-use measure_core::{Cell, Measure, Shift, Steps};
+use measure_core::{Cell, CellRoom, KeptCell, Measure, Shift, Steps, TopicRankings};
+use own_cells::own_cells;
 use std::alloc::Global;
 use std::marker::Model;
 use std::sync::ledger::Ledger;
@@ -22,7 +24,7 @@ use weight_walks::shift_one_side;
 /// documents.
 #[derive(Debug, Drop)]
 pub struct Precision {
-    k: u32,
+    pub(crate) k: u32,
 }
 
 impl Model for Precision {
@@ -47,22 +49,6 @@ impl Precision {
         Precision { k }
     }
 
-    /// k times the least and the greatest difference of the first run's score and the second's, over
-    /// every completion of the marks.
-    fn extremes(&self, first: &Ranking, second: &Ranking, marks: &[Mark]) -> (i64, i64)
-        requires first { IsRanking (length marks.now) first.now }
-        requires second { IsRanking (length marks.now) second.now }
-        ensures ends { AreExtremes (P self.now) self.now marks.now first.now second.now
-            (record { least_lo = result.0; least_hi = result.0; most_lo = result.1; most_hi = result.1 }) }
-        ensures depth { IsMeasure (P self.now) }
-    {
-        let own = own_counts(self.k, first, second, marks);
-        (
-            own.first.least() - own.second.most(),
-            own.first.most() - own.second.least(),
-        )
-    }
-
     /// k times the least and the greatest score of a run, over every completion of the marks.
     fn range(&self, run: &Ranking, marks: &[Mark]) -> (i64, i64)
         requires { IsRanking (length marks.now) run.now }
@@ -72,15 +58,6 @@ impl Precision {
         let prefix = prefix_documents(self.k, run, marks);
         (prefix.least(), prefix.most())
     }
-}
-
-/// One number as both ends.
-fn point(number: i64) -> Span
-    ensures lo { result.lo ≡ number }
-    ensures hi { result.hi ≡ number }
-{
-    let end = i128::from(number);
-    Span { lo: end, hi: end }
 }
 
 /// Whether each document is relevant, where of the unjudged ones exactly those of the second run's
@@ -137,11 +114,21 @@ impl Measure for Precision {
         steps: &mut Steps<L>,
     ) -> Cell {
         steps.tick();
-        let (least, most) = self.extremes(a, b, marks);
-        Cell {
-            least: point(least),
-            most: point(most),
+        cell_between(own_counts(self.k, a, b, marks))
+    }
+
+    fn cells<L: Ledger>(
+        &self,
+        rankings: &TopicRankings<'_>,
+        marks: &[Mark],
+        room: &mut CellRoom,
+        cells: &mut [KeptCell],
+        steps: &mut Steps<L>,
+    ) {
+        if own_cells(self, rankings, marks, room, cells, steps) {
+            return;
         }
+        self.each_cell(rankings, marks, cells, steps);
     }
 
     fn bounds(&self, a: &Ranking, marks: &[Mark]) -> Span {

@@ -2,6 +2,7 @@
 //! all relevant documents of the topic.
 #![tactic(auto)]
 
+mod own;
 pub mod recall;
 
 pub use recall::Recall;

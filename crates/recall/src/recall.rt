@@ -13,7 +13,8 @@ ghost use Rattle.recall.specs.LeastCase.{AreCounts, least_relevant};
 
 use desk_model::{Mark, MeasureName, Memory, Ranking};
 use fractions::{Span, span_of};
-use measure_core::{Cell, Measure, Shift, Steps};
+use measure_core::{Cell, CellRoom, KeptCell, Measure, Shift, Steps, TopicRankings};
+use own_cells::{OwnMeasure, own_cells};
 use std::alloc::Global;
 use std::marker::Model;
 use std::sync::ledger::Ledger;
@@ -27,7 +28,7 @@ const UNIT: i128 = 1_000_000_000_000_000_000;
 /// The measure `recall_k`, for a k from 1 to 10,000. Its unit is 10^18.
 #[derive(Debug, Drop)]
 pub struct Recall {
-    k: u32,
+    pub(crate) k: u32,
 }
 
 impl Model for Recall {
@@ -70,7 +71,7 @@ fn relevant_documents(first: Counts, second: Counts, all: Counts) -> u32
 
 /// The ends of the least difference, in units, from the counts of the documents that one run alone
 /// has among its first k, of those that the other has, and of all documents.
-fn least_span(first: Counts, second: Counts, all: Counts) -> Span
+pub(crate) fn least_span(first: Counts, second: Counts, all: Counts) -> Span
     requires first { first.relevant + first.unjudged ≤ RANK_LIMIT }
     requires second { second.relevant + second.unjudged ≤ RANK_LIMIT }
     requires all { all.relevant + all.unjudged ≤ DOCUMENT_LIMIT }
@@ -173,11 +174,21 @@ impl Measure for Recall {
     ) -> Cell {
         steps.tick();
         let own = own_counts(self.k, a, b, marks);
-        let all = all_documents(marks);
-        Cell {
-            least: least_span(own.first, own.second, all),
-            most: least_span(own.second, own.first, all).negate(),
+        self.own_cell(own, all_documents(marks))
+    }
+
+    fn cells<L: Ledger>(
+        &self,
+        rankings: &TopicRankings<'_>,
+        marks: &[Mark],
+        room: &mut CellRoom,
+        cells: &mut [KeptCell],
+        steps: &mut Steps<L>,
+    ) {
+        if own_cells(self, rankings, marks, room, cells, steps) {
+            return;
         }
+        self.each_cell(rankings, marks, cells, steps);
     }
 
     fn bounds(&self, a: &Ranking, marks: &[Mark]) -> Span {

@@ -4,3 +4,4 @@ pub mod Prefixes
 pub mod Walk
 pub mod Own
 pub mod MarkCounts
+pub mod Seen

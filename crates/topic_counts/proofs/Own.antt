@@ -7,13 +7,8 @@ use Rattle.desk_model.specs.declared.types.Mark.{Mark}
 use Rattle.desk_model.proofs.Counts.{count_by-split, count_by-swap, IsDistinct-take}
 use Rattle.measure_laws.proofs.LeastDifferences.{only_more}
 use Rattle.topic_counts.specs.declared.counts.Counts.{Counts}
+use Rattle.topic_counts.specs.Seen.{ArePrefix}
 use Rattle.topic_counts.specs.Own.{shared_count, AreOwn}
-
--- the counts of a ranking's first k documents
-pub record ArePrefix (k : ℕ) (marks : List Mark) (a : List ℕ) (counts : Counts) : Type 0 where
-  pub least : counts.relevant ≡ prefix_count false k marks a
-  pub most : counts.relevant + counts.unjudged ≡ prefix_count true k marks a
-  pub few : counts.relevant + counts.unjudged ≤ 10000
 
 -- the counts of those that are among another's first k too
 pub record AreShared (k : ℕ) (marks : List Mark) (a b : List ℕ) (counts : Counts) : Type 0 where

@@ -43,7 +43,7 @@ impl Counts {
     }
 
     /// Without some of them.
-    fn without(self, some: Counts) -> Counts
+    pub fn without(self, some: Counts) -> Counts
         requires relevant { some.relevant ≤ self.relevant }
         requires unjudged { some.unjudged ≤ self.unjudged }
         ensures relevant { result.relevant + some.relevant ≡ self.relevant }
@@ -82,7 +82,7 @@ pub struct OwnCounts {
 const LOOKED_UP: u32 = 256;
 
 /// The first k documents, or all where there are fewer.
-fn prefix(docs: &[u32], k: u32) -> &[u32]
+pub fn prefix(docs: &[u32], k: u32) -> &[u32]
     ensures { result.now ≡ take k docs.now }
 {
     &docs[..docs.len().min(k as usize)]

@@ -3,6 +3,7 @@
 #![tactic(auto)]
 
 pub mod counts;
+pub mod marked;
 pub mod pairs;
 pub mod ranks;
 pub mod shared;

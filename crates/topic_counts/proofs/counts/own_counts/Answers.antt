@@ -1,4 +1,5 @@
-use Rattle.topic_counts.proofs.Own.{ArePrefix, AreShared, shared_swapped, fewer_relevant, fewer_unjudged, own_is}
+use Rattle.topic_counts.specs.Seen.{ArePrefix}
+use Rattle.topic_counts.proofs.Own.{AreShared, shared_swapped, fewer_relevant, fewer_unjudged, own_is}
 use Rattle.topic_counts.proofs.counts.own_counts.Goals as goal
 
 pub without-requires-clause-relevant : goal.without-requires-clause-relevant

@@ -1,0 +1,2 @@
+pub mod NextPair
+pub mod Telling

@@ -1,0 +1,14 @@
+-- Going over the pairs run by run.
+use Rattle.std.proofs.Common.{◌≡◌, ◌≢◌, ℕ, ◌+◌, ◌<◌, Bool, true, false, refl, arith}
+use Rattle.std.specs.Prelude.{nat_lt, if◌then◌else◌}
+use Rattle.desk_model.specs.Pairs.{places_after}
+use Rattle.desk_model.specs.declared.pairs.PairPlaces.{PairPlaces}
+
+-- the next pair is of the same first run, or the first of the next run
+next_first : (at : PairPlaces) (b : Bool) (P : ℕ → Type 0) → P at.first →
+    (let next : PairPlaces = (if b then record { first = at.first; second = at.second + 1 } else record { first = at.first + 1; second = at.first + 2 }) in next.first + 1 ≢ next.second → P next.first)
+next_first at true P h = λ _. h
+next_first at false P h = λ apart. absurd (apart (omega arith))
+
+pub next_seen : (n : ℕ) (at : PairPlaces) (P : ℕ → Type 0) → P at.first → (places_after n at).first + 1 ≢ (places_after n at).second → P (places_after n at).first
+next_seen n at P h = next_first at (nat_lt (at.second + 1) n) P h
