@@ -1,7 +1,7 @@
 use crate::any::AnyMeasure;
 use desk_model::{Mark, MeasureName, Memory, Ranking};
 use fractions::Span;
-use measure_core::{Cell, Measure, Shift, Steps};
+use measure_core::{Cell, CellRoom, KeptCell, Measure, Shift, Steps, TopicRankings};
 use std::alloc::Global;
 use std::sync::ledger::Ledger;
 
@@ -47,6 +47,23 @@ impl Measure for AnyMeasure {
             AnyMeasure::RPrecision(m) => m.cell(a, b, marks, steps),
             AnyMeasure::Reciprocal(m) => m.cell(a, b, marks, steps),
             AnyMeasure::Biased(m) => m.cell(a, b, marks, steps),
+        }
+    }
+
+    fn cells<L: Ledger>(
+        &self,
+        rankings: &TopicRankings<'_>,
+        marks: &[Mark],
+        room: &mut CellRoom,
+        cells: &mut [KeptCell],
+        steps: &mut Steps<L>,
+    ) {
+        match self {
+            AnyMeasure::Precision(m) => m.cells(rankings, marks, room, cells, steps),
+            AnyMeasure::Recall(m) => m.cells(rankings, marks, room, cells, steps),
+            AnyMeasure::RPrecision(m) => m.cells(rankings, marks, room, cells, steps),
+            AnyMeasure::Reciprocal(m) => m.cells(rankings, marks, room, cells, steps),
+            AnyMeasure::Biased(m) => m.cells(rankings, marks, room, cells, steps),
         }
     }
 

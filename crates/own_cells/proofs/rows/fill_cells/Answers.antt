@@ -31,9 +31,12 @@ own_by_marks-own-requires g c =
     let t = c.args.rankings.now in
     let at = c.loop-place.at in
     let second = at_within (runs_on t) c.loop-place.place at c.loop-place.invariant.at_pair (omega (arith, c.requires.count)) in
-    let first : at.first < runs_on t = omega (arith, second, c.loop-place.invariant.at_pair.placed.order) in
-    (c.args.marks.now, ranking_on t at.first, kept_at c.depth-k.result _ c.args.marks.now t at.first at.second c.ranking.result.now c.depth-k.ensures c.ranking.ensures c.requires.met first second
-    c.args.counts.now (record { relevant = 0; unjudged = 0 }) c.see_first.new.seen c.requires.counts c.see_first.ensures.seen)
+    let first : at.first < runs_on t = omega (arith, second, c.loop-place.invariant.at_pair.placed.order) in (
+      c.args.marks.now,
+      ranking_on t at.first,
+      kept_at c.depth-k.result _ c.args.marks.now t at.first at.second c.ranking.result.now c.depth-k.ensures c.ranking.ensures c.requires.met first second
+          c.args.counts.now (record { relevant = 0; unjudged = 0 }) c.see_first.new.seen c.requires.counts c.see_first.ensures.seen,
+    )
 
 pub own_cell-requires : goal.own_cell-requires
 own_cell-requires g c =
@@ -43,10 +46,14 @@ own_cell-requires g c =
     let second = at_within (runs_on t) c.loop-place.place at c.loop-place.invariant.at_pair (omega (arith, c.requires.count)) in
     let first : at.first < runs_on t = omega (arith, second, c.loop-place.invariant.at_pair.placed.order) in
     let kept = kept_at c.depth-k.result _ marks t at.first at.second c.ranking.result.now c.depth-k.ensures c.ranking.ensures c.requires.met first second
-    c.args.counts.now (record { relevant = 0; unjudged = 0 }) c.see_first.new.seen c.requires.counts c.see_first.ensures.seen in
-    (marks, ranking_on t at.first, ranking_on t at.second, told_at c.depth-k.result _ marks t at.first at.second c.ranking.result.now c.depth-k.ensures c.ranking.ensures c.requires.met first second
-    c.own_by_marks-own.result c.all_documents-all.result (c.own_by_marks-own.ensures.first marks (ranking_on t at.first) kept) (c.own_by_marks-own.ensures.second marks (ranking_on t at.first) kept)
-    c.all_documents-all.ensures.least c.all_documents-all.ensures.most c.all_documents-all.ensures.few)
+    c.args.counts.now (record { relevant = 0; unjudged = 0 }) c.see_first.new.seen c.requires.counts c.see_first.ensures.seen in (
+      marks,
+      ranking_on t at.first,
+      ranking_on t at.second,
+      told_at c.depth-k.result _ marks t at.first at.second c.ranking.result.now c.depth-k.ensures c.ranking.ensures c.requires.met first second
+          c.own_by_marks-own.result c.all_documents-all.result (c.own_by_marks-own.ensures.first marks (ranking_on t at.first) kept) (c.own_by_marks-own.ensures.second marks (ranking_on t at.first) kept)
+          c.all_documents-all.ensures.least c.all_documents-all.ensures.most c.all_documents-all.ensures.few,
+    )
 
 pub loop-place-preserved : goal.loop-place-preserved
 loop-place-preserved g c =

@@ -4,14 +4,18 @@ use Rattle.recall.proofs.recall.RecallMeasure.cell.Goals as goal
 
 pub own_cell-requires : goal.own_cell-requires
 own_cell-requires g c =
-    let k : c.args.self.now ≡ c.self.inside.k = cc in
-    (c.args.marks.now, c.args.a.now, c.args.b.now, rw k (record {
-      met = c.requires;
-      first = c.own_counts-own.ensures.first;
-      second = c.own_counts-own.ensures.second;
-      topic = record { least = c.all_documents.ensures.least; most = c.all_documents.ensures.most };
-      few = omega (arith, c.all_documents.ensures.few, c.requires.small);
-    }))
+    let k : c.args.self.now ≡ c.self.inside.k = cc in (
+      c.args.marks.now,
+      c.args.a.now,
+      c.args.b.now,
+      rw k (record {
+        met = c.requires;
+        first = c.own_counts-own.ensures.first;
+        second = c.own_counts-own.ensures.second;
+        topic = record { least = c.all_documents.ensures.least; most = c.all_documents.ensures.most };
+        few = omega (arith, c.all_documents.ensures.few, c.requires.small);
+      }),
+    )
 
 pub returns-clause-cell : goal.returns-clause-cell
 returns-clause-cell g c =
