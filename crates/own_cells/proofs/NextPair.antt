@@ -1,5 +1,5 @@
 -- Going over the pairs run by run.
-use Rattle.std.proofs.Common.{◌≡◌, ◌≢◌, ℕ, ◌+◌, ◌<◌, Bool, true, false, refl, arith}
+use Rattle.std.proofs.Common.{◌≢◌, ℕ, ◌+◌, Bool, true, false, arith}
 use Rattle.std.specs.Prelude.{nat_lt, if◌then◌else◌}
 use Rattle.desk_model.specs.Pairs.{places_after}
 use Rattle.desk_model.specs.declared.pairs.PairPlaces.{PairPlaces}

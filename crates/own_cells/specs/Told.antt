@@ -1,5 +1,5 @@
 -- What the cells of a topic are found by.
-use Rattle.std.specs.Prelude.{◌≡◌, ◌≢◌, ℕ, ◌+◌, ◌<◌, ◌≤◌, true, false, List, length, take, slice_index_or}
+use Rattle.std.specs.Prelude.{◌≢◌, ℕ, ◌+◌, ◌<◌, ◌≤◌, true, false, List, length, take, slice_index_or}
 use Rattle.desk_model.specs.Completion.{with_picked}
 use Rattle.desk_model.specs.Limits.{DOCUMENT_LIMIT}
 use Rattle.desk_model.specs.Score.{true_count}

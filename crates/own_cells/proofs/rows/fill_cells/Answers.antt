@@ -1,4 +1,4 @@
-use Rattle.std.proofs.Common.{◌≡◌, ◌+◌, ◌<◌, ℕ, List, take, get_or, sym, subst, ◌∙◌, arith}
+use Rattle.std.proofs.Common.{◌<◌, ℕ, List, take, sym, subst, ◌∙◌, arith}
 use Rattle.desk_model.specs.Pairs.{pairs_of}
 use Rattle.measure_core.specs.Laws.{CellIsModest}
 use Rattle.measure_core.specs.Pairs.{ranking_on, run_numbers, runs_on}

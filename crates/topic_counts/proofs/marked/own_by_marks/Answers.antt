@@ -1,4 +1,4 @@
-use Rattle.std.proofs.Common.{◌≡◌, ◌+◌, true, false, List, ℕ, take}
+use Rattle.std.proofs.Common.{◌≡◌, ◌+◌, true, false, List, ℕ}
 use Rattle.desk_model.specs.Classes.{prefix_count}
 use Rattle.desk_model.specs.declared.types.Mark.{Mark}
 use Rattle.topic_counts.specs.Seen.{AreKept}
