@@ -36,7 +36,9 @@ impl AnyMeasure {
             MeasureName::Precision(k) => Ok(AnyMeasure::Precision(Precision::new(k))),
             MeasureName::Recall(k) => Ok(AnyMeasure::Recall(Recall::new(k))),
             MeasureName::RPrecision => Ok(AnyMeasure::RPrecision(Rprec::new())),
-            MeasureName::Reciprocal => Ok(AnyMeasure::Reciprocal(RecipRank::new())),
+            MeasureName::Reciprocal => {
+                Ok(AnyMeasure::Reciprocal(RecipRank::with_worths(alloc)?))
+            }
             MeasureName::Biased { top, bottom } => {
                 Ok(AnyMeasure::Biased(Rbp::new(alloc, top, bottom)?))
             }

@@ -1,8 +1,10 @@
 -- The persistence of a measure, and the terms of its sums.
-use Rattle.std.specs.Prelude.{◌≡◌, ℕ, ◌<◌, ◌^◌, pos, neg_ℤ, ◌≤ℤ◌}
+use Rattle.std.specs.Prelude.{◌≡◌, ℕ, ◌<◌, ◌^◌, List, pos, neg_ℤ, ◌≤ℤ◌}
 use Rattle.desk_model.specs.Limits.{RANK_LIMIT}
 use Rattle.desk_model.specs.MeasureText.{IsPersistence}
 use Rattle.fractions.specs.Places.{Known}
+use Rattle.measure_laws.specs.Powers.{low_weight}
+use Rattle.weight_walks.specs.Worths.{AreWorths}
 use Rattle.fractions.specs.declared.span.Span.{Span}
 
 -- top over bottom
@@ -10,13 +12,14 @@ pub record Persistence : Type 0 where
   pub top : ℕ
   pub bottom : ℕ
 
--- the kept powers are those of the persistence, up to the 10,000th
-pub record AreKnownPowers (top bottom : ℕ) (known : Known) : Type 0 where
+-- the kept powers are those of the persistence, up to the 10,000th, and ranks are worth their weights rounded down
+pub record AreKnown (top bottom : ℕ) (known : Known) (worths : List ℕ) : Type 0 where
   pub persistence : IsPersistence top bottom
   pub below : top < bottom
   pub top_is : known.top ≡ top
   pub bottom_is : known.bottom ≡ bottom
   pub last_is : known.last ≡ RANK_LIMIT
+  pub worths_are : AreWorths (low_weight top bottom) worths
 
 -- from -10^27 to 10^27
 abbrev pub IsLoose : Span → Type 0

@@ -11,6 +11,7 @@ ghost use Rattle.desk_model.specs.MeasureText.{IsPersistence};
 ghost use Rattle.desk_model.specs.declared.types.MeasureName.TheVariants.{Biased as B};
 
 use crate::corrections::{Shares, alone};
+use crate::weights::low_weights;
 use desk_model::{Mark, MeasureName, Memory, Ranking};
 use fractions::{Powers, Span};
 use measure_core::{Cell, Measure, Shift, Steps};
@@ -30,16 +31,18 @@ pub struct Rbp {
     pub(crate) top: u32,
     pub(crate) bottom: u32,
     pub(crate) powers: Powers,
+    // The weight of each rank rounded down, by the rank: what it is worth in totals.
+    pub(crate) worths: Vec<u64>,
 }
 
 impl Model for Rbp {
-    ghost use Rattle.rbp.specs.Persistence.{Persistence, AreKnownPowers};
+    ghost use Rattle.rbp.specs.Persistence.{Persistence, AreKnown};
 
     ghost Value = { Persistence };
 
     ghost view = { λ r. record { top = r.top; bottom = r.bottom } };
 
-    ghost invariant = { λ r. AreKnownPowers r.top r.bottom r.powers };
+    ghost invariant = { λ r. AreKnown r.top r.bottom r.powers r.worths.items };
 }
 
 /// Whether a rank comes before another, where an absent one comes last.
@@ -86,10 +89,12 @@ impl Rbp {
         ensures made { IfOk result (λ r. IsMadeFor (B top bottom) (⟦<Rbp as Measure>⟧.measured r) (⟦<Rbp as Measure>⟧.cell_of r) (⟦<Rbp as Measure>⟧.bounds_of r)) }
     {
         let powers = Powers::new(alloc, top, bottom, 10000)?;
+        let worths = low_weights(alloc, &powers)?;
         Ok(Rbp {
             top,
             bottom,
             powers,
+            worths,
         })
     }
 

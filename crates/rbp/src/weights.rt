@@ -1,16 +1,18 @@
 // The weights of a run's documents, and what is left for the places after them.
-ghost use Rattle.std.specs.Prelude.{◌≡◌, ◌-◌, ◌≤◌, ◌<◌, ◌≤ℤ◌, true, false, pos, length, All, Some};
+ghost use Rattle.std.specs.Prelude.{◌≡◌, ◌-◌, ◌≤◌, ◌<◌, ◌≤ℤ◌, true, false, pos, length, All, Some, IfOk};
 ghost use Rattle.measure_laws.specs.Ranks.{IsRankWithin};
 ghost use Rattle.measure_laws.specs.Powers.{low_weight, high_weight, low_power, high_power};
 ghost use Rattle.measure_laws.specs.Shares.{low_worth, high_worth};
 ghost use Rattle.rbp.specs.Persistence.{IsLoose};
+ghost use Rattle.weight_walks.specs.Worths.{AreWorths};
 ghost use Rattle.rbp.specs.Walk.{number_of};
 ghost use Rattle.desk_model.specs.Limits.{PARTS_OF_ONE, RANK_LIMIT};
 
 use crate::rbp::Rbp;
-use desk_model::Mark;
-use fractions::Span;
-use weight_walks::RankWeight;
+use desk_model::{Mark, Memory};
+use fractions::{Powers, Span};
+use std::alloc::Global;
+use weight_walks::{RankWorth, rank_or_none, worths_of};
 
 /// The sums of the weights of a run's relevant documents, and of its relevant and unjudged ones.
 #[derive(Clone, Copy)]
@@ -78,18 +80,6 @@ impl Rbp {
         }
     }
 
-    /// The weight of a rank rounded down, and none of an absent one.
-    #[inline]
-    fn low_at(&self, rank: Option<u32>) -> u64
-        requires { IsRankWithin RANK_LIMIT rank }
-        ensures { result ≡ low_weight self.now.top self.now.bottom rank }
-    {
-        match rank {
-            None => 0,
-            Some(rank) => self.parts_at(rank).low,
-        }
-    }
-
     /// The sums of the weights of a run's documents.
     pub fn weights(&self, marks: &[Mark], docs: &[u32]) -> Weights
         requires known { All (λ doc. doc < length marks.now) docs.now }
@@ -138,16 +128,48 @@ impl Rbp {
     }
 }
 
-impl RankWeight for Rbp {
+/// What ranks are worth: their weights rounded down, by the powers of a persistence.
+#[derive(Clone, Copy)]
+struct LowWeights<'a> {
+    powers: &'a Powers,
+    ghost known: { powers.now.last ≡ RANK_LIMIT },
+    ghost below: { powers.now.top < powers.now.bottom },
+}
+
+impl RankWorth for LowWeights<'_> {
     ghost use Rattle.std.specs.Prelude.{refl};
-    ghost use Rattle.std.specs.Int.{abs_diff};
     ghost use Rattle.measure_laws.specs.Powers.{low_weight};
 
-    ghost weigh = { λ r x y. abs_diff (low_weight r.top r.bottom x) (low_weight r.top r.bottom y) };
+    ghost worth = { λ w. low_weight w.powers.now.top w.powers.now.bottom };
+
+    fn worth_at(&self, rank: u32) -> u64 {
+        match rank_or_none(rank) {
+            None => 0,
+            Some(rank) => self.powers.weight(rank).lo as u64,
+        }
+    }
+
+    ghost absent = { λ _. refl };
+}
+
+/// The weight of each rank, rounded down, by the rank.
+pub fn low_weights(alloc: Global, powers: &Powers) -> Result<Vec<u64>, Memory>
+    requires last { powers.now.last ≡ RANK_LIMIT }
+    requires below { powers.now.top < powers.now.bottom }
+    ensures { IfOk result (λ worths. AreWorths (low_weight powers.now.top powers.now.bottom) worths.items) }
+{
+    worths_of(alloc, &LowWeights { powers })
+}
+
+impl RankWorth for Rbp {
+    ghost use Rattle.std.specs.Prelude.{refl};
+    ghost use Rattle.measure_laws.specs.Powers.{low_weight};
+
+    ghost worth = { λ r. low_weight r.top r.bottom };
 
     #[inline]
-    fn weight_at(&self, first: Option<u32>, second: Option<u32>) -> u64 {
-        self.low_at(first).abs_diff(self.low_at(second))
+    fn worth_at(&self, rank: u32) -> u64 {
+        self.worths[rank as usize]
     }
 
     ghost absent = { λ _. refl };

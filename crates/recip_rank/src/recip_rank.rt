@@ -1,4 +1,4 @@
-ghost use Rattle.std.specs.Prelude.{◌≡◌, ◌≤◌, length, IfOk};
+ghost use Rattle.std.specs.Prelude.{◌≡◌, ◌≤◌, true, length, IfOk};
 ghost use Rattle.desk_model.specs.Limits.{DOCUMENT_LIMIT, RANK_LIMIT};
 ghost use Rattle.desk_model.specs.declared.types.MeasureName.TheVariants.{Reciprocal as R};
 ghost use Rattle.measure_laws.specs.Ranks.{IsRankWithin};
@@ -14,24 +14,55 @@ use desk_model::{Mark, MeasureName, Memory, Ranking};
 use fractions::Span;
 use measure_core::{Cell, Measure, Shift, Steps};
 use std::alloc::Global;
+use std::marker::Model;
 use std::sync::ledger::Ledger;
 use topic_counts::ranks::rank_in;
 use topic_counts::topic::is_true;
-use weight_walks::{RankWeight, shift_by_ranks};
+use weight_walks::{RankWorth, rank_or_none, shift_by_ranks, worths_of};
 
 /// How many units make a score of 1.
 const UNIT: u64 = 1_000_000_000_000_000_000;
 
 /// The measure `recip_rank`. Its unit is 10^18.
-#[derive(Debug, Drop)]
-pub struct RecipRank;
+#[derive(Drop)]
+pub struct RecipRank {
+    // What each rank is worth, by the rank, where it is kept.
+    worths: Option<Vec<u64>>,
+}
+
+impl Model for RecipRank {
+    ghost use Rattle.std.specs.Prelude.{Bool, is_some, IfSome};
+    ghost use Rattle.measure_laws.specs.Weights.{reciprocal_weight};
+    ghost use Rattle.weight_walks.specs.Worths.{AreWorths};
+
+    ghost Value = { Bool };
+
+    ghost view = { λ r. is_some r.worths };
+
+    ghost invariant = { λ r. IfSome r.worths (λ worths. AreWorths reciprocal_weight worths.items) };
+}
 
 impl RecipRank {
-    /// The measure, whose cells and bounds are the floors and ceilings of the extremes.
+    /// The measure, whose cells and bounds are the floors and ceilings of the extremes. It takes no memory, and divides
+    /// for each weight.
     pub fn new() -> RecipRank
         ensures { IsMadeFor R (⟦<RecipRank as Measure>⟧.measured result) (⟦<RecipRank as Measure>⟧.cell_of result) (⟦<RecipRank as Measure>⟧.bounds_of result) }
     {
-        RecipRank
+        RecipRank { worths: None }
+    }
+
+    /// The same measure, which keeps what each rank is worth, so that totals are shifted without a division.
+    ///
+    /// # Errors
+    /// `Memory`: out of memory.
+    pub fn with_worths(alloc: Global) -> Result<RecipRank, Memory>
+        ensures made { IfOk result (λ r. IsMadeFor R (⟦<RecipRank as Measure>⟧.measured r) (⟦<RecipRank as Measure>⟧.cell_of r) (⟦<RecipRank as Measure>⟧.bounds_of r)) }
+        ensures kept { IfOk result (λ r. r ≡ true) }
+    {
+        let worths = worths_of(alloc, &RecipRank::new())?;
+        Ok(RecipRank {
+            worths: Some(worths),
+        })
     }
 }
 
@@ -80,16 +111,18 @@ fn values(alloc: Global, choice: Option<u32>, marks: &[Mark]) -> Result<Vec<bool
     Ok(values)
 }
 
-impl RankWeight for RecipRank {
+impl RankWorth for RecipRank {
     ghost use Rattle.std.specs.Prelude.{refl};
-    ghost use Rattle.std.specs.Int.{abs_diff};
     ghost use Rattle.measure_laws.specs.Weights.{reciprocal_weight};
 
-    ghost weigh = { λ _ x y. abs_diff (reciprocal_weight x) (reciprocal_weight y) };
+    ghost worth = { λ _. reciprocal_weight };
 
     #[inline]
-    fn weight_at(&self, first: Option<u32>, second: Option<u32>) -> u64 {
-        worth(first).abs_diff(worth(second))
+    fn worth_at(&self, rank: u32) -> u64 {
+        match &self.worths {
+            Some(worths) => worths[rank as usize],
+            None => worth(rank_or_none(rank)),
+        }
     }
 
     ghost absent = { λ _. refl };
@@ -164,7 +197,9 @@ impl Measure for RecipRank {
     }
 
     fn weight(&self, a: &Ranking, b: &Ranking, _marks: &[Mark], doc: u32) -> u128 {
-        u128::from(self.weight_at(rank_in(a, doc), rank_in(b, doc)))
+        let first = worth(rank_in(a, doc));
+        let second = worth(rank_in(b, doc));
+        u128::from(first.abs_diff(second))
     }
 
     fn shift_weights(

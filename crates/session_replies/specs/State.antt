@@ -1,6 +1,6 @@
 -- What a session keeps between its lines.
 pub use Rattle.pair_reports.specs.Reports.{cells_of}
-use Rattle.std.specs.Prelude.{◌≡◌, ℕ, ◌*◌, ◌+◌, ◌≤◌, List, length, map, codes, Option, None, Some, IfSome}
+use Rattle.std.specs.Prelude.{◌≡◌, ℕ, ◌*◌, ◌+◌, ◌≤◌, List, length, map, codes, Option, None, Some, IfSome, IsSome}
 use Rattle.desk_model.specs.Desk.{Desk, pair_count}
 use Rattle.desk_model.specs.MeasureText.{IsMeasure}
 use Rattle.desk_model.specs.Pairs.{pairs_of}
@@ -81,6 +81,11 @@ pub record IsReady {M : Type 0} (n : Numbers M) (s : Setting) (kept : Judging M)
   pub marked : kept.marks ≡ marks_after s kept.session
   pub table : IfSome kept.table (λ table. IsTableOn (n.name table.measure) (n.cell table.measure) (n.bound table.measure) (subject_after s kept.session) table)
   pub weights : AreWeightsFor n s.desk kept.marks kept.weights kept.table
+
+-- a table and totals that were there are still there
+pub record Keeps {M : Type 0} (old new : Judging M) : Type 0 where
+  pub table : IsSome old.table → IsSome new.table
+  pub weights : IsSome old.weights → IsSome new.weights
 
 -- the cells that a table costs, where none is there
 abbrev pub owed : {T : Type 0} → Desk → Option T → ℕ

@@ -1,5 +1,5 @@
 // Lines that judge, undo and redo.
-ghost use Rattle.std.specs.Prelude.{◌≡◌, ◌≢◌, ◌+◌, ◌<◌, ◌≤◌, ◌≤ℤ◌, [], true, length, slice_index_or, slice_set, pos, negsuc, codes, IfOk, IfSome, OnOk, OnErr};
+ghost use Rattle.std.specs.Prelude.{◌≡◌, ◌≢◌, ◌+◌, ◌<◌, ◌≤◌, ◌≤ℤ◌, [], true, length, slice_index_or, slice_set, pos, negsuc, codes, IfOk, IfSome, IsSome, OnOk, OnErr};
 ghost use Rattle.desk_model.specs.Desk.{AreMarksOf};
 ghost use Rattle.desk_model.specs.Mark.{mark_of};
 ghost use Rattle.desk_model.specs.Name.{is_name};
@@ -10,7 +10,7 @@ ghost use Rattle.desk_report.specs.Table.{ended};
 ghost use Rattle.pair_table.specs.Kept.{StandsFor, StandsElsewhere};
 ghost use Rattle.session_lines.specs.Request as lines;
 ghost use Rattle.session_replies.specs.Replies.{refusal, fault_word};
-ghost use Rattle.session_replies.specs.State.{setting_of, IsReady, Answers, CountsLine, TakesOver, AreWeightsFor, AreWeightsElsewhere, owed, pairs_in};
+ghost use Rattle.session_replies.specs.State.{setting_of, IsReady, Answers, CountsLine, Keeps, TakesOver, AreWeightsFor, AreWeightsElsewhere, owed, pairs_in};
 
 use crate::state::{Given, Judging};
 use crate::telling::refused;
@@ -52,6 +52,8 @@ fn take_over<M: Measure, L: Ledger>(
     requires totals { AreWeightsElsewhere (record { name = M.measured; cell = M.cell_of; bound = M.bounds_of }) topic desk.now marks.now weights.old table.old }
     ensures table { TakesOver (record { name = M.measured; cell = M.cell_of; bound = M.bounds_of }) desk.now marks.now table.old table.new }
     ensures totals { AreWeightsFor (record { name = M.measured; cell = M.cell_of; bound = M.bounds_of }) desk.now marks.now weights.new table.new }
+    ensures table_kept { IsSome table.old → IsSome table.new }
+    ensures totals_kept { IsSome weights.old → IsSome weights.new }
     ensures steps { steps.new + owed desk.now table.new ≤ steps.old + owed desk.now table.old + pairs_in desk.now }
 {
     if let Some(table) = table {
@@ -82,6 +84,7 @@ impl<M: Measure> Judging<M> {
             (slice_set (slice_index_or self.old.marks changed.now.topic []) changed.now.doc (mark_of changed.now.grade given.now.level))) }
         ensures table { OnOk result (TakesOver (record { name = M.measured; cell = M.cell_of; bound = M.bounds_of }) given.now.desk.now self.new.marks self.old.table self.new.table) }
         ensures totals { AreWeightsFor (record { name = M.measured; cell = M.cell_of; bound = M.bounds_of }) given.now.desk.now self.new.marks self.new.weights self.new.table }
+        ensures kept { Keeps self.old self.new }
         ensures session { self.new.session ≡ self.old.session }
         ensures line { IfOk result (λ line. line.items
             ≡ ended (changed_line word.now (book_at given.now.desk.now changed.now.topic).name (slice_index_or (book_at given.now.desk.now changed.now.topic).docs changed.now.doc []) changed.now.grade)) }
@@ -121,6 +124,7 @@ impl<M: Measure> Judging<M> {
         ensures answers { IfOk result (λ text. Answers (record { name = M.measured; cell = M.cell_of; bound = M.bounds_of }) (setting_of given.now)
             (lines.Asked (lines.Judge who.now topic.now doc.now grade)) self.old self.new text.items) }
         ensures counts { CountsLine (setting_of given.now) (lines.Asked (lines.Judge who.now topic.now doc.now grade)) self.old self.new steps.old steps.new }
+        ensures kept { Keeps self.old self.new }
         // Where memory runs out, nothing was evaluated.
         ensures stopped { OnErr result (steps.new ≡ steps.old) }
     {
@@ -147,6 +151,7 @@ impl<M: Measure> Judging<M> {
         ensures answers { IfOk result (λ text. Answers (record { name = M.measured; cell = M.cell_of; bound = M.bounds_of }) (setting_of given.now)
             (lines.Asked (lines.Undo who.now)) self.old self.new text.items) }
         ensures counts { CountsLine (setting_of given.now) (lines.Asked (lines.Undo who.now)) self.old self.new steps.old steps.new }
+        ensures kept { Keeps self.old self.new }
         // Where memory runs out, nothing was evaluated.
         ensures stopped { OnErr result (steps.new ≡ steps.old) }
     {
@@ -170,6 +175,7 @@ impl<M: Measure> Judging<M> {
         ensures answers { IfOk result (λ text. Answers (record { name = M.measured; cell = M.cell_of; bound = M.bounds_of }) (setting_of given.now)
             (lines.Asked (lines.Redo who.now)) self.old self.new text.items) }
         ensures counts { CountsLine (setting_of given.now) (lines.Asked (lines.Redo who.now)) self.old self.new steps.old steps.new }
+        ensures kept { Keeps self.old self.new }
         // Where memory runs out, nothing was evaluated.
         ensures stopped { OnErr result (steps.new ≡ steps.old) }
     {

@@ -6,7 +6,7 @@ ghost use Rattle.order_certificate.specs.Certificate.{IsLevel};
 ghost use Rattle.pair_reports.specs.Reports.{Subject, IsSubjectOf, IsNextText, AreRuns};
 ghost use Rattle.pair_table.specs.Kept.{StandsFor};
 ghost use Rattle.session_replies.specs.Replies.{refusal, subject_after, IsRunRefusal};
-ghost use Rattle.session_replies.specs.State.{setting_of, IsSetting, IsReady, IsReported, AreRunsOf, AreWeightsFor, owed, word_of, shown_text};
+ghost use Rattle.session_replies.specs.State.{setting_of, IsSetting, IsReady, Keeps, IsReported, AreRunsOf, AreWeightsFor, owed, word_of, shown_text};
 
 use crate::state::{Given, Judging};
 use crate::telling::refused;
@@ -78,6 +78,7 @@ fn prepare<P: Maker, L: Ledger>(
     requires setting { IsSetting (setting_of given.now) }
     requires ready { IsReady (record { name = P.Made.measured; cell = P.Made.cell_of; bound = P.Made.bounds_of }) (setting_of given.now) judging.old }
     ensures ready { IsReady (record { name = P.Made.measured; cell = P.Made.cell_of; bound = P.Made.bounds_of }) (setting_of given.now) judging.new }
+    ensures kept { Keeps judging.old judging.new }
     ensures session { judging.new.session ≡ judging.old.session }
     ensures table { OnOk result (IsSome judging.new.table) }
     ensures steps { steps.new + owed given.now.desk.now judging.new.table ≤ steps.old + owed given.now.desk.now judging.old.table }
@@ -151,6 +152,7 @@ pub fn make_report<P: Maker, L: Ledger>(
     requires ready { IsReady (record { name = P.Made.measured; cell = P.Made.cell_of; bound = P.Made.bounds_of }) (setting_of given.now) judging.old }
     requires runs { AreRunsOf given.now.desk.now report }
     ensures ready { IsReady (record { name = P.Made.measured; cell = P.Made.cell_of; bound = P.Made.bounds_of }) (setting_of given.now) judging.new }
+    ensures kept { Keeps judging.old judging.new }
     ensures session { judging.new.session ≡ judging.old.session }
     ensures told { IfOk result (λ text. IsReported (subject_after (setting_of given.now) judging.old.session) report text.items) }
     ensures steps { steps.new + owed given.now.desk.now judging.new.table ≤ steps.old + owed given.now.desk.now judging.old.table }
@@ -176,6 +178,7 @@ fn weigh<M: Measure>(
     requires table { StandsFor (M.cell_of table.now.measure) (M.bounds_of table.now.measure) desk.now marks.now table.now }
     requires totals { AreWeightsFor (record { name = M.measured; cell = M.cell_of; bound = M.bounds_of }) desk.now marks.now weights.old (Some table.now) }
     ensures totals { AreWeightsFor (record { name = M.measured; cell = M.cell_of; bound = M.bounds_of }) desk.now marks.now weights.new (Some table.now) }
+    ensures kept { IsSome weights.old → IsSome weights.new }
     ensures there { OnOk result (IsSome weights.new) }
 {
     if weights.is_none() {
@@ -197,6 +200,7 @@ fn next_text<M: Measure>(
     requires table { StandsFor (M.cell_of table.now.measure) (M.bounds_of table.now.measure) desk.now marks.now table.now }
     requires totals { AreWeightsFor (record { name = M.measured; cell = M.cell_of; bound = M.bounds_of }) desk.now marks.now weights.old (Some table.now) }
     ensures totals { AreWeightsFor (record { name = M.measured; cell = M.cell_of; bound = M.bounds_of }) desk.now marks.now weights.new (Some table.now) }
+    ensures kept { IsSome weights.old → IsSome weights.new }
     ensures text { IfOk result (λ text. (s : Subject) → s.marks ≡ marks.now →
         IsSubjectOf (M.measured table.now.measure) (M.cell_of table.now.measure) (M.bounds_of table.now.measure) desk.now table.now s →
         IsNextText s text.items) }
@@ -225,6 +229,7 @@ pub fn make_next<P: Maker, L: Ledger>(
     requires setting { IsSetting (setting_of given.now) }
     requires ready { IsReady (record { name = P.Made.measured; cell = P.Made.cell_of; bound = P.Made.bounds_of }) (setting_of given.now) judging.old }
     ensures ready { IsReady (record { name = P.Made.measured; cell = P.Made.cell_of; bound = P.Made.bounds_of }) (setting_of given.now) judging.new }
+    ensures kept { Keeps judging.old judging.new }
     ensures session { judging.new.session ≡ judging.old.session }
     ensures told { IfOk result (λ text. IsNextText (subject_after (setting_of given.now) judging.old.session) text.items) }
     ensures steps { steps.new + owed given.now.desk.now judging.new.table ≤ steps.old + owed given.now.desk.now judging.old.table }

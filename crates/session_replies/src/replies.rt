@@ -4,7 +4,7 @@ ghost use Rattle.session_lines.specs.Forms.{IsWithin};
 ghost use Rattle.session_lines.specs.Request as lines;
 ghost use Rattle.session_lines.specs.Request.{heard_of};
 ghost use Rattle.session_lines.specs.Said.{request_said};
-ghost use Rattle.session_replies.specs.State.{setting_of, IsSetting, IsReady, Answers, IsAnswered, CountsLine, owed};
+ghost use Rattle.session_replies.specs.State.{setting_of, IsSetting, IsReady, Answers, IsAnswered, CountsLine, Keeps, owed};
 
 use crate::comparing::{Report, find_runs, make_next, make_report, refused_runs};
 use crate::state::{Given, Judging};
@@ -39,6 +39,7 @@ fn answer<P: Maker, L: Ledger>(
     ensures answers { IfOk result (λ text. Answers (record { name = P.Made.measured; cell = P.Made.cell_of; bound = P.Made.bounds_of }) (setting_of given.now)
         (lines.Asked (request_said request.entry)) judging.old judging.new text.items) }
     ensures counts { CountsLine (setting_of given.now) (lines.Asked (request_said request.entry)) judging.old judging.new steps.old steps.new }
+    ensures kept { Keeps judging.old judging.new }
     ensures stopped { OnErr result (steps.new ≤ steps.old + owed given.now.desk.now judging.old.table) }
 {
     // The marks of a valid desk are one for each document.
@@ -98,6 +99,8 @@ pub fn reply_to<P: Maker, L: Ledger>(
     ensures answered { IfOk result (IsAnswered (record { name = P.Made.measured; cell = P.Made.cell_of; bound = P.Made.bounds_of }) (setting_of given.now)
         (heard_of line.now) judging.old judging.new) }
     ensures counts { CountsLine (setting_of given.now) (heard_of line.now) judging.old judging.new steps.old steps.new }
+    // A table and totals that were there are not thrown away, to be made anew at a later line.
+    ensures kept { Keeps judging.old judging.new }
     // Where memory runs out, at most the cells that were owed are evaluated.
     ensures stopped { OnErr result (steps.new ≤ steps.old + owed given.now.desk.now judging.old.table) }
 {

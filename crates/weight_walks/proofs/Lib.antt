@@ -1,3 +1,4 @@
 pub mod Walking
 pub mod Sides
 pub mod Alone
+pub mod Apart

@@ -1,8 +1,8 @@
 -- A walk over two lists of documents that ascend, document by document.
-use Rattle.std.proofs.Common.{◌≡◌, ◌≢◌, ◌⊎◌, inl, inr, ℕ, ◌+◌, ◌<◌, ◌≤◌, Bool, true, false, min, nat_eq, List, [], ◌∷◌, length, get_or, Option, Some, None, refl, ap, sym, ◌∙◌, subst, arith}
+use Rattle.std.proofs.Common.{◌≡◌, ◌≢◌, ◌⊎◌, inl, inr, ℕ, zero, suc, ◌+◌, ◌<◌, ◌≤◌, Bool, true, false, min, nat_eq, nat_le, List, [], ◌∷◌, drop, length, get_or, slice_index_or, Option, Some, None, refl, ap, sym, ◌∙◌, subst, arith}
 use Rattle.std.specs.Prelude.{if◌then◌else◌}
-use Rattle.std.specs.List.{AllByRecursion}
 use Rattle.std.proofs.Math.ListN.{set}
+use Rattle.std.proofs.Math.Seq.{drop-cons}
 use Rattle.std.proofs.lemmas.Bool.{eq-eqb}
 use Rattle.std.proofs.lemmas.Bool.Decides.{nat_tests}
 use Rattle.std.proofs.lemmas.List.{length-set, get_or-set_same, get_or-set_other}
@@ -11,68 +11,91 @@ use Rattle.desk_model.specs.Placed.{lookup, IsAscending}
 use Rattle.desk_model.specs.Ranking.{IsRanking, rank}
 use Rattle.desk_model.specs.declared.placed.Placed.{Placed}
 use Rattle.desk_model.proofs.Counts.{nat_eq-true}
-use Rattle.measure_laws.specs.Ranks.{IsRankWithin, earlier}
+use Rattle.measure_laws.specs.Ranks.{IsRankWithin}
 use Rattle.measure_core.specs.Shifts.{HasRoom, IsShifted, HaveRoom, AreShifted}
 use Rattle.measure_core.specs.declared.shift.Shift.{Shift}
 use Rattle.measure_core.specs.declared.shift.Shift.TheVariants.{Add, TakeBack}
 use Rattle.topic_counts.specs.Pairs.{after}
 use Rattle.topic_counts.proofs.Merge.{absent_below, further}
-use Rattle.topic_counts.proofs.Places.{list_within, list_ranks}
-use Rattle.weight_walks.specs.Places.{head_doc, head_rank}
-
--- a list that is left of a walk over totals of so many documents
-pub record IsLeft (n : ℕ) (es : List Placed) : Type 0 where
-  pub ascending : IsAscending es
-  pub within : AllByRecursion (λ (e : Placed). e.doc < n) es
-  pub ranks : AllByRecursion (λ (e : Placed). IsRankWithin RANK_LIMIT (Some e.rank)) es
+use Rattle.topic_counts.proofs.Places.{list_within, list_ranks, at_place, stepped}
+use Rattle.weight_walks.specs.Places.{IsLeft, rank_unless_after}
+use Rattle.weight_walks.specs.Worths.{rank_or_none}
 
 pub left_whole : (n : ℕ) (docs : List ℕ) (es : List Placed) → IsRanking n docs → IsAscending es → ((d : ℕ) → lookup es d ≡ rank docs d) → IsLeft n es
 left_whole n docs es ranking up same = record { ascending = up; within = list_within n docs es ranking same; ranks = list_ranks docs es ranking.short up same }
 
-after_step : (n : ℕ) (x : Placed) (xs : List Placed) (b : Bool) → IsLeft n (x ∷ xs) → IsLeft n (if b then xs else x ∷ xs)
-after_step n x xs true h = record { ascending = h.ascending.1; within = h.within.1; ranks = h.ranks.1 }
-after_step n x xs false h = h
-
-pub left_after : (n doc : ℕ) (es : List Placed) → IsLeft n es → IsLeft n (after es doc)
-left_after n doc [] h = h
-left_after n doc (x ∷ xs) h = after_step n x xs (nat_eq x.doc doc) h
-
-rank_step : (x : Placed) (b : Bool) → IsRankWithin RANK_LIMIT (Some x.rank) → IsRankWithin RANK_LIMIT (if b then Some x.rank else None)
-rank_step x true h = h
-rank_step x false h = tt
-
-pub head_rank_within : (n doc : ℕ) (es : List Placed) → IsLeft n es → IsRankWithin RANK_LIMIT (head_rank es doc)
-head_rank_within n doc [] h = tt
-head_rank_within n doc (x ∷ xs) h = rank_step x (nat_eq x.doc doc) h.ranks.0
+pub IsLeft-drop : (n i : ℕ) (es : List Placed) → IsLeft n es → IsLeft n (drop i es)
+IsLeft-drop n zero es h = h
+IsLeft-drop n (suc i) [] h = h
+IsLeft-drop n (suc i) (e ∷ es) h = IsLeft-drop n i es (record { ascending = h.ascending.1; within = h.within.1; ranks = h.ranks.1 })
 
 -- no document of a list comes before this one
 abbrev pub IsFrom : ℕ → List Placed → Type 0
 IsFrom doc [] = Unit {0}
 IsFrom doc (x ∷ xs) = doc ≤ x.doc
 
--- the first of two lists
-pub record IsFirst (doc : ℕ) (es fs : List Placed) : Type 0 where
-  pub here : IsFrom doc es
-  pub there : IsFrom doc fs
-  pub either : (head_doc es ≡ Some doc) ⊎ (head_doc fs ≡ Some doc)
+-- the rank that a list has for a document, where that is its first
+abbrev pub head_rank : List Placed → ℕ → Option ℕ
+head_rank [] doc = None
+head_rank (x ∷ xs) doc = if nat_eq x.doc doc then Some x.rank else None
 
-least : (m n d : ℕ) → min m n ≡ d → (d ≤ m) × (d ≤ n) × ((m ≡ d) ⊎ (n ≡ d))
-least m n d h = grind arith
+-- ---- the first document of a list from a place on
+first_test : (m n : ℕ) → nat_eq m (min m n) ≡ nat_le m n
+first_test m n = grind (arith, nat_tests)
 
-pub first_is : (doc : ℕ) (es fs : List Placed) → earlier (head_doc es) (head_doc fs) ≡ Some doc → IsFirst doc es fs
-first_is doc [] [] e = absurd (cc)
-first_is doc [] (y ∷ ys) e = let same : y.doc ≡ doc = cc in record { here = tt; there = omega arith; either = inr e }
-first_is doc (x ∷ xs) [] e = let same : x.doc ≡ doc = cc in record { here = omega arith; there = tt; either = inl e }
-first_is doc (x ∷ xs) (y ∷ ys) e =
-    let m : min x.doc y.doc ≡ doc = cc in
-    let l = least x.doc y.doc doc m in
-    record { here = l.0; there = l.1; either = elim l.2 [ inl a ↦ inl (ap (λ (n : ℕ). Some n) a) | inr b ↦ inr (ap (λ (n : ℕ). Some n) b) ] }
+second_test : (m n : ℕ) → nat_eq n (min m n) ≡ nat_le n m
+second_test m n = grind (arith, nat_tests)
 
-none_left : (es fs : List Placed) → earlier (head_doc es) (head_doc fs) ≡ None → (es ≡ []) × (fs ≡ [])
-none_left [] [] e = (refl, refl)
-none_left [] (y ∷ ys) e = absurd (cc)
-none_left (x ∷ xs) [] e = absurd (cc)
-none_left (x ∷ xs) (y ∷ ys) e = absurd (cc)
+-- a document that no other of a list from a place on comes before; the test says whether it is the first there
+pub record IsHead (doc i : ℕ) (es : List Placed) (rank : Option ℕ) (p : ℕ) : Type 0 where
+  pub from : IsFrom doc (drop i es)
+  pub ranked : rank ≡ head_rank (drop i es) doc
+  pub next : after (drop i es) doc ≡ drop p es
+
+pub head_at : (doc i p : ℕ) (es : List Placed) (o : Placed) (b : Bool) → i < length es → doc ≤ (slice_index_or es i o).doc → nat_eq (slice_index_or es i o).doc doc ≡ b → p ≡ i + (if b then 1 else 0) →
+    IsHead doc i es (if b then Some (slice_index_or es i o).rank else None) p
+head_at doc i p es o b lt from is e =
+    let x = slice_index_or es i o in
+    let xs = drop (suc i) es in
+    let here : drop i es ≡ x ∷ xs = drop-cons es i o lt in
+    record {
+      from = subst (IsFrom doc) (sym here) from;
+      ranked = sym (ap (λ (zs : List Placed). head_rank zs doc) here ∙ ap (λ (t : Bool). if t then Some x.rank else None) is);
+      next = ap (λ (zs : List Placed). after zs doc) here ∙ ap (λ (t : Bool). if t then xs else x ∷ xs) is ∙ ap (λ (zs : List Placed). if b then xs else zs) (sym here) ∙ stepped i es b ∙ ap (λ (m : ℕ). drop m es) (sym e);
+    }
+
+-- the first of two
+pub first_head : (i p : ℕ) (es : List Placed) (o y : Placed) → i < length es → p ≡ i + (if nat_le (slice_index_or es i o).doc y.doc then 1 else 0) → IsHead (min (slice_index_or es i o).doc y.doc) i es (rank_unless_after (slice_index_or es i o) y) p
+first_head i p es o y lt e =
+    let x = slice_index_or es i o in
+    head_at (min x.doc y.doc) i p es o (nat_le x.doc y.doc) lt (omega arith) (first_test x.doc y.doc) e
+
+pub second_head : (j q : ℕ) (fs : List Placed) (o x : Placed) → j < length fs → q ≡ j + (if nat_le (slice_index_or fs j o).doc x.doc then 1 else 0) → IsHead (min x.doc (slice_index_or fs j o).doc) j fs (rank_unless_after (slice_index_or fs j o) x) q
+second_head j q fs o x lt e =
+    let y = slice_index_or fs j o in
+    head_at (min x.doc y.doc) j q fs o (nat_le y.doc x.doc) lt (omega arith) (second_test x.doc y.doc) e
+
+-- the first of one alone
+pub only_head : (i : ℕ) (es : List Placed) (o : Placed) → i < length es → IsHead (slice_index_or es i o).doc i es (Some (slice_index_or es i o).rank) (i + 1)
+only_head i es o lt = let x = slice_index_or es i o in head_at x.doc i (i + 1) es o true lt (omega arith) (eq-eqb x.doc x.doc refl) refl
+
+pub IsLeft-none : (n : ℕ) → IsLeft n []
+IsLeft-none n = record { ascending = tt; within = tt; ranks = tt }
+
+pub no_head : (doc : ℕ) → IsHead doc 0 [] None 0
+no_head doc = record { from = tt; ranked = refl; next = refl }
+
+-- a rank from 1 is one
+pub rank_some : (worth : Option ℕ → ℕ) (rank : ℕ) → IsRankWithin RANK_LIMIT (Some rank) → worth (rank_or_none rank) ≡ worth (Some rank)
+rank_some worth zero h = absurd (omega (arith, h.0))
+rank_some worth (suc n) h = refl
+
+-- its document is one of the totals
+pub doc_within : (n i : ℕ) (es : List Placed) (o : Placed) → IsLeft n es → i < length es → (slice_index_or es i o).doc < n
+doc_within n i es o h lt = at_place (λ (e : Placed). e.doc < n) i es o lt h.within
+
+pub rank_is_within : (n i : ℕ) (es : List Placed) (o : Placed) → IsLeft n es → i < length es → IsRankWithin RANK_LIMIT (Some (slice_index_or es i o).rank)
+rank_is_within n i es o h lt = at_place (λ (e : Placed). IsRankWithin RANK_LIMIT (Some e.rank)) i es o lt h.ranks
 
 -- ---- what a step does to what is looked up
 apart : (x doc d : ℕ) → nat_eq x doc ≡ true → d ≢ doc → nat_eq x d ≡ false
@@ -104,30 +127,6 @@ here_step n x xs doc false e h from = sym (gone_step n x xs doc false e h from)
 pub found : (n : ℕ) (es : List Placed) (doc : ℕ) → IsLeft n es → IsFrom doc es → head_rank es doc ≡ lookup es doc
 found n [] doc h from = refl
 found n (x ∷ xs) doc h from = here_step n x xs doc (nat_eq x.doc doc) refl h from
-
--- the first document is one of the totals
-head_within : (n doc : ℕ) (es : List Placed) → IsLeft n es → head_doc es ≡ Some doc → doc < n
-head_within n doc [] h e = absurd (cc)
-head_within n doc (x ∷ xs) h e = let same : x.doc ≡ doc = cc in omega (arith, same, h.within.0)
-
-pub first_within : (n doc : ℕ) (es fs : List Placed) → IsLeft n es → IsLeft n fs → IsFirst doc es fs → doc < n
-first_within n doc es fs h k is = elim is.either [ inl a ↦ head_within n doc es h a | inr b ↦ head_within n doc fs k b ]
-
--- a step makes a list no longer, and that of the document shorter
-shorter_step : (x : Placed) (xs : List Placed) (b : Bool) → length {A = Placed} (if b then xs else x ∷ xs) ≤ length (x ∷ xs)
-shorter_step x xs true = omega arith
-shorter_step x xs false = omega arith
-
-no_longer : (doc : ℕ) (es : List Placed) → length (after es doc) ≤ length es
-no_longer doc [] = omega arith
-no_longer doc (x ∷ xs) = shorter_step x xs (nat_eq x.doc doc)
-
-shorter : (doc : ℕ) (es : List Placed) → head_doc es ≡ Some doc → length (after es doc) < length es
-shorter doc [] e = absurd (cc)
-shorter doc (x ∷ xs) e = let same : x.doc ≡ doc = cc in rw (eq-eqb x.doc doc same) (omega arith)
-
-pub walk_shorter : (doc : ℕ) (es fs : List Placed) → IsFirst doc es fs → length (after es doc) + length (after fs doc) < length es + length fs
-walk_shorter doc es fs is = elim is.either [ inl a ↦ omega (arith, shorter doc es a, no_longer doc fs) | inr b ↦ omega (arith, shorter doc fs b, no_longer doc es) ]
 
 -- ---- totals
 -- what was done to a total so far and what is left come to the whole weight
@@ -164,22 +163,22 @@ module _ (weigh : Option ℕ → Option ℕ → ℕ) (none : weigh None None ≡
   }
 
   -- there is room for the weight of the first document
-  pub room_here : (es fs : List Placed) (now : List ℕ) (n doc weight : ℕ) → AreBalanced es fs now → HaveRoom shift whole before → IsLeft n es → IsLeft n fs → IsFirst doc es fs → doc < length before →
+  pub room_here : (es fs : List Placed) (now : List ℕ) (n doc weight : ℕ) → AreBalanced es fs now → HaveRoom shift whole before → IsLeft n es → IsLeft n fs → IsFrom doc es → IsFrom doc fs → doc < length before →
       weight ≡ weigh (head_rank es doc) (head_rank fs doc) → HasRoom shift weight (get_or now doc 0)
-  room_here es fs now n doc weight h room left right is lt e =
-      let same : weight ≡ weigh (lookup es doc) (lookup fs doc) = e ∙ ap (λ (x : Option ℕ). weigh x (head_rank fs doc)) (found n es doc left is.here) ∙ ap (weigh (lookup es doc)) (found n fs doc right is.there) in
+  room_here es fs now n doc weight h room left right here there lt e =
+      let same : weight ≡ weigh (lookup es doc) (lookup fs doc) = e ∙ ap (λ (x : Option ℕ). weigh x (head_rank fs doc)) (found n es doc left here) ∙ ap (weigh (lookup es doc)) (found n fs doc right there) in
       subst (λ (w : ℕ). HasRoom shift w (get_or now doc 0)) (sym same) (room_left shift (weigh (lookup es doc) (lookup fs doc)) (whole doc) (get_or before doc 0) (get_or now doc 0) (h.each doc lt) (room doc lt))
 
   same_or_not : (m n : ℕ) → (m ≡ n) ⊎ (m ≢ n)
   same_or_not m n = grind arith
 
-  pub balanced_step : (es fs : List Placed) (now : List ℕ) (n doc weight total : ℕ) → AreBalanced es fs now → IsLeft n es → IsLeft n fs → IsFirst doc es fs → doc < length before → weight ≡ weigh (head_rank es doc) (head_rank fs doc) →
+  pub balanced_step : (es fs : List Placed) (now : List ℕ) (n doc weight total : ℕ) → AreBalanced es fs now → IsLeft n es → IsLeft n fs → IsFrom doc es → IsFrom doc fs → doc < length before → weight ≡ weigh (head_rank es doc) (head_rank fs doc) →
       IsShifted shift weight (get_or now doc 0) total → AreBalanced (after es doc) (after fs doc) (set now doc total)
-  balanced_step es fs now n doc weight total h left right is lt e shifted =
-      let same : weight ≡ weigh (lookup es doc) (lookup fs doc) = e ∙ ap (λ (x : Option ℕ). weigh x (head_rank fs doc)) (found n es doc left is.here) ∙ ap (weigh (lookup es doc)) (found n fs doc right is.there) in
+  balanced_step es fs now n doc weight total h left right from also_from lt e shifted =
+      let same : weight ≡ weigh (lookup es doc) (lookup fs doc) = e ∙ ap (λ (x : Option ℕ). weigh x (head_rank fs doc)) (found n es doc left from) ∙ ap (weigh (lookup es doc)) (found n fs doc right also_from) in
       let within : doc < length now = omega (arith, lt, h.count) in
       let nothing : 0 ≡ weigh (lookup (after es doc) doc) (lookup (after fs doc) doc) =
-      sym (ap (λ (x : Option ℕ). weigh x (lookup (after fs doc) doc)) (gone n es doc left is.here) ∙ ap (weigh None) (gone n fs doc right is.there) ∙ none) in
+      sym (ap (λ (x : Option ℕ). weigh x (lookup (after fs doc) doc)) (gone n es doc left from) ∙ ap (weigh None) (gone n fs doc right also_from) ∙ none) in
       let done : IsBalanced shift 0 (whole doc) (get_or before doc 0) total =
       step_balanced shift (weigh (lookup es doc) (lookup fs doc)) (whole doc) (get_or before doc 0) (get_or now doc 0) total (h.each doc lt) (subst (λ (w : ℕ). IsShifted shift w (get_or now doc 0) total) same shifted) in
       let here : IsBalanced shift (weigh (lookup (after es doc) doc) (lookup (after fs doc) doc)) (whole doc) (get_or before doc 0) (get_or (set now doc total) doc 0) =
@@ -197,12 +196,36 @@ module _ (weigh : Option ℕ → Option ℕ → ℕ) (none : weigh None None ≡
         ];
       }
 
-  pub balanced_done : (es fs : List Placed) (now : List ℕ) → earlier (head_doc es) (head_doc fs) ≡ None → AreBalanced es fs now → AreShifted shift whole before now
-  balanced_done es fs now end h =
-      let empty = none_left es fs end in
-      record {
-        count = h.count;
-        each = λ doc lt.
-            let nothing : weigh (lookup es doc) (lookup fs doc) ≡ 0 = ap (λ (xs : List Placed). weigh (lookup xs doc) (lookup fs doc)) empty.0 ∙ ap (λ (xs : List Placed). weigh None (lookup xs doc)) empty.1 ∙ none in
-            balanced_end shift (weigh (lookup es doc) (lookup fs doc)) (whole doc) (get_or before doc 0) (get_or now doc 0) nothing (h.each doc lt);
-      }
+  -- a step by places
+  pub placed_step : (es fs : List Placed) (now : List ℕ) (n doc i j p q weight total : ℕ) (r s : Option ℕ) → AreBalanced (drop i es) (drop j fs) now → IsLeft n es → IsLeft n fs → IsHead doc i es r p → IsHead doc j fs s q → doc < length before → weight ≡ weigh r s →
+      IsShifted shift weight (get_or now doc 0) total → AreBalanced (drop p es) (drop q fs) (set now doc total)
+  placed_step es fs now n doc i j p q weight total r s h left right one other lt e shifted =
+      subst (λ (zs : List Placed). AreBalanced (drop p es) zs (set now doc total)) other.next
+      (subst (λ (zs : List Placed). AreBalanced zs (after (drop j fs) doc) (set now doc total)) one.next
+      (balanced_step (drop i es) (drop j fs) now n doc weight total h (IsLeft-drop n i es left) (IsLeft-drop n j fs right) one.from other.from lt
+      (e ∙ ap (λ (x : Option ℕ). weigh x s) one.ranked ∙ ap (weigh (head_rank (drop i es) doc)) other.ranked) shifted))
+
+  pub placed_room : (es fs : List Placed) (now : List ℕ) (n doc i j p q weight : ℕ) (r s : Option ℕ) → AreBalanced (drop i es) (drop j fs) now → HaveRoom shift whole before → IsLeft n es → IsLeft n fs → IsHead doc i es r p → IsHead doc j fs s q → doc < length before → weight ≡ weigh r s →
+      HasRoom shift weight (get_or now doc 0)
+  placed_room es fs now n doc i j p q weight r s h room left right one other lt e =
+      room_here (drop i es) (drop j fs) now n doc weight h room (IsLeft-drop n i es left) (IsLeft-drop n j fs right) one.from other.from lt
+      (e ∙ ap (λ (x : Option ℕ). weigh x s) one.ranked ∙ ap (weigh (head_rank (drop i es) doc)) other.ranked)
+
+  -- where what is left is shifted as well
+  pub balanced_done : (es fs : List Placed) (between now : List ℕ) → AreBalanced es fs between → AreShifted shift (λ doc. weigh (lookup es doc) (lookup fs doc)) between now → AreShifted shift whole before now
+  balanced_done es fs between now h g = record {
+    count = g.count ∙ h.count;
+    each = λ doc lt.
+        balanced_end shift 0 (whole doc) (get_or before doc 0) (get_or now doc 0) refl
+        (step_balanced shift (weigh (lookup es doc) (lookup fs doc)) (whole doc) (get_or before doc 0) (get_or between doc 0) (get_or now doc 0) (h.each doc lt) (g.each doc (omega (arith, lt, h.count))));
+  }
+
+  -- where nothing is left
+  pub balanced_last : (now : List ℕ) → AreBalanced [] [] now → AreShifted shift whole before now
+  balanced_last now h = record { count = h.count; each = λ doc lt. balanced_end shift (weigh None None) (whole doc) (get_or before doc 0) (get_or now doc 0) none (h.each doc lt) }
+
+  -- there is room for what is left
+  pub room_for_rest : (es fs : List Placed) (between : List ℕ) → AreBalanced es fs between → HaveRoom shift whole before → HaveRoom shift (λ doc. weigh (lookup es doc) (lookup fs doc)) between
+  room_for_rest es fs between h room doc lt =
+      let within : doc < length before = omega (arith, lt, h.count) in
+      room_left shift (weigh (lookup es doc) (lookup fs doc)) (whole doc) (get_or before doc 0) (get_or between doc 0) (h.each doc within) (room doc within)

@@ -1,32 +1,32 @@
-ghost use Rattle.std.specs.Prelude.{◌≡◌, ℕ, length, Option as Maybe, None};
-ghost use Rattle.desk_model.specs.Limits.{RANK_LIMIT};
-ghost use Rattle.desk_model.specs.Ranking.{IsRanking, rank};
-ghost use Rattle.measure_laws.specs.Ranks.{IsRankWithin};
+ghost use Rattle.std.specs.Prelude.{◌≡◌, length};
+ghost use Rattle.desk_model.specs.Placed.{lookup};
+ghost use Rattle.desk_model.specs.Ranking.{IsRanking};
 ghost use Rattle.measure_core.specs.Shifts.{HaveRoom, AreShifted};
+ghost use Rattle.weight_walks.specs.Places.{IsLeft};
+ghost use Rattle.weight_walks.specs.Worths.{worths_apart};
 
-use crate::places::{after, first_doc, head_rank};
-use desk_model::Ranking;
+use crate::places::{first_weight, rest};
+use crate::worths::RankWorth;
+use desk_model::{Placed, Ranking};
 use measure_core::Shift;
+use topic_counts::pairs::passed;
 
-/// A weight that the two ranks of a document decide.
-pub trait RankWeight {
-    /// What `weight_at` answers.
-    ghost weigh: { Self → Maybe ℕ → Maybe ℕ → ℕ };
-
-    /// The weight of a document with these ranks, from 1, in the first run and the second.
-    fn weight_at(&self, first: Option<u32>, second: Option<u32>) -> u64
-        requires first { IsRankWithin RANK_LIMIT first }
-        requires second { IsRankWithin RANK_LIMIT second }
-        ensures { result ≡ weigh self.now first second };
-
-    /// A document that neither run has weighs nothing.
-    ghost absent: { (w : Self) → weigh w None None ≡ 0 };
+/// Adds what the ranks of a list are worth to the totals of their documents, or takes it back.
+fn shift_rest<W: RankWorth>(ranks: &W, places: &[Placed], shift: Shift, totals: &mut [u128])
+    requires places { IsLeft (length totals.old) places.now }
+    requires room { HaveRoom shift (λ doc. W.worth ranks.now (lookup places.now doc)) totals.old }
+    ensures { AreShifted shift (λ doc. W.worth ranks.now (lookup places.now doc)) totals.old totals.new }
+{
+    for place in places {
+        let total = &mut totals[place.doc as usize];
+        *total = shift.apply(*total, u128::from(ranks.worth_at(place.rank)));
+    }
 }
 
 /// Adds the weights of the documents of two rankings to their totals, or takes them back, by one walk over both in
 /// order of the documents. Totals go by the number of the document. It takes no memory.
-pub fn shift_by_ranks<W: RankWeight>(
-    weights: &W,
+pub fn shift_by_ranks<W: RankWorth>(
+    ranks: &W,
     a: &Ranking,
     b: &Ranking,
     shift: Shift,
@@ -34,16 +34,24 @@ pub fn shift_by_ranks<W: RankWeight>(
 )
     requires first { IsRanking (length totals.old) a.now }
     requires second { IsRanking (length totals.old) b.now }
-    requires room { HaveRoom shift (λ doc. W.weigh weights.now (rank a.now doc) (rank b.now doc)) totals.old }
-    ensures { AreShifted shift (λ doc. W.weigh weights.now (rank a.now doc) (rank b.now doc)) totals.old totals.new }
+    requires room { HaveRoom shift (worths_apart (W.worth ranks.now) a.now b.now) totals.old }
+    ensures { AreShifted shift (worths_apart (W.worth ranks.now) a.now b.now) totals.old totals.new }
 {
-    let mut first = a.by_doc();
-    let mut second = b.by_doc();
-    'walk: while let Some(doc) = first_doc(first, second) {
-        let weight = weights.weight_at(head_rank(first, doc), head_rank(second, doc));
-        let total = &mut totals[doc as usize];
+    let first = a.by_doc();
+    let second = b.by_doc();
+    let mut i = 0;
+    let mut j = 0;
+    // No jump depends on which document comes first, which no processor foresees.
+    while i < first.len() && j < second.len() {
+        let x = first[i];
+        let y = second[j];
+        let weight = first_weight(ranks, x, y);
+        let total = &mut totals[x.doc.min(y.doc) as usize];
         *total = shift.apply(*total, u128::from(weight));
-        first = after(first, doc);
-        second = after(second, doc);
+        i += passed(x, y);
+        j += passed(y, x);
     }
+    // One of the two is at its end.
+    shift_rest(ranks, rest(first, i), shift, totals);
+    shift_rest(ranks, rest(second, j), shift, totals);
 }

@@ -4,6 +4,8 @@
 pub mod by_ranks;
 pub mod one_side;
 mod places;
+pub mod worths;
 
-pub use by_ranks::{RankWeight, shift_by_ranks};
+pub use by_ranks::shift_by_ranks;
 pub use one_side::shift_one_side;
+pub use worths::{RankWorth, rank_or_none, worths_of};

@@ -2,15 +2,16 @@ ghost use Rattle.std.specs.Prelude.{◌≡◌, length, take};
 ghost use Rattle.desk_model.specs.Ranking.{IsRanking};
 ghost use Rattle.measure_laws.specs.Weights.{one_side_weight};
 ghost use Rattle.measure_core.specs.Shifts.{HaveRoom, AreShifted};
-ghost use Rattle.weight_walks.specs.OneSide.{is_by, alone_weight};
+ghost use Rattle.weight_walks.specs.OneSide.{alone_weight};
 
-use crate::by_ranks::{RankWeight, shift_by_ranks};
+use crate::by_ranks::shift_by_ranks;
+use crate::worths::RankWorth;
 use desk_model::Ranking;
 use measure_core::Shift;
 use topic_counts::counts::is_among_first;
 
 /// Up to which k it is faster to look each document up in the other ranking than to walk over both.
-const LOOKED_UP: u32 = 256;
+const LOOKED_UP: u32 = 128;
 
 /// The first k documents, or all where there are fewer.
 fn prefix(docs: &[u32], k: u32) -> &[u32]
@@ -19,32 +20,21 @@ fn prefix(docs: &[u32], k: u32) -> &[u32]
     &docs[..docs.len().min(k as usize)]
 }
 
-/// A weight of 1 for each document that exactly one run has among its first k.
+/// A worth of 1 for each of the first k ranks.
 #[derive(Clone, Copy)]
-struct OneSide {
+struct FirstRanks {
     k: u32,
 }
 
-/// Whether a rank is at most k; an absent one is not.
-#[inline]
-fn is_by(k: u32, rank: Option<u32>) -> bool
-    ensures { result ≡ is_by k rank }
-{
-    match rank {
-        None => false,
-        Some(rank) => rank <= k,
-    }
-}
-
-impl RankWeight for OneSide {
+impl RankWorth for FirstRanks {
     ghost use Rattle.std.specs.Prelude.{refl};
-    ghost use Rattle.weight_walks.specs.OneSide.{one_side};
+    ghost use Rattle.weight_walks.specs.OneSide.{by_worth};
 
-    ghost weigh = { λ s x y. one_side s.k x y };
+    ghost worth = { λ ranks. by_worth ranks.k };
 
     #[inline]
-    fn weight_at(&self, first: Option<u32>, second: Option<u32>) -> u64 {
-        u64::from(is_by(self.k, first) != is_by(self.k, second))
+    fn worth_at(&self, rank: u32) -> u64 {
+        u64::from((rank > 0) & (rank <= self.k))
     }
 
     ghost absent = { λ _. refl };
@@ -75,6 +65,6 @@ pub fn shift_one_side(k: u32, a: &Ranking, b: &Ranking, shift: Shift, totals: &m
         shift_alone(k, a, b, shift, totals);
         shift_alone(k, b, a, shift, totals);
     } else {
-        shift_by_ranks(&OneSide { k }, a, b, shift, totals);
+        shift_by_ranks(&FirstRanks { k }, a, b, shift, totals);
     }
 }

@@ -1,54 +1,40 @@
-// The first of two lists of documents that ascend.
-ghost use Rattle.std.specs.Prelude.{◌≡◌};
-ghost use Rattle.measure_laws.specs.Ranks.{earlier};
-ghost use Rattle.topic_counts.specs.Pairs.{after};
-ghost use Rattle.weight_walks.specs.Places.{head_doc, head_rank};
+// Places of two lists of documents with their ranks, each list of a run.
+ghost use Rattle.std.specs.Prelude.{◌≡◌, ◌≤◌, drop, length, Some};
+ghost use Rattle.std.specs.Int.{abs_diff};
+ghost use Rattle.desk_model.specs.Limits.{RANK_LIMIT};
+ghost use Rattle.measure_laws.specs.Ranks.{IsRankWithin};
+ghost use Rattle.weight_walks.specs.Worths.{rank_or_none};
+ghost use Rattle.weight_walks.specs.Places.{rank_unless_after};
 
+use crate::worths::RankWorth;
 use desk_model::Placed;
 
+/// The rank of a place, and 0 where its document comes after that of another.
 #[inline]
-fn head_doc(places: &[Placed]) -> Option<u32>
-    ensures { result ≡ head_doc places.now }
+fn rank_unless_after(x: Placed, y: Placed) -> u32
+    requires { IsRankWithin RANK_LIMIT (Some x.rank) }
+    ensures rank { rank_or_none result ≡ rank_unless_after x y }
+    ensures within { result ≤ RANK_LIMIT }
 {
-    if places.len() > 0 {
-        Some(places[0].doc)
-    } else {
-        None
-    }
+    if x.doc <= y.doc { x.rank } else { 0 }
 }
 
-/// The first document of two lists, and none where both are empty.
-#[inline]
-pub fn first_doc(first: &[Placed], second: &[Placed]) -> Option<u32>
-    ensures { result ≡ earlier (head_doc first.now) (head_doc second.now) }
+/// A list from a place on.
+pub fn rest(places: &[Placed], place: usize) -> &[Placed]
+    requires { place ≤ length places.now }
+    ensures { result.now ≡ drop place places.now }
 {
-    match (head_doc(first), head_doc(second)) {
-        (Some(x), Some(y)) => Some(x.min(y)),
-        (Some(x), None) => Some(x),
-        (None, y) => y,
-    }
+    &places[place..]
 }
 
-/// The rank of a list's first document, where it is this one.
+/// The weight of the one of two documents that comes first, or of both where they are one.
 #[inline]
-pub fn head_rank(places: &[Placed], doc: u32) -> Option<u32>
-    ensures { result ≡ head_rank places.now doc }
+pub fn first_weight<W: RankWorth>(ranks: &W, x: Placed, y: Placed) -> u64
+    requires first { IsRankWithin RANK_LIMIT (Some x.rank) }
+    requires second { IsRankWithin RANK_LIMIT (Some y.rank) }
+    ensures { result ≡ abs_diff (W.worth ranks.now (rank_unless_after x y)) (W.worth ranks.now (rank_unless_after y x)) }
 {
-    if places.len() > 0 && places[0].doc == doc {
-        Some(places[0].rank)
-    } else {
-        None
-    }
-}
-
-/// A list without its first document, where that is this one.
-#[inline]
-pub fn after(places: &[Placed], doc: u32) -> &[Placed]
-    ensures { result.now ≡ after places.now doc }
-{
-    if places.len() > 0 && places[0].doc == doc {
-        &places[1..]
-    } else {
-        places
-    }
+    let first = ranks.worth_at(rank_unless_after(x, y));
+    let second = ranks.worth_at(rank_unless_after(y, x));
+    first.abs_diff(second)
 }

@@ -1,14 +1,17 @@
-use Rattle.std.proofs.Common.{◌+◌, length}
-use Rattle.desk_model.specs.Ranking.{rank}
-use Rattle.weight_walks.proofs.Walking.{IsLeft, AreBalanced}
+use Rattle.std.proofs.Common.{◌+◌, ◌-◌, ◌≤◌, drop, length}
+use Rattle.weight_walks.specs.Worths.{worths_apart}
+use Rattle.weight_walks.proofs.Walking.{AreBalanced}
+use Rattle.weight_walks.proofs.Apart.{apart, none_apart}
 use Rattle.weight_walks.proofs.by_ranks.shift_by_ranks.Given as goal
 
-abbrev pub invariant-walk : goal.invariant-walk
-invariant-walk g l = record {
-  first : IsLeft (length l.initial.totals) l.first;
-  second : IsLeft (length l.initial.totals) l.second;
-  balanced : AreBalanced (g.W.RankWeight.weigh l.weights) (g.met.W.RankWeight.absent l.weights) l.shift (λ doc. g.W.RankWeight.weigh l.weights (rank l.a doc) (rank l.b doc)) l.initial.totals l.first l.second l.totals;
-}
+abbrev pub invariant-loop-i : goal.invariant-loop-i
+invariant-loop-i g l =
+    let worth = g.W.RankWorth.worth l.ranks in
+    record {
+      first_in : l.i ≤ length l.first;
+      second_in : l.j ≤ length l.second;
+      balanced : AreBalanced (apart worth) (none_apart worth) l.shift (worths_apart worth l.a l.b) l.initial.totals (drop l.i l.first) (drop l.j l.second) l.totals;
+    }
 
-abbrev pub decreases-walk : goal.decreases-walk
-decreases-walk g l = length l.first + length l.second
+abbrev pub decreases-loop-i : goal.decreases-loop-i
+decreases-loop-i g l = (length l.first - l.i) + (length l.second - l.j)
