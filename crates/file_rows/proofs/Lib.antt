@@ -12,3 +12,4 @@ pub mod NamedRows
 pub mod PieceLines
 pub mod ReadOn
 pub mod Forgetting
+pub mod Cuts

@@ -1,5 +1,5 @@
 // Rows that are grouped by their topics.
-ghost use Rattle.std.specs.Prelude.{◌≡◌, ◌≤◌, ◌+◌, ◌^◌, ◌<◌, [], ◌∷◌, ◌++◌, length, position, slice_get, Some, MatchOption, OnOk, OnErr, false};
+ghost use Rattle.std.specs.Prelude.{◌≡◌, ◌≤◌, ◌+◌, ◌^◌, ◌<◌, [], ◌∷◌, ◌++◌, length, position, slice_get, Some, MatchOption, IfOk, OnOk, OnErr, false};
 ghost use Rattle.std.specs.Str.{bytes_eq};
 ghost use Rattle.file_rows.specs.Grouped.{is_topic, names_of, rows_at, rows_in, row_count, name_bytes_in, with_valued, without_rows, emptied};
 
@@ -134,6 +134,24 @@ impl<V: RowValue> GroupedRows<V> {
         Ok(())
     }
 
+    /// The same rows, in no more room than they take. It fails only where memory runs out.
+    pub fn packed(self, alloc: Global) -> Result<GroupedRows<V>, AllocError>
+        ensures { IfOk result (λ packed. packed ≡ self) }
+    {
+        let GroupedRows {
+            topics,
+            grouped,
+            rows,
+            name_bytes,
+        } = self;
+        Ok(GroupedRows {
+            topics,
+            grouped: packed_all(alloc, &grouped)?,
+            rows,
+            name_bytes,
+        })
+    }
+
     /// Gives back the rows of a topic, where it is there. The topic stays, and has no row then.
     pub fn forget(&mut self, alloc: Global, name: &[u8])
         ensures { self.new ≡ without_rows name.now self.old }
@@ -156,4 +174,18 @@ impl<V: RowValue> GroupedRows<V> {
         self.rows -= rows;
         self.name_bytes -= name_bytes;
     }
+}
+
+// Copies of the rows of topics, in no more room than they take.
+fn packed_all<V: RowValue>(
+    alloc: Global,
+    grouped: &[ValuedRows<V>],
+) -> Result<Vec<ValuedRows<V>>, AllocError>
+    ensures { IfOk result (λ packed. packed.items ≡ grouped.now) }
+{
+    let mut packed = Vec::with_capacity(alloc, grouped.len())?;
+    for topic in grouped {
+        packed.push(topic.packed(alloc)?)?;
+    }
+    Ok(packed)
 }
