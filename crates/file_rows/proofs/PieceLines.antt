@@ -1,13 +1,14 @@
 -- The lines of bytes that arrive in pieces.
 use Rattle.std.proofs.Common.{◌≡◌, ℕ, ◌+◌, ◌-◌, Bool, true, false, cond, List, [], ◌∷◌, ◌++◌, take, drop, length, refl, ap, sym, subst, ◌∙◌, arith, append_assoc, append-nil}
 use Rattle.std.specs.Prelude.{Option, Some, None, ◌==◌, nat_le, filter}
-use Rattle.std.proofs.lemmas.Bool.{lt-ltb}
+use Rattle.std.proofs.lemmas.Bool.{lt-ltb, leb-false}
 use Rattle.std.proofs.lemmas.List.{take_all, length-drop}
 use Rattle.std.proofs.Math.Seq.{take-add}
 use Rattle.desk_text.specs.Lines.{lines, whole_lines, onto_whole, unended, kept_line, longer, is_filled, IsPushed}
 use Rattle.desk_text.specs.declared.arriving.Pushed.{Pushed}
 use Rattle.desk_text.specs.declared.line.TheConstants.{LONGEST_LINE}
 use Rattle.desk_text.proofs.WholeLines.{whole_lines-append_ended, unended-append_ended, whole_lines-append_more, unended-append_more, lines-whole_lines, longer-kept_line}
+use Rattle.file_rows.specs.Reading.{IsTooLong}
 use Rattle.file_rows.specs.Pieces.{HasFed, EndsLine}
 
 -- more bytes leave the whole lines, and may end more
@@ -55,6 +56,14 @@ kept_is line kept e = by (nat_le (length line) LONGEST_LINE) e
     by : (b : Bool) → cond b (Some line) None ≡ Some kept → line ≡ kept
     by true e = cc
     by false e = absurd (cc)
+
+-- of a line that is too long nothing is kept
+pub long_line : (line : List ℕ) → None ≡ kept_line line → IsTooLong line
+long_line line e = by (nat_le (length line) LONGEST_LINE) refl e
+  where
+    by : (b : Bool) → nat_le (length line) LONGEST_LINE ≡ b → None ≡ cond b (Some line) None → IsTooLong line
+    by true f e = absurd (cc)
+    by false f e = leb-false (length line) LONGEST_LINE f
 
 module _ {R : Type 0} {has_read : R → List (List ℕ) → Type 0} {stopped : R → Bool} where
   -- a reader that stopped stays so

@@ -1,7 +1,7 @@
 -- Words on rows and topics that proofs use.
 use Rattle.std.proofs.Common.{◌≡◌, ℕ, List, ap, sym, ◌∙◌}
 use Rattle.std.specs.Prelude.{length, sum_by, ℤ}
-use Rattle.file_rows.specs.Grouped.{Valued, TopicRows, bytes_in, row_count, name_bytes_in}
+use Rattle.file_rows.specs.Grouped.{Valued, TopicRows, row_count, name_bytes_in}
 use Rattle.file_rows.specs.Names.{topics_in, IsCounted}
 
 abbrev pub topic_with : List ℕ → List Valued → TopicRows

@@ -1,5 +1,5 @@
 -- Names in the order in which they first stand.
-use Rattle.std.proofs.Common.{◌≡◌, ℕ, List, [], ◌∷◌, ◌++◌, true, false, true≢false, cond, refl, ap, sym, ◌∙◌}
+use Rattle.std.proofs.Common.{◌≡◌, ℕ, List, [], ◌∷◌, ◌++◌, true, false, cond, refl, ap, sym, ◌∙◌}
 use Rattle.std.specs.Prelude.{Bool, not, ◌||◌, filter}
 use Rattle.std.specs.List.{list_any, AllByRecursion, IsDistinct as AllDiffer}
 use Rattle.std.specs.Str.{bytes_eq}

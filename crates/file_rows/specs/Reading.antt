@@ -1,11 +1,16 @@
 -- How the rows of a file are read from its lines.
-use Rattle.std.specs.Prelude.{◌≡◌, ◌⊎◌, ℕ, ◌+◌, Bool, List, [], ◌∷◌, ◌++◌, if◌then◌else◌, Option, Some, None, Result, Ok, Err, nat_lt, length, slice_index_or}
+use Rattle.std.specs.Prelude.{◌≡◌, ◌⊎◌, ℕ, ◌+◌, ◌<◌, Bool, List, [], ◌∷◌, ◌++◌, if◌then◌else◌, Option, Some, None, Result, Ok, Err, nat_lt, length, slice_index_or}
 use Rattle.std.specs.Result.{result_map_both}
 use Rattle.desk_text.specs.Lines.{lines, is_blank, fields_of}
+use Rattle.desk_text.specs.declared.line.TheConstants.{LONGEST_LINE}
 use Rattle.desk_model.specs.declared.name.TheConstants.Name.{LONGEST}
 use Rattle.file_rows.specs.declared.fault.LineFault.{LineFault}
 use Rattle.file_rows.specs.declared.fault.FileFault.{FileFault}
 use Rattle.file_rows.specs.declared.fault.FileFault.TheVariants.{Line, Memory}
+
+-- more bytes than a line may have
+abbrev pub IsTooLong : List ℕ → Type 0
+IsTooLong line = LONGEST_LINE < length line
 
 -- a field of a line, by its number from 0
 abbrev pub field : List ℕ → ℕ → List ℕ

@@ -1,6 +1,6 @@
 // Why a file of rows is refused.
 ghost use Rattle.file_rows.specs.declared.fault.FileFault.TheVariants.{Memory};
-ghost use Rattle.std.specs.Prelude.{◌≡◌};
+ghost use Rattle.std.specs.Prelude.{◌≡◌, ◌⊎◌, ◌+◌};
 
 use desk_model::Memory as OutOfMemory;
 use std::alloc::AllocError;
@@ -70,6 +70,22 @@ pub enum FileFault {
     /// Memory runs out.
     #[error("out of memory")]
     Memory,
+}
+
+impl FileFault {
+    /// The fault of a line that is too long, after a number of lines. Where these are too many to be counted, memory is said to
+    /// run out.
+    pub fn too_long(lines: u64) -> FileFault
+        ensures { (result ≡ Memory) ⊎ (result ≡ FileFault.Line (lines + 1) LineFault.LineTooLong) }
+    {
+        if lines == u64::MAX {
+            return FileFault::Memory;
+        }
+        FileFault::Line {
+            line: lines + 1,
+            fault: LineFault::LineTooLong,
+        }
+    }
 }
 
 impl From<AllocError> for FileFault {

@@ -1,7 +1,7 @@
 // Rows that are grouped by their topics.
-ghost use Rattle.std.specs.Prelude.{◌≡◌, ◌≤◌, ◌+◌, ◌^◌, ◌<◌, [], ◌∷◌, ◌++◌, length, position, slice_get, Some, MatchOption, OnOk, OnErr, false};
+ghost use Rattle.std.specs.Prelude.{◌≡◌, ◌≤◌, ◌+◌, ◌^◌, ◌<◌, [], ◌∷◌, ◌++◌, length, position, slice_get, Some, MatchOption, IfOk, OnOk, OnErr, false};
 ghost use Rattle.std.specs.Str.{bytes_eq};
-ghost use Rattle.file_rows.specs.Grouped.{is_topic, names_of, rows_at, rows_in, row_count, name_bytes_in, with_valued};
+ghost use Rattle.file_rows.specs.Grouped.{is_topic, names_of, rows_at, rows_in, row_count, name_bytes_in, with_valued, without_rows, emptied};
 
 use crate::name_set::NameSet;
 use crate::value::RowValue;
@@ -133,4 +133,59 @@ impl<V: RowValue> GroupedRows<V> {
         self.name_bytes += document.len() as u32;
         Ok(())
     }
+
+    /// The same rows, in no more room than they take. It fails only where memory runs out.
+    pub fn packed(self, alloc: Global) -> Result<GroupedRows<V>, AllocError>
+        ensures { IfOk result (λ packed. packed ≡ self) }
+    {
+        let GroupedRows {
+            topics,
+            grouped,
+            rows,
+            name_bytes,
+        } = self;
+        Ok(GroupedRows {
+            topics,
+            grouped: packed_all(alloc, &grouped)?,
+            rows,
+            name_bytes,
+        })
+    }
+
+    /// Gives back the rows of a topic, where it is there. The topic stays, and has no row then.
+    pub fn forget(&mut self, alloc: Global, name: &[u8])
+        ensures { self.new ≡ without_rows name.now self.old }
+    {
+        match self.place(name) {
+            Some(t) => self.empty(alloc, t),
+            None => {}
+        }
+    }
+
+    // Gives back the rows of topic `t`.
+    fn empty(&mut self, alloc: Global, t: usize)
+        requires { t < length self.old }
+        ensures { self.new ≡ emptied self.old t }
+    {
+        let grouped = &mut self.grouped[t];
+        let rows = grouped.len() as u32;
+        let name_bytes = grouped.name_bytes() as u32;
+        *grouped = ValuedRows::new(alloc);
+        self.rows -= rows;
+        self.name_bytes -= name_bytes;
+    }
+}
+
+// Copies of the rows of topics, in no more room than they take.
+fn packed_all<V: RowValue>(
+    alloc: Global,
+    grouped: &[ValuedRows<V>],
+) -> Result<Vec<ValuedRows<V>>, AllocError>
+    ensures { IfOk result (λ packed. packed.items ≡ grouped.now) }
+{
+    let mut packed = Vec::with_capacity(alloc, grouped.len())?;
+    for topic in grouped {
+        packed.push(topic.packed(alloc)?)?;
+    }
+    Ok(packed)
 }

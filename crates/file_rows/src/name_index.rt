@@ -4,6 +4,7 @@ ghost use Rattle.std.specs.List.{list_any};
 ghost use Rattle.std.specs.Str.{bytes_eq};
 ghost use Rattle.indexmap.specs.IndexSet.{insert_key};
 
+use crate::keys::BorrowedKey;
 use indexmap::IndexSet;
 use std::alloc::{AllocError, Global};
 use std::marker::Model;
@@ -12,7 +13,7 @@ use std::marker::Model;
 /// first added.
 #[derive(Drop)]
 pub struct NameIndex<'a> {
-    names: IndexSet<&'a [u8]>,
+    names: IndexSet<BorrowedKey<'a>>,
 }
 
 impl<'a> Model for NameIndex<'a> {
@@ -20,7 +21,7 @@ impl<'a> Model for NameIndex<'a> {
 
     ghost Value = { List (List ℕ) };
 
-    ghost view = { λ s. map (λ name. name.now) s.names.keys };
+    ghost view = { λ s. map (λ name. name.bytes.now) s.names.keys };
 }
 
 impl<'a> NameIndex<'a> {
@@ -45,7 +46,7 @@ impl<'a> NameIndex<'a> {
         ensures place { result ≡ position (bytes_eq name.now) self.now }
         ensures found { is_some result ≡ list_any (bytes_eq name.now) self.now }
     {
-        self.names.get_index_of(name)
+        self.names.get_index_of(&BorrowedKey { bytes: name })
     }
 
     /// Name `i`.
@@ -54,7 +55,7 @@ impl<'a> NameIndex<'a> {
         ensures { slice_get self.now i ≡ Some result.now }
     {
         match self.names.get_index(i) {
-            Some(name) => *name,
+            Some(name) => name.bytes,
             None => unreachable!(),
         }
     }
@@ -66,7 +67,7 @@ impl<'a> NameIndex<'a> {
         ensures names { OnOk result (self.new ≡ insert_key bytes_eq self.old name.now) }
         ensures unchanged { OnErr result (self.new ≡ self.old) }
     {
-        let (_, is_new) = self.names.insert_full(name)?;
+        let (_, is_new) = self.names.insert_full(BorrowedKey { bytes: name })?;
         Ok(is_new)
     }
 
@@ -77,7 +78,7 @@ impl<'a> NameIndex<'a> {
         ensures names { OnOk result (self.new ≡ insert_key bytes_eq self.old name.now) }
         ensures unchanged { OnErr result (self.new ≡ self.old) }
     {
-        let (i, _) = self.names.insert_full(name)?;
+        let (i, _) = self.names.insert_full(BorrowedKey { bytes: name })?;
         Ok(i)
     }
 }

@@ -1,6 +1,5 @@
 // Names that differ, in the order in which they came.
-ghost use Rattle.std.specs.Prelude.{◌≡◌, ◌<◌, [], ◌∷◌, ◌++◌, length, position, is_some, slice_get, Some, false, not, IfOk, OnOk, OnErr};
-ghost use Rattle.indexmap.specs.IndexSet.{insert_key};
+ghost use Rattle.std.specs.Prelude.{◌≡◌, ◌<◌, [], ◌∷◌, ◌++◌, length, position, is_some, slice_get, Some, false, OnOk, OnErr};
 ghost use Rattle.std.specs.List.{list_any};
 ghost use Rattle.std.specs.Str.{bytes_eq};
 
@@ -73,17 +72,5 @@ impl NameSet {
     {
         self.names.insert(Vec::from_slice(alloc, name)?)?;
         Ok(())
-    }
-
-    /// Puts a copy of a name at the end where it is not there yet, and answers whether it was not. It fails only where memory
-    /// runs out, and then changes nothing.
-    pub fn insert(&mut self, alloc: Global, name: &[u8]) -> Result<bool, AllocError>
-        ensures new { IfOk result (λ is_new. is_new ≡ not (list_any (bytes_eq name.now) self.old)) }
-        ensures names { OnOk result (self.new ≡ insert_key bytes_eq self.old name.now) }
-        ensures unchanged { OnErr result (self.new ≡ self.old) }
-    {
-        let name = Vec::from_slice(alloc, name)?;
-        let (_, is_new) = self.names.insert_full(name)?;
-        Ok(is_new)
     }
 }

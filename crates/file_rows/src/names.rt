@@ -1,5 +1,5 @@
 // Names in one row of bytes.
-ghost use Rattle.std.specs.Prelude.{◌≡◌, ◌+◌, ◌^◌, ◌<◌, [], ◌∷◌, ◌++◌, length, sum_by, slice_get, slice_range, ◌≤◌, Some, OnOk, OnErr};
+ghost use Rattle.std.specs.Prelude.{◌≡◌, ◌+◌, ◌^◌, ◌<◌, [], ◌∷◌, ◌++◌, length, sum_by, slice_get, slice_range, ◌≤◌, Some, IfOk, OnOk, OnErr};
 ghost use Rattle.file_rows.specs.Names.{start_at};
 
 use std::alloc::{AllocError, Global};
@@ -39,6 +39,23 @@ impl Names {
         ensures { result ≡ length self.now }
     {
         self.ends.len()
+    }
+
+    /// A copy, in no more room than the names take. It fails only where memory runs out.
+    pub fn packed(&self, alloc: Global) -> Result<Names, AllocError>
+        ensures { IfOk result (λ packed. packed ≡ self.now) }
+    {
+        Ok(Names {
+            bytes: Vec::from_slice(alloc, &self.bytes)?,
+            ends: Vec::from_slice(alloc, &self.ends)?,
+        })
+    }
+
+    /// How many bytes all names have together.
+    pub fn name_bytes(&self) -> usize
+        ensures { result ≡ sum_by length self.now }
+    {
+        self.bytes.len()
     }
 
     /// Name `i`.

@@ -1,5 +1,5 @@
 // The rows of a topic.
-ghost use Rattle.std.specs.Prelude.{◌≡◌, ◌+◌, ◌^◌, ◌<◌, [], ◌∷◌, ◌++◌, length, option_map, slice_get, Some, OnOk, OnErr};
+ghost use Rattle.std.specs.Prelude.{◌≡◌, ◌+◌, ◌^◌, ◌<◌, [], ◌∷◌, ◌++◌, length, option_map, slice_get, Some, IfOk, OnOk, OnErr};
 ghost use Rattle.file_rows.specs.Grouped.{bytes_in};
 
 use crate::names::Names;
@@ -42,6 +42,23 @@ impl<V: RowValue> ValuedRows<V> {
         ensures { result ≡ length self.now }
     {
         self.values.len()
+    }
+
+    /// A copy, in no more room than the rows take. It fails only where memory runs out.
+    pub fn packed(&self, alloc: Global) -> Result<ValuedRows<V>, AllocError>
+        ensures { IfOk result (λ packed. packed ≡ self.now) }
+    {
+        Ok(ValuedRows {
+            documents: self.documents.packed(alloc)?,
+            values: Vec::from_slice(alloc, &self.values)?,
+        })
+    }
+
+    /// The bytes of the names of all documents together.
+    pub fn name_bytes(&self) -> usize
+        ensures { result ≡ bytes_in self.now }
+    {
+        self.documents.name_bytes()
     }
 
     /// The name of document `i`.

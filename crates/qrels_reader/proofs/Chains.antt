@@ -12,7 +12,7 @@ use Rattle.file_rows.specs.declared.fault.LineFault.TheVariants.{LineTooLong, Ba
 use Rattle.file_rows.specs.declared.fault.FileFault.{FileFault}
 use Rattle.file_rows.specs.declared.fault.FileFault.TheVariants.{Line, Memory}
 use Rattle.file_rows.specs.declared.limits.TheConstants.{MOST_NAME_BYTES}
-use Rattle.file_rows.specs.Reading.{unless, checked, and_then, field, is_long, read_line}
+use Rattle.file_rows.specs.Reading.{IsTooLong, unless, checked, and_then, field, is_long, read_line}
 use Rattle.file_rows.specs.Rows.{Row}
 use Rattle.file_rows.specs.Grouped.{TopicRows, grouped, with_row_on, rows_in, is_topic, row_count, name_bytes_in}
 use Rattle.file_rows.proofs.Chains.{read_whole, read_refused}
@@ -20,7 +20,7 @@ use Rattle.file_rows.proofs.Grouping.{grouped-append, repeated, is_topic-grouped
 use Rattle.qrels_reader.specs.declared.limits.TheConstants.{MOST_TOPICS, MOST_QRELS_ROWS}
 use Rattle.qrels_reader.specs.Rows.{row_of, grade_of, form_faults, row_faults, read_row}
 use Rattle.qrels_reader.specs.Grouped.{faults_after}
-use Rattle.qrels_reader.specs.Reader.{ReadsLine, IsTooLong}
+use Rattle.qrels_reader.specs.Reader.{ReadsLine}
 
 -- what the tests of a line's form give
 pub form_is : (line : List ℕ) (a b c d e : Bool) → nat_lt LONGEST_LINE (length line) ≡ a → list_any is_bad line ≡ b → not (length (fields_of line) == 4) ≡ c → (is_long (field line 0) || is_long (field line 2)) ≡ d → is_none (grade_of line) ≡ e

@@ -7,14 +7,14 @@ use Rattle.desk_text.specs.declared.line.TheConstants.{LONGEST_LINE}
 use Rattle.file_rows.specs.declared.fault.FileFault.{FileFault}
 use Rattle.file_rows.specs.declared.fault.FileFault.TheVariants.{Memory, NoTopics, Line}
 use Rattle.file_rows.specs.declared.fault.LineFault.TheVariants.{LineTooLong}
-use Rattle.file_rows.specs.Reading.{and_then, with_row, rows_from, IsUnlessMemory}
+use Rattle.file_rows.specs.Reading.{IsTooLong, and_then, with_row, rows_from, IsUnlessMemory}
 use Rattle.file_rows.specs.Rows.{Row}
 use Rattle.file_rows.specs.Grouped.{TopicRows, grouped, row_count}
 use Rattle.file_rows.proofs.Grouping.{row_count-grouped}
 use Rattle.file_rows.proofs.ReadOn.{read_on}
 use Rattle.qrels_reader.specs.Rows.{read_row}
 use Rattle.qrels_reader.specs.Grouped.{qrels_of, IsQrels}
-use Rattle.qrels_reader.specs.Reader.{ReadsLine, IsTooLong, Gathers, HasRead}
+use Rattle.qrels_reader.specs.Reader.{ReadsLine, Gathers, HasRead}
 use Rattle.qrels_reader.specs.declared.row_reader.RowReader.{RowReader}
 use Rattle.qrels_reader.proofs.Chains.{read_too_long}
 use Rattle.qrels_reader.proofs.Right.{none_right, rows_right, is_qrels}
@@ -57,11 +57,3 @@ module _ (reader : RowReader) (text : List ℕ) where
   pub told : (fault : FileFault) → HasRead (Some fault) reader (lines text) → IsUnlessMemory {A = List TopicRows} (Err fault) (qrels_of text)
   told fault (inl w) = inl (ap Err w)
   told fault (inr w) = inr (sym (ap (λ rows. and_then rows (λ rows. cond (length rows == 0) (Err NoTopics) (Ok (grouped rows)))) w))
-
--- of a line that is too long nothing is kept
-pub long_line : (line : List ℕ) → None ≡ kept_line line → IsTooLong line
-long_line line e = by (nat_le (length line) LONGEST_LINE) refl e
-  where
-    by : (b : Bool) → nat_le (length line) LONGEST_LINE ≡ b → None ≡ cond b (Some line) None → IsTooLong line
-    by true f e = absurd (cc)
-    by false f e = leb-false (length line) LONGEST_LINE f

@@ -1,6 +1,5 @@
 -- What a reader of a qrels file has read.
 use Rattle.std.specs.Prelude.{◌≡◌, ◌⊎◌, ℕ, ◌<◌, List, [], length, Option, Some, None, Result, Ok, Err}
-use Rattle.desk_text.specs.declared.line.TheConstants.{LONGEST_LINE}
 use Rattle.file_rows.specs.Reading.{read_line, with_row, rows_from}
 use Rattle.file_rows.specs.Rows.{Row}
 use Rattle.file_rows.specs.Grouped.{TopicRows, grouped, documents_seen}
@@ -22,9 +21,6 @@ IsTracked reader = reader.seen.items ≡ documents_seen reader.groups
 abbrev pub ReadsLine : ℕ → List Row → List ℕ → Result (Unit {0}) FileFault → List TopicRows → Type 0
 ReadsLine number rows line (Ok done) topics = (row : Option Row) × (read_line read_row number rows line ≡ Ok row) × (topics ≡ grouped (with_row rows row))
 ReadsLine number rows line (Err fault) topics = (fault ≡ Memory) ⊎ (read_line read_row number rows line ≡ Err fault)
-
-abbrev pub IsTooLong : List ℕ → Type 0
-IsTooLong line = LONGEST_LINE < length line
 
 -- lines were read, and none of them has a fault
 pub record Gathers (reader : RowReader) (lines : List (List ℕ)) : Type 0 where

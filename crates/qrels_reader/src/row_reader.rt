@@ -3,11 +3,11 @@ ghost use Rattle.std.specs.Prelude.{◌≡◌, ◌⊎◌, ◌+◌, ◌^◌, ◌<
 ghost use Rattle.std.specs.List.{list_any};
 ghost use Rattle.std.specs.Str.{bytes_eq};
 ghost use Rattle.desk_text.specs.Lines.{lines};
-ghost use Rattle.file_rows.specs.Reading.{checked, IsUnlessMemory};
+ghost use Rattle.file_rows.specs.Reading.{checked, IsTooLong, IsUnlessMemory};
 ghost use Rattle.file_rows.specs.Rows.{Row};
 ghost use Rattle.file_rows.specs.Grouped.{with_row_on, rows_in, rows_at, with_valued, valued_of, place_of, row_count, name_bytes_in, grouped};
 ghost use Rattle.qrels_reader.specs.Grouped.{qrels_of, faults_after, IsQrels};
-ghost use Rattle.qrels_reader.specs.Reader.{row_said, IsTracked, ReadsLine, HasRead, IsReady, IsTooLong};
+ghost use Rattle.qrels_reader.specs.Reader.{row_said, IsTracked, ReadsLine, HasRead, IsReady};
 
 use crate::limits::{MOST_QRELS_ROWS, MOST_TOPICS};
 use crate::line::{RowText, row_text};
@@ -94,7 +94,7 @@ impl RowReader {
     {
         match self.fault {
             Some(fault) => Err(fault),
-            None => qrels_from(self.groups),
+            None => qrels_from(self.alloc, self.groups),
         }
     }
 
@@ -106,7 +106,7 @@ impl RowReader {
     {
         match self.fault {
             Some(_) => {}
-            None => self.fault = Some(too_long(self.lines)),
+            None => self.fault = Some(FileFault::too_long(self.lines)),
         }
     }
 
@@ -232,26 +232,13 @@ impl RowReader {
     }
 }
 
-// The fault of a line that is too long, after a number of lines. Where these are too many to be counted, memory is said to run out.
-fn too_long(lines: u64) -> FileFault
-    ensures { (result ≡ FileFault.Memory) ⊎ (result ≡ FileFault.Line (lines + 1) LineFault.LineTooLong) }
-{
-    if lines == u64::MAX {
-        return FileFault::Memory;
-    }
-    FileFault::Line {
-        line: lines + 1,
-        fault: LineFault::LineTooLong,
-    }
-}
-
 // The rows of a file without a fault.
-fn qrels_from(groups: GroupedRows<i16>) -> Result<Qrels, FileFault>
+fn qrels_from(alloc: Global, groups: GroupedRows<i16>) -> Result<Qrels, FileFault>
     requires { 0 < row_count groups → IsQrels groups }
-    ensures { result ≡ (if row_count groups == 0 then Err FileFault.NoTopics else Ok groups) }
+    ensures { IsUnlessMemory result (if row_count groups == 0 then Err FileFault.NoTopics else Ok groups) }
 {
     if groups.rows() == 0 {
         return Err(FileFault::NoTopics);
     }
-    Ok(Qrels::new(groups))
+    Ok(Qrels::new(groups.packed(alloc)?))
 }

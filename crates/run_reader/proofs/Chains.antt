@@ -13,7 +13,7 @@ use Rattle.file_rows.specs.declared.fault.LineFault.TheVariants.{LineTooLong, Ba
 use Rattle.file_rows.specs.declared.fault.FileFault.{FileFault}
 use Rattle.file_rows.specs.declared.fault.FileFault.TheVariants.{Line, Memory}
 use Rattle.file_rows.specs.declared.limits.TheConstants.{MOST_NAME_BYTES}
-use Rattle.file_rows.specs.Reading.{unless, checked, and_then, field, is_long, read_line}
+use Rattle.file_rows.specs.Reading.{IsTooLong, unless, checked, and_then, field, is_long, read_line}
 use Rattle.file_rows.proofs.Chains.{read_whole, read_refused}
 use Rattle.run_reader.specs.declared.limits.TheConstants.{MOST_RANKS, MOST_RUN_ROWS}
 use Rattle.run_reader.specs.declared.used.Used.{Used}
@@ -21,7 +21,7 @@ use Rattle.file_rows.specs.Rows.{Row, rows_on}
 use Rattle.run_reader.specs.Rows.{row_of, tag_of, formed, row_faults, read_row}
 use Rattle.file_rows.specs.Grouped.{TopicRows, valued_of, grouped, is_topic, with_row_on, rows_in, row_count, name_bytes_in}
 use Rattle.run_reader.specs.Run.{faults_after}
-use Rattle.run_reader.specs.Reader.{ReadsLine, IsTooLong}
+use Rattle.run_reader.specs.Reader.{ReadsLine}
 use Rattle.file_rows.proofs.Grouping.{grouped-append, repeated, members_on-grouped, name_bytes_in-grouped}
 use Rattle.file_rows.proofs.Grouping.{row_count-grouped}
 

@@ -8,7 +8,7 @@ use Rattle.desk_model.specs.Name.{is_name}
 use Rattle.file_rows.specs.declared.fault.FileFault.{FileFault}
 use Rattle.file_rows.specs.declared.fault.FileFault.TheVariants.{Memory, Line}
 use Rattle.file_rows.specs.declared.fault.LineFault.TheVariants.{LineTooLong}
-use Rattle.file_rows.specs.Reading.{and_then, with_row, rows_from, IsUnlessMemory}
+use Rattle.file_rows.specs.Reading.{IsTooLong, and_then, with_row, rows_from, IsUnlessMemory}
 use Rattle.file_rows.specs.Rows.{Row}
 use Rattle.file_rows.specs.Grouped.{TopicRows, grouped}
 use Rattle.file_rows.proofs.Grouping.{row_count-grouped, name_bytes_in-grouped}
@@ -18,7 +18,7 @@ use Rattle.run_reader.specs.declared.row_reader.Beside.{Beside}
 use Rattle.run_reader.specs.declared.row_reader.RowReader.{RowReader}
 use Rattle.run_reader.specs.Rows.{read_row}
 use Rattle.run_reader.specs.Run.{Run, name_of, named, run_of, IsRun}
-use Rattle.run_reader.specs.Reader.{ReadsLine, IsTooLong, Gathers, HasRead, name_in, given_in, name_after, run_with}
+use Rattle.run_reader.specs.Reader.{ReadsLine, Gathers, HasRead, name_in, given_in, name_after, run_with}
 use Rattle.run_reader.proofs.Chains.{read_too_long}
 use Rattle.run_reader.proofs.Right.{name_of-next, name_of-none, none_right, rows_right, names_are_right, is_run}
 
@@ -81,11 +81,3 @@ module _ (reader : RowReader) (text : List ℕ) where
   pub told : (fault : FileFault) → HasRead (Some fault) reader (lines text) → IsUnlessMemory {A = Run} (Err fault) (run_of (given_in reader.beside) reader.beside.qrels.now reader.beside.used text)
   told fault (inl w) = inl (ap Err w)
   told fault (inr w) = inr (sym (ap (λ rows. and_then rows (named (name_of (given_in reader.beside) (lines text)) reader.beside.used)) w))
-
--- of a line that is too long nothing is kept
-pub long_line : (line : List ℕ) → None ≡ kept_line line → IsTooLong line
-long_line line e = by (nat_le (length line) LONGEST_LINE) refl e
-  where
-    by : (b : Bool) → nat_le (length line) LONGEST_LINE ≡ b → None ≡ cond b (Some line) None → IsTooLong line
-    by true f e = absurd (cc)
-    by false f e = leb-false (length line) LONGEST_LINE f

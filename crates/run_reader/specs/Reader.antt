@@ -1,7 +1,6 @@
 -- What a reader of a run file has read.
 use Rattle.std.specs.Prelude.{◌≡◌, true, All, ◌⊎◌, ℕ, ◌+◌, ◌<◌, ◌≤◌, List, [], length, Option, Some, None, option_map, unwrap_or, Result, Ok, Err, if◌then◌else◌}
 use Rattle.desk_text.specs.Lines.{is_blank}
-use Rattle.desk_text.specs.declared.line.TheConstants.{LONGEST_LINE}
 use Rattle.file_rows.specs.Reading.{read_line, with_row, rows_from}
 use Rattle.file_rows.specs.Rows.{Row}
 use Rattle.file_rows.specs.Grouped.{TopicRows, Valued, valued_of, with_valued, grouped, names_of, is_topic, place_of, documents_seen, row_count, name_bytes_in}
@@ -60,9 +59,6 @@ pub record IsSound (reader : RowReader) : Type 0 where
 abbrev pub ReadsLine : List TopicRows → Used → ℕ → List Row → List ℕ → Result (Unit {0}) FileFault → List TopicRows → Type 0
 ReadsLine qrels used number rows line (Ok done) topics = (row : Option Row) × (read_line (read_row qrels used) number rows line ≡ Ok row) × (topics ≡ grouped (with_row rows row))
 ReadsLine qrels used number rows line (Err fault) topics = (fault ≡ Memory) ⊎ (read_line (read_row qrels used) number rows line ≡ Err fault)
-
-abbrev pub IsTooLong : List ℕ → Type 0
-IsTooLong line = LONGEST_LINE < length line
 
 -- lines were read, and none of them has a fault
 pub record Gathers (reader : RowReader) (lines : List (List ℕ)) : Type 0 where

@@ -7,7 +7,7 @@ ghost use Rattle.run_reader.specs.Reader.{row_said, IsTracked, IsNoted};
 
 use crate::line::RowText;
 use decimal_score::Score;
-use file_rows::{GroupedRows, NameSet};
+use file_rows::{GroupedRows, SeenNames};
 use std::alloc::{AllocError, Global};
 
 /// The kept rows so far, and the documents of each topic, in which repeated ones are found. After an error it is given up.
@@ -15,7 +15,7 @@ use std::alloc::{AllocError, Global};
 pub struct Gathered {
     pub alloc: Global,
     pub kept: GroupedRows<Score>,
-    pub seen: Vec<NameSet>,
+    pub seen: Vec<SeenNames>,
     // The topic that was looked up last, and its place: the rows of one topic mostly stand together.
     pub last_topic: Vec<u8>,
     pub last: Option<usize>,
@@ -106,7 +106,7 @@ impl Gathered {
         let t = self.kept.topics();
         self.kept.add_topic(self.alloc, row.topic)?;
         self.kept.add_row(t, row.document, row.score)?;
-        let mut seen = NameSet::new(self.alloc);
+        let mut seen = SeenNames::new(self.alloc);
         seen.insert(self.alloc, row.document)?;
         self.seen.push(seen)?;
         self.last_topic.clear();

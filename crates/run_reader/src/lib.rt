@@ -17,4 +17,6 @@ pub use run_rows::RunRows;
 pub use used::Used;
 
 #[cfg(test)]
+mod cuts;
+#[cfg(test)]
 mod tests;

@@ -2,12 +2,12 @@
 ghost use Rattle.std.specs.Prelude.{◌≡◌, ◌⊎◌, ◌+◌, ◌<◌, ◌≤◌, [], ◌∷◌, ◌++◌, List, ℕ, length, true, false, not, if◌then◌else◌, unwrap_or, All, IfErr, IfOk, IfSome, OnOk, Ok, Err, Some};
 ghost use Rattle.desk_text.specs.Lines.{lines};
 ghost use Rattle.desk_model.specs.Name.{is_name};
-ghost use Rattle.file_rows.specs.Reading.{checked, IsUnlessMemory};
+ghost use Rattle.file_rows.specs.Reading.{checked, IsTooLong, IsUnlessMemory};
 ghost use Rattle.file_rows.specs.Rows.{Row};
 ghost use Rattle.file_rows.specs.Grouped.{grouped, is_topic, names_of, place_of, with_row_on, row_count, name_bytes_in};
 ghost use Rattle.file_rows.specs.declared.limits.TheConstants.{MOST_NAME_BYTES};
 ghost use Rattle.run_reader.specs.Run.{run_of, limits_after, faults_after, IsRun, IsWithinLimits};
-ghost use Rattle.run_reader.specs.Reader.{row_said, given_in, name_in, name_after, IsSound, ReadsLine, HasRead, IsReady, IsTooLong, run_with};
+ghost use Rattle.run_reader.specs.Reader.{row_said, given_in, name_in, name_after, IsSound, ReadsLine, HasRead, IsReady, run_with};
 
 use crate::gathered::Gathered;
 use crate::limits::{MOST_RANKS, MOST_RUN_ROWS};
@@ -119,7 +119,7 @@ impl<'q> RowReader<'q> {
         requires sound { IsSound self }
         requires name { IfSome (name_in self) (λ n. is_name n ≡ true) }
         requires kept { IsRun self.gathered.kept }
-        ensures { result ≡ run_with (name_in self.entry) self.entry.beside.used self.entry.gathered.kept }
+        ensures { IsUnlessMemory result (run_with (name_in self.entry) self.entry.beside.used self.entry.gathered.kept) }
     {
         let RowReader {
             beside,
@@ -133,7 +133,7 @@ impl<'q> RowReader<'q> {
             used,
             given,
         } = beside;
-        let kept = gathered.kept;
+        let kept = gathered.kept.packed(gathered.alloc)?;
         let used = Used {
             rows: used.rows + kept.rows(),
             name_bytes: used.name_bytes + kept.name_bytes(),
@@ -154,7 +154,7 @@ impl<'q> RowReader<'q> {
     {
         match self.fault {
             Some(_) => {}
-            None => self.fault = Some(too_long(self.lines)),
+            None => self.fault = Some(FileFault::too_long(self.lines)),
         }
     }
 
@@ -278,18 +278,5 @@ fn first_fault(is_repeated: bool, room: Result<(), LineFault>) -> Result<(), Lin
         Err(LineFault::RepeatedDocument)
     } else {
         room
-    }
-}
-
-// The fault of a line that is too long, after a number of lines. Where these are too many to be counted, memory is said to run out.
-fn too_long(lines: u64) -> FileFault
-    ensures { (result ≡ FileFault.Memory) ⊎ (result ≡ FileFault.Line (lines + 1) LineFault.LineTooLong) }
-{
-    if lines == u64::MAX {
-        return FileFault::Memory;
-    }
-    FileFault::Line {
-        line: lines + 1,
-        fault: LineFault::LineTooLong,
     }
 }

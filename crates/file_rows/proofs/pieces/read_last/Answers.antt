@@ -1,4 +1,4 @@
-use Rattle.std.proofs.Common.{sym, ◌∙◌}
+use Rattle.std.proofs.Common.{◌∙◌}
 use Rattle.file_rows.proofs.PieceLines.{fed_last, fed_none}
 use Rattle.file_rows.proofs.pieces.read_last.Goals as goal
 

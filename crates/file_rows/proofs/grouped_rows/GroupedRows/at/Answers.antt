@@ -1,5 +1,4 @@
-use Rattle.std.proofs.Common.{◌≡◌, length, ap, sym, ◌∙◌, arith, refl}
-use Rattle.file_rows.specs.Grouped.{rows_at}
+use Rattle.std.proofs.Common.{length, ap, sym, arith, refl}
 use Rattle.file_rows.proofs.Zipped.{in_place, held, part-le}
 use Rattle.file_rows.proofs.RowFiles.{holding}
 use Rattle.file_rows.proofs.grouped_rows.GroupedRows.at.Goals as goal

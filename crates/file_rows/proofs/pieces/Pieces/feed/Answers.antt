@@ -1,4 +1,4 @@
-use Rattle.std.proofs.Common.{◌++◌, List, ℕ, arith, subst, sym, append-nil, take}
+use Rattle.std.proofs.Common.{◌++◌, arith, subst, sym, append-nil, take}
 use Rattle.file_rows.specs.Pieces.{HasFed}
 use Rattle.file_rows.proofs.PieceLines.{taken_more}
 use Rattle.file_rows.proofs.pieces.Pieces.feed.Goals as goal

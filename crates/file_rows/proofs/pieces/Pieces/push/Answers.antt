@@ -1,4 +1,4 @@
-use Rattle.std.proofs.Common.{sym, ◌∙◌}
+use Rattle.std.proofs.Common.{◌∙◌}
 use Rattle.file_rows.proofs.PieceLines.{fed_more, fed_end}
 use Rattle.file_rows.proofs.pieces.Pieces.push.Goals as goal
 

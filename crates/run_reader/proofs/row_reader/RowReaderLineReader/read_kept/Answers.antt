@@ -1,8 +1,7 @@
 use Rattle.std.proofs.Common.{◌++◌, ◌∷◌, [], List, ℕ, Bor, ap, sym, subst, ◌∙◌}
 use Rattle.std.specs.Prelude.{option_map}
 use Rattle.run_reader.specs.Reader.{HasRead}
-use Rattle.file_rows.proofs.PieceLines.{kept_is}
-use Rattle.run_reader.proofs.Progress.{long_line}
+use Rattle.file_rows.proofs.PieceLines.{kept_is, long_line}
 use Rattle.run_reader.proofs.row_reader.RowReaderLineReader.read_kept.Goals as goal
 
 pub returns-in-Some-clause-read : goal.returns-in-Some-clause-read
