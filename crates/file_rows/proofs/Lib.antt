@@ -11,3 +11,4 @@ pub mod FieldNames
 pub mod NamedRows
 pub mod PieceLines
 pub mod ReadOn
+pub mod Forgetting

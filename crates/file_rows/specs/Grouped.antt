@@ -66,6 +66,17 @@ with_row_on [] row = record { name = row.topic; rows = valued_of row ∷ [] } �
 with_row_on (topic ∷ topics) row =
     if bytes_eq row.topic topic.name then record { name = topic.name; rows = topic.rows ++ valued_of row ∷ [] } ∷ topics else topic ∷ with_row_on topics row
 
+-- topics of which one, by its number from 0, has no row any more
+abbrev pub emptied : List TopicRows → ℕ → List TopicRows
+emptied [] t = []
+emptied (topic ∷ topics) zero = record { name = topic.name; rows = [] } ∷ topics
+emptied (topic ∷ topics) (suc t) = topic ∷ emptied topics t
+
+-- topics of which one, by its name, has no row any more, where it is there
+abbrev pub without_rows : List ℕ → List TopicRows → List TopicRows
+without_rows name [] = []
+without_rows name (topic ∷ topics) = if bytes_eq name topic.name then record { name = topic.name; rows = [] } ∷ topics else topic ∷ without_rows name topics
+
 -- the number of a topic, by its name
 abbrev pub place_of : List ℕ → List TopicRows → Option ℕ
 place_of name topics = position (bytes_eq name) (names_of topics)

@@ -1,7 +1,7 @@
 // Rows that are grouped by their topics.
 ghost use Rattle.std.specs.Prelude.{◌≡◌, ◌≤◌, ◌+◌, ◌^◌, ◌<◌, [], ◌∷◌, ◌++◌, length, position, slice_get, Some, MatchOption, OnOk, OnErr, false};
 ghost use Rattle.std.specs.Str.{bytes_eq};
-ghost use Rattle.file_rows.specs.Grouped.{is_topic, names_of, rows_at, rows_in, row_count, name_bytes_in, with_valued};
+ghost use Rattle.file_rows.specs.Grouped.{is_topic, names_of, rows_at, rows_in, row_count, name_bytes_in, with_valued, without_rows, emptied};
 
 use crate::name_set::NameSet;
 use crate::value::RowValue;
@@ -132,5 +132,28 @@ impl<V: RowValue> GroupedRows<V> {
         self.rows += 1;
         self.name_bytes += document.len() as u32;
         Ok(())
+    }
+
+    /// Gives back the rows of a topic, where it is there. The topic stays, and has no row then.
+    pub fn forget(&mut self, alloc: Global, name: &[u8])
+        ensures { self.new ≡ without_rows name.now self.old }
+    {
+        match self.place(name) {
+            Some(t) => self.empty(alloc, t),
+            None => {}
+        }
+    }
+
+    // Gives back the rows of topic `t`.
+    fn empty(&mut self, alloc: Global, t: usize)
+        requires { t < length self.old }
+        ensures { self.new ≡ emptied self.old t }
+    {
+        let grouped = &mut self.grouped[t];
+        let rows = grouped.len() as u32;
+        let name_bytes = grouped.name_bytes() as u32;
+        *grouped = ValuedRows::new(alloc);
+        self.rows -= rows;
+        self.name_bytes -= name_bytes;
     }
 }

@@ -41,6 +41,13 @@ impl Names {
         self.ends.len()
     }
 
+    /// How many bytes all names have together.
+    pub fn name_bytes(&self) -> usize
+        ensures { result ≡ sum_by length self.now }
+    {
+        self.bytes.len()
+    }
+
     /// Name `i`.
     pub fn get(&self, i: usize) -> &[u8]
         requires { i < length self.now }

@@ -44,6 +44,13 @@ impl<V: RowValue> ValuedRows<V> {
         self.values.len()
     }
 
+    /// The bytes of the names of all documents together.
+    pub fn name_bytes(&self) -> usize
+        ensures { result ≡ bytes_in self.now }
+    {
+        self.documents.name_bytes()
+    }
+
     /// The name of document `i`.
     pub fn document(&self, i: usize) -> &[u8]
         requires { i < length self.now }

@@ -2,3 +2,4 @@ pub mod Places
 pub mod Chains
 pub mod Progress
 pub mod Right
+pub mod Forgetting

@@ -1,14 +1,16 @@
 // A run that was read.
-ghost use Rattle.std.specs.Prelude.{◌≡◌, ◌<◌, ◌≤◌, [], true, All, length, map, option_map, slice_get, Some, MatchOption};
+ghost use Rattle.std.specs.Prelude.{◌≡◌, ◌<◌, ◌≤◌, [], List, ℕ, true, false, All, length, map, option_map, slice_get, Some, MatchOption};
 ghost use Rattle.std.specs.List.{IsDistinct};
 ghost use Rattle.std.specs.Str.{bytes_eq};
 ghost use Rattle.desk_model.specs.Name.{is_name};
+ghost use Rattle.file_rows.specs.Grouped.{names_of, row_count};
 ghost use Rattle.run_reader.specs.Run.{IsRun, IsWithinLimits, rows_on_topic};
 
 use crate::limits::MOST_RANKS;
 use crate::used::Used;
 use decimal_score::Score;
 use file_rows::{GroupedRows, ValuedRows};
+use std::alloc::Global;
 use std::marker::Model;
 
 /// A run: its name and its kept rows, which are those on topics of the qrels.
@@ -39,6 +41,18 @@ impl RunRows {
         ensures { result ≡ record { name = name.items; topics = kept; used = used } }
     {
         RunRows { name, kept, used }
+    }
+
+    /// Gives back the rows of a topic, which has none then. All else stays as it is.
+    pub fn forget(&mut self, alloc: Global, topic: &[u8])
+        ensures gone { rows_on_topic self.new topic.now ≡ [] }
+        ensures others { (other : List ℕ) → bytes_eq topic.now other ≡ false → rows_on_topic self.new other ≡ rows_on_topic self.old other }
+        ensures topics { names_of self.new.topics ≡ names_of self.old.topics }
+        ensures rows { row_count self.new.topics ≤ row_count self.old.topics }
+        ensures name { self.new.name ≡ self.old.name }
+        ensures used { self.new.used ≡ self.old.used }
+    {
+        self.kept.forget(alloc, topic);
     }
 
     /// The run's name.
