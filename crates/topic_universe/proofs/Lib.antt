@@ -3,3 +3,4 @@ pub mod Sorting
 pub mod Placing
 pub mod Zips
 pub mod Numbers
+pub mod Starts

@@ -1,3 +1,4 @@
 pub mod Names
 pub mod Sorted
 pub mod Universe
+pub mod Start

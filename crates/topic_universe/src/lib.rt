@@ -3,8 +3,10 @@
 
 mod memory;
 mod names;
+mod numbered;
 mod universe;
 
 pub use memory::OutOfMemory;
-pub use names::{Numbered, ascending, copied, named, places};
-pub use universe::{Universe, listed_names, universe_of};
+pub use names::{ascending, copied, named, places};
+pub use numbered::Numbered;
+pub use universe::{Universe, universe_of};

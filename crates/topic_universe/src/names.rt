@@ -7,12 +7,10 @@ ghost use Rattle.topic_universe.specs.Names.{AreNames};
 ghost use Rattle.topic_universe.specs.Sorted.{AreSorted, IsPlaceOf};
 
 use crate::memory::OutOfMemory;
+use crate::numbered::Numbered;
 use desk_model::{Name, NameFault};
 use file_rows::NameIndex;
 use std::alloc::{AllocError, Global};
-
-/// A name and its number.
-pub type Numbered<'n> = (&'n [u8], usize);
 
 /// The name of these bytes.
 pub fn named(alloc: Global, bytes: &[u8]) -> Result<Name, OutOfMemory>
@@ -32,7 +30,7 @@ fn numbered<'n>(alloc: Global, names: &NameIndex<'n>) -> Result<Vec<Numbered<'n>
 {
     let mut pairs = Vec::with_capacity(alloc, names.len())?;
     for i in 0..names.len() {
-        pairs.push((names.get(i), i))?;
+        pairs.push(Numbered::new(names.get(i), i))?;
     }
     Ok(pairs)
 }
@@ -46,7 +44,7 @@ pub(crate) fn sorted<'n>(
     ensures { IfOk result (λ pairs. AreSorted names.now pairs.items) }
 {
     let mut pairs = numbered(alloc, names)?;
-    pairs.sort_unstable_by(|x, y| x.0.cmp(y.0));
+    pairs.sort_unstable_by(|x, y| x.compare(y));
     Ok(pairs)
 }
 
@@ -57,7 +55,7 @@ pub fn copied(alloc: Global, pairs: &[Numbered<'_>]) -> Result<Vec<Name>, OutOfM
 {
     let mut copies = Vec::with_capacity(alloc, pairs.len())?;
     for i in 0..pairs.len() {
-        copies.push(named(alloc, pairs[i].0)?)?;
+        copies.push(named(alloc, pairs[i].name())?)?;
     }
     Ok(copies)
 }
@@ -81,7 +79,7 @@ pub fn places(alloc: Global, pairs: &[Numbered<'_>]) -> Result<Vec<u32>, AllocEr
 {
     let mut places = vec![in alloc; 0; pairs.len()]?;
     for i in 0..pairs.len() {
-        places[pairs[i].1] = i as u32;
+        places[pairs[i].number()] = i as u32;
     }
     Ok(places)
 }

@@ -7,7 +7,8 @@ ghost use Rattle.topic_universe.specs.Names.{with_names, AreNames, Gathers, numb
 ghost use Rattle.topic_universe.specs.Universe.{listed, retrieved, AreRankedNumbers, IsUniverseOf};
 
 use crate::memory::OutOfMemory;
-use crate::names::{Numbered, sorted};
+use crate::names::sorted;
+use crate::numbered::Numbered;
 use file_rows::NameIndex;
 use qrels_reader::Qrels;
 use run_reader::RunRows;
@@ -24,8 +25,8 @@ pub struct Universe<'n> {
     pub numbers: Vec<Vec<usize>>,
 }
 
-/// The documents that the qrels list of topic `t`, in their order.
-pub fn listed_names(alloc: Global, qrels: &Qrels, t: usize) -> Result<NameIndex<'_>, AllocError>
+// The documents that the qrels list of topic `t`, in their order.
+fn listed_names(alloc: Global, qrels: &Qrels, t: usize) -> Result<NameIndex<'_>, AllocError>
     requires { t < length qrels.now }
     ensures documents { IfOk result (λ names. names ≡ listed (rows_at qrels.now t)) }
     ensures names { IfOk result (λ names. AreNames names) }

@@ -1,10 +1,13 @@
 -- A topic is that of its rows.
-use Rattle.std.proofs.Common.{◌≡◌, ℕ, ◌<◌, ◌≤◌, Bool, true, false, cond, List, [], ◌∷◌, ◌++◌, length, map, Some, None, refl, ap, sym, ◌∙◌, subst, length-append, arith}
+use Rattle.std.proofs.Common.{◌≡◌, ℕ, ◌<◌, ◌≤◌, Bool, true, false, cond, List, [], ◌∷◌, ◌++◌, length, map, Some, None, refl, ap, ap₂, sym, ◌∙◌, subst, length-append, get_or, arith}
 use Rattle.std.specs.Prelude.{Vec, Result, Ok, Err, IfOk, All, flat_map, position}
 use Rattle.std.specs.List.{list_any}
 use Rattle.std.specs.List.Sorted.{IsPermutation}
 use Rattle.std.specs.Str.{bytes_eq}
 use Rattle.std.proofs.lemmas.List.{get_or-map, length-map}
+use Rattle.std.proofs.lemmas.List.Elements.{All-from_get_or}
+use Rattle.std.proofs.lemmas.List.Folds.{list_any_none}
+use Rattle.std.proofs.lemmas.Map.Keys.{apart_from_distinct}
 use Rattle.std.proofs.lemmas.List.Sorted.{All-permutation, length_permutation, list_any-IsPermutation}
 use Rattle.std.proofs.lemmas.List.Sums.{sum_by-cons}
 use Rattle.std.proofs.lemmas.Option.{slice_get_within, get_or_from_slice_get}
@@ -13,14 +16,15 @@ use Rattle.desk_model.specs.Book.{Book, IsBook}
 use Rattle.file_rows.specs.Grouped.{TopicRows, Valued, names_of, rows_at, rows_in, row_count}
 use Rattle.qrels_reader.specs.declared.limits.TheConstants.{MOST_QRELS_ROWS}
 use Rattle.file_rows.proofs.Places.{at_name}
+use Rattle.file_rows.proofs.Seen.{laws}
 use Rattle.file_rows.proofs.Zipped.{part-le}
 use Rattle.run_reader.specs.Run.{Run, rows_on_topic}
 use Rattle.run_reader.specs.declared.limits.TheConstants.{MOST_RUN_ROWS}
 use Rattle.topics_pool.specs.Rows.{IsBookOf, grade_in, total_rows, topic_names}
 use Rattle.topic_universe.specs.Universe.{listed, retrieved, IsUniverseOf}
 use Rattle.topic_universe.specs.Sorted.{Numbered}
-use Rattle.topic_universe.proofs.Placing.{name_of, same_count}
-use Rattle.topics_pool.specs.Made.{AreBooksOf, book_over}
+use Rattle.topic_universe.proofs.Placing.{name_of, number_of, numbers_within, same_count}
+use Rattle.topics_pool.specs.Made.{AreBooksOf, IsNumberedAfter, book_over}
 
 -- the topic that has a name is found where it stands
 pub at_number : (qrels : List TopicRows) (name : List ℕ) (t : ℕ) → position (bytes_eq name) (names_of qrels) ≡ Some t → (t < length qrels) × (rows_at qrels t ≡ rows_in name qrels)
@@ -74,6 +78,23 @@ module _ (qrels : List TopicRows) (runs : List Run) (name : List ℕ) (t : ℕ) 
         ∙ ap (grade_in (rows_at qrels t)) (get_or_from_slice_get (map name_of pairs) doc each [] got)
         ∙ ap (λ documents. grade_in documents each) ((at_number qrels name t place).1);
   }
+
+  pub numbered_after : All (λ pair. IsNumberedAfter (rows_at qrels t) pair.0.now pair.1) pairs
+  numbered_after = λ k d lt.
+      let docs = rows_at qrels t in
+      let name = (get_or pairs k d).0.now in
+      let n = (get_or pairs k d).1 in
+      let long = length-map docs (λ (d : Valued). d.document) in
+      let linked : get_or universe.names n [] ≡ name = universe.sorted.linked k d lt in
+      let numbered = length-map pairs number_of in
+      let within : n < length universe.names = subst (λ m. m < length universe.names) (get_or-map number_of pairs k d 0 lt) (numbers_within (length universe.names) (map number_of pairs) universe.sorted.numbers k 0 (omega (arith, lt, numbered))) in
+      let apart : length docs ≤ n → (i : ℕ) → i < length (listed docs) → bytes_eq name (get_or (listed docs) i []) ≡ false = λ past i below.
+      ap₂ bytes_eq (sym linked) (sym (universe.gathered.kept i below)) ∙ laws.symm (get_or universe.names n []) (get_or universe.names i [])
+      ∙ apart_from_distinct bytes_eq universe.names i n [] universe.gathered.names.distinct (omega (arith, past, below, long)) within in
+      record {
+        known = λ first. sym (universe.gathered.kept n (omega (arith, first, long))) ∙ linked;
+        others = λ past. list_any_none (bytes_eq name) (listed docs) (All-from_get_or (λ each. bytes_eq name each ≡ false) (listed docs) [] (apart past));
+      }
 
 pub named_as : {T F : Type 0} (r : Result (Vec Book T) F) (xs ys : List (List ℕ)) → xs ≡ ys → IfOk r (λ books. topic_names books.items ≡ xs) → IfOk r (λ books. topic_names books.items ≡ ys)
 named_as (Ok books) xs ys same h = h ∙ same

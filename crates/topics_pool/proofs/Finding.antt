@@ -1,16 +1,14 @@
 -- What is found by name, and the first number that passes a test.
 use Rattle.std.proofs.Common.{◌≡◌, ℕ, zero, suc, ◌+◌, ◌<◌, Bool, true, false, List, [], ◌∷◌, length, get_or, Some, None, refl, ap, sym, ◌∙◌, arith}
-use Rattle.std.specs.Prelude.{find, option_map, slice_get, position, is_some, ℤ}
-use Rattle.std.specs.List.{list_any, range_with_len}
+use Rattle.std.specs.Prelude.{find, option_map, slice_get, ℤ}
+use Rattle.std.specs.List.{list_any, range_with_len, IsDistinct}
 use Rattle.std.specs.Str.{bytes_eq}
 use Rattle.std.proofs.lemmas.List.{get_or-map, length-map}
-use Rattle.std.proofs.lemmas.List.Quantifiers.{position-Some}
-use Rattle.std.proofs.lemmas.Map.Keys.{any_passes_from_place}
+use Rattle.std.proofs.lemmas.Map.Keys.{any_passes_from_place, apart_from_distinct}
 use Rattle.std.proofs.lemmas.Option.{slice_get-get_or}
 use Rattle.file_rows.specs.Grouped.{Valued}
 use Rattle.small_lemmas.proofs.Tests.{neither}
 use Rattle.file_rows.proofs.Seen.{laws}
-use Rattle.file_rows.proofs.Places.{is_some-position}
 use Rattle.topic_universe.specs.Universe.{listed}
 use Rattle.topics_pool.specs.Rows.{grade_in, first_repeated, is_repeated}
 
@@ -51,14 +49,15 @@ find_at p (x ∷ docs) (suc i) d lt here before =
     let first : p x ≡ false = before 0 (omega arith) in
     rw first (find_at p docs i d (omega arith) here (λ k below. before (suc k) (omega arith)))
 
-pub grade_found : (docs : List Valued) (name : List ℕ) (i : ℕ) (grade : ℤ) → position (bytes_eq name) (listed docs) ≡ Some i → option_map (λ (d : Valued). d.value) (slice_get docs i) ≡ Some grade → Some grade ≡ grade_in docs name
-grade_found docs name i grade is got =
+pub grade_found : (docs : List Valued) (name : List ℕ) (i : ℕ) (grade : ℤ) → i < length docs → get_or (listed docs) i [] ≡ name → IsDistinct bytes_eq (listed docs) → option_map (λ (d : Valued). d.value) (slice_get docs i) ≡ Some grade → Some grade ≡ grade_in docs name
+grade_found docs name i grade lt is distinct got =
     let nobody : Valued = record { document = []; value = grade } in
-    let at = position-Some (bytes_eq name) (listed docs) i [] is in
     let long = length-map docs (λ (d : Valued). d.document) in
-    let lt : i < length docs = omega (arith, at.0, long) in
     let by : (k : ℕ) → k < length docs → get_or (listed docs) k [] ≡ (get_or docs k nobody).document = λ k below. get_or-map (λ (d : Valued). d.document) docs k nobody [] below in
-    let found = find_at (λ (d : Valued). bytes_eq name d.document) docs i nobody lt (ap (bytes_eq name) (sym (by i lt)) ∙ at.1) (λ k below. ap (bytes_eq name) (sym (by k (omega arith))) ∙ at.2 k below) in
+    let apart : (k : ℕ) → k < i → bytes_eq name (get_or (listed docs) k []) ≡ false = λ k below.
+    ap (λ n. bytes_eq n (get_or (listed docs) k [])) (sym is) ∙ laws.symm (get_or (listed docs) i []) (get_or (listed docs) k [])
+    ∙ apart_from_distinct bytes_eq (listed docs) k i [] distinct below (omega (arith, lt, long)) in
+    let found = find_at (λ (d : Valued). bytes_eq name d.document) docs i nobody lt (ap (bytes_eq name) (sym (by i lt) ∙ is) ∙ laws.refl name) (λ k below. ap (bytes_eq name) (sym (by k (omega (arith, below, lt)))) ∙ apart k below) in
     sym got ∙ ap (option_map (λ (d : Valued). d.value)) (slice_get-get_or docs i nobody lt ∙ sym found)
 
 find_none : (docs : List Valued) (name : List ℕ) → list_any (bytes_eq name) (listed docs) ≡ false → find (λ (d : Valued). bytes_eq name d.document) docs ≡ None
@@ -67,9 +66,8 @@ find_none (d ∷ docs) name h =
     let parts = neither (bytes_eq name d.document) (list_any (bytes_eq name) (listed docs)) h in
     rw (parts.0) (find_none docs name parts.1)
 
-pub grade_none : (docs : List Valued) (name : List ℕ) → position (bytes_eq name) (listed docs) ≡ None → None ≡ grade_in docs name
-grade_none docs name is =
-    sym (ap (option_map (λ (d : Valued). d.value)) (find_none docs name (sym (is_some-position (bytes_eq name) (listed docs)) ∙ ap is_some is)))
+pub grade_none : (docs : List Valued) (name : List ℕ) → list_any (bytes_eq name) (listed docs) ≡ false → None ≡ grade_in docs name
+grade_none docs name unlisted = sym (ap (option_map (λ (d : Valued). d.value)) (find_none docs name unlisted))
 
 -- a name that stands at a place is among the names
 pub among-at : (names : List (List ℕ)) (i : ℕ) (name : List ℕ) → slice_get names i ≡ Some name → list_any (bytes_eq name) names ≡ true

@@ -5,3 +5,4 @@ pub mod Ranked
 pub mod Desks
 pub mod AddedUp
 pub mod OneDesk
+pub mod Forgetting

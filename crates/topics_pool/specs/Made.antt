@@ -1,13 +1,15 @@
 -- The parts of a desk while it is made.
-use Rattle.std.specs.Prelude.{◌≡◌, ◌<◌, ℕ, map, slice_index, All, List, [], ◌∷◌, ◌++◌, length, slice_get, slice_index_or, Some}
-use Rattle.std.specs.List.{AllZip}
+use Rattle.std.specs.Prelude.{◌≡◌, ◌<◌, ◌≤◌, ℕ, false, map, slice_index, All, List, [], ◌∷◌, ◌++◌, length, slice_get, slice_index_or, Some}
+use Rattle.std.specs.List.{AllZip, list_any}
+use Rattle.std.specs.Str.{bytes_eq}
 use Rattle.desk_model.specs.Book.{Book, IsBook}
 use Rattle.desk_model.specs.Name.{AreAscending}
 use Rattle.desk_model.specs.Ranking.{IsRanking}
-use Rattle.file_rows.specs.Grouped.{TopicRows, names_of, rows_at}
+use Rattle.file_rows.specs.Grouped.{TopicRows, Valued, names_of, rows_at, row_count}
 use Rattle.run_reader.specs.Run.{Run, rows_on_topic}
 use Rattle.trec_order.specs.Order.{IsTrecOrder}
 use Rattle.topic_universe.specs.Names.{HaveSameNames}
+use Rattle.topic_universe.specs.Universe.{listed}
 use Rattle.topics_pool.specs.Rows.{IsBookOf, doc_names, grade_in, topic_names}
 
 -- a topic of this name over these documents, each with the grade that topic t of the qrels gives it
@@ -46,3 +48,19 @@ pub record AreDocsOf (run : Run) (book : Book) (places numbers : List ℕ) : Typ
   pub known : All (λ n. n < length places) numbers
   pub within : All (λ doc. doc < length book.docs) (map (slice_index places) numbers)
   pub order : IsTrecOrder (rows_on_topic run book.name) (doc_names book (map (slice_index places) numbers))
+
+-- a document's number: one that the qrels list of a topic has its number there, and any other has a greater one
+pub record IsNumberedAfter (documents : List Valued) (name : List ℕ) (number : ℕ) : Type 0 where
+  pub known : number < length documents → slice_index_or (listed documents) number [] ≡ name
+  pub others : length documents ≤ number → list_any (bytes_eq name) (listed documents) ≡ false
+
+-- a run has given back its rows on a topic; those on other topics are as they were
+pub record Forgets (topic : List ℕ) (old new : Run) : Type 0 where
+  pub gone : rows_on_topic new topic ≡ []
+  pub others : (other : List ℕ) → bytes_eq topic other ≡ false → rows_on_topic new other ≡ rows_on_topic old other
+  pub rows : row_count new.topics ≤ row_count old.topics
+
+-- the rows of a run on the topics from one on are as they were at first
+abbrev pub HasRowsFrom : List (List ℕ) → ℕ → Run → Run → Type 0
+HasRowsFrom topics i first now =
+    (k : ℕ) → i ≤ k → k < length topics → rows_on_topic now (slice_index_or topics k []) ≡ rows_on_topic first (slice_index_or topics k [])

@@ -1,34 +1,35 @@
 // The topics of a desk.
 ghost use Rattle.std.specs.Prelude.{◌≡◌, ◌≤◌, ◌<◌, [], true, All, Some, IfOk, length, map, position};
-ghost use Rattle.std.specs.List.{AllZip, list_any};
+ghost use Rattle.std.specs.List.{AllZip, IsDistinct};
 ghost use Rattle.std.specs.Str.{bytes_eq};
 ghost use Rattle.desk_model.specs.Name.{is_name};
 ghost use Rattle.desk_model.specs.Book.{IsBook};
 ghost use Rattle.file_rows.specs.Grouped.{rows_at, names_of};
 ghost use Rattle.run_reader.specs.declared.limits.TheConstants.{MOST_RUN_ROWS};
 ghost use Rattle.topic_universe.specs.Names.{AreNames, AreAmong};
-ghost use Rattle.topic_universe.specs.Universe.{listed};
 ghost use Rattle.topics_pool.specs.Rows.{grade_in, total_rows, topic_names, IsBookOf};
-ghost use Rattle.topics_pool.specs.Made.{AreBooksOf, AreRankingsOf, HaveOneMore, book_over};
+ghost use Rattle.topics_pool.specs.Made.{AreBooksOf, AreRankingsOf, HaveOneMore, IsNumberedAfter, book_over};
 
 use crate::rankings::rank_topic;
+use crate::runs::forget_topic;
 use desk_model::{Name, Ranking, TopicBook};
 use file_rows::NameIndex;
 use qrels_reader::Qrels;
 use run_reader::RunRows;
 use std::alloc::{AllocError, Global};
-use topic_universe::{
-    Numbered, OutOfMemory, ascending, copied, listed_names, named, places, universe_of,
-};
+use topic_universe::{Numbered, OutOfMemory, ascending, copied, named, places, universe_of};
 
-// The grade that the qrels give a document of topic `t`, where they list it.
-fn listed_grade(qrels: &Qrels, t: usize, names: &NameIndex<'_>, doc: &[u8]) -> Option<i32>
-    requires { names.now ≡ listed (rows_at qrels.now t) }
-    ensures { result ≡ grade_in (rows_at qrels.now t) doc.now }
+// The grade that topic `t` of the qrels gives a document, where it lists it: its documents have the first numbers.
+fn listed_grade(qrels: &Qrels, t: usize, doc: &Numbered<'_>) -> Option<i32>
+    requires topic { t < length qrels.now }
+    requires number { IsNumberedAfter (rows_at qrels.now t) doc.now.0.now doc.now.1 }
+    ensures { result ≡ grade_in (rows_at qrels.now t) doc.now.0.now }
 {
-    match names.place(doc) {
-        Some(i) => Some(qrels.grade(t, i)),
-        None => None,
+    let place = doc.number();
+    if place < qrels.doc_count(t) {
+        Some(qrels.grade(t, place))
+    } else {
+        None
     }
 }
 
@@ -36,15 +37,15 @@ fn listed_grades(
     alloc: Global,
     qrels: &Qrels,
     t: usize,
-    docs: &[Name],
+    docs: &[Numbered<'_>],
 ) -> Result<Vec<Option<i32>>, AllocError>
-    requires { t < length qrels.now }
-    ensures { IfOk result (λ grades. grades.items ≡ map (grade_in (rows_at qrels.now t)) docs.now) }
+    requires topic { t < length qrels.now }
+    requires numbers { All (λ doc. IsNumberedAfter (rows_at qrels.now t) doc.0.now doc.1) docs.now }
+    ensures { IfOk result (λ grades. grades.items ≡ map (λ doc. grade_in (rows_at qrels.now t) doc.0.now) docs.now) }
 {
-    let names = listed_names(alloc, qrels, t)?;
     let mut grades = Vec::with_capacity(alloc, docs.len())?;
     for doc in docs {
-        grades.push(listed_grade(qrels, t, &names, doc.as_bytes()))?;
+        grades.push(listed_grade(qrels, t, doc))?;
     }
     Ok(grades)
 }
@@ -59,11 +60,12 @@ fn graded_book(
 ) -> Result<TopicBook, OutOfMemory>
     requires topic { t < length qrels.now }
     requires names { All (λ pair. is_name pair.0.now ≡ true) pairs.now }
+    requires numbers { All (λ pair. IsNumberedAfter (rows_at qrels.now t) pair.0.now pair.1) pairs.now }
     requires book { IsBook (book_over qrels.now t name.now (map (λ pair. pair.0.now) pairs.now)) }
     ensures { IfOk result (λ book. book ≡ book_over qrels.now t name.now (map (λ pair. pair.0.now) pairs.now)) }
 {
     let docs = copied(alloc, pairs)?;
-    let grades = listed_grades(alloc, qrels, t, &docs)?;
+    let grades = listed_grades(alloc, qrels, t, pairs)?;
     Ok(TopicBook::new(named(alloc, name)?, docs, grades))
 }
 
@@ -105,45 +107,48 @@ fn qrels_topics(alloc: Global, qrels: &Qrels) -> Result<NameIndex<'_>, AllocErro
     Ok(names)
 }
 
-// The topics with these names. Each run gets its ranking of each.
+// The topics with these names. Each run gets its ranking of each, and gives back its rows on it.
 fn books_of(
     alloc: Global,
     qrels: &Qrels,
     topics: &NameIndex<'_>,
     names: &[Name],
-    runs: &[RunRows],
+    runs: &mut [RunRows],
     rankings: &mut [Vec<Ranking>],
 ) -> Result<Vec<TopicBook>, OutOfMemory>
     requires topics { topics.now ≡ names_of qrels.now }
     requires names { AreAmong names.now topics.now }
-    requires rows { total_rows runs.now ≤ MOST_RUN_ROWS }
-    requires none { AllZip (AreRankingsOf []) runs.now (map (λ each. each.items) rankings.old) }
+    requires distinct { IsDistinct bytes_eq names.now }
+    requires rows { total_rows runs.old ≤ MOST_RUN_ROWS }
+    requires none { AllZip (AreRankingsOf []) runs.old (map (λ each. each.items) rankings.old) }
     ensures names { IfOk result (λ books. topic_names books.items ≡ names.now) }
     ensures books { IfOk result (λ books. All (λ book. IsBook book) books.items) }
-    ensures of_rows { IfOk result (λ books. All (IsBookOf qrels.now runs.now) books.items) }
-    ensures rankings { IfOk result (λ books. AllZip (AreRankingsOf books.items) runs.now (map (λ each. each.items) rankings.new)) }
+    ensures of_rows { IfOk result (λ books. All (IsBookOf qrels.now runs.old) books.items) }
+    ensures rankings { IfOk result (λ books. AllZip (AreRankingsOf books.items) runs.old (map (λ each. each.items) rankings.new)) }
 {
     let mut books = Vec::with_capacity(alloc, names.len())?;
     for name in names {
-        match topics.place(name.as_bytes()) {
-            Some(t) => books.push(topic_book(alloc, qrels, t, name.as_bytes(), runs, rankings)?)?,
-            None => unreachable!(),
-        }
+        let Some(t) = topics.place(name.as_bytes()) else {
+            unreachable!()
+        };
+        books.push(topic_book(alloc, qrels, t, name.as_bytes(), runs, rankings)?)?;
+        forget_topic(alloc, runs, name.as_bytes());
     }
     Ok(books)
 }
 
-/// The topics of the qrels in ascending order of their names, each with its universe. Each run gets its ranking of each.
+/// The topics of the qrels in ascending order of their names, each with its universe. Each run gets its ranking of each. A run
+/// gives back its rows on a topic as soon as the topic has its universe and its rankings, so that the desk grows as the rows go.
 pub fn topic_books(
     alloc: Global,
     qrels: &Qrels,
-    runs: &[RunRows],
+    runs: &mut [RunRows],
     rankings: &mut [Vec<Ranking>],
 ) -> Result<Vec<TopicBook>, OutOfMemory>
-    requires rows { total_rows runs.now ≤ MOST_RUN_ROWS }
-    requires none { AllZip (AreRankingsOf []) runs.now (map (λ each. each.items) rankings.old) }
-    ensures books { IfOk result (λ books. AreBooksOf qrels.now runs.now books.items) }
-    ensures rankings { IfOk result (λ books. AllZip (AreRankingsOf books.items) runs.now (map (λ each. each.items) rankings.new)) }
+    requires rows { total_rows runs.old ≤ MOST_RUN_ROWS }
+    requires none { AllZip (AreRankingsOf []) runs.old (map (λ each. each.items) rankings.old) }
+    ensures books { IfOk result (λ books. AreBooksOf qrels.now runs.old books.items) }
+    ensures rankings { IfOk result (λ books. AllZip (AreRankingsOf books.items) runs.old (map (λ each. each.items) rankings.new)) }
 {
     let topics = qrels_topics(alloc, qrels)?;
     let names = ascending(alloc, &topics)?;

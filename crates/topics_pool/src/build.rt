@@ -14,19 +14,20 @@ use run_reader::RunRows;
 use std::alloc::Global;
 use topic_universe::OutOfMemory;
 
-// The desk of rows that have no fault.
-fn desk_of(alloc: Global, qrels: &Qrels, runs: &[RunRows]) -> Result<Desk, OutOfMemory>
-    requires some { 0 < length runs.now }
-    requires few { length runs.now ≤ 256 }
-    requires rows { total_rows runs.now ≤ MOST_RUN_ROWS }
-    requires right { IsNoFault qrels.now runs.now }
-    ensures { IfOk result (λ desk. IsDeskOf qrels.now runs.now desk) }
+// The desk of rows that have no fault. The runs give back their rows.
+fn desk_of(alloc: Global, qrels: &Qrels, runs: &mut [RunRows]) -> Result<Desk, OutOfMemory>
+    requires some { 0 < length runs.old }
+    requires few { length runs.old ≤ 256 }
+    requires rows { total_rows runs.old ≤ MOST_RUN_ROWS }
+    requires right { IsNoFault qrels.now runs.old }
+    ensures { IfOk result (λ desk. IsDeskOf qrels.now runs.old desk) }
 {
     // There is a topic, and there are not too many.
     let topics = qrels.topics();
+    let names = names_of_runs(alloc, runs)?;
     let mut rankings = no_rankings(alloc, runs, topics)?;
     let books = topic_books(alloc, qrels, runs, &mut rankings)?;
-    Ok(Desk::new(books, names_of_runs(alloc, runs)?, rankings))
+    Ok(Desk::new(books, names, rankings))
 }
 
 /// The desk of these rows: its topics are those of the qrels, its runs stand in the order in which they are given.
@@ -48,5 +49,6 @@ pub fn build_desk(alloc: Global, qrels: Qrels, runs: Vec<RunRows>) -> Result<Des
     if cells > MOST_CELLS {
         return Err(DeskFault::TooManyCells { cells });
     }
-    Ok(desk_of(alloc, &qrels, &runs)?)
+    let mut runs = runs;
+    Ok(desk_of(alloc, &qrels, &mut runs)?)
 }

@@ -1,7 +1,9 @@
-// The names and the number of runs.
+// The names, the number and the rows of runs.
 ghost use Rattle.std.specs.Prelude.{◌≡◌, ◌<◌, ◌≤◌, true, All, IfOk, IfSome, length};
+ghost use Rattle.std.specs.List.{AllZip};
 ghost use Rattle.desk_model.specs.Name.{is_name};
 ghost use Rattle.topics_pool.specs.Rows.{run_names, is_repeated, first_repeated, cells_of};
+ghost use Rattle.topics_pool.specs.Made.{Forgets};
 
 use desk_model::Name;
 use qrels_reader::Qrels;
@@ -56,4 +58,13 @@ pub fn names_of_runs(alloc: Global, runs: &[RunRows]) -> Result<Vec<Name>, OutOf
         names.push(named(alloc, run.name())?)?;
     }
     Ok(names)
+}
+
+/// Each run gives back its rows on a topic.
+pub fn forget_topic(alloc: Global, runs: &mut [RunRows], topic: &[u8])
+    ensures { AllZip (Forgets topic.now) runs.old runs.new }
+{
+    for r in 0..runs.len() {
+        runs[r].forget(alloc, topic);
+    }
 }

@@ -9,7 +9,7 @@ use Rattle.std.specs.List.{IsDistinct}
 use Rattle.std.specs.List.Sorted.{IsStrictlySortedBy}
 use Rattle.std.specs.Ordering.{is_lt, int_cmp, ordering_then, ordering_reverse}
 use Rattle.std.specs.Str.{bytes_eq}
-use Rattle.std.proofs.lemmas.List.{get_or_default, get_or-map, length-map}
+use Rattle.std.proofs.lemmas.List.{get_or-map, length-map}
 use Rattle.std.proofs.lemmas.Map.Keys.{apart_from_distinct, sorted_from_all_adjacent}
 use Rattle.std.proofs.lemmas.Map.Lookups.{exact_bytes}
 use Rattle.desk_model.specs.Name.{name_cmp}
@@ -40,38 +40,50 @@ stands_before a b early other = by (trec_cmp a b) refl
         absurd (true≢false (sym (ap is_lt less) ∙ early))
 
 -- one more row that does not belong before its neighbour
-pub one_more_in_order : (es : List Entry) (i : ℕ) (x y : Entry) → x ≡ get_or es i x → y ≡ get_or es (i - 1) y → 0 < i → i < length es → is_lt (trec_cmp (row_of x) (row_of y)) ≡ false
-    → ((k : ℕ) (d : Entry) → k + 1 < i → is_lt (trec_cmp (row_of (get_or es (k + 1) d)) (row_of (get_or es k d))) ≡ false)
-    → (k : ℕ) (d : Entry) → k + 1 < i + 1 → is_lt (trec_cmp (row_of (get_or es (k + 1) d)) (row_of (get_or es k d))) ≡ false
-one_more_in_order es i x y here before some within not_less so_far k d lt =
-    below_more (λ m. (k : ℕ) → k + 1 ≡ m → is_lt (trec_cmp (row_of (get_or es (k + 1) d)) (row_of (get_or es k d))) ≡ false) i (λ m below k is. so_far k d (omega (arith, is, below))) last (k + 1) lt k refl
+pub one_more_in_order : (rows : List Valued) (i : ℕ) → 0 < i → i < length rows → ((d : Valued) → is_lt (trec_cmp (get_or rows i d) (get_or rows (i - 1) d)) ≡ false)
+    → ((k : ℕ) (d : Valued) → k + 1 < i → is_lt (trec_cmp (get_or rows (k + 1) d) (get_or rows k d)) ≡ false)
+    → (k : ℕ) (d : Valued) → k + 1 < i + 1 → is_lt (trec_cmp (get_or rows (k + 1) d) (get_or rows k d)) ≡ false
+one_more_in_order rows i some within not_less so_far k d lt =
+    below_more (λ m. (k : ℕ) → k + 1 ≡ m → is_lt (trec_cmp (get_or rows (k + 1) d) (get_or rows k d)) ≡ false) i (λ m below k is. so_far k d (omega (arith, is, below))) last (k + 1) lt k refl
   where
-    last : (k : ℕ) → k + 1 ≡ i → is_lt (trec_cmp (row_of (get_or es (k + 1) d)) (row_of (get_or es k d))) ≡ false
+    last : (k : ℕ) → k + 1 ≡ i → is_lt (trec_cmp (get_or rows (k + 1) d) (get_or rows k d)) ≡ false
     last k is =
         let at : k ≡ i - 1 = omega arith in
-        let row : get_or es (k + 1) d ≡ x = ap (λ n. get_or es n d) is ∙ get_or_default es i d x within ∙ sym here in
-        let earlier : get_or es k d ≡ y = ap (λ n. get_or es n d) at ∙ get_or_default es (i - 1) d y (omega arith) ∙ sym before in
-        ap₂ (λ a b. is_lt (trec_cmp (row_of a) (row_of b))) row earlier ∙ not_less
+        ap₂ (λ m n. is_lt (trec_cmp (get_or rows m d) (get_or rows n d))) is at ∙ not_less d
+
+-- sorted entries are rows in order
+pub entries_in_order : (es : List Entry) → ((k : ℕ) (e : Entry) → k + 1 < length es → is_lt (trec_cmp (row_of (get_or es (k + 1) e)) (row_of (get_or es k e))) ≡ false) → AreInOrder (map row_of es)
+entries_in_order [] h k d lt = absurd (omega arith)
+entries_in_order (e ∷ es) h k d lt =
+    let long = length-map (e ∷ es) row_of in
+    let here = get_or-map row_of (e ∷ es) k e d (omega (arith, lt, long)) in
+    let next = get_or-map row_of (e ∷ es) (k + 1) e d (omega (arith, lt, long)) in
+    (λ i. is_lt (trec_cmp (next i) (here i))) ∙ h k e (omega (arith, lt, long))
 
 -- neighbours in order make a list in order
-pub in_order : (es : List Entry) → IsDistinct bytes_eq (map (λ row. row.document) (map row_of es))
-    → AreInOrder es → IsStrictlySortedBy trec_cmp (map row_of es)
+pub in_order : (rows : List Valued) → IsDistinct bytes_eq (map (λ row. row.document) rows) → AreInOrder rows → IsStrictlySortedBy trec_cmp rows
 unfolding IsStrictlySortedBy
 in_order [] distinct h = tt
-in_order (e ∷ es) distinct h = sorted_from_all_adjacent trec_total (map row_of (e ∷ es)) (row_of e) (λ k lt. next k (let n = length-map (e ∷ es) row_of in omega arith))
+in_order (row ∷ rows) distinct h = sorted_from_all_adjacent trec_total (row ∷ rows) row (λ k lt. next k lt)
   where
-    next : (k : ℕ) → k + 1 < length (e ∷ es) → trec_cmp (get_or (map row_of (e ∷ es)) k (row_of e)) (get_or (map row_of (e ∷ es)) (k + 1) (row_of e)) ≡ Less
+    next : (k : ℕ) → k + 1 < length (row ∷ rows) → trec_cmp (get_or (row ∷ rows) k row) (get_or (row ∷ rows) (k + 1) row) ≡ Less
     next k lt =
-        let here = get_or-map row_of (e ∷ es) k e (row_of e) (omega arith) in
-        let there = get_or-map row_of (e ∷ es) (k + 1) e (row_of e) lt in
-        let rows = length-map (e ∷ es) row_of in
-        let sizes = length-map (map row_of (e ∷ es)) (λ (row : Valued). row.document) in
-        let apart = apart_from_distinct bytes_eq (map (λ row. row.document) (map row_of (e ∷ es))) k (k + 1) [] distinct (omega arith) (omega arith) in
-        let name = get_or-map (λ (row : Valued). row.document) (map row_of (e ∷ es)) k (row_of e) [] (omega arith) in
-        let name' = get_or-map (λ (row : Valued). row.document) (map row_of (e ∷ es)) (k + 1) (row_of e) [] (omega arith) in
-        stands_before (get_or (map row_of (e ∷ es)) k (row_of e)) (get_or (map row_of (e ∷ es)) (k + 1) (row_of e))
-        ((λ i. is_lt (trec_cmp (there i) (here i))) ∙ h k e lt)
-        ((λ i. bytes_eq (sym name i) (sym name' i)) ∙ apart)
+        let sizes = length-map (row ∷ rows) (λ (each : Valued). each.document) in
+        let apart = apart_from_distinct bytes_eq (map (λ each. each.document) (row ∷ rows)) k (k + 1) [] distinct (omega arith) (omega (arith, lt, sizes)) in
+        let name = get_or-map (λ (each : Valued). each.document) (row ∷ rows) k row [] (omega (arith, lt)) in
+        let name' = get_or-map (λ (each : Valued). each.document) (row ∷ rows) (k + 1) row [] lt in
+        stands_before (get_or (row ∷ rows) k row) (get_or (row ∷ rows) (k + 1) row) (h k row lt) ((λ i. bytes_eq (sym name i) (sym name' i)) ∙ apart)
+
+-- what is read of a row is the row's
+pub document_at : (rows : List Valued) (i : ℕ) (document : List ℕ) (d : Valued) → option_map (λ row. row.document) (slice_get rows i) ≡ Some document → (get_or rows i d).document ≡ document
+document_at [] i document d is = (let none : None ≡ Some document = is in absurd (cc))
+document_at (x ∷ xs) zero document d is = cc
+document_at (x ∷ xs) (suc i) document d is = document_at xs i document d is
+
+pub value_at : (rows : List Valued) (i : ℕ) (value : ℤ) (d : Valued) → option_map (λ row. row.value) (slice_get rows i) ≡ Some value → (get_or rows i d).value ≡ value
+value_at [] i value d is = (let none : None ≡ Some value = is in absurd (cc))
+value_at (x ∷ xs) zero value d is = cc
+value_at (x ∷ xs) (suc i) value d is = value_at xs i value d is
 
 -- one more row
 pub row_more : (rows : List Valued) (i : ℕ) (document : List ℕ) (score : ℤ) → option_map (λ row. row.document) (slice_get rows i) ≡ Some document → option_map (λ row. row.value) (slice_get rows i) ≡ Some score

@@ -4,7 +4,7 @@ ghost use Rattle.file_rows.specs.Grouped.{Valued};
 ghost use Rattle.run_reader.specs.Run.{rows_on_topic};
 ghost use Rattle.trec_order.specs.Order.{IsTrecOrder};
 
-use crate::entry::{Entry, ranked};
+use crate::entry::{RankedRows, ranked};
 use desk_model::Memory;
 use run_reader::RunRows;
 use std::alloc::Global;
@@ -13,16 +13,16 @@ use std::marker::Model;
 /// The names of documents from the first rank on, as they stand in the rows.
 #[derive(Drop)]
 pub struct RankedNames<'r> {
-    entries: Vec<Entry<'r>>,
+    rows: RankedRows<'r>,
 }
 
 impl<'r> Model for RankedNames<'r> {
     ghost use Rattle.std.specs.Prelude.{List, ℕ, map};
-    ghost use Rattle.trec_order.specs.Entry.{row_of};
+    ghost use Rattle.trec_order.specs.Entry.{ranked_rows};
 
     ghost Value = { List (List ℕ) };
 
-    ghost view = { λ r. map (λ row. row.document) (map row_of r.entries.items) };
+    ghost view = { λ r. map (λ row. row.document) (ranked_rows r.rows) };
 }
 
 impl<'r> RankedNames<'r> {
@@ -30,7 +30,10 @@ impl<'r> RankedNames<'r> {
     pub fn len(&self) -> usize
         ensures { result ≡ length self.now }
     {
-        self.entries.len()
+        match &self.rows {
+            RankedRows::Standing(rows) => rows.len(),
+            RankedRows::Sorted(entries) => entries.len(),
+        }
     }
 
     /// Name `i`, counted from 0: that of rank `i + 1`.
@@ -38,7 +41,10 @@ impl<'r> RankedNames<'r> {
         requires { i < length self.now }
         ensures { slice_get self.now i ≡ Some result.now }
     {
-        self.entries[i].1.0
+        match &self.rows {
+            RankedRows::Standing(rows) => rows.document(i),
+            RankedRows::Sorted(entries) => entries[i].1.0,
+        }
     }
 }
 
@@ -53,11 +59,11 @@ pub fn ranking<'r>(
 {
     match rows.rows_on(topic) {
         Some(scored) => match ranked(alloc, scored) {
-            Ok(entries) => Ok(RankedNames { entries }),
+            Ok(rows) => Ok(RankedNames { rows }),
             Err(_) => Err(Memory),
         },
         None => Ok(RankedNames {
-            entries: Vec::new(alloc),
+            rows: RankedRows::Sorted(Vec::new(alloc)),
         }),
     }
 }

@@ -4,4 +4,4 @@ use Rattle.topics_pool.specs.Rows.{grade_in}
 use Rattle.topics_pool.proofs.book.listed_grades.Given as goal
 
 abbrev pub invariant-loop-doc : goal.invariant-loop-doc
-invariant-loop-doc l = l.grades.items ≡ map (grade_in (rows_at l.qrels l.t)) (take l.doc-index l.docs)
+invariant-loop-doc l = l.grades.items ≡ map (λ doc. grade_in (rows_at l.qrels l.t) doc.0.now) (take l.doc-index l.docs)

@@ -18,8 +18,8 @@ new-requires c =
     let new = c.topic_books.new.rankings in
     let whole : length new ≡ c.in_ok-rankings.rankings.len = omega (arith, c.topic_books.auto.rankings, c.deref_mut.ensures.len, ap length c.deref_mut.ensures.value, c.in_ok-rankings.rankings.ok.0) in
     let zipped = subst (AllZip (AreRankingsOf c.in_ok-books.books.items) c.args.runs.now) (ap (map items) (sym (with_items_is c.in_ok-rankings.rankings new whole))) c.in_ok-books.ensures.rankings in
-    is_desk c.args.qrels.now c.args.runs.now c.in_ok-books.books.items c.in_ok-names_of_runs.field-0.items _ c.in_ok-books.ensures.books c.in_ok-names_of_runs.ensures.names zipped
-    c.requires.right c.in_ok-names_of_runs.ensures.named (subst (λ n. 0 < n) c.topics-topics.ensures.count c.topics-topics.ensures.some) (subst (λ n. n ≤ 10000) c.topics-topics.ensures.count c.topics-topics.ensures.most) c.requires.some c.requires.few
+    is_desk c.args.qrels.now c.args.runs.now c.in_ok-books.books.items c.in_ok-names.names.items _ c.in_ok-books.ensures.books c.in_ok-names.ensures.names zipped
+    c.requires.right c.in_ok-names.ensures.named (subst (λ n. 0 < n) c.topics-topics.ensures.count c.topics-topics.ensures.some) (subst (λ n. n ≤ 10000) c.topics-topics.ensures.count c.topics-topics.ensures.most) c.requires.some c.requires.few
 
 pub returns : goal.returns
 returns c =
@@ -27,6 +27,6 @@ returns c =
     let new = c.topic_books.new.rankings in
     let whole : length new ≡ c.in_ok-rankings.rankings.len = omega (arith, c.topic_books.auto.rankings, c.deref_mut.ensures.len, ap length c.deref_mut.ensures.value, c.in_ok-rankings.rankings.ok.0) in
     let zipped = subst (AllZip (AreRankingsOf c.in_ok-books.books.items) c.args.runs.now) (ap (map items) (sym (with_items_is c.in_ok-rankings.rankings new whole))) c.in_ok-books.ensures.rankings in
-    let valid = is_desk c.args.qrels.now c.args.runs.now c.in_ok-books.books.items c.in_ok-names_of_runs.field-0.items _ c.in_ok-books.ensures.books c.in_ok-names_of_runs.ensures.names zipped
-    c.requires.right c.in_ok-names_of_runs.ensures.named (subst (λ n. 0 < n) c.topics-topics.ensures.count c.topics-topics.ensures.some) (subst (λ n. n ≤ 10000) c.topics-topics.ensures.count c.topics-topics.ensures.most) c.requires.some c.requires.few in
-    is_desk_of c.args.qrels.now c.args.runs.now c.in_ok-books.books.items c.in_ok-names_of_runs.field-0.items _ c.in_ok-books.ensures.books c.in_ok-names_of_runs.ensures.names zipped c.new.result c.new.ensures valid
+    let valid = is_desk c.args.qrels.now c.args.runs.now c.in_ok-books.books.items c.in_ok-names.names.items _ c.in_ok-books.ensures.books c.in_ok-names.ensures.names zipped
+    c.requires.right c.in_ok-names.ensures.named (subst (λ n. 0 < n) c.topics-topics.ensures.count c.topics-topics.ensures.some) (subst (λ n. n ≤ 10000) c.topics-topics.ensures.count c.topics-topics.ensures.most) c.requires.some c.requires.few in
+    is_desk_of c.args.qrels.now c.args.runs.now c.in_ok-books.books.items c.in_ok-names.names.items _ c.in_ok-books.ensures.books c.in_ok-names.ensures.names zipped c.new.result c.new.ensures valid
