@@ -1,2 +1,1 @@
-pub mod OneDocument
 pub mod OneRanked

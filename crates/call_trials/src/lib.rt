@@ -7,8 +7,6 @@ mod certificates;
 #[cfg(test)]
 mod ends;
 #[cfg(test)]
-mod judging;
-#[cfg(test)]
 mod lines;
 #[cfg(test)]
 mod texts;

@@ -1,4 +1,4 @@
--- A desk of one topic with one document, for tests. It stands in call_trials as well: a crate of tests exports nothing.
+-- A desk of one topic with one document, for tests.
 use Rattle.std.proofs.Common.{◌≡◌, ℕ, List, [], ◌∷◌, true, Bool, None, length, refl, arith}
 use Rattle.std.specs.List.{IsDistinct}
 use Rattle.std.specs.List.Sorted.{IsStrictlySortedBy}

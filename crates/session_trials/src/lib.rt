@@ -1,5 +1,9 @@
-//! A session over hostile lines: tests alone. They stand above the stream, so that it waits for no measure.
+//! Sessions over a desk of one document: tests alone. They stand above the stream, so that it waits for no measure.
 #![tactic(auto)]
 
+#[cfg(test)]
+mod judging;
+#[cfg(test)]
+mod one_document;
 #[cfg(test)]
 mod tests;

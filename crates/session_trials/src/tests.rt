@@ -1,8 +1,8 @@
 // A session of hostile lines, over a desk of one topic with one document.
-ghost use Rattle.std.specs.Prelude.{◌≡◌, ◌<◌, [], ◌∷◌, None, IfOk, true};
-ghost use Rattle.desk_model.specs.Name.{is_name};
+ghost use Rattle.std.specs.Prelude.{◌≡◌, ◌<◌};
 
-use desk_model::{Desk, MeasureName, Memory, Name, Ranking, TopicBook};
+use crate::one_document::one_document;
+use desk_model::{Desk, MeasureName, Memory};
 use desk_outside::{MemSink, MemSource};
 use measure_core::{Maker, Steps};
 use precision::Precision;
@@ -48,31 +48,6 @@ impl Maker for NoMeasure {
     fn make(&self, _alloc: Global, _name: MeasureName) -> Result<Precision, Memory> {
         Err(Memory)
     }
-}
-
-fn one_topic(alloc: Global, name: Name, doc: Name) -> Result<Vec<TopicBook>, Fail>
-    requires name { is_name name ≡ true }
-    requires doc { is_name doc ≡ true }
-    ensures { IfOk result (λ topics.
-        topics.items ≡ record { name = name; docs = doc ∷ []; grades = None ∷ [] } ∷ []) }
-{
-    let docs = Vec::from_array(alloc, [doc])?;
-    let grades = Vec::from_array(alloc, [None])?;
-    let topics = Vec::from_array(alloc, [TopicBook::new(name, docs, grades)])?;
-    Ok(topics)
-}
-
-// The topic 401 with the document d3, which the file does not list, and the run A that ranks nothing.
-fn one_document(alloc: Global) -> Result<Desk, Fail> {
-    let name = Name::new(alloc, b"401")?;
-    let doc = Name::new(alloc, b"d3")?;
-    let run = Name::new(alloc, b"A")?;
-    let topics = one_topic(alloc, name, doc)?;
-    let runs = Vec::from_array(alloc, [run])?;
-    let ranking = Ranking::new(alloc, Vec::new(alloc), 1)?;
-    let rankings = Vec::from_array(alloc, [ranking])?;
-    let all = Vec::from_array(alloc, [rankings])?;
-    Ok(Desk::new(topics, runs, all))
 }
 
 // Adds each hostile line with this number, and its reply.

@@ -2,8 +2,8 @@ use Rattle.std.proofs.Common.{◌≡◌, [], ◌∷◌, None, List, ℕ, ap, map
 use Rattle.desk_model.specs.Book.{Book}
 use Rattle.desk_model.specs.Desk.{IsDesk}
 use Rattle.desk_model.specs.Ranking.{IsRanking}
-use Rattle.call_trials.proofs.OneDocument.{no_ranks, one_book, one_desk}
-use Rattle.call_trials.proofs.judging.one_document.Goals as goal
+use Rattle.session_trials.proofs.OneDocument.{no_ranks, one_book, one_desk}
+use Rattle.session_trials.proofs.one_document.one_document.Goals as goal
 
 pub new-requires-5 : goal.new-requires-5
 new-requires-5 c = subst (IsRanking 1) (sym c.new-4.ensures.items) (no_ranks 1)

@@ -2,7 +2,7 @@ use Rattle.std.proofs.Common.{[], ◌∷◌, Option, List, ℕ, sym, subst}
 use Rattle.std.specs.Prelude.{ℤ}
 use Rattle.desk_model.specs.Book.{IsBook}
 use Rattle.session_trials.proofs.OneDocument.{one_book}
-use Rattle.session_trials.proofs.tests.one_topic.Goals as goal
+use Rattle.session_trials.proofs.one_document.one_topic.Goals as goal
 
 pub new-requires : goal.new-requires
 new-requires c =
