@@ -10,10 +10,11 @@ ghost use Rattle.demo_texts.specs.Texts.{tag_text, qrels_after, run_after};
 ghost use Rattle.demo_texts.specs.declared.sizes.TheConstants.{TOPICS, DOCUMENTS, PLACES, RUNS};
 ghost use Rattle.demo_desk.specs.Demo.{IsDemoDesk, HaveTopics, SayRuns, runs_after, used_before_runs};
 
+use crate::lines::{read_judgement_lines, read_run_lines};
 use demo_texts::{Generator, RUNS, qrels_text, run_text};
 use desk_model::{Desk, Memory};
-use qrels_reader::{FileFault, Qrels, read_qrels};
-use run_reader::{RunRows, Used, read_run};
+use qrels_reader::{FileFault, Qrels};
+use run_reader::{RunRows, Used};
 use std::alloc::Global;
 use topics_pool::{DeskFault, build_desk};
 
@@ -51,7 +52,7 @@ fn read_judgements(alloc: Global, generator: &mut Generator) -> Result<Qrels, Me
     ensures state { OnOk result (generator.new ≡ state_after generator.old (DOCUMENTS * TOPICS)) }
 {
     let text = qrels_text(alloc, generator)?;
-    match read_qrels(alloc, &text) {
+    match read_judgement_lines(alloc, &text) {
         Ok(qrels) => Ok(qrels),
         Err(fault) => Err(out_of_memory(fault)),
     }
@@ -72,7 +73,7 @@ fn read_ranking(
     ensures state { OnOk result (generator.new ≡ state_after generator.old ((1 + PLACES) * TOPICS)) }
 {
     let text = run_text(alloc, generator, run)?;
-    match read_run(alloc, &text, None, qrels, used) {
+    match read_run_lines(alloc, &text, qrels, used) {
         Ok(rows) => Ok(rows),
         Err(fault) => Err(out_of_memory(fault)),
     }

@@ -3,6 +3,7 @@
 
 mod demo;
 mod laws;
+mod lines;
 
 pub use demo::{DemoDesk, demo_desk};
 pub use laws::texts_are_read;
