@@ -3,10 +3,4 @@
 #![tactic(auto)]
 
 #[cfg(test)]
-mod anew;
-#[cfg(test)]
-mod counting;
-#[cfg(test)]
-mod kept;
-#[cfg(test)]
 mod tests;

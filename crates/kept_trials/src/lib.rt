@@ -1,0 +1,8 @@
+//! What a session keeps, by a measure that counts how often it is asked: tests alone. They stand above the top call, so
+//! that it waits for no measure.
+#![tactic(auto)]
+
+#[cfg(test)]
+mod counting;
+#[cfg(test)]
+mod kept;
