@@ -1,5 +1,6 @@
 pub mod Fractions
 pub mod Counts
+pub mod Unranked
 pub mod Completions
 pub mod Topics
 pub mod Exact

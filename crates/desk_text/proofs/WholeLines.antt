@@ -1,5 +1,5 @@
 -- Lines that a line feed ended, and what follows the last of them.
-use Rattle.std.proofs.Common.{◌≡◌, ℕ, ◌<◌, List, [], ◌∷◌, ◌++◌, take, length, true, false, Some, None, cond, refl, sym, ap, ◌∙◌, arith, append_assoc, length-append}
+use Rattle.std.proofs.Common.{◌≡◌, ℕ, ◌<◌, List, [], ◌∷◌, ◌++◌, take, length, true, false, Some, None, cond, refl, sym, ap, ◌∙◌, arith, append_assoc, append-nil, length-append}
 use Rattle.std.specs.Prelude.{Bool, Option, ◌==◌, ◌||◌, nat_le, filter, flat_map}
 use Rattle.std.specs.List.{AllByRecursion}
 use Rattle.std.proofs.lemmas.Bool.{ne_eqb, lt-ltb, leb-false, lt-leb}
@@ -157,3 +157,7 @@ whole_lines-ended (b ∷ bs) rest h =
 pub whole_lines-of_lines : (lines : List (List ℕ)) → AllByRecursion HasNoLineFeed lines → whole_lines (flat_map (λ line. line ++ 10 ∷ []) lines) ≡ lines
 whole_lines-of_lines [] h = refl
 whole_lines-of_lines (l ∷ ls) h = whole_lines-ended l (flat_map (λ line. line ++ 10 ∷ []) ls) h.0 ∙ ap (λ ms. l ∷ ms) (whole_lines-of_lines ls h.1)
+
+-- a text whose last line feed ends it
+pub lines-none : (text : List ℕ) → unended text ≡ [] → lines text ≡ whole_lines text
+lines-none text h = lines-whole_lines text ∙ ap (λ u. whole_lines text ++ filter is_filled (u ∷ [])) h ∙ append-nil (whole_lines text)

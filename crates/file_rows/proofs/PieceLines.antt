@@ -7,7 +7,7 @@ use Rattle.std.proofs.Math.Seq.{take-add}
 use Rattle.desk_text.specs.Lines.{lines, whole_lines, onto_whole, unended, kept_line, longer, is_filled, IsPushed}
 use Rattle.desk_text.specs.declared.arriving.Pushed.{Pushed}
 use Rattle.desk_text.specs.declared.line.TheConstants.{LONGEST_LINE}
-use Rattle.desk_text.proofs.WholeLines.{whole_lines-append_ended, unended-append_ended, whole_lines-append_more, unended-append_more, lines-whole_lines, longer-kept_line}
+use Rattle.desk_text.proofs.WholeLines.{whole_lines-append_ended, unended-append_ended, whole_lines-append_more, unended-append_more, lines-whole_lines, lines-none, longer-kept_line}
 use Rattle.file_rows.specs.Reading.{IsTooLong}
 use Rattle.file_rows.specs.Pieces.{HasFed, EndsLine}
 
@@ -36,10 +36,6 @@ grown (x ∷ xs) more = by (x == 10) refl (grown xs more) (whole_lines xs) refl
       are = ap (λ b. cond b ([] ∷ whole_lines (xs ++ more)) (onto_whole x (whole_lines (xs ++ more)))) p ∙ ap (onto_whole x) (g.are ∙ ap (λ ls. ls ++ g.others) e)
           ∙ sym (ap (λ b. cond b ([] ∷ whole_lines xs) (onto_whole x (whole_lines xs)) ++ g.others) p ∙ ap (λ ls. onto_whole x ls ++ g.others) e);
     }
-
--- a text whose last line feed ends it
-lines-none : (text : List ℕ) → unended text ≡ [] → lines text ≡ whole_lines text
-lines-none text h = lines-whole_lines text ∙ ap (λ u. whole_lines text ++ filter is_filled (u ∷ [])) h ∙ append-nil (whole_lines text)
 
 -- a text with more after its last line feed
 lines-some : (text : List ℕ) → (unended text ≡ [] → ⊥) → lines text ≡ whole_lines text ++ unended text ∷ []

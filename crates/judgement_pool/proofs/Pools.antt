@@ -39,19 +39,6 @@ ranked-from (d ∷ docs) doc n (suc depth) r h = go (nat_eq d doc) refl (ranked-
 pub ranked_in : (docs : List ℕ) (doc depth r : ℕ) → rank docs doc ≡ Some r → nat_le r depth ≡ is_in (take depth docs) doc
 ranked_in docs doc depth r h = let same : nat_le r depth ≡ nat_lt r (1 + depth) = grind (arith, nat_tests) in same ∙ ranked-from docs doc 1 depth r h
 
-unranked-from : (docs : List ℕ) (doc n depth : ℕ) → position_from (λ each. nat_eq each doc) n docs ≡ None → is_in (take depth docs) doc ≡ false
-unranked-from [] doc n zero h = refl
-unranked-from [] doc n (suc depth) h = refl
-unranked-from (d ∷ docs) doc n zero h = refl
-unranked-from (d ∷ docs) doc n (suc depth) h = go (nat_eq d doc) refl (unranked-from docs doc (n + 1) depth)
-  where
-    go : (b : Bool) → nat_eq d doc ≡ b → (position_from (λ each. nat_eq each doc) (n + 1) docs ≡ None → is_in (take depth docs) doc ≡ false) → (nat_eq d doc || is_in (take depth docs) doc) ≡ false
-    go true e later = let bad : Some n ≡ None = rw e at h in absurd (cc)
-    go false e later = rw e (later (rw e at h))
-
-pub unranked_in : (docs : List ℕ) (doc depth : ℕ) → rank docs doc ≡ None → is_in (take depth docs) doc ≡ false
-unranked_in docs doc depth h = unranked-from docs doc 1 depth h
-
 -- ---- counts
 pub filter_next : (p : ℕ → Bool) (n : ℕ) (b : Bool) → p n ≡ b → filter p (range_with_len 0 (n + 1)) ≡ filter p (range_with_len 0 n) ++ cond b (n ∷ []) []
 filter_next p n b is =

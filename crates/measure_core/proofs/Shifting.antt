@@ -2,6 +2,7 @@
 use Rattle.std.proofs.Common.{◌≡◌, ◌≢◌, ◌⊎◌, inl, inr, ℕ, ◌+◌, ◌<◌, ◌≤◌, List, length, get_or, refl, subst, sym, ◌∙◌, arith}
 use Rattle.std.proofs.Math.ListN.{set}
 use Rattle.std.proofs.lemmas.List.{length-set, get_or-set_same, get_or-set_other}
+use Rattle.small_lemmas.proofs.Numbers.{less_or_last}
 use Rattle.measure_core.specs.Shifts.{HasRoom, IsShifted, HaveRoom, AreShifted}
 use Rattle.measure_core.specs.declared.shift.Shift.{Shift}
 use Rattle.measure_core.specs.declared.shift.Shift.TheVariants.{Add, TakeBack}
@@ -27,14 +28,11 @@ all_shifted shift weight before now end h whole = record { count = h.count; each
 pub room_at : (shift : Shift) (weight : ℕ → ℕ) (before now : List ℕ) (end : ℕ) → AreShiftedTo shift weight before now end → HaveRoom shift weight before → end < length before → HasRoom shift (weight end) (get_or now end 0)
 room_at shift weight before now end h room lt = subst (HasRoom shift (weight end)) (sym (h.kept end (omega arith))) (room end lt)
 
-pub at_most : (m n : ℕ) → m < n + 1 → (m < n) ⊎ (m ≡ n)
-at_most m n h = grind arith
-
 -- a document that weighs nothing
 pub shifted_over : (shift : Shift) (weight : ℕ → ℕ) (before now : List ℕ) (end : ℕ) → AreShiftedTo shift weight before now end → weight end ≡ 0 → AreShiftedTo shift weight before now (end + 1)
 shifted_over shift weight before now end h none = record {
   count = h.count;
-  shifted = λ doc lt. elim (at_most doc end lt) [
+  shifted = λ doc lt. elim (less_or_last doc end lt) [
     | inl less ↦ h.shifted doc less
     | inr e ↦ nothing_shifted shift (weight doc) (get_or before doc 0) (get_or now doc 0) (subst (λ (n : ℕ). weight n ≡ 0) (sym e) none) (h.kept doc (omega arith))
   ];
@@ -51,7 +49,7 @@ shifted_next shift weight before now end total h lt is =
     subst (λ (n : ℕ). IsShifted shift (weight end) (get_or before end 0) n) (sym here) (subst (λ (n : ℕ). IsShifted shift (weight end) n total) (h.kept end (omega arith)) is) in
     record {
       count = length-set now end total ∙ h.count;
-      shifted = λ doc below. elim (at_most doc end below) [
+      shifted = λ doc below. elim (less_or_last doc end below) [
         | inl less ↦
             let apart : doc ≢ end = omega arith in
             subst (λ (n : ℕ). IsShifted shift (weight doc) (get_or before doc 0) n) (sym (get_or-set_other now end doc total 0 apart)) (h.shifted doc less)

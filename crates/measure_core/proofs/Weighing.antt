@@ -2,29 +2,16 @@
 use Rattle.std.proofs.Common.{◌≡◌, ℕ, zero, suc, ◌+◌, Bool, true, false, nat_eq, max, List, [], ◌∷◌, take, Option, Some, None, refl, ap, sym, ◌∙◌}
 use Rattle.std.specs.Prelude.{◌||◌, is_some}
 use Rattle.std.specs.List.{position_from}
-use Rattle.desk_model.specs.Ranking.{is_in, rank}
+use Rattle.desk_model.specs.Ranking.{rank}
+use Rattle.desk_model.proofs.Unranked.{unranked_in}
 use Rattle.desk_model.specs.declared.types.Mark.{Mark}
 use Rattle.desk_model.specs.declared.types.MeasureName.{MeasureName}
 use Rattle.desk_model.specs.declared.types.MeasureName.TheVariants.{Precision, Recall, RPrecision, Reciprocal, Biased}
 use Rattle.measure_laws.specs.Classes.{judged_count}
 use Rattle.measure_laws.specs.Weights.{weight_of, one_side_weight}
 
--- these two stand in the proofs of judgement_pool as well: neither crate stands on the other
-absent_from : (docs : List ℕ) (doc n k : ℕ) → position_from (λ each. nat_eq each doc) n docs ≡ None → is_in (take k docs) doc ≡ false
-absent_from [] doc n zero h = refl
-absent_from [] doc n (suc k) h = refl
-absent_from (d ∷ docs) doc n zero h = refl
-absent_from (d ∷ docs) doc n (suc k) h = go (nat_eq d doc) refl (absent_from docs doc (n + 1) k)
-  where
-    go : (b : Bool) → nat_eq d doc ≡ b → (position_from (λ each. nat_eq each doc) (n + 1) docs ≡ None → is_in (take k docs) doc ≡ false) → (nat_eq d doc || is_in (take k docs) doc) ≡ false
-    go true e later = let bad : Some n ≡ None = rw e at h in absurd (cc)
-    go false e later = rw e (later (rw e at h))
-
-absent : (docs : List ℕ) (doc k : ℕ) → rank docs doc ≡ None → is_in (take k docs) doc ≡ false
-absent docs doc k h = absent_from docs doc 1 k h
-
 on_no_side : (k : ℕ) (a b : List ℕ) (doc : ℕ) → rank a doc ≡ None → rank b doc ≡ None → one_side_weight k a b doc ≡ 0
-on_no_side k a b doc h j = rw (absent a doc k h, absent b doc k j) refl
+on_no_side k a b doc h j = rw (unranked_in a doc k h, unranked_in b doc k j) refl
 
 pub weighs_nothing : (measure : MeasureName) (marks : List Mark) (a b : List ℕ) (doc : ℕ) → rank a doc ≡ None → rank b doc ≡ None → weight_of measure marks a b doc ≡ 0
 weighs_nothing (Precision k) marks a b doc h j = on_no_side k a b doc h j

@@ -10,16 +10,13 @@ use Rattle.desk_model.specs.declared.types.Verdict.{Verdict}
 use Rattle.desk_model.proofs.DeskTopics.{length-marks, small_at}
 use Rattle.desk_model.proofs.Nested.{get_or-there}
 use Rattle.desk_model.proofs.PairPlace.{there}
+use Rattle.small_lemmas.proofs.Numbers.{same_or_not}
 use Rattle.next_document.specs.Kept.{Kept, AreOver, AreNumbered, AreTopicTotals, AreTotalsOf, AreTotalsBut, AreKeptFor}
 use Rattle.next_document.specs.Proposal.{Standing}
 use Rattle.next_document.specs.Total.{standing}
 
 either : (m n : ℕ) → (m < n) ⊎ (n ≤ m)
 either m n = grind arith
-
--- it stands in the proofs of rprec as well: neither crate stands on the other
-same_or_not : (m n : ℕ) → (m ≡ n) ⊎ (m ≢ n)
-same_or_not m n = grind arith
 
 -- past the last topic there are no documents
 none_past : (totals : List (List ℕ)) (topic : ℕ) → length totals ≤ topic → length (get_or totals topic []) ≤ DOCUMENT_LIMIT

@@ -6,6 +6,7 @@ use Rattle.std.proofs.Math.Seq.{drop-cons}
 use Rattle.std.proofs.lemmas.Bool.Decides.{nat_tests}
 use Rattle.std.proofs.lemmas.List.{get_or-set_same, get_or-set_other, length-set}
 use Rattle.std.proofs.Math.Bool.{and-true, and-false}
+use Rattle.small_lemmas.proofs.Numbers.{same_or_not}
 use Rattle.desk_model.specs.Placed.{lookup, IsAscending}
 use Rattle.desk_model.specs.Ranking.{is_in, rank}
 use Rattle.desk_model.specs.declared.placed.Placed.{Placed}
@@ -92,9 +93,6 @@ all_down (suc n) (suc place) = all_down n place
 after_same : (es : List Placed) (doc : ℕ) (r : Option ℕ) → Taken es doc r → lookup (after es doc) doc ≡ None
 after_same es doc r h = absent_below doc (after es doc) h.rest
 
-split : (m n : ℕ) → (m ≡ n) ⊎ (m ≢ n)
-split m n = grind arith
-
 split_less : (m n : ℕ) → m ≢ n → (m < n) ⊎ (n < m)
 split_less m n h = grind arith
 
@@ -106,7 +104,7 @@ after_other es doc d r h ne = elim (split_less d doc ne) [
 
 pub ranks_after : (part : ℕ → Bool) (xs : List ℕ) (es : List Placed) (doc : ℕ) (r : Option ℕ) → Taken es doc r → AreRanksOf part xs es → AreRanksOf part xs (after es doc)
 unfolding AreRanksOf
-ranks_after part xs es doc r h f d s e = elim (split d doc) [
+ranks_after part xs es doc r h f d s e = elim (same_or_not d doc) [
   | inl same ↦ let none : lookup (after es doc) d ≡ None = ap (lookup (after es doc)) same ∙ after_same es doc r h in absurd (cc)
   | inr other ↦ f d s (sym (after_other es doc d r h other) ∙ e)
 ]
@@ -176,7 +174,7 @@ walked_more part elsewhere xs ys depth es fs flags doc x y distinct hx hy rx ry 
         ∙ sym (ap (λ o. test && not (both o (lookup (after fs doc) d))) (ap (lookup (after es doc)) same ∙ after_same es doc x hx))
 
     more : (place : ℕ) → place < length xs → get_or (raised depth x y flags) place false ≡ ((is_in (take (depth place) ys) (get_or xs place 0) && not (elsewhere (get_or xs place 0))) && not (both (lookup (after es doc) (get_or xs place 0)) (lookup (after fs doc) (get_or xs place 0))))
-    more place lt = elim (split (get_or xs place 0) doc) [ inl same ↦ here place lt same | inr other ↦ kept place lt other ]
+    more place lt = elim (same_or_not (get_or xs place 0) doc) [ inl same ↦ here place lt same | inr other ↦ kept place lt other ]
 
 -- before the first document
 pub walked_start : (elsewhere : ℕ → Bool) (xs ys : List ℕ) (depth : ℕ → ℕ) (es fs : List Placed) (flags : List Bool) → IsDistinct nat_eq xs → length xs ≤ length flags →
@@ -268,7 +266,7 @@ same_walk part elsewhere xs ys es es' fs fs' f f' s s' e g h k w =
 
 -- one step of it
 pub walk_next : (part elsewhere : ℕ → Bool) (xs ys : List ℕ) (x y : Placed) (es fs : List Placed) (f s : List Bool) → IsDistinct nat_eq xs → IsDistinct nat_eq ys → IsWalk part elsewhere xs ys (x ∷ es) (y ∷ fs) f s → After part elsewhere xs ys x y es fs f s
-walk_next part elsewhere xs ys x y es fs f s dx dy w = elim (split x.doc y.doc) [
+walk_next part elsewhere xs ys x y es fs f s dx dy w = elim (same_or_not x.doc y.doc) [
   | inl same ↦
       let t = same_tests x.doc y.doc same in
       let second : Taken (y ∷ fs) x.doc (Some y.rank) = subst (λ (d : ℕ). Taken (y ∷ fs) d (Some y.rank)) (sym same) (taken_head y fs w.second_ascends) in

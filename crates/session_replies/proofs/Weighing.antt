@@ -3,6 +3,7 @@ use Rattle.std.proofs.Common.{◌≡◌, ◌≢◌, ◌⊎◌, inl, inr, ℕ, �
 use Rattle.std.specs.Prelude.{IfSome, sum, is_some, false}
 use Rattle.std.proofs.Math.ListN.{set}
 use Rattle.std.proofs.lemmas.List.{length-map, length-set, get_or-set_same, get_or-set_other}
+use Rattle.small_lemmas.proofs.Numbers.{same_or_not}
 use Rattle.desk_model.specs.Desk.{Desk, IsDesk, ranking_of, topics_under}
 use Rattle.desk_model.specs.Pairs.{pairs_of}
 use Rattle.desk_model.specs.Verdict.{verdict}
@@ -30,9 +31,6 @@ verdict_each cell bound desk marks table h =
     ∙ length-map (pairs_of (run_numbers (length desk.runs))) (λ (pair : ℕ × ℕ). pair_sums cell (topics_under desk marks) pair.0 pair.1) ∙ length-pairs_of desk.runs 0
 
 -- ---- the marks of one topic are others
-same_or_not : (m n : ℕ) → (m ≡ n) ⊎ (m ≢ n)
-same_or_not m n = grind arith
-
 module _ (measure : MeasureName) (desk : Desk) (marks : List (List Mark)) (topic : ℕ) (row : List Mark) where
   total_elsewhere : (verdicts : List Verdict) (t doc : ℕ) → t ≢ topic → total_weight (standing measure desk (set marks topic row) verdicts) t doc ≡ total_weight (standing measure desk marks verdicts) t doc
   total_elsewhere verdicts t doc apart =

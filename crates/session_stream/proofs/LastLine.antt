@@ -23,7 +23,8 @@ use Rattle.session_stream.specs.declared.stream.Next.{Next}
 use Rattle.session_stream.specs.declared.stream.Next.TheVariants as next
 use Rattle.session_stream.specs.declared.stream.Fault.{Fault}
 use Rattle.session_stream.specs.declared.stream.Fault.TheVariants as faults
-use Rattle.session_stream.proofs.LineEnds.{lines-none, lines-some}
+use Rattle.desk_text.proofs.WholeLines.{lines-none}
+use Rattle.session_stream.proofs.LineEnds.{lines-some}
 use Rattle.session_stream.proofs.Hearing.{Begins, none_before, no_quit_before, quit_after, heard_whole}
 use Rattle.session_stream.proofs.Replies.{replies-append, joined-append}
 use Rattle.session_stream.proofs.Going.{accepted_more, quit_accepts}

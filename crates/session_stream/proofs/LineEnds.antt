@@ -11,10 +11,6 @@ whole_lines-ended text line h = ap whole_lines (sym (append_assoc text line (10 
 pub unended-ended : (text line : List ℕ) → unended (text ++ (line ++ 10 ∷ [])) ≡ []
 unended-ended text line = ap unended (sym (append_assoc text line (10 ∷ []))) ∙ unended-append_ended text line
 
--- a text whose last line feed ends it
-pub lines-none : (text : List ℕ) → unended text ≡ [] → lines text ≡ whole_lines text
-lines-none text h = lines-whole_lines text ∙ ap (λ u. whole_lines text ++ filter is_filled (u ∷ [])) h ∙ append-nil (whole_lines text)
-
 -- a text with more after its last line feed
 pub lines-some : (text : List ℕ) (b : ℕ) (bs : List ℕ) → unended text ≡ b ∷ bs → lines text ≡ whole_lines text ++ (b ∷ bs) ∷ []
 lines-some text b bs h = lines-whole_lines text ∙ ap (λ u. whole_lines text ++ filter is_filled (u ∷ [])) h ∙ ap (λ c. whole_lines text ++ cond c ((b ∷ bs) ∷ []) []) (lt-ltb 0 (length (b ∷ bs)) (omega arith))

@@ -6,6 +6,7 @@ use Rattle.std.proofs.Math.Seq.{drop-cons}
 use Rattle.std.proofs.lemmas.Bool.Decides.{nat_tests}
 use Rattle.std.proofs.lemmas.List.{length-set, get_or-set_same, get_or-set_other, drop_all}
 use Rattle.desk_model.specs.Ranking.{is_in}
+use Rattle.desk_model.proofs.Counts.{not_in}
 use Rattle.measure_core.specs.Shifts.{HasRoom, IsShifted, HaveRoom, AreShifted}
 use Rattle.measure_core.specs.declared.shift.Shift.{Shift}
 use Rattle.weight_walks.proofs.Walking.{IsBalanced, whole_left, room_left, step_balanced, balanced_end}
@@ -22,10 +23,6 @@ equal x y h = grind (arith, nat_tests)
 
 differ : (x y : ℕ) → y ≢ x → nat_eq x y ≡ false
 differ x y h = grind (arith, nat_tests)
-
-not_in : (x : ℕ) (ys : List ℕ) → AllByRecursion (λ y. nat_eq x y ≡ false) ys → is_in ys x ≡ false
-not_in x [] h = refl
-not_in x (y ∷ ys) h = ap (λ (b : Bool). b || is_in ys x) (unequal x y h.0) ∙ not_in x ys h.1
 
 distinct_drop : (i : ℕ) (xs : List ℕ) → IsDistinct nat_eq xs → IsDistinct nat_eq (drop i xs)
 unfolding IsDistinct

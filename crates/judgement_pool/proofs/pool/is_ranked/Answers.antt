@@ -1,6 +1,7 @@
 use Rattle.std.proofs.Common.{take, sym, ap, ◌∙◌}
 use Rattle.desk_model.specs.Ranking.{is_in}
-use Rattle.judgement_pool.proofs.Pools.{ranked_in, unranked_in}
+use Rattle.desk_model.proofs.Unranked.{unranked_in}
+use Rattle.judgement_pool.proofs.Pools.{ranked_in}
 use Rattle.judgement_pool.proofs.pool.is_ranked.Goals as goal
 
 pub returns-in-Some : goal.returns-in-Some

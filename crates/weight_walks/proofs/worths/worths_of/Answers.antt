@@ -1,11 +1,9 @@
 use Rattle.std.proofs.Common.{◌≡◌, ℕ, ◌+◌, ◌<◌, ◌⊎◌, inl, inr, List, [], ◌∷◌, ◌++◌, length, get_or, arith, ap, sym, subst, ◌∙◌}
 use Rattle.std.proofs.lemmas.Grind.{common_steps}
 use Rattle.std.proofs.lemmas.List.{get_or_append_left, get_or_push}
+use Rattle.small_lemmas.proofs.Numbers.{less_or_last}
 use Rattle.weight_walks.specs.Worths.{rank_or_none}
 use Rattle.weight_walks.proofs.worths.worths_of.Goals as goal
-
-less_or_last : (m n : ℕ) → m < n + 1 → (m < n) ⊎ (m ≡ n)
-less_or_last m n h = grind arith
 
 -- one worth more
 one_more : (worth : ℕ → ℕ) (xs : List ℕ) (y n : ℕ) → length xs ≡ n → y ≡ worth n → ((i : ℕ) → i < n → get_or xs i 0 ≡ worth i) → (i : ℕ) → i < n + 1 → get_or (xs ++ y ∷ []) i 0 ≡ worth i
