@@ -4,24 +4,59 @@ use desk_model::Mark;
 use std::alloc::{AllocError, Global};
 use topic_counts::counts::Counts;
 
+/// The sums of the weights of a run's documents on a topic, in parts of 10^18, those of the weights
+/// rounded down and of the weights rounded up.
+#[derive(Clone, Copy, PartialEq, Eq, Debug)]
+pub struct RunWeights {
+    /// Of the relevant documents.
+    pub relevant_low: u64,
+    pub relevant_high: u64,
+    /// Of the relevant and the unjudged documents.
+    pub possible_low: u64,
+    pub possible_high: u64,
+}
+
+impl RunWeights {
+    /// Those of no document.
+    pub const NONE: RunWeights = RunWeights {
+        relevant_low: 0,
+        relevant_high: 0,
+        possible_low: 0,
+        possible_high: 0,
+    };
+}
+
 /// Room for what a measure keeps while it finds the cells of all pairs on a topic. What it holds
 /// between two topics is anything, and a measure does without it on a topic that it is too small for.
 #[derive(Drop)]
 pub struct CellRoom {
     /// A mark for each document.
     pub marks: Vec<Mark>,
+    /// A rank for each document, from 1, and 0 for none.
+    pub ranks: Vec<u32>,
     /// Counts for each run.
     pub counts: Vec<Counts>,
+    /// Weights for each run.
+    pub weights: Vec<RunWeights>,
 }
 
 impl CellRoom {
     /// Room for topics of so many documents and runs, and for smaller ones.
     pub fn new(alloc: Global, documents: u32, runs: u32) -> Result<CellRoom, AllocError>
-        ensures documents { IfOk result (λ room. length room.marks.items ≡ documents) }
-        ensures runs { IfOk result (λ room. length room.counts.items ≡ runs) }
+        ensures marks { IfOk result (λ room. length room.marks.items ≡ documents) }
+        ensures ranks { IfOk result (λ room. length room.ranks.items ≡ documents) }
+        ensures counts { IfOk result (λ room. length room.counts.items ≡ runs) }
+        ensures weights { IfOk result (λ room. length room.weights.items ≡ runs) }
     {
         let marks = vec![in alloc; Mark::Other; documents as usize]?;
+        let ranks = vec![in alloc; 0u32; documents as usize]?;
         let counts = vec![in alloc; Counts::NONE; runs as usize]?;
-        Ok(CellRoom { marks, counts })
+        let weights = vec![in alloc; RunWeights::NONE; runs as usize]?;
+        Ok(CellRoom {
+            marks,
+            ranks,
+            counts,
+            weights,
+        })
     }
 }

@@ -1,0 +1,7 @@
+//! The cells of all pairs of runs on a topic, for measures that look at the ranks of the documents that both
+//! runs have: what several pairs need is found once.
+#![tactic(auto)]
+
+pub mod ranked_measure;
+
+pub use ranked_measure::{KeptWeights, RankedMeasure};
