@@ -1,13 +1,8 @@
 -- The first bytes of a name as one number.
-use Rattle.std.specs.Prelude.{◌≡◌, ℕ, zero, suc, ◌+◌, ◌*◌, ◌<◌, List, [], ◌∷◌, slice_index_or}
+use Rattle.std.specs.Prelude.{◌≡◌, ℕ, ◌*◌, ◌-◌, ◌<◌, ◌^◌, List, slice_index_or}
+use Rattle.std.specs.List.{range_with_len, sum_by}
 
--- the number that the next n bytes spell after a number, the first the greatest; zeros stand for bytes that are missing
-abbrev pub spelt : ℕ → ℕ → List ℕ → ℕ
-spelt zero before bytes = before
-spelt (suc n) before [] = spelt n (before * 256) []
-spelt (suc n) before (byte ∷ bytes) = spelt n (before * 256 + byte) bytes
-
--- bytes, and the number that the first 16 of them spell
+-- bytes, and the number whose digits to the base of 256 the first 16 of them are, the first the greatest; zeros stand for bytes that are missing
 pub record IsStart (name : List ℕ) (start : ℕ) : Type 0 where
   pub bytes : (k : ℕ) → slice_index_or name k 0 < 256
-  pub spells : start ≡ spelt 16 0 name
+  pub digits : start ≡ sum_by (λ k. slice_index_or name k 0 * 256 ^ (15 - k)) (range_with_len 0 16)

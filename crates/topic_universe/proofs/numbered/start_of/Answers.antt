@@ -1,6 +1,5 @@
 use Rattle.std.proofs.Common.{◌≡◌, ◌+◌, ◌*◌, ◌-◌, ◌^◌, ◌<◌, suc, drop, get_or, add-one, sym, ap, subst, ◌∙◌, arith}
-use Rattle.topic_universe.specs.Start.{spelt}
-use Rattle.topic_universe.proofs.Starts.{spelt_step, start_more, start_fits}
+use Rattle.topic_universe.proofs.Starts.{spelt, spelt_is, spelt_step, start_more, start_fits}
 use Rattle.topic_universe.proofs.numbered.start_of.Goals as goal
 
 pub overflow_mul-start : goal.overflow_mul-start
@@ -31,5 +30,5 @@ returns c =
     let left : 16 - c.loop-i.i ≡ 0 = omega (arith, c.loop-i-test.false) in
     record {
       bytes = λ k. (c.type_inv.name k).fits;
-      spells = ap (λ n. spelt n c.loop-i.start (drop c.loop-i.i name)) (sym left) ∙ c.loop-i.invariant.spells;
+      digits = ap (λ n. spelt n c.loop-i.start (drop c.loop-i.i name)) (sym left) ∙ c.loop-i.invariant.spells ∙ spelt_is name;
     }

@@ -1,5 +1,5 @@
 use Rattle.std.proofs.Common.{◌≡◌, ◌-◌, ◌^◌, ◌<◌, drop}
-use Rattle.topic_universe.specs.Start.{spelt}
+use Rattle.topic_universe.proofs.Starts.{spelt}
 use Rattle.topic_universe.proofs.numbered.start_of.Given as goal
 
 abbrev pub invariant-loop-i : goal.invariant-loop-i
