@@ -1,6 +1,7 @@
 pub mod Values
 pub mod Walks
 pub mod Arrivals
+pub mod Readers
 pub mod Saying
 pub mod Unique
 pub mod Missing

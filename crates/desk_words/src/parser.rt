@@ -1,6 +1,6 @@
 //! The words after the first, as clap reads them.
-ghost use Rattle.std.specs.Prelude.{◌≡◌, ◌≢◌, false, [], IfOk, OnOk, Err, map, string_bytes};
-ghost use Rattle.clap.specs.Words.{app_of, fault_of, found_of, matches_of, rows_of, rule_of, kind_of};
+ghost use Rattle.std.specs.Prelude.{◌≡◌, ◌≢◌, true, [], IfOk, OnOk, Err, map, string_bytes};
+ghost use Rattle.clap.specs.Words.{app_of, fault_of, found_of, is_simple, is_simple_and_free, kind_of, matches_of, rows_of, with_rule};
 ghost use Rattle.desk_words.specs.Parser.{bare_app, check_app, job_app, option_rule, other_rule, seed_app};
 
 use crate::command::WordsFault;
@@ -17,10 +17,7 @@ pub fn job_words<'a>(alloc: Global, words: &'a [String]) -> Result<ArgMatches<'a
     let Ok(command) = job_command(alloc) else {
         return Err(WordsFault::Memory);
     };
-    match command.try_get_matches_from(words) {
-        Ok(matches) => Ok(matches),
-        Err(error) => Err(fault_from(&error)),
-    }
+    matched(command, words)
 }
 
 /// The entries of the words of a check, by clap's account of them.
@@ -32,10 +29,7 @@ pub fn check_words<'a>(alloc: Global, words: &'a [String]) -> Result<ArgMatches<
     let Ok(command) = check_command(alloc) else {
         return Err(WordsFault::Memory);
     };
-    match command.try_get_matches_from(words) {
-        Ok(matches) => Ok(matches),
-        Err(error) => Err(fault_from(&error)),
-    }
+    matched(command, words)
 }
 
 /// The entries of the words of a demonstration, by clap's account of them.
@@ -47,6 +41,17 @@ pub fn seed_words<'a>(alloc: Global, words: &'a [String]) -> Result<ArgMatches<'
     let Ok(command) = seed_command(alloc) else {
         return Err(WordsFault::Memory);
     };
+    matched(command, words)
+}
+
+// The entries of the words of a command, by clap's account of them.
+fn matched<'a>(command: Command<'a>, words: &'a [String]) -> Result<ArgMatches<'a>, WordsFault>
+    requires simple { is_simple (app_of command) ≡ true }
+    requires free { is_simple_and_free (app_of command) ≡ true }
+    ensures rows { IfOk result (λ m. rows_of (found_of m) ≡ matches_of (app_of command.entry) (map string_bytes words.entry.now)) }
+    ensures taken { OnOk result (fault_of (app_of command.entry) (map string_bytes words.entry.now) ≡ []) }
+    ensures usage { result ≡ Err WordsFault.Usage → fault_of (app_of command.entry) (map string_bytes words.entry.now) ≢ [] }
+{
     match command.try_get_matches_from(words) {
         Ok(matches) => Ok(matches),
         Err(error) => Err(fault_from(&error)),
@@ -65,18 +70,26 @@ fn fault_from(error: &Error) -> WordsFault
     }
 }
 
-fn option<'a>(alloc: Global, name: &'a str) -> Arg<'a>
-    ensures rule { rule_of result ≡ option_rule name.entry.now }
-    ensures local { result.global ≡ false }
+// The command with one more option, whose values are kept.
+fn with_option<'a>(
+    alloc: Global,
+    command: Command<'a>,
+    name: &'a str,
+) -> Result<Command<'a>, AllocError>
+    ensures app { IfOk result (λ c. app_of c ≡ with_rule (app_of command.entry) (option_rule name.entry.now)) }
 {
-    Arg::new(alloc, name).long(name).action(ArgAction::Append)
+    command.arg(Arg::new(alloc, name).long(name).action(ArgAction::Append))
 }
 
-fn others<'a>(alloc: Global, name: &'a str) -> Arg<'a>
-    ensures rule { rule_of result ≡ other_rule name.entry.now }
-    ensures local { result.global ≡ false }
+// The command with an entry of this name for the words of no option.
+fn with_others<'a>(
+    alloc: Global,
+    command: Command<'a>,
+    name: &'a str,
+) -> Result<Command<'a>, AllocError>
+    ensures app { IfOk result (λ c. app_of c ≡ with_rule (app_of command.entry) (other_rule name.entry.now)) }
 {
-    Arg::new(alloc, name).action(ArgAction::Append)
+    command.arg(Arg::new(alloc, name).action(ArgAction::Append))
 }
 
 fn bare<'a>(alloc: Global) -> Command<'a>
@@ -91,28 +104,22 @@ fn bare<'a>(alloc: Global) -> Command<'a>
 fn job_command<'a>(alloc: Global) -> Result<Command<'a>, AllocError>
     ensures app { IfOk result (λ c. app_of c ≡ job_app) }
 {
-    let qrels = option(alloc, "qrels");
-    let measure = option(alloc, "measure");
-    let level = option(alloc, "level");
-    let runs = others(alloc, "RUN");
-    let command = bare(alloc).arg(qrels)?.arg(measure)?.arg(level)?.arg(runs)?;
-    Ok(command)
+    let command = with_option(alloc, bare(alloc), "qrels")?;
+    let command = with_option(alloc, command, "measure")?;
+    let command = with_option(alloc, command, "level")?;
+    with_others(alloc, command, "RUN")
 }
 
 fn check_command<'a>(alloc: Global) -> Result<Command<'a>, AllocError>
     ensures app { IfOk result (λ c. app_of c ≡ check_app) }
 {
-    let qrels = option(alloc, "qrels");
-    let cert = option(alloc, "cert");
-    let runs = others(alloc, "RUN");
-    let command = bare(alloc).arg(qrels)?.arg(cert)?.arg(runs)?;
-    Ok(command)
+    let command = with_option(alloc, bare(alloc), "qrels")?;
+    let command = with_option(alloc, command, "cert")?;
+    with_others(alloc, command, "RUN")
 }
 
 fn seed_command<'a>(alloc: Global) -> Result<Command<'a>, AllocError>
     ensures app { IfOk result (λ c. app_of c ≡ seed_app) }
 {
-    let seed = others(alloc, "SEED");
-    let command = bare(alloc).arg(seed)?;
-    Ok(command)
+    with_others(alloc, bare(alloc), "SEED")
 }

@@ -54,6 +54,11 @@ rows_from read number rows (line ∷ rest) =
 abbrev pub rows_of : {R : Type 0} → (List R → List ℕ → Result (Option R) LineFault) → List ℕ → Result (List R) FileFault
 rows_of read bytes = rows_from read 1 [] (lines bytes)
 
+-- lines were read: a reader with no fault gathers what they say, and a fault that is kept is the first, unless memory ran out
+abbrev pub IsReadTo : {R : Type 0} → (List R → List ℕ → Result (Option R) LineFault) → (List (List ℕ) → Type 0) → Option FileFault → List (List ℕ) → Type 0
+IsReadTo read Gathers None lines = Gathers lines
+IsReadTo read Gathers (Some fault) lines = (fault ≡ Memory) ⊎ (rows_from read 1 [] lines ≡ Err fault)
+
 -- the answer is the one that is wanted, or memory ran out
 abbrev pub IsUnlessMemory : {A : Type 0} → Result A FileFault → Result A FileFault → Type 0
 IsUnlessMemory answer wanted = (answer ≡ Err Memory) ⊎ (answer ≡ wanted)

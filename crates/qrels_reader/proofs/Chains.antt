@@ -1,5 +1,5 @@
 -- Faults that are looked for one after the other.
-use Rattle.std.proofs.Common.{◌≡◌, ℕ, ◌+◌, ◌<◌, List, [], ◌∷◌, length, true, false, cond, refl, ap, sym, ◌∙◌, ◌⊎◌, arith}
+use Rattle.std.proofs.Common.{◌≡◌, ℕ, ◌+◌, List, [], ◌∷◌, length, false, cond, ap, sym, ◌∙◌, ◌⊎◌}
 use Rattle.std.specs.Prelude.{Bool, not, ◌||◌, ◌&&◌, ◌==◌, Some, None, is_none, Result, Ok, Err, OnOk, IfErr, nat_lt, nat_le}
 use Rattle.std.specs.List.{list_any, list_all}
 use Rattle.std.specs.Result.{result_map_both}

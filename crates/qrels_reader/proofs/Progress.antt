@@ -1,13 +1,11 @@
 -- A file that is read line by line.
-use Rattle.std.proofs.Common.{◌≡◌, ◌≢◌, ℕ, ◌+◌, ◌<◌, List, [], ◌∷◌, ◌++◌, length, true, refl, ap, ap₂, sym, subst, ◌∙◌, inl, inr, ◌⊎◌, arith, length-append}
-use Rattle.std.specs.Prelude.{Some, None, Ok, Err, ◌==◌, Bool, false, cond, nat_le}
-use Rattle.std.proofs.lemmas.Bool.{eqb-true, ne_eqb, leb-false}
-use Rattle.desk_text.specs.Lines.{lines, kept_line}
-use Rattle.desk_text.specs.declared.line.TheConstants.{LONGEST_LINE}
+use Rattle.std.proofs.Common.{◌≡◌, ℕ, ◌+◌, ◌<◌, List, [], ◌∷◌, ◌++◌, length, ap, ap₂, sym, subst, ◌∙◌, inl, inr, ◌⊎◌, arith, length-append}
+use Rattle.std.specs.Prelude.{Some, Ok, Err, ◌==◌, cond}
+use Rattle.desk_text.specs.Lines.{lines}
 use Rattle.file_rows.specs.declared.fault.FileFault.{FileFault}
 use Rattle.file_rows.specs.declared.fault.FileFault.TheVariants.{Memory, NoTopics, Line}
 use Rattle.file_rows.specs.declared.fault.LineFault.TheVariants.{LineTooLong}
-use Rattle.file_rows.specs.Reading.{IsTooLong, and_then, with_row, rows_from, IsUnlessMemory}
+use Rattle.file_rows.specs.Reading.{IsTooLong, and_then, with_row, IsUnlessMemory}
 use Rattle.file_rows.specs.Rows.{Row}
 use Rattle.file_rows.specs.Grouped.{TopicRows, grouped, row_count}
 use Rattle.file_rows.proofs.Grouping.{row_count-grouped}

@@ -2,4 +2,3 @@ pub mod Rows
 pub mod Grouped
 pub mod Reader
 pub mod Fed
-pub mod Stays

@@ -1,6 +1,6 @@
 -- What a reader of a qrels file has read.
-use Rattle.std.specs.Prelude.{◌≡◌, ◌⊎◌, ℕ, ◌<◌, List, [], length, Option, Some, None, Result, Ok, Err}
-use Rattle.file_rows.specs.Reading.{read_line, with_row, rows_from}
+use Rattle.std.specs.Prelude.{◌≡◌, ◌⊎◌, ℕ, List, [], length, Option, Some, None, Result, Ok, Err}
+use Rattle.file_rows.specs.Reading.{read_line, with_row, rows_from, IsReadTo}
 use Rattle.file_rows.specs.Rows.{Row}
 use Rattle.file_rows.specs.Grouped.{TopicRows, grouped, documents_seen}
 use Rattle.file_rows.specs.declared.fault.FileFault.{FileFault}
@@ -31,8 +31,7 @@ pub record Gathers (reader : RowReader) (lines : List (List ℕ)) : Type 0 where
 
 -- lines were read; a fault that is kept is the first, unless memory ran out
 abbrev pub HasRead : Option FileFault → RowReader → List (List ℕ) → Type 0
-HasRead None reader lines = Gathers reader lines
-HasRead (Some fault) reader lines = (fault ≡ Memory) ⊎ (rows_from read_row 1 [] lines ≡ Err fault)
+HasRead fault reader = IsReadTo read_row (Gathers reader) fault
 
 -- unless a fault is kept, more lines can be read
 abbrev pub IsReady : Option FileFault → RowReader → Type 0

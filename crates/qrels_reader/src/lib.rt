@@ -13,6 +13,3 @@ pub use limits::{GREATEST_GRADE, LEAST_GRADE, MOST_QRELS_ROWS, MOST_TOPICS};
 pub use qrels::Qrels;
 pub use read::read_qrels;
 pub use reader::QrelsReader;
-
-#[cfg(test)]
-mod tests;

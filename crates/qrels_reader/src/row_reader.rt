@@ -29,8 +29,9 @@ pub struct RowReader {
 
 impl LineReader for RowReader {
     ghost use Rattle.std.specs.Prelude.{is_some};
-    ghost use Rattle.qrels_reader.specs.Reader.{HasRead, IsReady};
-    ghost use Rattle.qrels_reader.specs.Stays.{stays};
+    ghost use Rattle.file_rows.proofs.ReadOn.{stays};
+    ghost use Rattle.qrels_reader.specs.Rows.{read_row};
+    ghost use Rattle.qrels_reader.specs.Reader.{Gathers, HasRead, IsReady};
 
     ghost has_read = { λ reader. HasRead reader.fault reader };
 
@@ -40,7 +41,7 @@ impl LineReader for RowReader {
 
     ghost same = { λ _ _. Unit {0} };
 
-    ghost stays = { λ reader before more. stays reader.fault reader before more };
+    ghost stays = { λ reader before more. stays read_row (Gathers reader) reader.fault before more };
 
     ghost itself = { λ _. tt };
 

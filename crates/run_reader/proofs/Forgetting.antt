@@ -1,10 +1,10 @@
 -- A run of which the rows of a topic are given back.
-use Rattle.std.proofs.Common.{◌≡◌, ◌≤◌, ℕ, List, [], length, true, sym, subst, arith}
+use Rattle.std.proofs.Common.{◌≡◌, ◌≤◌, ℕ, List, length, true, sym, subst, arith}
 use Rattle.std.specs.Prelude.{All, map}
 use Rattle.std.specs.List.{IsDistinct}
 use Rattle.std.specs.Str.{bytes_eq}
 use Rattle.desk_model.specs.Name.{is_name}
-use Rattle.file_rows.specs.Grouped.{Valued, TopicRows, names_of, without_rows}
+use Rattle.file_rows.specs.Grouped.{Valued, TopicRows, without_rows}
 use Rattle.file_rows.proofs.Forgetting.{names_of-without_rows, all_without_rows}
 use Rattle.run_reader.specs.declared.limits.TheConstants.{MOST_RANKS}
 use Rattle.run_reader.specs.Run.{IsRun}

@@ -1,9 +1,7 @@
 -- A run file that is read line by line.
-use Rattle.std.proofs.Common.{◌≡◌, ℕ, ◌+◌, Bool, true, false, List, [], ◌∷◌, ◌++◌, length, refl, ap, sym, subst, ◌∙◌, inl, inr, ◌⊎◌, arith, length-append}
-use Rattle.std.specs.Prelude.{IfSome, Option, Some, None, Result, Ok, Err, cond, nat_le}
-use Rattle.std.proofs.lemmas.Bool.{leb-false}
-use Rattle.desk_text.specs.Lines.{lines, kept_line}
-use Rattle.desk_text.specs.declared.line.TheConstants.{LONGEST_LINE}
+use Rattle.std.proofs.Common.{◌≡◌, ℕ, ◌+◌, true, List, [], ◌∷◌, ◌++◌, length, refl, ap, sym, subst, ◌∙◌, inl, inr, ◌⊎◌, arith, length-append}
+use Rattle.std.specs.Prelude.{IfSome, Option, Some, None, Result, Ok, Err}
+use Rattle.desk_text.specs.Lines.{lines}
 use Rattle.desk_model.specs.Name.{is_name}
 use Rattle.file_rows.specs.declared.fault.FileFault.{FileFault}
 use Rattle.file_rows.specs.declared.fault.FileFault.TheVariants.{Memory, Line}

@@ -1,5 +1,4 @@
 pub mod Rows
 pub mod Run
 pub mod Reader
-pub mod Stays
 pub mod Fed

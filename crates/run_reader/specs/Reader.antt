@@ -1,7 +1,7 @@
 -- What a reader of a run file has read.
-use Rattle.std.specs.Prelude.{◌≡◌, true, All, ◌⊎◌, ℕ, ◌+◌, ◌<◌, ◌≤◌, List, [], length, Option, Some, None, option_map, unwrap_or, Result, Ok, Err, if◌then◌else◌}
+use Rattle.std.specs.Prelude.{◌≡◌, true, All, ◌⊎◌, ℕ, ◌+◌, ◌≤◌, List, [], length, Option, Some, None, option_map, unwrap_or, Result, Ok, Err, if◌then◌else◌}
 use Rattle.desk_text.specs.Lines.{is_blank}
-use Rattle.file_rows.specs.Reading.{read_line, with_row, rows_from}
+use Rattle.file_rows.specs.Reading.{read_line, with_row, rows_from, IsReadTo}
 use Rattle.file_rows.specs.Rows.{Row}
 use Rattle.file_rows.specs.Grouped.{TopicRows, Valued, valued_of, with_valued, grouped, names_of, is_topic, place_of, documents_seen, row_count, name_bytes_in}
 use Rattle.file_rows.specs.declared.fault.FileFault.{FileFault}
@@ -70,8 +70,7 @@ pub record Gathers (reader : RowReader) (lines : List (List ℕ)) : Type 0 where
 
 -- lines were read; a fault that is kept is the first, unless memory ran out
 abbrev pub HasRead : Option FileFault → RowReader → List (List ℕ) → Type 0
-HasRead None reader lines = Gathers reader lines
-HasRead (Some fault) reader lines = (fault ≡ Memory) ⊎ (rows_from (read_row reader.beside.qrels.now reader.beside.used) 1 [] lines ≡ Err fault)
+HasRead fault reader = IsReadTo (read_row reader.beside.qrels.now reader.beside.used) (Gathers reader) fault
 
 -- unless a fault is kept, more lines can be read
 abbrev pub IsReady : Option FileFault → RowReader → Type 0

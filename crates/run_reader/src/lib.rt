@@ -15,8 +15,3 @@ pub use read::read_run;
 pub use reader::RunReader;
 pub use run_rows::RunRows;
 pub use used::Used;
-
-#[cfg(test)]
-mod cuts;
-#[cfg(test)]
-mod tests;

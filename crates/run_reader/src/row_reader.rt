@@ -40,8 +40,10 @@ pub struct RowReader<'q> {
 
 impl<'q> LineReader for RowReader<'q> {
     ghost use Rattle.std.specs.Prelude.{◌≡◌, is_some, refl};
-    ghost use Rattle.run_reader.specs.Reader.{HasRead, IsReady};
-    ghost use Rattle.run_reader.specs.Stays.{stays, joined};
+    ghost use Rattle.std.proofs.Common.{◌∙◌};
+    ghost use Rattle.file_rows.proofs.ReadOn.{stays};
+    ghost use Rattle.run_reader.specs.Rows.{read_row};
+    ghost use Rattle.run_reader.specs.Reader.{Gathers, HasRead, IsReady};
 
     ghost has_read = { λ reader. HasRead reader.fault reader };
 
@@ -51,11 +53,11 @@ impl<'q> LineReader for RowReader<'q> {
 
     ghost same = { λ old new. new.beside ≡ old.beside };
 
-    ghost stays = { λ reader before more. stays reader.fault reader before more };
+    ghost stays = { λ reader before more. stays (read_row reader.beside.qrels.now reader.beside.used) (Gathers reader) reader.fault before more };
 
     ghost itself = { λ _. refl };
 
-    ghost later = { λ old now new. joined old now new };
+    ghost later = { λ _ _ _ e f. f ∙ e };
 
     fn is_stopped(&self) -> bool {
         self.fault.is_some()

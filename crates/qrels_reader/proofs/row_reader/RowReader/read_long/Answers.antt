@@ -1,12 +1,13 @@
 use Rattle.std.proofs.Common.{◌∷◌, [], ap, subst}
 use Rattle.std.specs.Prelude.{is_some}
-use Rattle.qrels_reader.specs.Reader.{HasRead}
-use Rattle.qrels_reader.specs.Stays.{stays}
+use Rattle.file_rows.proofs.ReadOn.{stays}
+use Rattle.qrels_reader.specs.Rows.{read_row}
+use Rattle.qrels_reader.specs.Reader.{Gathers, HasRead}
 use Rattle.qrels_reader.proofs.Progress.{too_long}
 use Rattle.qrels_reader.proofs.row_reader.RowReader.read_long.Goals as goal
 
 pub returns-in-Some-clause-read : goal.returns-in-Some-clause-read
-returns-in-Some-clause-read c before line long h = stays c.args.self.now.fault c.args.self.now before (line ∷ []) (ap is_some c.in-Some.is) h
+returns-in-Some-clause-read c before line long h = stays read_row (Gathers c.args.self.now) c.args.self.now.fault before (line ∷ []) (ap is_some c.in-Some.is) h
 
 pub returns-in-None-clause-read : goal.returns-in-None-clause-read
 returns-in-None-clause-read c before line long h =

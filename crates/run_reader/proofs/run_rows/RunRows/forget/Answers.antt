@@ -1,4 +1,4 @@
-use Rattle.std.proofs.Common.{◌≡◌, ◌≤◌, ap, sym, subst, ◌∙◌, arith}
+use Rattle.std.proofs.Common.{ap, sym, subst, ◌∙◌, arith}
 use Rattle.file_rows.specs.Grouped.{names_of, row_count, rows_in}
 use Rattle.file_rows.proofs.Forgetting.{names_of-without_rows, rows_in-forgotten, rows_in-other, row_count-without_rows}
 use Rattle.run_reader.specs.Run.{Run, IsRun}

@@ -1,5 +1,7 @@
 // Qrels files and their faults, by examples.
-use super::*;
+ghost use Rattle.std.specs.Prelude.{◌≡◌, true, length};
+
+use qrels_reader::{FileFault, LineFault, Qrels, read_qrels};
 use std::alloc::{AllocError, Global};
 
 fn refusal(rt: &HostRuntime, bytes: &[u8]) -> Option<FileFault> {
@@ -10,47 +12,54 @@ fn at_line(line: u64, fault: LineFault) -> Option<FileFault> {
     Some(FileFault::Line { line, fault })
 }
 
+// Whether there are two topics with three rows, the second of them `401`.
+fn has_topics(qrels: &Qrels) -> bool
+    ensures { result ≡ true → length qrels.now ≡ 2 }
+{
+    qrels.topics() == 2
+        && qrels.rows() == 3
+        && qrels.name_bytes() == 11
+        && qrels.topic_name(1) == b"401".as_slice()
+        && qrels.has_topic(b"402")
+        && !qrels.has_topic(b"40")
+}
+
+// Whether the first topic has two documents, `d2` the second, and the next topic one, with these grades.
+fn has_documents(qrels: &Qrels) -> bool
+    requires { length qrels.now ≡ 2 }
+{
+    qrels.doc_count(0) == 2
+        && qrels.doc_count(1) == 1
+        && qrels.doc_name(0, 1) == b"d2".as_slice()
+        && qrels.grade(0, 0) == 2
+        && qrels.grade(0, 1) == 1
+        && qrels.grade(1, 0) == -1
+}
+
 #[test]
 fn reads_rows(rt: HostRuntime) {
     let text = b"402\t0 d1 2\r\n\n401 x FT911-3 -1\n402 0 d2 +0001";
     let Ok(qrels) = read_qrels(rt.alloc(), text) else {
         panic!(rt; "each line has a row");
     };
-    assert_eq!(rt;
-        (qrels.topics(), qrels.rows(), qrels.name_bytes()),
-        (2, 3, 11)
-    );
-    assert_eq!(rt; qrels.topic_name(1), b"401".as_slice());
-    assert!(rt; qrels.has_topic(b"402") && !qrels.has_topic(b"40"));
-    assert!(rt; qrels.doc_count(0) == 2 && qrels.doc_count(1) == 1);
-    if qrels.doc_count(0) == 2 && qrels.doc_count(1) == 1 {
-        assert_eq!(rt; qrels.doc_name(0, 1), b"d2".as_slice());
-        assert_eq!(rt;
-            (qrels.grade(0, 0), qrels.grade(0, 1), qrels.grade(1, 0)),
-            (2, 1, -1)
-        );
-    }
+    assert!(rt; has_topics(&qrels) && has_documents(&qrels));
 }
 
 #[test]
 fn tells_faults(rt: HostRuntime) {
-    assert_eq!(rt; refusal(&rt, b" \n\n"), Some(FileFault::NoTopics));
-    assert_eq!(rt;
-        refusal(&rt, b"401 0 d1 1\n\n401 0 d\0 1"),
-        at_line(3, LineFault::BadByte)
-    );
-    assert_eq!(rt;
-        refusal(&rt, b"401 0 d1\n"),
-        at_line(1, LineFault::BadFieldCount)
-    );
-    assert_eq!(rt;
-        refusal(&rt, b"401 0 d1 1001\n"),
-        at_line(1, LineFault::BadGrade)
-    );
-    assert_eq!(rt;
-        refusal(&rt, b"1 0 d 1\n2 0 d 1\n1 0 d 0\n"),
-        at_line(3, LineFault::RepeatedDocument)
-    );
+    let cases: [(&[u8], Option<FileFault>); 5] = [
+        (b" \n\n", Some(FileFault::NoTopics)),
+        (b"401 0 d1 1\n\n401 0 d\0 1", at_line(3, LineFault::BadByte)),
+        (b"401 0 d1\n", at_line(1, LineFault::BadFieldCount)),
+        (b"401 0 d1 1001\n", at_line(1, LineFault::BadGrade)),
+        (
+            b"1 0 d 1\n2 0 d 1\n1 0 d 0\n",
+            at_line(3, LineFault::RepeatedDocument),
+        ),
+    ];
+    for (text, fault) in cases {
+        assert_eq!(rt; refusal(&rt, text), fault);
+    }
 }
 
 fn padded(alloc: Global, name: usize, spaces: usize) -> Result<Vec<u8>, AllocError> {

@@ -1,6 +1,6 @@
 // What is meant by the rows of a run, by examples.
-use super::*;
 use qrels_reader::{FileFault, LineFault, Qrels, read_qrels};
+use run_reader::{RunRows, Used, read_run};
 use std::alloc::Global;
 use std::process::Abort;
 use std::test::Fail;
@@ -26,6 +26,18 @@ fn expect_fault(
     Ok(())
 }
 
+// Whether the run has three rows on two topics, the second of which has the lower score.
+fn has_rows(run: &RunRows) -> bool {
+    let Used { rows, name_bytes } = run.used();
+    rows == 3
+        && name_bytes == 6
+        && run.topic_rows(b"401") == 2
+        && run.topic_rows(b"402") == 1
+        && run.topic_rows(b"403") == 0
+        && run.doc(b"401", 1) == b"d9".as_slice()
+        && run.score(b"401", 1) < run.score(b"401", 0)
+}
+
 #[test]
 fn keeps_rows_of_the_topics(rt: HostRuntime) -> Result<(), Fail> {
     let alloc = rt.alloc();
@@ -33,19 +45,7 @@ fn keeps_rows_of_the_topics(rt: HostRuntime) -> Result<(), Fail> {
         b"403 Q0 x 1 2 BM25\n\n 401\tQ0 d1 7 12.345600 other\r\n401 Q0 d9 1 1.2e1 BM25\n402 Q0 d1 0 3 BM25";
     let run = read_run(alloc, text, None, &qrels(alloc)?, NONE)?;
     assert_eq!(rt; run.name(), b"BM25".as_slice());
-    assert_eq!(rt; (run.topic_rows(b"401"), run.topic_rows(b"402")), (2, 1));
-    assert_eq!(rt; run.topic_rows(b"403"), 0);
-    assert_eq!(rt;
-        run.used(),
-        Used {
-            rows: 3,
-            name_bytes: 6
-        }
-    );
-    if run.topic_rows(b"401") == 2 {
-        assert_eq!(rt; run.doc(b"401", 1), b"d9".as_slice());
-        assert!(rt; run.score(b"401", 1) < run.score(b"401", 0));
-    }
+    assert!(rt; has_rows(&run));
     Ok(())
 }
 
@@ -64,16 +64,19 @@ fn takes_the_given_name(rt: HostRuntime) -> Result<(), Fail> {
 #[test]
 fn tells_the_first_fault(rt: HostRuntime) -> Result<(), Fail> {
     let alloc = rt.alloc();
-    let repeated = b"401 Q0 d1 1 9 A\n\n401 Q0 d1 2 8 A";
-    expect_fault(&rt, alloc, repeated, 3, LineFault::RepeatedDocument)?;
-    expect_fault(&rt, alloc, b"401 Q0 d1 1 9", 1, LineFault::BadFieldCount)?;
-    expect_fault(&rt, alloc, b"403 Q0 d1 1 inf A", 1, LineFault::BadScore)?;
-    expect_fault(
-        &rt,
-        alloc,
-        b"401 Q0 d1 1 1e1000 A",
-        1,
-        LineFault::ScoreExponent,
-    )?;
-    expect_fault(&rt, alloc, b"401 Q0 d\x01 1 x", 1, LineFault::BadByte)
+    let cases: [(&[u8], u64, LineFault); 5] = [
+        (
+            b"401 Q0 d1 1 9 A\n\n401 Q0 d1 2 8 A",
+            3,
+            LineFault::RepeatedDocument,
+        ),
+        (b"401 Q0 d1 1 9", 1, LineFault::BadFieldCount),
+        (b"403 Q0 d1 1 inf A", 1, LineFault::BadScore),
+        (b"401 Q0 d1 1 1e1000 A", 1, LineFault::ScoreExponent),
+        (b"401 Q0 d\x01 1 x", 1, LineFault::BadByte),
+    ];
+    for (text, line, fault) in cases {
+        expect_fault(&rt, alloc, text, line, fault)?;
+    }
+    Ok(())
 }

@@ -1,6 +1,6 @@
 // Files that are cut anywhere, by examples.
-use super::*;
 use qrels_reader::{FileFault, LineFault, Qrels, QrelsReader};
+use run_reader::{RunReader, RunRows, Used};
 use std::alloc::Global;
 use std::test::Fail;
 
@@ -51,20 +51,28 @@ fn cut_run(
     reader.finish()
 }
 
+fn is_whole(qrels: &Qrels) -> bool {
+    qrels.topics() == 2 && qrels.rows() == 4 && qrels.name_bytes() == 28
+}
+
+fn is_whole_run(run: &RunRows) -> bool {
+    let Used { rows, name_bytes } = run.used();
+    rows == 3
+        && name_bytes == 21
+        && run.name() == b"BM25".as_slice()
+        && run.topic_rows(b"401") == 2
+        && run.topic_rows(b"402") == 1
+}
+
 #[test]
 fn a_cut_changes_no_row(rt: HostRuntime) -> Result<(), Fail> {
     let alloc = rt.alloc();
     for cut in 0..=RUN.len() {
         for one_by_one in [false, true] {
             let qrels = cut_qrels(alloc, cut, one_by_one)?;
-            assert_eq!(rt;
-                (qrels.topics(), qrels.rows(), qrels.name_bytes()),
-                (2, 4, 28)
-            );
+            assert!(rt; is_whole(&qrels), "cut at {cut}");
             let run = cut_run(alloc, RUN, cut, one_by_one, &qrels)?;
-            assert_eq!(rt; run.name(), b"BM25".as_slice());
-            assert_eq!(rt; (run.used().rows, run.used().name_bytes), (3, 21));
-            assert_eq!(rt; (run.topic_rows(b"401"), run.topic_rows(b"402")), (2, 1));
+            assert!(rt; is_whole_run(&run), "cut at {cut}");
         }
     }
     Ok(())
