@@ -1,7 +1,8 @@
 -- What a document of two runs adds to the sums of shares beyond what its ranks alone add.
 use Rattle.std.proofs.Common.{◌≡◌, ◌≢◌, ℕ, zero, suc, ◌+◌, ◌-◌, ◌*◌, ◌/◌, ◌<◌, ◌≤◌, Bool, true, false, min, Option, Some, None, ℤ, pos, neg_ℤ, ◌+ℤ◌, ◌-ℤ◌, arith, refl, ap, ◌∙◌, sym, subst}
-use Rattle.std.specs.Prelude.{if◌then◌else◌}
+use Rattle.std.specs.Prelude.{if◌then◌else◌, ◌&&◌, nat_lt}
 use Rattle.std.proofs.Math.Nat.{mul-le-mul_left, mul-le-mul_right}
+use Rattle.std.proofs.lemmas.Bool.{lt-ltb}
 use Rattle.std.proofs.lemmas.Bool.Decides.{nat_tests}
 use Rattle.std.proofs.lemmas.Int.{ints}
 use Rattle.std.proofs.lemmas.Nat.{div_below}
@@ -14,10 +15,10 @@ use Rattle.measure_laws.specs.Shares.{low_share, high_share}
 use Rattle.measure_laws.proofs.BiasedEnds.{Standing, stands, ahead, behind, level}
 use Rattle.measure_laws.proofs.BiasedSizes.{weights_order}
 use Rattle.rbp.specs.Added.{IsAdded, IsUpTo, added, least_low, least_high, most_low, most_high}
-use Rattle.rbp.specs.Walk.{share_of, is_in_least, is_in_most, correction}
+use Rattle.rbp.specs.Walk.{share_of, is_in_least, is_in_most, correction, number_of}
 use Rattle.rbp.specs.declared.by_ranks.Added.{Added}
 use Rattle.weight_walks.specs.Worths.{rank_or_none}
-use Rattle.rbp.proofs.Walk.{AreAlone, ends, alone_in_least_low, alone_in_least_high, alone_in_most_low, alone_in_most_high, is_common, is_low, is_high}
+use Rattle.rbp.proofs.Walk.{AreAlone, ends, alone_in_least_low, alone_in_least_high, alone_in_most_low, alone_in_most_high, IsCommon}
 
 -- ---- weights rounded up fall from rank to rank
 ceil_rises : (m n b : ℕ) → m ≤ n → 0 < b → ceil_div m b ≤ ceil_div n b
@@ -201,24 +202,15 @@ module _ (top bottom : ℕ) (x : Option ℕ) (y : ℕ) (below : top < bottom) wh
         relevant_hi = omega (arith, n, choice_most b 0 (hx - ly) hy (λ e. omega arith) (λ e. omega (arith, highs e)));
       }
 
--- a document that is not relevant adds what an unjudged one adds that the first run lacks
-pub other_is : (top bottom : ℕ) (x : Option ℕ) (y : ℕ) (s : Added) → top < bottom → IsAdded top bottom Unjudged None (Some y) s → IsAdded top bottom Other x (Some y) s
-other_is top bottom x y s below h =
-    let low_least = is_common (low_share top bottom) is_in_least (is_low top bottom below) in
-    let high_least = is_common (high_share top bottom) is_in_least (is_high top bottom below) in
-    let low_most = is_common (low_share top bottom) is_in_most (is_low top bottom below) in
-    let high_most = is_common (high_share top bottom) is_in_most (is_high top bottom below) in
-    record {
-      least_lo = h.least_lo ∙ low_least.first Unjudged (Some y);
-      least_hi = h.least_hi ∙ high_least.first Unjudged (Some y);
-      most_lo = h.most_lo ∙ low_most.first Unjudged (Some y);
-      most_hi = h.most_hi ∙ high_most.first Unjudged (Some y);
-    }
+both_hold : (s t : Bool) → s ≡ true → t ≡ true → (s && t) ≡ false → ⊥
+both_hold s t e f h = let bad : (true && true) ≡ false = rw (e, f) at h in absurd (cc)
 
-pub if_not_relevant : (top bottom x y k : ℕ) (mark : Mark) (s : Added) → top < bottom → mark ≢ Relevant → (mark ≡ Unjudged → k ≡ x) → (mark ≡ Other → k ≡ 0) → IsAdded top bottom Unjudged (rank_or_none k) (Some y) s → IsAdded top bottom mark (rank_or_none x) (Some y) s
-if_not_relevant top bottom x y k Unjudged s below not same none h = subst (λ n. IsAdded top bottom Unjudged (rank_or_none n) (Some y) s) (same refl) h
-if_not_relevant top bottom x y k Relevant s below not same none h = absurd (not refl)
-if_not_relevant top bottom x y k Other s below not same none h = other_is top bottom (rank_or_none x) y s below (subst (λ n. IsAdded top bottom Unjudged (rank_or_none n) (Some y) s) (none refl) h)
+-- a document that is not counted adds nothing
+pub uncounted_adds : (share : Option ℕ → Option ℕ → ℤ) (picked : Option ℕ → Option ℕ → Bool) (x y : ℕ) (mark : Mark) → IsCommon (correction share picked) → (nat_lt 0 x && nat_lt (number_of mark) 2) ≡ false → pos 0 ≡ correction share picked mark (rank_or_none x) (Some y)
+uncounted_adds share picked zero y mark h e = sym (h.first mark (Some y))
+uncounted_adds share picked (suc x) y Unjudged h e = absurd (both_hold (nat_lt 0 (suc x)) (nat_lt 0 2) (lt-ltb 0 (suc x) (omega arith)) (lt-ltb 0 2 (omega arith)) e)
+uncounted_adds share picked (suc x) y Relevant h e = absurd (both_hold (nat_lt 0 (suc x)) (nat_lt 1 2) (lt-ltb 0 (suc x) (omega arith)) (lt-ltb 1 2 (omega arith)) e)
+uncounted_adds share picked (suc x) y Other h e = refl
 
 -- ---- sums of several
 pub up_to_more : (n m k : ℕ) (s t : Added) → k ≡ n + m → IsUpTo n s → IsUpTo m t → IsUpTo k (added s t)

@@ -1,19 +1,19 @@
 // The corrections of the documents of two runs, by the ranks of the first run's and one pass over the
 // second's.
-ghost use Rattle.std.specs.Prelude.{◌≡◌, ◌*◌, ◌≤◌, if◌then◌else◌, Some};
+ghost use Rattle.std.specs.Prelude.{◌≡◌, ◌*◌, ◌≤◌, ◌&&◌, nat_lt, if◌then◌else◌, Some};
 ghost use Rattle.desk_model.specs.Limits.{PARTS_OF_ONE, RANK_LIMIT};
-ghost use Rattle.desk_model.specs.declared.types.Mark.TheVariants.{Unjudged, Relevant, Other};
+ghost use Rattle.desk_model.specs.declared.types.Mark.TheVariants.{Unjudged, Relevant};
 ghost use Rattle.measure_core.specs.Laws.{AreMet};
 ghost use Rattle.measure_laws.specs.Powers.{low_weight, high_weight};
 ghost use Rattle.measure_laws.specs.Ranks.{IsRankWithin, comes_before};
 ghost use Rattle.ranked_cells.specs.Ranks.{AreRanksIn};
 ghost use Rattle.rbp.specs.Added.{IsAdded, IsUpTo, AreSumsOf, added};
-ghost use Rattle.rbp.specs.Walk.{AreCorrections};
+ghost use Rattle.rbp.specs.Walk.{AreCorrections, number_of};
 ghost use Rattle.weight_walks.specs.Worths.{rank_or_none};
 
 use crate::corrections::Shares;
 use crate::rbp::Rbp;
-use crate::weights::Parts;
+use crate::weights::{Parts, number_of};
 use desk_model::{Mark, Ranking};
 use fractions::Span;
 use measure_core::{Cell, RunWeights};
@@ -83,7 +83,7 @@ impl Added {
     }
 }
 
-/// One of two numbers, without a jump.
+/// One of two numbers.
 #[inline]
 fn choose(first: bool, x: u64, y: u64) -> u64
     ensures { result ≡ (if first then x else y) }
@@ -107,17 +107,13 @@ fn is_after(y: u32, x: u32) -> bool
     (x > 0) & (x < y)
 }
 
-/// The rank of an unjudged document, and 0 for any other.
+/// Whether the first run has a document, and it may be relevant. Of most runs' documents few are both, so
+/// this is one jump, and not one for each condition.
 #[inline]
-fn rank_if_unjudged(rank: u32, mark: Mark) -> u32
-    ensures unjudged { mark ≡ Unjudged → result ≡ rank }
-    ensures other { mark ≡ Other → result ≡ 0 }
-    ensures small { result ≤ rank }
+fn is_counted(x: u32, mark: Mark) -> bool
+    ensures { result ≡ (nat_lt 0 x && nat_lt (number_of mark) 2) }
 {
-    match mark {
-        Mark::Unjudged => rank,
-        _ => 0,
-    }
+    (x > 0) & (number_of(mark) < 2)
 }
 
 impl Rbp {
@@ -183,21 +179,17 @@ impl Rbp {
         }
     }
 
-    /// What a document of the second run adds. One that is judged not relevant adds nothing, as one that
-    /// the first run lacks: so no jump depends on whether a document is unjudged, which no processor
-    /// foresees. Few are relevant.
-    #[inline]
+    /// What a document with this mark adds.
     fn adds(&self, x: u32, y: u32, mark: Mark) -> Added
         requires first { x ≤ RANK_LIMIT }
         requires second { IsRankWithin RANK_LIMIT (Some y) }
         ensures value { IsAdded self.now.top self.now.bottom mark (rank_or_none x) (Some y) result }
         ensures small { IsUpTo (high_weight self.now.top self.now.bottom (Some y)) result }
     {
-        // What is kept of the persistence orders the weights.
-        let _ = &self.top;
         match mark {
             Mark::Relevant => self.relevant_adds(x, y),
-            _ => self.unjudged_adds(rank_if_unjudged(x, mark), y),
+            Mark::Unjudged => self.unjudged_adds(x, y),
+            Mark::Other => Added::NONE,
         }
     }
 
@@ -219,8 +211,11 @@ impl Rbp {
         let _ = a;
         let mut sums = Added::NONE;
         for (place, doc) in b.docs().iter().enumerate() {
-            let doc = *doc as usize;
-            sums = sums.with(self.adds(ranks[doc], place as u32 + 1, marks[doc]));
+            let rank = ranks[*doc as usize];
+            let mark = marks[*doc as usize];
+            if is_counted(rank, mark) {
+                sums = sums.with(self.adds(rank, place as u32 + 1, mark));
+            }
         }
         sums.shares()
     }
