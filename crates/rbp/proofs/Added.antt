@@ -1,5 +1,5 @@
 -- What a document of two runs adds to the sums of shares beyond what its ranks alone add.
-use Rattle.std.proofs.Common.{◌≡◌, ◌≢◌, ℕ, zero, suc, ◌+◌, ◌-◌, ◌*◌, ◌/◌, ◌<◌, ◌≤◌, Bool, true, false, min, Option, Some, None, ℤ, pos, neg_ℤ, ◌+ℤ◌, ◌-ℤ◌, arith, refl, ap, ◌∙◌, sym, subst}
+use Rattle.std.proofs.Common.{◌≡◌, ℕ, zero, suc, ◌+◌, ◌-◌, ◌*◌, ◌/◌, ◌<◌, ◌≤◌, Bool, true, false, min, Option, Some, None, ℤ, pos, neg_ℤ, ◌+ℤ◌, ◌-ℤ◌, arith, refl, ap, ◌∙◌, sym}
 use Rattle.std.specs.Prelude.{if◌then◌else◌, ◌&&◌, nat_lt}
 use Rattle.std.proofs.Math.Nat.{mul-le-mul_left, mul-le-mul_right}
 use Rattle.std.proofs.lemmas.Bool.{lt-ltb}
@@ -138,44 +138,12 @@ module _ (top bottom : ℕ) (x : Option ℕ) (y : ℕ) (below : top < bottom) wh
   abbrev hy : ℕ
   hy = high_weight top bottom (Some y)
 
-  pub unjudged_is : (s : Added) → s.least_lo ≡ (if c then lx else hy) → s.least_hi ≡ (if c then min hx ly else ly) → s.most_lo ≡ (if b then min lx hy else lx) → s.most_hi ≡ (if b then ly else hx) → s.relevant_lo ≡ 0 → s.relevant_hi ≡ 0 →
-      IsAdded top bottom Unjudged x (Some y) s
-  unjudged_is s p q u v m n =
-      let one : least_low s ≡ pos (if c then lx else hy) = ap pos (omega (arith, p, m)) in
-      let two : least_high s ≡ pos (if c then min hx ly else ly) = omega (arith, ints, n, ap pos q) in
-      let three : most_low s ≡ neg_ℤ (pos (if b then min lx hy else lx)) = omega (arith, ints, m, ap (λ k. neg_ℤ (pos k)) u) in
-      let four : most_high s ≡ neg_ℤ (pos (if b then ly else hx)) = ap (λ k. neg_ℤ (pos k)) (omega (arith, v, n)) in
-      record {
-        least_lo = one ∙ least_lo_is lx hx ly hy b c (in_order x (Some y)) ∙ by_weights (low_share top bottom) is_in_least false true (low_weight top bottom) (high_weight top bottom) Unjudged x (Some y) (alone_in_least_low top bottom);
-        least_hi = two ∙ least_hi_is lx hx ly hy b c (in_order x (Some y)) ∙ by_weights (high_share top bottom) is_in_least false true (high_weight top bottom) (low_weight top bottom) Unjudged x (Some y) (alone_in_least_high top bottom);
-        most_lo = three ∙ most_lo_is lx hx ly hy b c ∙ by_weights (low_share top bottom) is_in_most true false (low_weight top bottom) (high_weight top bottom) Unjudged x (Some y) (alone_in_most_low top bottom);
-        most_hi = four ∙ most_hi_is lx hx ly hy b c ∙ by_weights (high_share top bottom) is_in_most true false (high_weight top bottom) (low_weight top bottom) Unjudged x (Some y) (alone_in_most_high top bottom);
-      }
-
-  pub relevant_is : (s : Added) → s.least_lo ≡ 0 → s.least_hi ≡ 0 → s.most_lo ≡ 0 → s.most_hi ≡ 0 → s.relevant_lo ≡ (if c then 0 else hy - lx) → s.relevant_hi ≡ (if b then 0 else hx - ly) →
-      IsAdded top bottom Relevant x (Some y) s
-  relevant_is s p q u v m n =
-      let low_level : b ≡ false → c ≡ false → lx ≤ hy = λ e f. omega (arith, weights_order top bottom x (omega (arith, below)), ap (high_weight top bottom) (even x (Some y) e f)) in
-      let high_level : b ≡ false → c ≡ false → ly ≤ hx = λ e f. omega (arith, weights_order top bottom (Some y) (omega (arith, below)), ap (high_weight top bottom) (even x (Some y) e f)) in
-      let lower = relevant_lo_is lx hx ly hy b c (in_order x (Some y)) low_level in
-      let upper = relevant_hi_is lx hx ly hy b c (in_order x (Some y)) high_level in
-      let one : least_low s ≡ pos (if c then 0 else hy - lx) = ap pos (omega (arith, p, m)) in
-      let two : least_high s ≡ neg_ℤ (pos (if b then 0 else hx - ly)) = omega (arith, ints, q, ap (λ k. neg_ℤ (pos k)) n) in
-      let three : most_low s ≡ pos (if c then 0 else hy - lx) = omega (arith, ints, u, ap pos m) in
-      let four : most_high s ≡ neg_ℤ (pos (if b then 0 else hx - ly)) = ap (λ k. neg_ℤ (pos k)) (omega (arith, v, n)) in
-      record {
-        least_lo = one ∙ lower ∙ by_weights (low_share top bottom) is_in_least false true (low_weight top bottom) (high_weight top bottom) Relevant x (Some y) (alone_in_least_low top bottom);
-        least_hi = two ∙ upper ∙ by_weights (high_share top bottom) is_in_least false true (high_weight top bottom) (low_weight top bottom) Relevant x (Some y) (alone_in_least_high top bottom);
-        most_lo = three ∙ lower ∙ by_weights (low_share top bottom) is_in_most true false (low_weight top bottom) (high_weight top bottom) Relevant x (Some y) (alone_in_most_low top bottom);
-        most_hi = four ∙ upper ∙ by_weights (high_share top bottom) is_in_most true false (high_weight top bottom) (low_weight top bottom) Relevant x (Some y) (alone_in_most_high top bottom);
-      }
-
   -- ---- no more than the weight of the second rank
   choice_most : (t : Bool) (m n k : ℕ) → (t ≡ true → m ≤ k) → (t ≡ false → n ≤ k) → (if t then m else n) ≤ k
   choice_most true m n k h j = h refl
   choice_most false m n k h j = j refl
 
-  pub unjudged_small : (s : Added) → 1 ≤ y → s.least_lo ≡ (if c then lx else hy) → s.least_hi ≡ (if c then min hx ly else ly) → s.most_lo ≡ (if b then min lx hy else lx) → s.most_hi ≡ (if b then ly else hx) → s.relevant_lo ≡ 0 → s.relevant_hi ≡ 0 → IsUpTo hy s
+  unjudged_small : (s : Added) → 1 ≤ y → s.least_lo ≡ (if c then lx else hy) → s.least_hi ≡ (if c then min hx ly else ly) → s.most_lo ≡ (if b then min lx hy else lx) → s.most_hi ≡ (if b then ly else hx) → s.relevant_lo ≡ 0 → s.relevant_hi ≡ 0 → IsUpTo hy s
   unjudged_small s first p q u v m n =
       let lows = weights_order top bottom (Some y) (omega (arith, below)) in
       let lows_x = weights_order top bottom x (omega (arith, below)) in
@@ -190,7 +158,7 @@ module _ (top bottom : ℕ) (x : Option ℕ) (y : ℕ) (below : top < bottom) wh
         relevant_hi = omega (arith, n);
       }
 
-  pub relevant_small : (s : Added) → 1 ≤ y → s.least_lo ≡ 0 → s.least_hi ≡ 0 → s.most_lo ≡ 0 → s.most_hi ≡ 0 → s.relevant_lo ≡ (if c then 0 else hy - lx) → s.relevant_hi ≡ (if b then 0 else hx - ly) → IsUpTo hy s
+  relevant_small : (s : Added) → 1 ≤ y → s.least_lo ≡ 0 → s.least_hi ≡ 0 → s.most_lo ≡ 0 → s.most_hi ≡ 0 → s.relevant_lo ≡ (if c then 0 else hy - lx) → s.relevant_hi ≡ (if b then 0 else hx - ly) → IsUpTo hy s
   relevant_small s first p q u v m n =
       let highs : b ≡ false → hx ≤ hy = not_ahead top bottom x y (omega (arith, below)) (omega (arith, below)) first in
       record {
@@ -200,6 +168,40 @@ module _ (top bottom : ℕ) (x : Option ℕ) (y : ℕ) (below : top < bottom) wh
         most_hi = omega (arith, v);
         relevant_lo = omega (arith, m, choice_most c 0 (hy - lx) hy (λ e. omega arith) (λ e. omega arith));
         relevant_hi = omega (arith, n, choice_most b 0 (hx - ly) hy (λ e. omega arith) (λ e. omega (arith, highs e)));
+      }
+
+  pub unjudged_is : (s : Added) → 1 ≤ y → s.least_lo ≡ (if c then lx else hy) → s.least_hi ≡ (if c then min hx ly else ly) → s.most_lo ≡ (if b then min lx hy else lx) → s.most_hi ≡ (if b then ly else hx) → s.relevant_lo ≡ 0 → s.relevant_hi ≡ 0 →
+      IsAdded top bottom Unjudged x (Some y) s
+  unjudged_is s first p q u v m n =
+      let one : least_low s ≡ pos (if c then lx else hy) = ap pos (omega (arith, p, m)) in
+      let two : least_high s ≡ pos (if c then min hx ly else ly) = omega (arith, ints, n, ap pos q) in
+      let three : most_low s ≡ neg_ℤ (pos (if b then min lx hy else lx)) = omega (arith, ints, m, ap (λ k. neg_ℤ (pos k)) u) in
+      let four : most_high s ≡ neg_ℤ (pos (if b then ly else hx)) = ap (λ k. neg_ℤ (pos k)) (omega (arith, v, n)) in
+      record {
+        least_lo = one ∙ least_lo_is lx hx ly hy b c (in_order x (Some y)) ∙ by_weights (low_share top bottom) is_in_least false true (low_weight top bottom) (high_weight top bottom) Unjudged x (Some y) (alone_in_least_low top bottom);
+        least_hi = two ∙ least_hi_is lx hx ly hy b c (in_order x (Some y)) ∙ by_weights (high_share top bottom) is_in_least false true (high_weight top bottom) (low_weight top bottom) Unjudged x (Some y) (alone_in_least_high top bottom);
+        most_lo = three ∙ most_lo_is lx hx ly hy b c ∙ by_weights (low_share top bottom) is_in_most true false (low_weight top bottom) (high_weight top bottom) Unjudged x (Some y) (alone_in_most_low top bottom);
+        most_hi = four ∙ most_hi_is lx hx ly hy b c ∙ by_weights (high_share top bottom) is_in_most true false (high_weight top bottom) (low_weight top bottom) Unjudged x (Some y) (alone_in_most_high top bottom);
+        small = unjudged_small s first p q u v m n;
+      }
+
+  pub relevant_is : (s : Added) → 1 ≤ y → s.least_lo ≡ 0 → s.least_hi ≡ 0 → s.most_lo ≡ 0 → s.most_hi ≡ 0 → s.relevant_lo ≡ (if c then 0 else hy - lx) → s.relevant_hi ≡ (if b then 0 else hx - ly) →
+      IsAdded top bottom Relevant x (Some y) s
+  relevant_is s first p q u v m n =
+      let low_level : b ≡ false → c ≡ false → lx ≤ hy = λ e f. omega (arith, weights_order top bottom x (omega (arith, below)), ap (high_weight top bottom) (even x (Some y) e f)) in
+      let high_level : b ≡ false → c ≡ false → ly ≤ hx = λ e f. omega (arith, weights_order top bottom (Some y) (omega (arith, below)), ap (high_weight top bottom) (even x (Some y) e f)) in
+      let lower = relevant_lo_is lx hx ly hy b c (in_order x (Some y)) low_level in
+      let upper = relevant_hi_is lx hx ly hy b c (in_order x (Some y)) high_level in
+      let one : least_low s ≡ pos (if c then 0 else hy - lx) = ap pos (omega (arith, p, m)) in
+      let two : least_high s ≡ neg_ℤ (pos (if b then 0 else hx - ly)) = omega (arith, ints, q, ap (λ k. neg_ℤ (pos k)) n) in
+      let three : most_low s ≡ pos (if c then 0 else hy - lx) = omega (arith, ints, u, ap pos m) in
+      let four : most_high s ≡ neg_ℤ (pos (if b then 0 else hx - ly)) = ap (λ k. neg_ℤ (pos k)) (omega (arith, v, n)) in
+      record {
+        least_lo = one ∙ lower ∙ by_weights (low_share top bottom) is_in_least false true (low_weight top bottom) (high_weight top bottom) Relevant x (Some y) (alone_in_least_low top bottom);
+        least_hi = two ∙ upper ∙ by_weights (high_share top bottom) is_in_least false true (high_weight top bottom) (low_weight top bottom) Relevant x (Some y) (alone_in_least_high top bottom);
+        most_lo = three ∙ lower ∙ by_weights (low_share top bottom) is_in_most true false (low_weight top bottom) (high_weight top bottom) Relevant x (Some y) (alone_in_most_low top bottom);
+        most_hi = four ∙ upper ∙ by_weights (high_share top bottom) is_in_most true false (high_weight top bottom) (low_weight top bottom) Relevant x (Some y) (alone_in_most_high top bottom);
+        small = relevant_small s first p q u v m n;
       }
 
 both_hold : (s t : Bool) → s ≡ true → t ≡ true → (s && t) ≡ false → ⊥

@@ -142,6 +142,21 @@ is_common share picked s =
       );
     }
 
+-- so are the four corrections
+pub record AreCommon (top bottom : ℕ) : Type 0 where
+  pub least_lo : IsCommon (correction (low_share top bottom) is_in_least)
+  pub least_hi : IsCommon (correction (high_share top bottom) is_in_least)
+  pub most_lo : IsCommon (correction (low_share top bottom) is_in_most)
+  pub most_hi : IsCommon (correction (high_share top bottom) is_in_most)
+
+pub all_common : (top bottom : ℕ) → top < bottom → AreCommon top bottom
+all_common top bottom below = record {
+  least_lo = is_common (low_share top bottom) is_in_least (is_low top bottom below);
+  least_hi = is_common (high_share top bottom) is_in_least (is_high top bottom below);
+  most_lo = is_common (low_share top bottom) is_in_most (is_low top bottom below);
+  most_hi = is_common (high_share top bottom) is_in_most (is_high top bottom below);
+}
+
 -- what all documents of the universe add by the ranks in two lists
 abbrev pub left : (Mark → Option ℕ → Option ℕ → ℤ) → List Mark → List Placed → List Placed → ℤ
 left f marks xs ys = whole_sum (map (λ d. f (mark_at marks d) (lookup xs d) (lookup ys d)) (range_with_len 0 (length marks)))

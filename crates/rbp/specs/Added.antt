@@ -1,5 +1,6 @@
 -- What documents of two runs add to the sums of shares beyond what their ranks alone add.
 use Rattle.std.specs.Prelude.{◌≡◌, ℕ, ◌+◌, ◌≤◌, Option, ℤ, pos, neg_ℤ, ◌-ℤ◌}
+use Rattle.measure_laws.specs.Powers.{high_weight}
 use Rattle.measure_laws.specs.Shares.{low_share, high_share}
 use Rattle.desk_model.specs.declared.types.Mark.{Mark}
 use Rattle.rbp.specs.Persistence.{IsLoose}
@@ -28,13 +29,6 @@ pub record AreSumsOf (s : Added) (sums : Shares) : Type 0 where
   pub least_loose : IsLoose sums.least
   pub most_loose : IsLoose sums.most
 
--- what a document with this mark and these ranks adds
-pub record IsAdded (top bottom : ℕ) (mark : Mark) (x y : Option ℕ) (s : Added) : Type 0 where
-  pub least_lo : least_low s ≡ correction (low_share top bottom) is_in_least mark x y
-  pub least_hi : least_high s ≡ correction (high_share top bottom) is_in_least mark x y
-  pub most_lo : most_low s ≡ correction (low_share top bottom) is_in_most mark x y
-  pub most_hi : most_high s ≡ correction (high_share top bottom) is_in_most mark x y
-
 -- no part of it is greater
 pub record IsUpTo (n : ℕ) (s : Added) : Type 0 where
   pub least_lo : s.least_lo ≤ n
@@ -43,6 +37,14 @@ pub record IsUpTo (n : ℕ) (s : Added) : Type 0 where
   pub most_hi : s.most_hi ≤ n
   pub relevant_lo : s.relevant_lo ≤ n
   pub relevant_hi : s.relevant_hi ≤ n
+
+-- what a document with this mark and these ranks adds; no part of it is more than the upper weight of the second rank
+pub record IsAdded (top bottom : ℕ) (mark : Mark) (x y : Option ℕ) (s : Added) : Type 0 where
+  pub least_lo : least_low s ≡ correction (low_share top bottom) is_in_least mark x y
+  pub least_hi : least_high s ≡ correction (high_share top bottom) is_in_least mark x y
+  pub most_lo : most_low s ≡ correction (low_share top bottom) is_in_most mark x y
+  pub most_hi : most_high s ≡ correction (high_share top bottom) is_in_most mark x y
+  pub small : IsUpTo (high_weight top bottom y) s
 
 -- both added
 abbrev pub added : Added → Added → Added

@@ -136,8 +136,7 @@ impl Rbp {
     fn unjudged_adds(&self, x: u32, y: u32) -> Added
         requires first { x ≤ RANK_LIMIT }
         requires second { IsRankWithin RANK_LIMIT (Some y) }
-        ensures value { IsAdded self.now.top self.now.bottom Unjudged (rank_or_none x) (Some y) result }
-        ensures small { IsUpTo (high_weight self.now.top self.now.bottom (Some y)) result }
+        ensures { IsAdded self.now.top self.now.bottom Unjudged (rank_or_none x) (Some y) result }
     {
         // What is kept of the persistence orders the weights.
         let _ = &self.top;
@@ -160,8 +159,7 @@ impl Rbp {
     fn relevant_adds(&self, x: u32, y: u32) -> Added
         requires first { x ≤ RANK_LIMIT }
         requires second { IsRankWithin RANK_LIMIT (Some y) }
-        ensures value { IsAdded self.now.top self.now.bottom Relevant (rank_or_none x) (Some y) result }
-        ensures small { IsUpTo (high_weight self.now.top self.now.bottom (Some y)) result }
+        ensures { IsAdded self.now.top self.now.bottom Relevant (rank_or_none x) (Some y) result }
     {
         // What is kept of the persistence orders the weights.
         let _ = &self.top;
@@ -183,8 +181,7 @@ impl Rbp {
     fn adds(&self, x: u32, y: u32, mark: Mark) -> Added
         requires first { x ≤ RANK_LIMIT }
         requires second { IsRankWithin RANK_LIMIT (Some y) }
-        ensures value { IsAdded self.now.top self.now.bottom mark (rank_or_none x) (Some y) result }
-        ensures small { IsUpTo (high_weight self.now.top self.now.bottom (Some y)) result }
+        ensures { IsAdded self.now.top self.now.bottom mark (rank_or_none x) (Some y) result }
     {
         match mark {
             Mark::Relevant => self.relevant_adds(x, y),
@@ -241,6 +238,8 @@ impl RankedMeasure for Rbp {
         weights: KeptWeights,
         _all: Counts,
     ) -> Cell {
+        // What is kept of the persistence bounds the ends.
+        let _ = &self.top;
         self.cell_by(
             a,
             b,

@@ -4,7 +4,7 @@ ghost use Rattle.measure_laws.specs.Powers.{low_power, high_power};
 ghost use Rattle.measure_laws.specs.Shares.{low_share, high_share, biased_truth, share_sum};
 ghost use Rattle.fractions.specs.Ends.{IsShort};
 ghost use Rattle.rbp.specs.Persistence.{IsLoose};
-ghost use Rattle.measure_core.specs.Laws.{AreMet, AreValues, CellIsModest};
+ghost use Rattle.measure_core.specs.Laws.{AreMet, AreValues};
 ghost use Rattle.rbp.specs.Numbers.{biased_cell, run_weights};
 ghost use Rattle.rbp.specs.Walk.{AreCorrections};
 ghost use Rattle.measure_core.specs.Made.{IsMadeFor};
@@ -169,8 +169,7 @@ impl Rbp {
         requires first { weights.first ≡ run_weights self.now.top self.now.bottom marks.now a.now }
         requires second { weights.second ≡ run_weights self.now.top self.now.bottom marks.now b.now }
         requires both { AreCorrections self.now.top self.now.bottom marks.now a.now b.now both }
-        ensures cell { result ≡ biased_cell self.now.top self.now.bottom marks.now a.now b.now }
-        ensures modest { CellIsModest result }
+        ensures { result ≡ biased_cell self.now.top self.now.bottom marks.now a.now b.now }
     {
         // What is kept of the persistence bounds the ends.
         let _ = &self.top;

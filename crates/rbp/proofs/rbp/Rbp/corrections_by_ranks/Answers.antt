@@ -15,7 +15,7 @@ use Rattle.rbp.specs.Walk.{is_in_least, is_in_most, correction, number_of}
 use Rattle.rbp.proofs.Added.{up_to_more, up_to_wider, least_low_added, least_high_added, most_low_added, most_high_added, uncounted_adds}
 use Rattle.rbp.proofs.Passed.{place_step, places_end, kept_rank_small}
 use Rattle.rbp.proofs.Sums.{gained_more, high_sum_small}
-use Rattle.rbp.proofs.Walk.{IsCommon, is_low, is_high, is_common}
+use Rattle.rbp.proofs.Walk.{IsCommon, all_common}
 use Rattle.rbp.proofs.rbp.Rbp.corrections_by_ranks.Goals as goal
 use Rattle.rbp.proofs.rbp.Rbp.corrections_by_ranks.Goals.{then-is_counted, else-is_counted}
 
@@ -69,32 +69,29 @@ loop-place-preserved c =
     let below : r.top < r.bottom = omega (arith, c.self.invariant.below, ap (λ (p : Persistence). p.top) c.self.view_is, ap (λ (p : Persistence). p.bottom) c.self.view_is) in
     let high = λ (rank : ℕ). high_weight r.top r.bottom (Some rank) in
     let s = l.sums in
-    let least_lower = is_common (low_share r.top r.bottom) is_in_least (is_low r.top r.bottom below) in
-    let least_upper = is_common (high_share r.top r.bottom) is_in_least (is_high r.top r.bottom below) in
-    let most_lower = is_common (low_share r.top r.bottom) is_in_most (is_low r.top r.bottom below) in
-    let most_upper = is_common (high_share r.top r.bottom) is_in_most (is_high r.top r.bottom below) in
+    let common = all_common r.top r.bottom below in
     elim c.if-is_counted.branch [
       | then-is_counted w ↦
           let t = w.adds.result in
-          let value : IsAdded r.top r.bottom (mark_at marks d) (rank a d) (Some (i + 1)) t = subst (λ (o : Option ℕ). IsAdded r.top r.bottom (mark_at marks d) o (Some (i + 1)) t) ranked w.adds.ensures.value in
+          let value : IsAdded r.top r.bottom (mark_at marks d) (rank a d) (Some (i + 1)) t = subst (λ (o : Option ℕ). IsAdded r.top r.bottom (mark_at marks d) o (Some (i + 1)) t) ranked w.adds.ensures in
           let sums : c.if-is_counted.sums ≡ added s t = w.sums-is ∙ w.with-sums.ensures in
           record {
-            least_lo = place_step _ marks a b i d (least_low t) (least_low s) _ _ least_lower c.requires.met.second lt is value.least_lo (ap (λ (x : Added). least_low x) sums ∙ least_low_added s t) l.invariant.least_lo;
-            least_hi = place_step _ marks a b i d (least_high t) (least_high s) _ _ least_upper c.requires.met.second lt is value.least_hi (ap (λ (x : Added). least_high x) sums ∙ least_high_added s t) l.invariant.least_hi;
-            most_lo = place_step _ marks a b i d (most_low t) (most_low s) _ _ most_lower c.requires.met.second lt is value.most_lo (ap (λ (x : Added). most_low x) sums ∙ most_low_added s t) l.invariant.most_lo;
-            most_hi = place_step _ marks a b i d (most_high t) (most_high s) _ _ most_upper c.requires.met.second lt is value.most_hi (ap (λ (x : Added). most_high x) sums ∙ most_high_added s t) l.invariant.most_hi;
+            least_lo = place_step _ marks a b i d (least_low t) (least_low s) _ _ common.least_lo c.requires.met.second lt is value.least_lo (ap (λ (x : Added). least_low x) sums ∙ least_low_added s t) l.invariant.least_lo;
+            least_hi = place_step _ marks a b i d (least_high t) (least_high s) _ _ common.least_hi c.requires.met.second lt is value.least_hi (ap (λ (x : Added). least_high x) sums ∙ least_high_added s t) l.invariant.least_hi;
+            most_lo = place_step _ marks a b i d (most_low t) (most_low s) _ _ common.most_lo c.requires.met.second lt is value.most_lo (ap (λ (x : Added). most_low x) sums ∙ most_low_added s t) l.invariant.most_lo;
+            most_hi = place_step _ marks a b i d (most_high t) (most_high s) _ _ common.most_hi c.requires.met.second lt is value.most_hi (ap (λ (x : Added). most_high x) sums ∙ most_high_added s t) l.invariant.most_hi;
             small = subst (λ (x : Added). IsUpTo (gained high 1 (map (λ _. true) (take (i + 1) b))) x) (sym sums)
-                (up_to_more (gained high 1 (map (λ _. true) (take i b))) (high (i + 1)) _ s t (gained_more high (λ _. true) i d b lt is) l.invariant.small w.adds.ensures.small);
+                (up_to_more (gained high 1 (map (λ _. true) (take i b))) (high (i + 1)) _ s t (gained_more high (λ _. true) i d b lt is) l.invariant.small value.small);
           }
       | else-is_counted w ↦
           let off : (nat_lt 0 (slice_index_or c.args.ranks.now d 0) && nat_lt (number_of (mark_at marks d)) 2) ≡ false = sym c.is_counted.ensures ∙ w.if-is_counted.false in
           let nothing = λ (share : Option ℕ → Option ℕ → ℤ) (picked : Option ℕ → Option ℕ → Bool) (h : IsCommon (correction share picked)). subst (λ (o : Option ℕ). pos 0 ≡ correction share picked (mark_at marks d) o (Some (i + 1))) ranked (uncounted_adds share picked (slice_index_or c.args.ranks.now d 0) (i + 1) (mark_at marks d) h off) in
           let same = λ (f : Added → ℤ). ap f w.sums-is ∙ add_none (f s) in
           record {
-            least_lo = place_step _ marks a b i d (pos 0) (least_low s) _ _ least_lower c.requires.met.second lt is (nothing (low_share r.top r.bottom) is_in_least least_lower) (same least_low) l.invariant.least_lo;
-            least_hi = place_step _ marks a b i d (pos 0) (least_high s) _ _ least_upper c.requires.met.second lt is (nothing (high_share r.top r.bottom) is_in_least least_upper) (same least_high) l.invariant.least_hi;
-            most_lo = place_step _ marks a b i d (pos 0) (most_low s) _ _ most_lower c.requires.met.second lt is (nothing (low_share r.top r.bottom) is_in_most most_lower) (same most_low) l.invariant.most_lo;
-            most_hi = place_step _ marks a b i d (pos 0) (most_high s) _ _ most_upper c.requires.met.second lt is (nothing (high_share r.top r.bottom) is_in_most most_upper) (same most_high) l.invariant.most_hi;
+            least_lo = place_step _ marks a b i d (pos 0) (least_low s) _ _ common.least_lo c.requires.met.second lt is (nothing (low_share r.top r.bottom) is_in_least common.least_lo) (same least_low) l.invariant.least_lo;
+            least_hi = place_step _ marks a b i d (pos 0) (least_high s) _ _ common.least_hi c.requires.met.second lt is (nothing (high_share r.top r.bottom) is_in_least common.least_hi) (same least_high) l.invariant.least_hi;
+            most_lo = place_step _ marks a b i d (pos 0) (most_low s) _ _ common.most_lo c.requires.met.second lt is (nothing (low_share r.top r.bottom) is_in_most common.most_lo) (same most_low) l.invariant.most_lo;
+            most_hi = place_step _ marks a b i d (pos 0) (most_high s) _ _ common.most_hi c.requires.met.second lt is (nothing (high_share r.top r.bottom) is_in_most common.most_hi) (same most_high) l.invariant.most_hi;
             small = subst (λ (x : Added). IsUpTo (gained high 1 (map (λ _. true) (take (i + 1) b))) x) (sym w.sums-is)
                 (up_to_wider _ _ s (omega (arith, gained_more high (λ _. true) i d b lt is)) l.invariant.small);
           }
@@ -110,15 +107,12 @@ returns c =
     let sums = c.shares.ensures in
     let end : length b ≤ l.place = omega (arith, c.loop-place-test.false, ap (λ (xs : List ℕ). length xs) c.docs-doc-items.ensures.docs) in
     let below : r.top < r.bottom = omega (arith, c.self.invariant.below, ap (λ (p : Persistence). p.top) c.self.view_is, ap (λ (p : Persistence). p.bottom) c.self.view_is) in
-    let least_lower = is_common (low_share r.top r.bottom) is_in_least (is_low r.top r.bottom below) in
-    let least_upper = is_common (high_share r.top r.bottom) is_in_least (is_high r.top r.bottom below) in
-    let most_lower = is_common (low_share r.top r.bottom) is_in_most (is_low r.top r.bottom below) in
-    let most_upper = is_common (high_share r.top r.bottom) is_in_most (is_high r.top r.bottom below) in
+    let common = all_common r.top r.bottom below in
     record {
-      least_lo = sums.least_lo ∙ places_end _ marks a b l.place _ _ least_lower end l.invariant.least_lo;
-      least_hi = sums.least_hi ∙ places_end _ marks a b l.place _ _ least_upper end l.invariant.least_hi;
-      most_lo = sums.most_lo ∙ places_end _ marks a b l.place _ _ most_lower end l.invariant.most_lo;
-      most_hi = sums.most_hi ∙ places_end _ marks a b l.place _ _ most_upper end l.invariant.most_hi;
+      least_lo = sums.least_lo ∙ places_end _ marks a b l.place _ _ common.least_lo end l.invariant.least_lo;
+      least_hi = sums.least_hi ∙ places_end _ marks a b l.place _ _ common.least_hi end l.invariant.least_hi;
+      most_lo = sums.most_lo ∙ places_end _ marks a b l.place _ _ common.most_lo end l.invariant.most_lo;
+      most_hi = sums.most_hi ∙ places_end _ marks a b l.place _ _ common.most_hi end l.invariant.most_hi;
       least_loose = sums.least_loose;
       most_loose = sums.most_loose;
     }
