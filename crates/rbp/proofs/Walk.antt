@@ -39,7 +39,7 @@ agree_from f g s (suc n) h =
     omega (arith, ints, here, rest)
 
 -- sums that differ at one document, which adds nothing to the second
-apart_once : (f g : ℕ → ℤ) (x s n : ℕ) → s ≤ x → x < s + n → ((d : ℕ) → d ≢ x → f d ≡ g d) → g x ≡ pos 0 →
+pub apart_once : (f g : ℕ → ℤ) (x s n : ℕ) → s ≤ x → x < s + n → ((d : ℕ) → d ≢ x → f d ≡ g d) → g x ≡ pos 0 →
     whole_sum (map f (range_with_len s n)) ≡ f x +ℤ whole_sum (map g (range_with_len s n))
 apart_once f g x s zero h k same none = absurd (omega arith)
 apart_once f g x s (suc n) h k same none = elim (cases_lt s x) [
@@ -55,7 +55,7 @@ apart_once f g x s (suc n) h k same none = elim (cases_lt s x) [
       omega (arith, ints, here, empty, rest)
 ]
 
-nothing_from : (f : ℕ → ℤ) (s n : ℕ) → ((d : ℕ) → f d ≡ pos 0) → whole_sum (map f (range_with_len s n)) ≡ pos 0
+pub nothing_from : (f : ℕ → ℤ) (s n : ℕ) → ((d : ℕ) → f d ≡ pos 0) → whole_sum (map f (range_with_len s n)) ≡ pos 0
 nothing_from f s zero h = refl
 nothing_from f s (suc n) h = let rest = nothing_from f (s + 1) n h in let here = h s in omega (arith, ints, rest, here)
 
@@ -80,7 +80,7 @@ pub record IsShare (share : Option ℕ → Option ℕ → ℤ) : Type 0 where
   pub absent : share None None ≡ pos 0
   pub small : (x y : Option ℕ) → IsSmall (10 ^ 18) (share x y)
 
-abbrev ends : (lx hx ly hy : ℕ) → Bool → Bool → ℤ × ℤ
+abbrev pub ends : (lx hx ly hy : ℕ) → Bool → Bool → ℤ × ℤ
 ends lx hx ly hy b c = (if b then pos (lx - hy) else if c then pos lx -ℤ pos hy else pos 0, if b then pos hx -ℤ pos ly else if c then neg_ℤ (pos (ly - hx)) else pos 0)
 
 ends_small : (lx hx ly hy : ℕ) (b c : Bool) → lx ≤ 10 ^ 18 → hx ≤ 10 ^ 18 → ly ≤ 10 ^ 18 → hy ≤ 10 ^ 18 →
@@ -141,6 +141,21 @@ is_common share picked s =
         omega (arith, ints, little mark x y, little mark x None, little mark None y),
       );
     }
+
+-- so are the four corrections
+pub record AreCommon (top bottom : ℕ) : Type 0 where
+  pub least_lo : IsCommon (correction (low_share top bottom) is_in_least)
+  pub least_hi : IsCommon (correction (high_share top bottom) is_in_least)
+  pub most_lo : IsCommon (correction (low_share top bottom) is_in_most)
+  pub most_hi : IsCommon (correction (high_share top bottom) is_in_most)
+
+pub all_common : (top bottom : ℕ) → top < bottom → AreCommon top bottom
+all_common top bottom below = record {
+  least_lo = is_common (low_share top bottom) is_in_least (is_low top bottom below);
+  least_hi = is_common (high_share top bottom) is_in_least (is_high top bottom below);
+  most_lo = is_common (low_share top bottom) is_in_most (is_low top bottom below);
+  most_hi = is_common (high_share top bottom) is_in_most (is_high top bottom below);
+}
 
 -- what all documents of the universe add by the ranks in two lists
 abbrev pub left : (Mark → Option ℕ → Option ℕ → ℤ) → List Mark → List Placed → List Placed → ℤ
@@ -365,25 +380,37 @@ most_alone share v w nv nw f s = record {
     first Relevant None = f None
     first Other None = refl
 
+pub alone_in_least_low : (top bottom : ℕ) → AreAlone (low_share top bottom) is_in_least false true (low_weight top bottom) (high_weight top bottom)
+alone_in_least_low top bottom = least_alone (low_share top bottom) (low_weight top bottom) (high_weight top bottom) refl refl (low_first top bottom) (low_second top bottom)
+
+pub alone_in_least_high : (top bottom : ℕ) → AreAlone (high_share top bottom) is_in_least false true (high_weight top bottom) (low_weight top bottom)
+alone_in_least_high top bottom = least_alone (high_share top bottom) (high_weight top bottom) (low_weight top bottom) refl refl (high_first top bottom) (high_second top bottom)
+
+pub alone_in_most_low : (top bottom : ℕ) → AreAlone (low_share top bottom) is_in_most true false (low_weight top bottom) (high_weight top bottom)
+alone_in_most_low top bottom = most_alone (low_share top bottom) (low_weight top bottom) (high_weight top bottom) refl refl (low_first top bottom) (low_second top bottom)
+
+pub alone_in_most_high : (top bottom : ℕ) → AreAlone (high_share top bottom) is_in_most true false (high_weight top bottom) (low_weight top bottom)
+alone_in_most_high top bottom = most_alone (high_share top bottom) (high_weight top bottom) (low_weight top bottom) refl refl (high_first top bottom) (high_second top bottom)
+
 pub least_low_parts : (top bottom : ℕ) (marks : List Mark) (a b : List ℕ) → IsRanking (length marks) a → IsRanking (length marks) b →
     share_sum (low_share top bottom) marks a b ≡ (pos (low_worth top bottom false marks a) -ℤ pos (high_worth top bottom true marks b)) +ℤ correction_sum (low_share top bottom) is_in_least marks a b
 least_low_parts top bottom marks a b ra rb =
-    in_parts (low_share top bottom) is_in_least false true (low_weight top bottom) (high_weight top bottom) marks a b (least_alone (low_share top bottom) (low_weight top bottom) (high_weight top bottom) refl refl (low_first top bottom) (low_second top bottom)) ra rb
+    in_parts (low_share top bottom) is_in_least false true (low_weight top bottom) (high_weight top bottom) marks a b (alone_in_least_low top bottom) ra rb
 
 pub least_high_parts : (top bottom : ℕ) (marks : List Mark) (a b : List ℕ) → IsRanking (length marks) a → IsRanking (length marks) b →
     share_sum (high_share top bottom) marks a b ≡ (pos (high_worth top bottom false marks a) -ℤ pos (low_worth top bottom true marks b)) +ℤ correction_sum (high_share top bottom) is_in_least marks a b
 least_high_parts top bottom marks a b ra rb =
-    in_parts (high_share top bottom) is_in_least false true (high_weight top bottom) (low_weight top bottom) marks a b (least_alone (high_share top bottom) (high_weight top bottom) (low_weight top bottom) refl refl (high_first top bottom) (high_second top bottom)) ra rb
+    in_parts (high_share top bottom) is_in_least false true (high_weight top bottom) (low_weight top bottom) marks a b (alone_in_least_high top bottom) ra rb
 
 pub most_low_parts : (top bottom : ℕ) (marks : List Mark) (a b : List ℕ) → IsRanking (length marks) a → IsRanking (length marks) b →
     sum_of (low_share top bottom) is_in_most marks a b ≡ (pos (low_worth top bottom true marks a) -ℤ pos (high_worth top bottom false marks b)) +ℤ correction_sum (low_share top bottom) is_in_most marks a b
 most_low_parts top bottom marks a b ra rb =
-    in_parts (low_share top bottom) is_in_most true false (low_weight top bottom) (high_weight top bottom) marks a b (most_alone (low_share top bottom) (low_weight top bottom) (high_weight top bottom) refl refl (low_first top bottom) (low_second top bottom)) ra rb
+    in_parts (low_share top bottom) is_in_most true false (low_weight top bottom) (high_weight top bottom) marks a b (alone_in_most_low top bottom) ra rb
 
 pub most_high_parts : (top bottom : ℕ) (marks : List Mark) (a b : List ℕ) → IsRanking (length marks) a → IsRanking (length marks) b →
     sum_of (high_share top bottom) is_in_most marks a b ≡ (pos (high_worth top bottom true marks a) -ℤ pos (low_worth top bottom false marks b)) +ℤ correction_sum (high_share top bottom) is_in_most marks a b
 most_high_parts top bottom marks a b ra rb =
-    in_parts (high_share top bottom) is_in_most true false (high_weight top bottom) (low_weight top bottom) marks a b (most_alone (high_share top bottom) (high_weight top bottom) (low_weight top bottom) refl refl (high_first top bottom) (high_second top bottom)) ra rb
+    in_parts (high_share top bottom) is_in_most true false (high_weight top bottom) (low_weight top bottom) marks a b (alone_in_most_high top bottom) ra rb
 
 -- ---- the swapped_tests runs
 swapped_ends : (lx hx ly hy : ℕ) (b c v w : Bool) → v ≡ b → w ≡ c → (ends lx hx ly hy b c).0 ≡ neg_ℤ (ends ly hy lx hx c b).1 → (ends lx hx ly hy v w).0 ≡ neg_ℤ (ends ly hy lx hx w v).1

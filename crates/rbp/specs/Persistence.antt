@@ -3,7 +3,7 @@ use Rattle.std.specs.Prelude.{◌≡◌, ℕ, ◌<◌, ◌^◌, List, pos, neg_�
 use Rattle.desk_model.specs.Limits.{RANK_LIMIT}
 use Rattle.desk_model.specs.MeasureText.{IsPersistence}
 use Rattle.fractions.specs.Places.{Known}
-use Rattle.measure_laws.specs.Powers.{low_weight}
+use Rattle.measure_laws.specs.Powers.{low_weight, high_weight}
 use Rattle.weight_walks.specs.Worths.{AreWorths}
 use Rattle.fractions.specs.declared.span.Span.{Span}
 
@@ -12,14 +12,15 @@ pub record Persistence : Type 0 where
   pub top : ℕ
   pub bottom : ℕ
 
--- the kept powers are those of the persistence, up to the 10,000th, and ranks are worth their weights rounded down
-pub record AreKnown (top bottom : ℕ) (known : Known) (worths : List ℕ) : Type 0 where
+-- the kept powers are those of the persistence, up to the 10,000th, and ranks are worth their weights, rounded down and up
+pub record AreKnown (top bottom : ℕ) (known : Known) (worths tops : List ℕ) : Type 0 where
   pub persistence : IsPersistence top bottom
   pub below : top < bottom
   pub top_is : known.top ≡ top
   pub bottom_is : known.bottom ≡ bottom
   pub last_is : known.last ≡ RANK_LIMIT
   pub worths_are : AreWorths (low_weight top bottom) worths
+  pub tops_are : AreWorths (high_weight top bottom) tops
 
 -- from -10^27 to 10^27
 abbrev pub IsLoose : Span → Type 0

@@ -1,5 +1,5 @@
 -- The walk over the documents of two runs, and what each of them adds to the sums of shares.
-use Rattle.std.specs.Prelude.{ℕ, if◌then◌else◌, Bool, List, length, map, Option, None, ℤ, pos, ◌+ℤ◌, ◌-ℤ◌}
+use Rattle.std.specs.Prelude.{◌≡◌, ℕ, if◌then◌else◌, Bool, List, length, map, Option, None, ℤ, pos, ◌+ℤ◌, ◌-ℤ◌}
 use Rattle.std.specs.List.{range_with_len}
 use Rattle.desk_model.specs.Mark.{mark_at}
 use Rattle.desk_model.specs.Completion.{picked_value}
@@ -8,6 +8,9 @@ use Rattle.desk_model.specs.Verdict.{whole_sum}
 use Rattle.desk_model.specs.declared.types.Mark.{Mark}
 use Rattle.desk_model.specs.declared.types.Mark.TheVariants.{Unjudged, Relevant, Other}
 use Rattle.measure_laws.specs.Ranks.{comes_before}
+use Rattle.measure_laws.specs.Shares.{low_share, high_share}
+use Rattle.rbp.specs.Persistence.{IsLoose}
+use Rattle.rbp.specs.declared.corrections.Shares.{Shares}
 
 -- whether an unjudged document with these ranks is relevant in the least case, and in the most case
 abbrev pub is_in_least : Option ℕ → Option ℕ → Bool
@@ -37,3 +40,12 @@ abbrev pub number_of : Mark → ℕ
 number_of Unjudged = 0
 number_of Relevant = 1
 number_of Other = 2
+
+-- the four sums of the corrections of two rankings
+pub record AreCorrections (top bottom : ℕ) (marks : List Mark) (a b : List ℕ) (sums : Shares) : Type 0 where
+  pub least_lo : sums.least.lo ≡ correction_sum (low_share top bottom) is_in_least marks a b
+  pub least_hi : sums.least.hi ≡ correction_sum (high_share top bottom) is_in_least marks a b
+  pub most_lo : sums.most.lo ≡ correction_sum (low_share top bottom) is_in_most marks a b
+  pub most_hi : sums.most.hi ≡ correction_sum (high_share top bottom) is_in_most marks a b
+  pub least_loose : IsLoose sums.least
+  pub most_loose : IsLoose sums.most

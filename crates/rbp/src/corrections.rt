@@ -4,7 +4,7 @@ ghost use Rattle.measure_laws.specs.Ranks.{IsRankWithin};
 ghost use Rattle.measure_laws.specs.Shares.{low_share, high_share};
 ghost use Rattle.fractions.specs.Ends.{IsShort};
 ghost use Rattle.rbp.specs.Persistence.{IsLoose};
-ghost use Rattle.rbp.specs.Walk.{number_of, correction, correction_sum, is_in_least, is_in_most};
+ghost use Rattle.rbp.specs.Walk.{number_of, correction, is_in_least, is_in_most, AreCorrections};
 ghost use Rattle.measure_core.specs.Laws.{AreMet};
 ghost use Rattle.desk_model.specs.Limits.{RANK_LIMIT};
 
@@ -158,12 +158,7 @@ impl Rbp {
     /// the documents.
     pub fn corrections(&self, a: &Ranking, b: &Ranking, marks: &[Mark]) -> Shares
         requires { AreMet marks.now a.now b.now }
-        ensures least_lo { result.least.lo ≡ correction_sum (low_share self.now.top self.now.bottom) is_in_least marks.now a.now b.now }
-        ensures least_hi { result.least.hi ≡ correction_sum (high_share self.now.top self.now.bottom) is_in_least marks.now a.now b.now }
-        ensures most_lo { result.most.lo ≡ correction_sum (low_share self.now.top self.now.bottom) is_in_most marks.now a.now b.now }
-        ensures most_hi { result.most.hi ≡ correction_sum (high_share self.now.top self.now.bottom) is_in_most marks.now a.now b.now }
-        ensures least_loose { IsLoose result.least }
-        ensures most_loose { IsLoose result.most }
+        ensures { AreCorrections self.now.top self.now.bottom marks.now a.now b.now result }
     {
         // What is kept of the persistence bounds the sums.
         let _ = &self.top;

@@ -2,6 +2,7 @@
 //! one before it times the persistence p.
 #![tactic(auto)]
 
+pub mod by_ranks;
 pub mod corrections;
 pub mod rbp;
 pub mod weights;

@@ -5,16 +5,19 @@ ghost use Rattle.measure_laws.specs.Shares.{low_share, high_share, biased_truth,
 ghost use Rattle.fractions.specs.Ends.{IsShort};
 ghost use Rattle.rbp.specs.Persistence.{IsLoose};
 ghost use Rattle.measure_core.specs.Laws.{AreMet, AreValues};
+ghost use Rattle.rbp.specs.Numbers.{biased_cell, run_weights};
+ghost use Rattle.rbp.specs.Walk.{AreCorrections};
 ghost use Rattle.measure_core.specs.Made.{IsMadeFor};
 ghost use Rattle.desk_model.specs.Limits.{RANK_LIMIT};
 ghost use Rattle.desk_model.specs.MeasureText.{IsPersistence};
 ghost use Rattle.desk_model.specs.declared.types.MeasureName.TheVariants.{Biased as B};
 
 use crate::corrections::{Shares, alone};
-use crate::weights::low_weights;
+use crate::weights::{Weights, high_weights, low_weights};
 use desk_model::{Mark, MeasureName, Memory, Ranking};
 use fractions::{Powers, Span};
-use measure_core::{Cell, Measure, Shift, Steps};
+use measure_core::{Cell, CellRoom, KeptCell, Measure, Shift, Steps, TopicRankings};
+use ranked_cells::{KeptWeights, ranked_cells};
 use std::alloc::Global;
 use std::marker::Model;
 use std::sync::ledger::Ledger;
@@ -33,6 +36,8 @@ pub struct Rbp {
     pub(crate) powers: Powers,
     // The weight of each rank rounded down, by the rank: what it is worth in totals.
     pub(crate) worths: Vec<u64>,
+    // The weight of each rank rounded up, by the rank.
+    pub(crate) tops: Vec<u64>,
 }
 
 impl Model for Rbp {
@@ -42,7 +47,7 @@ impl Model for Rbp {
 
     ghost view = { λ r. record { top = r.top; bottom = r.bottom } };
 
-    ghost invariant = { λ r. AreKnown r.top r.bottom r.powers r.worths.items };
+    ghost invariant = { λ r. AreKnown r.top r.bottom r.powers r.worths.items r.tops.items };
 }
 
 /// Whether a rank comes before another, where an absent one comes last.
@@ -90,18 +95,30 @@ impl Rbp {
     {
         let powers = Powers::new(alloc, top, bottom, 10000)?;
         let worths = low_weights(alloc, &powers)?;
+        let tops = high_weights(alloc, &powers)?;
         Ok(Rbp {
             top,
             bottom,
             powers,
             worths,
+            tops,
         })
     }
 
     /// The sums of shares: those of each run's documents as if the other lacked them, and the
     /// corrections of the documents of both.
-    fn shares(&self, a: &Ranking, b: &Ranking, marks: &[Mark]) -> Shares
-        requires { AreMet marks.now a.now b.now }
+    fn shares(
+        &self,
+        a: &Ranking,
+        b: &Ranking,
+        marks: &[Mark],
+        weights: KeptWeights,
+        both: Shares,
+    ) -> Shares
+        requires met { AreMet marks.now a.now b.now }
+        requires first { weights.first ≡ run_weights self.now.top self.now.bottom marks.now a.now }
+        requires second { weights.second ≡ run_weights self.now.top self.now.bottom marks.now b.now }
+        requires both { AreCorrections self.now.top self.now.bottom marks.now a.now b.now both }
         ensures least_lo { result.least.lo ≡ share_sum (low_share self.now.top self.now.bottom) marks.now a.now b.now }
         ensures least_hi { result.least.hi ≡ share_sum (high_share self.now.top self.now.bottom) marks.now a.now b.now }
         ensures most_lo { result.most.lo ≡ neg_ℤ (share_sum (high_share self.now.top self.now.bottom) marks.now b.now a.now) }
@@ -111,9 +128,11 @@ impl Rbp {
     {
         // What is kept of the persistence bounds the sums.
         let _ = &self.top;
-        let first = self.weights(marks, a.docs());
-        let second = self.weights(marks, b.docs());
-        let both = self.corrections(a, b, marks);
+        let _ = a;
+        let _ = b;
+        let _ = marks;
+        let first = Weights::of(weights.first);
+        let second = Weights::of(weights.second);
         Shares {
             least: alone(first.relevant, second.possible).add(both.least),
             most: alone(first.possible, second.relevant).add(both.most),
@@ -134,6 +153,32 @@ impl Rbp {
         Span {
             lo: shares.lo - most,
             hi: shares.hi - least,
+        }
+    }
+
+    /// The cell of two runs, by their weights and the corrections of the documents of both.
+    pub fn cell_by(
+        &self,
+        a: &Ranking,
+        b: &Ranking,
+        marks: &[Mark],
+        weights: KeptWeights,
+        both: Shares,
+    ) -> Cell
+        requires met { AreMet marks.now a.now b.now }
+        requires first { weights.first ≡ run_weights self.now.top self.now.bottom marks.now a.now }
+        requires second { weights.second ≡ run_weights self.now.top self.now.bottom marks.now b.now }
+        requires both { AreCorrections self.now.top self.now.bottom marks.now a.now b.now both }
+        ensures { result ≡ biased_cell self.now.top self.now.bottom marks.now a.now b.now }
+    {
+        // What is kept of the persistence bounds the ends.
+        let _ = &self.top;
+        let shares = self.shares(a, b, marks, weights, both);
+        let least = self.less_tail(shares.least, ranks_of(b));
+        let swapped = self.less_tail(shares.most.negate(), ranks_of(a));
+        Cell {
+            least,
+            most: swapped.negate(),
         }
     }
 }
@@ -169,13 +214,25 @@ impl Measure for Rbp {
         steps: &mut Steps<L>,
     ) -> Cell {
         steps.tick();
-        let shares = self.shares(a, b, marks);
-        let least = self.less_tail(shares.least, ranks_of(b));
-        let swapped = self.less_tail(shares.most.negate(), ranks_of(a));
-        Cell {
-            least,
-            most: swapped.negate(),
+        let weights = KeptWeights {
+            first: self.kept_weights(marks, a.docs()),
+            second: self.kept_weights(marks, b.docs()),
+        };
+        self.cell_by(a, b, marks, weights, self.corrections(a, b, marks))
+    }
+
+    fn cells<L: Ledger>(
+        &self,
+        rankings: &TopicRankings<'_>,
+        marks: &[Mark],
+        room: &mut CellRoom,
+        cells: &mut [KeptCell],
+        steps: &mut Steps<L>,
+    ) {
+        if ranked_cells(self, rankings, marks, room, cells, steps) {
+            return;
         }
+        self.each_cell(rankings, marks, cells, steps);
     }
 
     fn bounds(&self, a: &Ranking, marks: &[Mark]) -> Span {

@@ -6,11 +6,13 @@ ghost use Rattle.measure_laws.specs.Shares.{low_worth, high_worth};
 ghost use Rattle.rbp.specs.Persistence.{IsLoose};
 ghost use Rattle.weight_walks.specs.Worths.{AreWorths};
 ghost use Rattle.rbp.specs.Walk.{number_of};
+ghost use Rattle.rbp.specs.Numbers.{run_weights};
 ghost use Rattle.desk_model.specs.Limits.{PARTS_OF_ONE, RANK_LIMIT};
 
 use crate::rbp::Rbp;
 use desk_model::{Mark, Memory};
 use fractions::{Powers, Span};
+use measure_core::RunWeights;
 use std::alloc::Global;
 use weight_walks::{RankWorth, rank_or_none, worths_of};
 
@@ -23,9 +25,9 @@ pub struct Weights {
 
 /// A weight in parts of 10^18, rounded down and up.
 #[derive(Clone, Copy)]
-struct Parts {
-    low: u64,
-    high: u64,
+pub struct Parts {
+    pub low: u64,
+    pub high: u64,
 }
 
 /// The number of a mark.
@@ -44,10 +46,28 @@ pub fn number_of(mark: Mark) -> usize
 fn span(low: u64, high: u64) -> Span
     ensures lo { result.lo ≡ pos low }
     ensures hi { result.hi ≡ pos high }
+    ensures loose { IsLoose result }
 {
     Span {
         lo: i128::from(low),
         hi: i128::from(high),
+    }
+}
+
+impl Weights {
+    /// What is kept, as spans.
+    pub fn of(kept: RunWeights) -> Weights
+        ensures relevant_lo { result.relevant.lo ≡ pos kept.relevant_low }
+        ensures relevant_hi { result.relevant.hi ≡ pos kept.relevant_high }
+        ensures possible_lo { result.possible.lo ≡ pos kept.possible_low }
+        ensures possible_hi { result.possible.hi ≡ pos kept.possible_high }
+        ensures relevant_loose { IsLoose result.relevant }
+        ensures possible_loose { IsLoose result.possible }
+    {
+        Weights {
+            relevant: span(kept.relevant_low, kept.relevant_high),
+            possible: span(kept.possible_low, kept.possible_high),
+        }
     }
 }
 
@@ -80,16 +100,11 @@ impl Rbp {
         }
     }
 
-    /// The sums of the weights of a run's documents.
-    pub fn weights(&self, marks: &[Mark], docs: &[u32]) -> Weights
+    /// The sums of the weights of a run's documents, as they are kept.
+    pub fn kept_weights(&self, marks: &[Mark], docs: &[u32]) -> RunWeights
         requires known { All (λ doc. doc < length marks.now) docs.now }
         requires few { length docs.now ≤ RANK_LIMIT }
-        ensures relevant_lo { result.relevant.lo ≡ pos (low_worth self.now.top self.now.bottom false marks.now docs.now) }
-        ensures relevant_hi { result.relevant.hi ≡ pos (high_worth self.now.top self.now.bottom false marks.now docs.now) }
-        ensures possible_lo { result.possible.lo ≡ pos (low_worth self.now.top self.now.bottom true marks.now docs.now) }
-        ensures possible_hi { result.possible.hi ≡ pos (high_worth self.now.top self.now.bottom true marks.now docs.now) }
-        ensures relevant_loose { IsLoose result.relevant }
-        ensures possible_loose { IsLoose result.possible }
+        ensures { result ≡ run_weights self.now.top self.now.bottom marks.now docs.now }
     {
         // What is kept of the persistence bounds the weights.
         let _ = &self.top;
@@ -102,10 +117,26 @@ impl Rbp {
             low[number] += parts.low;
             high[number] += parts.high;
         }
-        Weights {
-            relevant: span(low[1], high[1]),
-            possible: span(low[0] + low[1], high[0] + high[1]),
+        RunWeights {
+            relevant_low: low[1],
+            relevant_high: high[1],
+            possible_low: low[0] + low[1],
+            possible_high: high[0] + high[1],
         }
+    }
+
+    /// The sums of the weights of a run's documents.
+    pub fn weights(&self, marks: &[Mark], docs: &[u32]) -> Weights
+        requires known { All (λ doc. doc < length marks.now) docs.now }
+        requires few { length docs.now ≤ RANK_LIMIT }
+        ensures relevant_lo { result.relevant.lo ≡ pos (low_worth self.now.top self.now.bottom false marks.now docs.now) }
+        ensures relevant_hi { result.relevant.hi ≡ pos (high_worth self.now.top self.now.bottom false marks.now docs.now) }
+        ensures possible_lo { result.possible.lo ≡ pos (low_worth self.now.top self.now.bottom true marks.now docs.now) }
+        ensures possible_hi { result.possible.hi ≡ pos (high_worth self.now.top self.now.bottom true marks.now docs.now) }
+        ensures relevant_loose { IsLoose result.relevant }
+        ensures possible_loose { IsLoose result.possible }
+    {
+        Weights::of(self.kept_weights(marks, docs))
     }
 
     /// 10^18 times what a tail after so many ranks adds at most.
@@ -159,6 +190,39 @@ pub fn low_weights(alloc: Global, powers: &Powers) -> Result<Vec<u64>, Memory>
     ensures { IfOk result (λ worths. AreWorths (low_weight powers.now.top powers.now.bottom) worths.items) }
 {
     worths_of(alloc, &LowWeights { powers })
+}
+
+/// What ranks are worth: their weights rounded up.
+#[derive(Clone, Copy)]
+struct HighWeights<'a> {
+    powers: &'a Powers,
+    ghost known: { powers.now.last ≡ RANK_LIMIT },
+    ghost below: { powers.now.top < powers.now.bottom },
+}
+
+impl RankWorth for HighWeights<'_> {
+    ghost use Rattle.std.specs.Prelude.{refl};
+    ghost use Rattle.measure_laws.specs.Powers.{high_weight};
+
+    ghost worth = { λ w. high_weight w.powers.now.top w.powers.now.bottom };
+
+    fn worth_at(&self, rank: u32) -> u64 {
+        match rank_or_none(rank) {
+            None => 0,
+            Some(rank) => self.powers.weight(rank).hi as u64,
+        }
+    }
+
+    ghost absent = { λ _. refl };
+}
+
+/// The weight of each rank, rounded up, by the rank.
+pub fn high_weights(alloc: Global, powers: &Powers) -> Result<Vec<u64>, Memory>
+    requires last { powers.now.last ≡ RANK_LIMIT }
+    requires below { powers.now.top < powers.now.bottom }
+    ensures { IfOk result (λ worths. AreWorths (high_weight powers.now.top powers.now.bottom) worths.items) }
+{
+    worths_of(alloc, &HighWeights { powers })
 }
 
 impl RankWorth for Rbp {

@@ -5,7 +5,7 @@ use Rattle.measure_laws.specs.Shares.{low_share, high_share}
 use Rattle.topic_counts.proofs.Places.{at_place, list_within, list_ranks, goes_on, one_at_most}
 use Rattle.rbp.specs.Persistence.{Persistence}
 use Rattle.rbp.specs.Walk.{correction, is_in_least, is_in_most}
-use Rattle.rbp.proofs.Walk.{IsCommon, is_low, is_high, is_common, so_far_small, left_step, one_less, ended_first, ended_second}
+use Rattle.rbp.proofs.Walk.{IsCommon, all_common, so_far_small, left_step, one_less, ended_first, ended_second}
 use Rattle.desk_model.specs.declared.types.Mark.{Mark}
 use Rattle.rbp.proofs.rbp.Rbp.corrections.Goals as goal
 
@@ -29,54 +29,16 @@ with_places-sums-requires-clause-least c =
     let r = c.args.self.now in
     let l = c.loop-i in
     let below : r.top < r.bottom = omega (arith, c.self.invariant.below, ap (λ (p : Persistence). p.top) c.self.view_is, ap (λ (p : Persistence). p.bottom) c.self.view_is) in
-    let low = is_common (low_share r.top r.bottom) is_in_least (is_low r.top r.bottom below) in
-    let high = is_common (high_share r.top r.bottom) is_in_least (is_high r.top r.bottom below) in
-    (so_far_small _ _ _ _ _ _ _ low c.requires.small l.invariant.least_lo, so_far_small _ _ _ _ _ _ _ high c.requires.small l.invariant.least_hi)
-
-pub returns-else-j-second-clause-least_loose : goal.returns-else-j-second-clause-least_loose
-returns-else-j-second-clause-least_loose c =
-    let r = c.args.self.now in
-    let l = c.loop-i in
-    let below : r.top < r.bottom = omega (arith, c.self.invariant.below, ap (λ (p : Persistence). p.top) c.self.view_is, ap (λ (p : Persistence). p.bottom) c.self.view_is) in
-    let low = is_common (low_share r.top r.bottom) is_in_least (is_low r.top r.bottom below) in
-    let high = is_common (high_share r.top r.bottom) is_in_least (is_high r.top r.bottom below) in
-    (so_far_small _ _ _ _ _ _ _ low c.requires.small l.invariant.least_lo, so_far_small _ _ _ _ _ _ _ high c.requires.small l.invariant.least_hi)
-
-pub returns-after-loop-i-clause-least_loose : goal.returns-after-loop-i-clause-least_loose
-returns-after-loop-i-clause-least_loose c =
-    let r = c.args.self.now in
-    let l = c.loop-i in
-    let below : r.top < r.bottom = omega (arith, c.self.invariant.below, ap (λ (p : Persistence). p.top) c.self.view_is, ap (λ (p : Persistence). p.bottom) c.self.view_is) in
-    let low = is_common (low_share r.top r.bottom) is_in_least (is_low r.top r.bottom below) in
-    let high = is_common (high_share r.top r.bottom) is_in_least (is_high r.top r.bottom below) in
-    (so_far_small _ _ _ _ _ _ _ low c.requires.small l.invariant.least_lo, so_far_small _ _ _ _ _ _ _ high c.requires.small l.invariant.least_hi)
+    let common = all_common r.top r.bottom below in
+    (so_far_small _ _ _ _ _ _ _ common.least_lo c.requires.small l.invariant.least_lo, so_far_small _ _ _ _ _ _ _ common.least_hi c.requires.small l.invariant.least_hi)
 
 pub with_places-sums-requires-clause-most : goal.with_places-sums-requires-clause-most
 with_places-sums-requires-clause-most c =
     let r = c.args.self.now in
     let l = c.loop-i in
     let below : r.top < r.bottom = omega (arith, c.self.invariant.below, ap (λ (p : Persistence). p.top) c.self.view_is, ap (λ (p : Persistence). p.bottom) c.self.view_is) in
-    let low = is_common (low_share r.top r.bottom) is_in_most (is_low r.top r.bottom below) in
-    let high = is_common (high_share r.top r.bottom) is_in_most (is_high r.top r.bottom below) in
-    (so_far_small _ _ _ _ _ _ _ low c.requires.small l.invariant.most_lo, so_far_small _ _ _ _ _ _ _ high c.requires.small l.invariant.most_hi)
-
-pub returns-else-j-second-clause-most_loose : goal.returns-else-j-second-clause-most_loose
-returns-else-j-second-clause-most_loose c =
-    let r = c.args.self.now in
-    let l = c.loop-i in
-    let below : r.top < r.bottom = omega (arith, c.self.invariant.below, ap (λ (p : Persistence). p.top) c.self.view_is, ap (λ (p : Persistence). p.bottom) c.self.view_is) in
-    let low = is_common (low_share r.top r.bottom) is_in_most (is_low r.top r.bottom below) in
-    let high = is_common (high_share r.top r.bottom) is_in_most (is_high r.top r.bottom below) in
-    (so_far_small _ _ _ _ _ _ _ low c.requires.small l.invariant.most_lo, so_far_small _ _ _ _ _ _ _ high c.requires.small l.invariant.most_hi)
-
-pub returns-after-loop-i-clause-most_loose : goal.returns-after-loop-i-clause-most_loose
-returns-after-loop-i-clause-most_loose c =
-    let r = c.args.self.now in
-    let l = c.loop-i in
-    let below : r.top < r.bottom = omega (arith, c.self.invariant.below, ap (λ (p : Persistence). p.top) c.self.view_is, ap (λ (p : Persistence). p.bottom) c.self.view_is) in
-    let low = is_common (low_share r.top r.bottom) is_in_most (is_low r.top r.bottom below) in
-    let high = is_common (high_share r.top r.bottom) is_in_most (is_high r.top r.bottom below) in
-    (so_far_small _ _ _ _ _ _ _ low c.requires.small l.invariant.most_lo, so_far_small _ _ _ _ _ _ _ high c.requires.small l.invariant.most_hi)
+    let common = all_common r.top r.bottom below in
+    (so_far_small _ _ _ _ _ _ _ common.most_lo c.requires.small l.invariant.most_lo, so_far_small _ _ _ _ _ _ _ common.most_hi c.requires.small l.invariant.most_hi)
 
 pub loop-i-smaller : goal.loop-i-smaller
 loop-i-smaller c =
@@ -101,69 +63,48 @@ loop-i-preserved c =
     let within = list_within (length marks) c.args.a.now xs.result.now c.requires.first xs.ensures.ranks in
     let low = low_share r.top r.bottom in
     let high = high_share r.top r.bottom in
+    let common = all_common r.top r.bottom below in
     let step = λ (f : Mark → Option ℕ → Option ℕ → ℤ) (common : IsCommon f). left_step f marks l.i l.j (l.i + c.passed-i.result) (l.j + c.passed-j.result) xs.result.now ys.result.now (record { doc = 0; rank = 0 }) common c.loop-i-test.true c.if-j-second.true
     xs.ensures.ascending ys.ensures.ascending within (ap (λ m. l.i + m) p) (ap (λ m. l.j + m) q) in
     record {
       first_in = omega (arith, p, one_at_most (nat_le x.doc y.doc));
       second_in = omega (arith, q, one_at_most (nat_le y.doc x.doc));
-      least_lo = one_less (correction low is_in_least) marks _ _ _ _ _ _ _ _ (step (correction low is_in_least) (is_common low is_in_least (is_low r.top r.bottom below))) c.with_places-sums.ensures.least_lo l.invariant.least_lo;
-      least_hi = one_less (correction high is_in_least) marks _ _ _ _ _ _ _ _ (step (correction high is_in_least) (is_common high is_in_least (is_high r.top r.bottom below))) c.with_places-sums.ensures.least_hi l.invariant.least_hi;
-      most_lo = one_less (correction low is_in_most) marks _ _ _ _ _ _ _ _ (step (correction low is_in_most) (is_common low is_in_most (is_low r.top r.bottom below))) c.with_places-sums.ensures.most_lo l.invariant.most_lo;
-      most_hi = one_less (correction high is_in_most) marks _ _ _ _ _ _ _ _ (step (correction high is_in_most) (is_common high is_in_most (is_high r.top r.bottom below))) c.with_places-sums.ensures.most_hi l.invariant.most_hi;
+      least_lo = one_less (correction low is_in_least) marks _ _ _ _ _ _ _ _ (step (correction low is_in_least) common.least_lo) c.with_places-sums.ensures.least_lo l.invariant.least_lo;
+      least_hi = one_less (correction high is_in_least) marks _ _ _ _ _ _ _ _ (step (correction high is_in_least) common.least_hi) c.with_places-sums.ensures.least_hi l.invariant.least_hi;
+      most_lo = one_less (correction low is_in_most) marks _ _ _ _ _ _ _ _ (step (correction low is_in_most) common.most_lo) c.with_places-sums.ensures.most_lo l.invariant.most_lo;
+      most_hi = one_less (correction high is_in_most) marks _ _ _ _ _ _ _ _ (step (correction high is_in_most) common.most_hi) c.with_places-sums.ensures.most_hi l.invariant.most_hi;
     }
 
-pub returns-else-j-second-clause-least_lo : goal.returns-else-j-second-clause-least_lo
-returns-else-j-second-clause-least_lo c =
+pub returns-else-j-second : goal.returns-else-j-second
+returns-else-j-second c =
     let r = c.args.self.now in
+    let l = c.loop-i in
     let below : r.top < r.bottom = omega (arith, c.self.invariant.below, ap (λ (p : Persistence). p.top) c.self.view_is, ap (λ (p : Persistence). p.bottom) c.self.view_is) in
-    let share = low_share r.top r.bottom in
-    ended_second (correction share is_in_least) c.args.marks.now c.args.a.now c.args.b.now c.loop-i.j c.by_doc-first.result.now c.by_doc-second.result.now _ _ (is_common share is_in_least (is_low r.top r.bottom below)) c.if-j-second.false c.by_doc-first.ensures.ranks c.by_doc-second.ensures.ranks c.loop-i.invariant.least_lo
+    let low = low_share r.top r.bottom in
+    let high = high_share r.top r.bottom in
+    let common = all_common r.top r.bottom below in
+    record {
+      least_lo = ended_second (correction low is_in_least) c.args.marks.now c.args.a.now c.args.b.now c.loop-i.j c.by_doc-first.result.now c.by_doc-second.result.now _ _ common.least_lo c.if-j-second.false c.by_doc-first.ensures.ranks c.by_doc-second.ensures.ranks l.invariant.least_lo;
+      least_hi = ended_second (correction high is_in_least) c.args.marks.now c.args.a.now c.args.b.now c.loop-i.j c.by_doc-first.result.now c.by_doc-second.result.now _ _ common.least_hi c.if-j-second.false c.by_doc-first.ensures.ranks c.by_doc-second.ensures.ranks l.invariant.least_hi;
+      most_lo = ended_second (correction low is_in_most) c.args.marks.now c.args.a.now c.args.b.now c.loop-i.j c.by_doc-first.result.now c.by_doc-second.result.now _ _ common.most_lo c.if-j-second.false c.by_doc-first.ensures.ranks c.by_doc-second.ensures.ranks l.invariant.most_lo;
+      most_hi = ended_second (correction high is_in_most) c.args.marks.now c.args.a.now c.args.b.now c.loop-i.j c.by_doc-first.result.now c.by_doc-second.result.now _ _ common.most_hi c.if-j-second.false c.by_doc-first.ensures.ranks c.by_doc-second.ensures.ranks l.invariant.most_hi;
+      least_loose = (so_far_small _ _ _ _ _ _ _ common.least_lo c.requires.small l.invariant.least_lo, so_far_small _ _ _ _ _ _ _ common.least_hi c.requires.small l.invariant.least_hi);
+      most_loose = (so_far_small _ _ _ _ _ _ _ common.most_lo c.requires.small l.invariant.most_lo, so_far_small _ _ _ _ _ _ _ common.most_hi c.requires.small l.invariant.most_hi);
+    }
 
-pub returns-else-j-second-clause-least_hi : goal.returns-else-j-second-clause-least_hi
-returns-else-j-second-clause-least_hi c =
+pub returns-after-loop-i : goal.returns-after-loop-i
+returns-after-loop-i c =
     let r = c.args.self.now in
+    let l = c.loop-i in
     let below : r.top < r.bottom = omega (arith, c.self.invariant.below, ap (λ (p : Persistence). p.top) c.self.view_is, ap (λ (p : Persistence). p.bottom) c.self.view_is) in
-    let share = high_share r.top r.bottom in
-    ended_second (correction share is_in_least) c.args.marks.now c.args.a.now c.args.b.now c.loop-i.j c.by_doc-first.result.now c.by_doc-second.result.now _ _ (is_common share is_in_least (is_high r.top r.bottom below)) c.if-j-second.false c.by_doc-first.ensures.ranks c.by_doc-second.ensures.ranks c.loop-i.invariant.least_hi
-
-pub returns-else-j-second-clause-most_lo : goal.returns-else-j-second-clause-most_lo
-returns-else-j-second-clause-most_lo c =
-    let r = c.args.self.now in
-    let below : r.top < r.bottom = omega (arith, c.self.invariant.below, ap (λ (p : Persistence). p.top) c.self.view_is, ap (λ (p : Persistence). p.bottom) c.self.view_is) in
-    let share = low_share r.top r.bottom in
-    ended_second (correction share is_in_most) c.args.marks.now c.args.a.now c.args.b.now c.loop-i.j c.by_doc-first.result.now c.by_doc-second.result.now _ _ (is_common share is_in_most (is_low r.top r.bottom below)) c.if-j-second.false c.by_doc-first.ensures.ranks c.by_doc-second.ensures.ranks c.loop-i.invariant.most_lo
-
-pub returns-else-j-second-clause-most_hi : goal.returns-else-j-second-clause-most_hi
-returns-else-j-second-clause-most_hi c =
-    let r = c.args.self.now in
-    let below : r.top < r.bottom = omega (arith, c.self.invariant.below, ap (λ (p : Persistence). p.top) c.self.view_is, ap (λ (p : Persistence). p.bottom) c.self.view_is) in
-    let share = high_share r.top r.bottom in
-    ended_second (correction share is_in_most) c.args.marks.now c.args.a.now c.args.b.now c.loop-i.j c.by_doc-first.result.now c.by_doc-second.result.now _ _ (is_common share is_in_most (is_high r.top r.bottom below)) c.if-j-second.false c.by_doc-first.ensures.ranks c.by_doc-second.ensures.ranks c.loop-i.invariant.most_hi
-
-pub returns-after-loop-i-clause-least_lo : goal.returns-after-loop-i-clause-least_lo
-returns-after-loop-i-clause-least_lo c =
-    let r = c.args.self.now in
-    let below : r.top < r.bottom = omega (arith, c.self.invariant.below, ap (λ (p : Persistence). p.top) c.self.view_is, ap (λ (p : Persistence). p.bottom) c.self.view_is) in
-    let share = low_share r.top r.bottom in
-    ended_first (correction share is_in_least) c.args.marks.now c.args.a.now c.args.b.now c.loop-i.i c.by_doc-first.result.now c.by_doc-second.result.now _ _ (is_common share is_in_least (is_low r.top r.bottom below)) c.loop-i-test.false c.by_doc-first.ensures.ranks c.by_doc-second.ensures.ranks c.loop-i.invariant.least_lo
-
-pub returns-after-loop-i-clause-least_hi : goal.returns-after-loop-i-clause-least_hi
-returns-after-loop-i-clause-least_hi c =
-    let r = c.args.self.now in
-    let below : r.top < r.bottom = omega (arith, c.self.invariant.below, ap (λ (p : Persistence). p.top) c.self.view_is, ap (λ (p : Persistence). p.bottom) c.self.view_is) in
-    let share = high_share r.top r.bottom in
-    ended_first (correction share is_in_least) c.args.marks.now c.args.a.now c.args.b.now c.loop-i.i c.by_doc-first.result.now c.by_doc-second.result.now _ _ (is_common share is_in_least (is_high r.top r.bottom below)) c.loop-i-test.false c.by_doc-first.ensures.ranks c.by_doc-second.ensures.ranks c.loop-i.invariant.least_hi
-
-pub returns-after-loop-i-clause-most_lo : goal.returns-after-loop-i-clause-most_lo
-returns-after-loop-i-clause-most_lo c =
-    let r = c.args.self.now in
-    let below : r.top < r.bottom = omega (arith, c.self.invariant.below, ap (λ (p : Persistence). p.top) c.self.view_is, ap (λ (p : Persistence). p.bottom) c.self.view_is) in
-    let share = low_share r.top r.bottom in
-    ended_first (correction share is_in_most) c.args.marks.now c.args.a.now c.args.b.now c.loop-i.i c.by_doc-first.result.now c.by_doc-second.result.now _ _ (is_common share is_in_most (is_low r.top r.bottom below)) c.loop-i-test.false c.by_doc-first.ensures.ranks c.by_doc-second.ensures.ranks c.loop-i.invariant.most_lo
-
-pub returns-after-loop-i-clause-most_hi : goal.returns-after-loop-i-clause-most_hi
-returns-after-loop-i-clause-most_hi c =
-    let r = c.args.self.now in
-    let below : r.top < r.bottom = omega (arith, c.self.invariant.below, ap (λ (p : Persistence). p.top) c.self.view_is, ap (λ (p : Persistence). p.bottom) c.self.view_is) in
-    let share = high_share r.top r.bottom in
-    ended_first (correction share is_in_most) c.args.marks.now c.args.a.now c.args.b.now c.loop-i.i c.by_doc-first.result.now c.by_doc-second.result.now _ _ (is_common share is_in_most (is_high r.top r.bottom below)) c.loop-i-test.false c.by_doc-first.ensures.ranks c.by_doc-second.ensures.ranks c.loop-i.invariant.most_hi
+    let low = low_share r.top r.bottom in
+    let high = high_share r.top r.bottom in
+    let common = all_common r.top r.bottom below in
+    record {
+      least_lo = ended_first (correction low is_in_least) c.args.marks.now c.args.a.now c.args.b.now c.loop-i.i c.by_doc-first.result.now c.by_doc-second.result.now _ _ common.least_lo c.loop-i-test.false c.by_doc-first.ensures.ranks c.by_doc-second.ensures.ranks l.invariant.least_lo;
+      least_hi = ended_first (correction high is_in_least) c.args.marks.now c.args.a.now c.args.b.now c.loop-i.i c.by_doc-first.result.now c.by_doc-second.result.now _ _ common.least_hi c.loop-i-test.false c.by_doc-first.ensures.ranks c.by_doc-second.ensures.ranks l.invariant.least_hi;
+      most_lo = ended_first (correction low is_in_most) c.args.marks.now c.args.a.now c.args.b.now c.loop-i.i c.by_doc-first.result.now c.by_doc-second.result.now _ _ common.most_lo c.loop-i-test.false c.by_doc-first.ensures.ranks c.by_doc-second.ensures.ranks l.invariant.most_lo;
+      most_hi = ended_first (correction high is_in_most) c.args.marks.now c.args.a.now c.args.b.now c.loop-i.i c.by_doc-first.result.now c.by_doc-second.result.now _ _ common.most_hi c.loop-i-test.false c.by_doc-first.ensures.ranks c.by_doc-second.ensures.ranks l.invariant.most_hi;
+      least_loose = (so_far_small _ _ _ _ _ _ _ common.least_lo c.requires.small l.invariant.least_lo, so_far_small _ _ _ _ _ _ _ common.least_hi c.requires.small l.invariant.least_hi);
+      most_loose = (so_far_small _ _ _ _ _ _ _ common.most_lo c.requires.small l.invariant.most_lo, so_far_small _ _ _ _ _ _ _ common.most_hi c.requires.small l.invariant.most_hi);
+    }

@@ -1,14 +1,14 @@
-use Rattle.std.proofs.Common.{◌+◌, ◌*◌, ◌^◌, ◌<◌, ◌≤◌, ℕ, Some, true, nat_eq, take, slice_index_or, pos, ◌∙◌, arith, refl, ap}
-use Rattle.std.proofs.lemmas.Int.{ints}
+use Rattle.std.proofs.Common.{◌≡◌, ◌+◌, ◌*◌, ◌^◌, ◌<◌, ◌≤◌, ℕ, Some, true, nat_eq, take, slice_index_or, arith, refl, ap}
 use Rattle.std.proofs.lemmas.List.{length-take, length-set}
 use Rattle.desk_model.specs.Completion.{with_picked}
 use Rattle.desk_model.specs.Mark.{mark_at}
 use Rattle.measure_laws.specs.Powers.{low_weight, high_weight}
 use Rattle.measure_laws.proofs.Weights.{low_weight-most, high_weight-most}
+use Rattle.measure_core.specs.declared.room.RunWeights.{RunWeights}
 use Rattle.rbp.specs.Persistence.{Persistence}
 use Rattle.rbp.specs.Walk.{number_of}
 use Rattle.rbp.proofs.Sums.{entered, relevant_sum, possible_sum, number_small, low_sum_small, high_sum_small}
-use Rattle.rbp.proofs.rbp.Rbp.weights.Goals as goal
+use Rattle.rbp.proofs.rbp.Rbp.kept_weights.Goals as goal
 
 pub overflow_add-low : goal.overflow_add-low
 overflow_add-low c =
@@ -22,8 +22,8 @@ overflow_add-low c =
     let more : c.parts_at-parts.result.low ≤ 10 ^ 18 = omega (arith, c.parts_at-parts.ensures.low, low_weight-most r.top r.bottom (Some (l.place + 1)) (omega arith)) in
     omega (arith, sum, more)
 
-pub overflow_add-low-2 : goal.overflow_add-low-2
-overflow_add-low-2 c =
+pub overflow_add-result : goal.overflow_add-result
+overflow_add-result c =
     let r = c.args.self.now in
     let l = c.loop-place in
     let below : r.top < r.bottom = omega (arith, c.self.invariant.below, ap (λ (p : Persistence). p.top) c.self.view_is, ap (λ (p : Persistence). p.bottom) c.self.view_is) in
@@ -43,8 +43,8 @@ overflow_add-high c =
     let more : c.parts_at-parts.result.high ≤ 10 ^ 18 = omega (arith, c.parts_at-parts.ensures.high, high_weight-most r.top r.bottom (Some (l.place + 1)) (omega arith) (omega arith)) in
     omega (arith, sum, more)
 
-pub overflow_add-high-2 : goal.overflow_add-high-2
-overflow_add-high-2 c =
+pub overflow_add-result-2 : goal.overflow_add-result-2
+overflow_add-result-2 c =
     let r = c.args.self.now in
     let l = c.loop-place in
     let below : r.top < r.bottom = omega (arith, c.self.invariant.below, ap (λ (p : Persistence). p.top) c.self.view_is, ap (λ (p : Persistence). p.bottom) c.self.view_is) in
@@ -69,39 +69,22 @@ loop-place-preserved c =
       high = λ k h. rw c.parts_at-parts.ensures.high (entered high (λ doc. number_of (mark_at marks doc)) l.place _ m k docs l.high c.loop-place-test.true refl c.number_of-number.ensures (omega (arith, number, l.invariant.high_long)) (l.invariant.high k h));
     }
 
-pub returns-clause-relevant_lo : goal.returns-clause-relevant_lo
-returns-clause-relevant_lo c =
-    let r = c.args.self.now in
-    let l = c.loop-place in
-    c.span.ensures.lo ∙ ap pos (relevant_sum (λ rank. low_weight r.top r.bottom (Some rank)) c.args.marks.now c.args.docs.now l.place _ c.loop-place-test.false (l.invariant.low 1 (omega arith)))
+abbrev kept : (relevant_low relevant_high possible_low possible_high : ℕ) → RunWeights
+kept relevant_low relevant_high possible_low possible_high = record { relevant_low = relevant_low; relevant_high = relevant_high; possible_low = possible_low; possible_high = possible_high }
 
-pub returns-clause-possible_lo : goal.returns-clause-possible_lo
-returns-clause-possible_lo c =
-    let r = c.args.self.now in
-    let l = c.loop-place in
-    c.span-2.ensures.lo ∙ ap pos (possible_sum (λ rank. low_weight r.top r.bottom (Some rank)) c.args.marks.now c.args.docs.now l.place _ _ c.loop-place-test.false (l.invariant.low 0 (omega arith)) (l.invariant.low 1 (omega arith)))
+same : (p q r s p' q' r' s' : ℕ) → p ≡ p' → q ≡ q' → r ≡ r' → s ≡ s' → kept p q r s ≡ kept p' q' r' s'
+same p q r s p' q' r' s' e f g h = rw (e, f, g, h) refl
 
-pub returns-clause-relevant_hi : goal.returns-clause-relevant_hi
-returns-clause-relevant_hi c =
+pub returns : goal.returns
+returns c =
     let r = c.args.self.now in
     let l = c.loop-place in
-    c.span.ensures.hi ∙ ap pos (relevant_sum (λ rank. high_weight r.top r.bottom (Some rank)) c.args.marks.now c.args.docs.now l.place _ c.loop-place-test.false (l.invariant.high 1 (omega arith)))
-
-pub returns-clause-possible_hi : goal.returns-clause-possible_hi
-returns-clause-possible_hi c =
-    let r = c.args.self.now in
-    let l = c.loop-place in
-    c.span-2.ensures.hi ∙ ap pos (possible_sum (λ rank. high_weight r.top r.bottom (Some rank)) c.args.marks.now c.args.docs.now l.place _ _ c.loop-place-test.false (l.invariant.high 0 (omega arith)) (l.invariant.high 1 (omega arith)))
-
-pub returns-clause-possible_loose : goal.returns-clause-possible_loose
-returns-clause-possible_loose c =
-    let r = c.args.self.now in
-    let l = c.loop-place in
-    let below : r.top < r.bottom = omega (arith, c.self.invariant.below, ap (λ (p : Persistence). p.top) c.self.view_is, ap (λ (p : Persistence). p.bottom) c.self.view_is) in
-    let low : slice_index_or l.low 0 0 + slice_index_or l.low 1 0 ≤ 2 * 10 ^ 18 =
-    omega (arith, possible_sum (λ rank. low_weight r.top r.bottom (Some rank)) c.args.marks.now c.args.docs.now l.place _ _ c.loop-place-test.false (l.invariant.low 0 (omega arith)) (l.invariant.low 1 (omega arith)), low_sum_small r.top r.bottom (with_picked c.args.marks.now (λ _. true)) c.args.docs.now below) in
-    let high : slice_index_or l.high 0 0 + slice_index_or l.high 1 0 ≤ 2 * 10 ^ 18 =
-    omega (arith, possible_sum (λ rank. high_weight r.top r.bottom (Some rank)) c.args.marks.now c.args.docs.now l.place _ _ c.loop-place-test.false (l.invariant.high 0 (omega arith)) (l.invariant.high 1 (omega arith)), high_sum_small r.top r.bottom (with_picked c.args.marks.now (λ _. true)) c.args.docs.now below c.requires.few) in (
-      (omega (arith, ints, c.span-2.ensures.lo), omega (arith, ints, c.span-2.ensures.lo, low)),
-      (omega (arith, ints, c.span-2.ensures.hi), omega (arith, ints, c.span-2.ensures.hi, high)),
-    )
+    let marks = c.args.marks.now in
+    let docs = c.args.docs.now in
+    let low = λ (rank : ℕ). low_weight r.top r.bottom (Some rank) in
+    let high = λ (rank : ℕ). high_weight r.top r.bottom (Some rank) in
+    same _ _ _ _ _ _ _ _
+    (relevant_sum low marks docs l.place _ c.loop-place-test.false (l.invariant.low 1 (omega arith)))
+    (relevant_sum high marks docs l.place _ c.loop-place-test.false (l.invariant.high 1 (omega arith)))
+    (possible_sum low marks docs l.place _ _ c.loop-place-test.false (l.invariant.low 0 (omega arith)) (l.invariant.low 1 (omega arith)))
+    (possible_sum high marks docs l.place _ _ c.loop-place-test.false (l.invariant.high 0 (omega arith)) (l.invariant.high 1 (omega arith)))

@@ -3,7 +3,7 @@ use Rattle.desk_model.specs.Mark.{mark_at}
 use Rattle.desk_model.specs.Score.{gained}
 use Rattle.measure_laws.specs.Powers.{low_weight, high_weight}
 use Rattle.rbp.specs.Walk.{number_of}
-use Rattle.rbp.proofs.rbp.Rbp.weights.Given as goal
+use Rattle.rbp.proofs.rbp.Rbp.kept_weights.Given as goal
 
 abbrev pub invariant-loop-place : goal.invariant-loop-place
 invariant-loop-place l = record {
