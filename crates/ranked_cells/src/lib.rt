@@ -3,5 +3,7 @@
 #![tactic(auto)]
 
 pub mod ranked_measure;
+pub mod rows;
 
 pub use ranked_measure::{KeptWeights, RankedMeasure};
+pub use rows::{place_ranks, ranked_cells};

@@ -1,0 +1,7 @@
+use Rattle.std.proofs.Common.{◌≡◌, ℕ, ◌<◌, get_or}
+use Rattle.measure_core.specs.Pairs.{ranking_on}
+use Rattle.measure_core.specs.declared.room.RunWeights.{RunWeights}
+use Rattle.ranked_cells.proofs.rows.weigh_runs.Given as goal
+
+abbrev pub invariant-loop-run : goal.invariant-loop-run
+invariant-loop-run g l = (run : ℕ) → run < l.run → (none : RunWeights) → get_or l.weights run none ≡ g.R.RankedMeasure.weights_of l.measure l.marks (ranking_on l.rankings run)

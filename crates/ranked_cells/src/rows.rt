@@ -1,0 +1,124 @@
+ghost use Rattle.std.specs.Prelude.{◌≡◌, ◌+◌, ◌<◌, ◌≤◌, true, false, All, length};
+ghost use Rattle.desk_model.specs.Pairs.{pairs_of};
+ghost use Rattle.desk_model.specs.Ranking.{IsRanking};
+ghost use Rattle.measure_core.specs.Laws.{CellIsModest};
+ghost use Rattle.measure_core.specs.Pairs.{AreAllMet, pair_cells, ranking_on, run_numbers, runs_on};
+ghost use Rattle.ranked_cells.specs.Ranks.{AreRanks, AreRanksBefore, AreRunWeights};
+
+use crate::ranked_measure::{KeptWeights, RankedMeasure};
+use desk_model::{Mark, PairPlaces, Ranking};
+use measure_core::{CellRoom, KeptCell, RunWeights, Steps, TopicRankings};
+use std::sync::ledger::Ledger;
+use topic_counts::topic::all_documents;
+
+/// Makes `ranks` the rank of each document of a ranking, from 1, and of all other documents 0.
+pub fn place_ranks(ranking: &Ranking, ranks: &mut [u32])
+    requires { IsRanking (length ranks.old) ranking.now }
+    ensures ranks { AreRanks ranking.now ranks.new }
+    ensures count { length ranks.new ≡ length ranks.old }
+{
+    ranks.fill(0);
+    for place in ranking.by_doc() {
+        ranks[place.doc as usize] = place.rank;
+    }
+}
+
+/// Finds the weights of each run.
+fn weigh_runs<R: RankedMeasure>(
+    measure: &R,
+    rankings: &TopicRankings<'_>,
+    marks: &[Mark],
+    weights: &mut [RunWeights],
+)
+    requires met { AreAllMet marks.now rankings.now }
+    requires room { runs_on rankings.now ≤ length weights.old }
+    ensures { AreRunWeights (R.weights_of measure.now marks.now) rankings.now weights.new }
+{
+    for run in 0..rankings.runs() {
+        weights[run as usize] = measure.run_weights(rankings.ranking(run), marks);
+    }
+}
+
+/// Makes `ranks` the ranks of the first run's documents. At all but the first pair of that run they are
+/// that already.
+fn rank_first(rankings: &TopicRankings<'_>, marks: &[Mark], at: PairPlaces, ranks: &mut [u32])
+    requires met { AreAllMet marks.now rankings.now }
+    requires order { at.first < at.second }
+    requires within { at.second < runs_on rankings.now }
+    requires room { length marks.now ≤ length ranks.old }
+    requires before { AreRanksBefore rankings.now at ranks.old }
+    ensures ranks { AreRanks (ranking_on rankings.now at.first) ranks.new }
+    ensures count { length ranks.new ≡ length ranks.old }
+{
+    let _ = marks;
+    if at.first + 1 == at.second {
+        place_ranks(rankings.ranking(at.first), ranks);
+    }
+}
+
+/// The cells of all pairs of runs, by the weights of each run. It is one step for each.
+fn fill_cells<R: RankedMeasure, L: Ledger>(
+    measure: &R,
+    rankings: &TopicRankings<'_>,
+    marks: &[Mark],
+    weights: &[RunWeights],
+    ranks: &mut [u32],
+    cells: &mut [KeptCell],
+    steps: &mut Steps<L>,
+)
+    requires met { AreAllMet marks.now rankings.now }
+    requires weights { AreRunWeights (R.weights_of measure.now marks.now) rankings.now weights.now }
+    requires weighed { runs_on rankings.now ≤ length weights.now }
+    requires room { length marks.now ≤ length ranks.old }
+    requires count { length cells.old ≡ length (pairs_of (run_numbers (runs_on rankings.now))) }
+    ensures cells { cells.new ≡ pair_cells (R.ranked_cell_of measure.now marks.now) rankings.now }
+    ensures modest { All CellIsModest cells.new }
+    ensures steps { steps.new ≡ steps.old + length cells.old }
+{
+    let all = all_documents(marks);
+    let runs = rankings.runs();
+    let mut at = PairPlaces::START;
+    for place in 0..cells.len() {
+        rank_first(rankings, marks, at, ranks);
+        let kept = KeptWeights {
+            first: weights[at.first as usize],
+            second: weights[at.second as usize],
+        };
+        let a = rankings.ranking(at.first);
+        let b = rankings.ranking(at.second);
+        cells[place] = KeptCell::of(measure.ranked_cell(a, b, marks, ranks, kept, all));
+        steps.tick();
+        at = at.next(runs);
+    }
+}
+
+/// Finds the cells of all pairs of runs on a topic, in pair order, and answers whether the room is great
+/// enough for the topic; where it is not, nothing changes. It is one step for each pair, and takes no
+/// memory.
+///
+/// The weights of each run are found once. For each first run the ranks of its documents are set apart,
+/// and each later run goes over its own documents by them.
+pub fn ranked_cells<R: RankedMeasure, L: Ledger>(
+    measure: &R,
+    rankings: &TopicRankings<'_>,
+    marks: &[Mark],
+    room: &mut CellRoom,
+    cells: &mut [KeptCell],
+    steps: &mut Steps<L>,
+) -> bool
+    requires met { AreAllMet marks.now rankings.now }
+    requires count { length cells.old ≡ length (pairs_of (run_numbers (runs_on rankings.now))) }
+    ensures cells { result ≡ true → cells.new ≡ pair_cells (R.ranked_cell_of measure.now marks.now) rankings.now }
+    ensures modest { result ≡ true → All CellIsModest cells.new }
+    ensures steps { result ≡ true → steps.new ≡ steps.old + length cells.old }
+    ensures too_small { result ≡ false → (cells.new ≡ cells.old) × (steps.new ≡ steps.old) }
+{
+    let ranks = &mut room.ranks;
+    let weights = &mut room.weights;
+    let fits = marks.len() <= ranks.len() && rankings.runs() as usize <= weights.len();
+    if fits {
+        weigh_runs(measure, rankings, marks, weights);
+        fill_cells(measure, rankings, marks, weights, ranks, cells, steps);
+    }
+    fits
+}
