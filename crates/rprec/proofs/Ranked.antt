@@ -93,9 +93,9 @@ module _ (marks : List Mark) (xs ys : List ℕ) (n : ℕ) (first : IsDistinct na
   before_hit : (place : ℕ) → n < place → place < length xs → get_or xs place 0 ≡ doc → (before marks xs ys (n + 1) place ≡ open_one) × (before marks xs ys n place ≡ 0)
   before_hit place later inside same =
       let deep : min place (n + 1) ≡ n + 1 = omega arith in
-      let low : min place n ≡ n = omega arith in
-      ( ap (λ (k : ℕ). met marks xs (take k ys) place) deep ∙ met_by xs (take (n + 1) ys) place true true (within xs place inside) (ap (is_in (take (n + 1) ys)) same ∙ seen_now) ∙ ap (λ (d : ℕ). one_where (is_unjudged (mark_at marks d))) same
-      , ap (λ (k : ℕ). met marks xs (take k ys) place) low ∙ met_by xs (take n ys) place true false (within xs place inside) (ap (is_in (take n ys)) same ∙ not_yet)
+      let low : min place n ≡ n = omega arith in (
+        ap (λ (k : ℕ). met marks xs (take k ys) place) deep ∙ met_by xs (take (n + 1) ys) place true true (within xs place inside) (ap (is_in (take (n + 1) ys)) same ∙ seen_now) ∙ ap (λ (d : ℕ). one_where (is_unjudged (mark_at marks d))) same,
+        ap (λ (k : ℕ). met marks xs (take k ys) place) low ∙ met_by xs (take n ys) place true false (within xs place inside) (ap (is_in (take n ys)) same ∙ not_yet),
       )
 
   -- ---- at no earlier places
@@ -215,7 +215,7 @@ module _ (marks : List Mark) (xs ys : List ℕ) (n : ℕ) (first : IsDistinct na
 
   gained : (r : ℕ) → rank_or_none r ≡ rank xs doc → (place : ℕ) → HasGained r place
   gained zero e place = gained_none place e
-  gained (suc s) e place = elim (cases_lt n s) [ | inl later ↦ gained_later s e later place | inr earlier ↦ gained_earlier s e earlier place ]
+  gained (suc s) e place = elim (cases_lt n s) [ inl later ↦ gained_later s e later place | inr earlier ↦ gained_earlier s e earlier place ]
 
   -- the counts after it
   pub shared_next : (r : ℕ) (counts after : List ℕ) → rank_or_none r ≡ rank xs doc → max r (n + 1) ≤ 10000 → after ≡ counted marks (nat_lt 0 r) doc (max r (n + 1)) counts → AreSharedTo n marks xs ys counts → AreSharedTo (n + 1) marks xs ys after
