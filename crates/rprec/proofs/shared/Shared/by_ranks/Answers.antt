@@ -1,4 +1,4 @@
-use Rattle.std.proofs.Common.{◌≡◌, ℕ, ◌+◌, ◌<◌, ◌≤◌, List, length, max, nat_lt, get_or, arith, ap, ◌∙◌, sym, subst}
+use Rattle.std.proofs.Common.{ℕ, ◌+◌, ◌<◌, ◌≤◌, List, length, max, nat_lt, get_or, arith, ap, ◌∙◌, sym, subst}
 use Rattle.rprec.specs.Shared.{counted}
 use Rattle.rprec.proofs.Ranked.{few_shared, rank_short, ranked_at, shared_end, shared_next, shared_start}
 use Rattle.rprec.proofs.shared.Shared.by_ranks.Goals as goal
