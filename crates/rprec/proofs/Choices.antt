@@ -1,5 +1,5 @@
 -- The greedy choice for each number of relevant documents, in counts.
-use Rattle.std.proofs.Common.{◌≡◌, ℕ, suc, ◌+◌, ◌-◌, ◌*◌, ◌<◌, ◌≤◌, min, max, Bool, true, false, ◌&&◌, nat_lt, List, [], length, take, count_by, arith, refl, ap, ◌∙◌, sym, subst}
+use Rattle.std.proofs.Common.{◌≡◌, ℕ, suc, ◌+◌, ◌-◌, ◌*◌, ◌<◌, ◌≤◌, min, max, Bool, true, false, ◌&&◌, nat_lt, List, length, take, count_by, arith, refl, ap, ◌∙◌, sym, subst}
 use Rattle.std.specs.List.{range_with_len}
 use Rattle.std.proofs.Math.Nat.{mul-le-mul_right, mul-pos}
 use Rattle.std.proofs.lemmas.Bool.Decides.{nat_tests}

@@ -19,7 +19,7 @@ use Rattle.std.proofs.Math.Bool.{and-false}
 use Rattle.rprec.proofs.Flags.{AreFlags, entered, flagged, opened, rank_place}
 
 -- 1 or 0
-abbrev one_where : Bool → ℕ
+abbrev pub one_where : Bool → ℕ
 one_where b = if b then 1 else 0
 
 -- ---- a flag raised
@@ -55,7 +55,7 @@ raised_one marks docs flags k place in_docs in_flags down = by_test (nat_eq plac
         let kept : flagged_at marks docs (set flags k true) place ≡ flagged_at marks docs flags place = ap (λ (v : Bool). if (nat_lt place (length docs) && v) && is_unjudged (mark_at marks (get_or docs place 0)) then 1 else 0) other in
         omega (arith, kept)
 
-counted_one : (counts : List ℕ) (k place u : ℕ) → k < length counts → get_or (set counts k (get_or counts k 0 + u)) place 0 ≡ get_or counts place 0 + (if nat_eq place k then u else 0)
+pub counted_one : (counts : List ℕ) (k place u : ℕ) → k < length counts → get_or (set counts k (get_or counts k 0 + u)) place 0 ≡ get_or counts place 0 + (if nat_eq place k then u else 0)
 counted_one counts k place u in_counts = by_test (nat_eq place k) refl
   where
     same : nat_eq place k ≡ true → place ≡ k

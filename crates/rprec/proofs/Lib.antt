@@ -7,3 +7,4 @@ pub mod Flags
 pub mod Blocks
 pub mod Strands
 pub mod Counted
+pub mod Ranked

@@ -1,5 +1,5 @@
 -- What two lists share, place by place.
-use Rattle.std.specs.Prelude.{◌≡◌, ℕ, ◌+◌, ◌-◌, ◌&&◌, max, nat_eq, nat_lt, if◌then◌else◌, List, length, take, slice_index, slice_index_or, slice_set}
+use Rattle.std.specs.Prelude.{◌≡◌, ℕ, ◌+◌, ◌-◌, ◌&&◌, max, nat_eq, nat_lt, if◌then◌else◌, Bool, List, length, take, slice_index, slice_index_or, slice_set}
 use Rattle.desk_model.specs.Mark.{is_unjudged, mark_at}
 use Rattle.desk_model.specs.Ranking.{is_in}
 use Rattle.desk_model.specs.declared.placed.Placed.{Placed}
@@ -13,7 +13,11 @@ met marks docs others place = if (nat_lt place (length docs) && is_in others (sl
 pub record AreShared (marks : List Mark) (xs ys counts : List ℕ) : Type 0 where
   pub each : (place : ℕ) → slice_index_or counts place 0 ≡ met marks xs (take place ys) place + met marks ys (take (place + 1) xs) place
 
+-- the counts after a document of both up to a rank, if they have it: one more there if it is unjudged
+abbrev pub counted : List Mark → Bool → ℕ → ℕ → List ℕ → List ℕ
+counted marks is_shared doc rank counts =
+    slice_set counts (rank - 1) (slice_index_or counts (rank - 1) 0 + (if is_shared && is_unjudged (mark_at marks doc) then 1 else 0))
+
 -- the counts after two places: one more at the later rank, where they are of one unjudged document
 abbrev pub entered : List Mark → Placed → Placed → List ℕ → List ℕ
-entered marks x y counts =
-    slice_set counts (max x.rank y.rank - 1) (slice_index_or counts (max x.rank y.rank - 1) 0 + (if nat_eq x.doc y.doc && is_unjudged (mark_at marks x.doc) then 1 else 0))
+entered marks x y counts = counted marks (nat_eq x.doc y.doc) x.doc (max x.rank y.rank) counts

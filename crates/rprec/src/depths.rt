@@ -16,8 +16,7 @@ pub const STRETCH: u32 = 1024;
 /// The counts of one of two runs at consecutive depths.
 #[derive(Drop)]
 pub struct Column {
-    pub relevant: [u32; 1024],
-    pub unjudged: [u32; 1024],
+    pub counts: [Counts; 1024],
 }
 
 /// The counts of two runs at consecutive depths, those of the first depth at place 0.
@@ -30,8 +29,7 @@ pub struct Depths {
 impl Column {
     fn new() -> Column {
         Column {
-            relevant: [0; 1024],
-            unjudged: [0; 1024],
+            counts: [Counts::NONE; 1024],
         }
     }
 
@@ -40,10 +38,7 @@ impl Column {
         requires { place < 1024 }
         ensures { result ≡ counts_of self.now place }
     {
-        Counts {
-            relevant: self.relevant[place as usize],
-            unjudged: self.unjudged[place as usize],
-        }
+        self.counts[place as usize]
     }
 
     fn put(&mut self, place: u32, counts: Counts)
@@ -51,8 +46,7 @@ impl Column {
         ensures here { counts_of self.new place ≡ counts }
         ensures others { (other : ℕ) → other ≢ place → counts_of self.new other ≡ counts_of self.old other }
     {
-        self.relevant[place as usize] = counts.relevant;
-        self.unjudged[place as usize] = counts.unjudged;
+        self.counts[place as usize] = counts;
     }
 }
 

@@ -26,14 +26,21 @@ impl Prefixes {
     }
 }
 
-/// The counts of one document of this mark.
+/// The counts of one document of this mark, which the compiler makes a table of.
 fn counts_of(mark: Mark) -> Counts
     ensures relevant { result.relevant ≡ one_of false mark }
     ensures either { result.relevant + result.unjudged ≡ one_of true mark }
 {
-    Counts {
-        relevant: u32::from(mark == Mark::Relevant),
-        unjudged: u32::from(mark == Mark::Unjudged),
+    match mark {
+        Mark::Relevant => Counts {
+            relevant: 1,
+            unjudged: 0,
+        },
+        Mark::Unjudged => Counts {
+            relevant: 0,
+            unjudged: 1,
+        },
+        Mark::Other => Counts::NONE,
     }
 }
 

@@ -15,7 +15,8 @@ use crate::shared::Shared;
 use crate::values::{values, wanted_for};
 use desk_model::{Mark, MeasureName, Memory, Ranking};
 use fractions::{Span, span_of};
-use measure_core::{Cell, Measure, Shift, Steps};
+use measure_core::{Cell, CellRoom, KeptCell, Measure, RunWeights, Shift, Steps, TopicRankings};
+use ranked_cells::{KeptWeights, RankedMeasure, ranked_cells};
 use std::alloc::Global;
 use std::sync::ledger::Ledger;
 use topic_counts::counts::{Counts, is_among_first};
@@ -60,12 +61,13 @@ fn topic(marks: &[Mark]) -> Counts
 }
 
 /// The ends of the least and the greatest difference, in units.
-fn cell_of(a: &[u32], b: &[u32], shared: &Shared, marks: &[Mark]) -> Cell
+fn cell_of(a: &[u32], b: &[u32], shared: &Shared, all: Counts, marks: &[Mark]) -> Cell
     requires met { AreMet marks.now a.now b.now }
     requires shared { AreShared marks.now a.now b.now shared.now.counts }
+    requires topic { AreTopic marks.now all }
+    requires few { all.relevant + all.unjudged ≤ DOCUMENT_LIMIT }
     ensures { result ≡ exact_cell R marks.now a.now b.now }
 {
-    let all = topic(marks);
     let extremes = find_extremes(a, b, shared, all, marks);
     Cell {
         least: span(extremes.least),
@@ -98,6 +100,32 @@ fn least_values(
     )
 }
 
+impl RankedMeasure for Rprec {
+    ghost use Rattle.desk_model.specs.declared.types.MeasureName.TheVariants.{RPrecision as R};
+    ghost use Rattle.measure_core.specs.Numbers.{exact_cell};
+
+    ghost ranked_cell_of = { λ _. exact_cell R };
+
+    ghost weights_of = { λ _ _ _. record { relevant_low = 0; relevant_high = 0; possible_low = 0; possible_high = 0 } };
+
+    fn run_weights(&self, _ranking: &Ranking, _marks: &[Mark]) -> RunWeights {
+        RunWeights::NONE
+    }
+
+    fn ranked_cell(
+        &self,
+        a: &Ranking,
+        b: &Ranking,
+        marks: &[Mark],
+        ranks: &[u32],
+        _weights: KeptWeights,
+        all: Counts,
+    ) -> Cell {
+        let shared = Shared::by_ranks(a, b, ranks, marks);
+        cell_of(a.docs(), b.docs(), &shared, all, marks)
+    }
+}
+
 impl Measure for Rprec {
     ghost use Rattle.desk_model.specs.declared.types.MeasureName.TheVariants.{RPrecision as R};
     ghost use Rattle.measure_core.specs.Numbers.{exact_cell, exact_bounds};
@@ -125,11 +153,12 @@ impl Measure for Rprec {
         steps: &mut Steps<L>,
     ) -> Cell {
         steps.tick();
-        cell_of(a.docs(), b.docs(), &Shared::between(a, b, marks), marks)
+        let shared = Shared::between(a, b, marks);
+        cell_of(a.docs(), b.docs(), &shared, topic(marks), marks)
     }
 
     fn bounds(&self, a: &Ranking, marks: &[Mark]) -> Span {
-        let cell = cell_of(a.docs(), &[], &Shared::none(), marks);
+        let cell = cell_of(a.docs(), &[], &Shared::none(), topic(marks), marks);
         Span {
             lo: cell.least.lo,
             hi: cell.most.hi,
@@ -171,6 +200,20 @@ impl Measure for Rprec {
         totals: &mut [u128],
     ) {
         shift_one_side(topic(marks).relevant.max(1), a, b, shift, totals);
+    }
+
+    fn cells<L: Ledger>(
+        &self,
+        rankings: &TopicRankings<'_>,
+        marks: &[Mark],
+        room: &mut CellRoom,
+        cells: &mut [KeptCell],
+        steps: &mut Steps<L>,
+    ) {
+        if ranked_cells(self, rankings, marks, room, cells, steps) {
+            return;
+        }
+        self.each_cell(rankings, marks, cells, steps);
     }
 
     ghost laws = { λ _ _. laws.laws };

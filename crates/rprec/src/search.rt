@@ -8,7 +8,7 @@ use crate::prefixes::Prefixes;
 use topic_counts::counts::Counts;
 
 /// How many choices are compared with the best in one go.
-const BLOCK: u32 = 32;
+const BLOCK: u32 = 64;
 
 /// Whether a candidate has a smaller difference than another one.
 fn is_less(c: Candidate, best: Candidate) -> bool

@@ -2,7 +2,8 @@ ghost use Rattle.std.specs.Prelude.{◌≡◌, ℕ, ◌+◌, ◌<◌, ◌≤◌,
 ghost use Rattle.desk_model.specs.Limits.{RANK_LIMIT};
 ghost use Rattle.desk_model.specs.Placed.{lookup, IsAscending};
 ghost use Rattle.desk_model.specs.Ranking.{IsRanking};
-ghost use Rattle.rprec.specs.Shared.{AreShared, entered};
+ghost use Rattle.ranked_cells.specs.Ranks.{AreRanksIn};
+ghost use Rattle.rprec.specs.Shared.{AreShared, counted, entered};
 ghost use Rattle.rprec.specs.Walk.{IsCountedWalk, IsWalked};
 
 use desk_model::{Mark, Placed, Ranking};
@@ -44,8 +45,21 @@ impl Shared {
         }
     }
 
-    /// With the document of two places, if it is one unjudged document. Whether it is decides no jump
-    /// here, as no processor could foresee it.
+    /// With a document that both may have up to a rank, from 1, if they do and it is unjudged. Whether it
+    /// is decides no jump here, as no processor could foresee it.
+    fn count(&mut self, is_shared: bool, doc: u32, rank: u32, marks: &[Mark])
+        requires low { 1 ≤ rank }
+        requires high { rank ≤ RANK_LIMIT }
+        requires known { doc < length marks.now }
+        requires few { (place : ℕ) → slice_index_or self.now.counts place 0 ≤ 2 }
+        ensures { self.new.counts ≡ counted marks.now is_shared doc rank self.old.counts }
+    {
+        let unjudged = marks[doc as usize] == Mark::Unjudged;
+        let place = rank as usize - 1;
+        self.counts[place] = self.counts[place] + u8::from(is_shared & unjudged);
+    }
+
+    /// With the document of two places, if it is one unjudged document.
     fn enter(&mut self, x: Placed, y: Placed, marks: &[Mark])
         requires first_low { 1 ≤ x.rank }
         requires first_high { x.rank ≤ RANK_LIMIT }
@@ -55,10 +69,7 @@ impl Shared {
         requires few { (place : ℕ) → slice_index_or self.now.counts place 0 ≤ 2 }
         ensures { self.new.counts ≡ entered marks.now x y self.old.counts }
     {
-        let same = x.doc == y.doc;
-        let unjudged = marks[x.doc as usize] == Mark::Unjudged;
-        let place = x.rank.max(y.rank) as usize - 1;
-        self.counts[place] = self.counts[place] + u8::from(same & unjudged);
+        self.count(x.doc == y.doc, x.doc, x.rank.max(y.rank), marks);
     }
 
     /// With the documents of both that two walks have not come to.
@@ -127,6 +138,24 @@ impl Shared {
     {
         let mut shared = Shared::none();
         shared.walk_both(a, b, marks);
+        shared
+    }
+
+    /// That of two runs, by one pass over the second run's documents, from the rank of each document in
+    /// the first, 0 for none.
+    pub fn by_ranks(a: &Ranking, b: &Ranking, ranks: &[u32], marks: &[Mark]) -> Shared
+        requires first { IsRanking (length marks.now) a.now }
+        requires second { IsRanking (length marks.now) b.now }
+        requires ranks { AreRanksIn marks.now a.now ranks.now }
+        ensures { AreShared marks.now a.now b.now result.counts }
+    {
+        let docs = b.docs();
+        let mut shared = Shared::none();
+        for place in 0..docs.len() {
+            let doc = docs[place];
+            let rank = ranks[doc as usize];
+            shared.count(rank > 0, doc, rank.max(place as u32 + 1), marks);
+        }
         shared
     }
 }

@@ -1,0 +1,18 @@
+use Rattle.std.proofs.Common.{◌≡◌, ℕ, List, ap, ◌∙◌, sym, subst}
+use Rattle.desk_model.specs.declared.types.MeasureName.TheVariants.{RPrecision}
+use Rattle.measure_core.specs.Laws.{CellIsModest}
+use Rattle.measure_core.specs.Numbers.{exact_cell}
+use Rattle.measure_core.proofs.Exact.{exact_laws}
+use Rattle.rprec.proofs.Ends.{topic_is}
+use Rattle.rprec.proofs.rprec.RprecRankedMeasure.ranked_cell.Goals as goal
+
+pub cell_of-requires-clause-topic : goal.cell_of-requires-clause-topic
+cell_of-requires-clause-topic c = topic_is c.args.marks.now c.args.all c.requires.all.topic.least c.requires.all.topic.most
+
+pub returns-clause-modest : goal.returns-clause-modest
+returns-clause-modest c =
+    let marks = c.args.marks.now in
+    let a = c.args.a.now in
+    let b = c.args.b.now in
+    let is : c.cell_of.result ≡ exact_cell RPrecision marks a b = c.cell_of.ensures ∙ ap (λ (docs : List ℕ). exact_cell RPrecision marks docs c.docs-2.result.now) c.docs.ensures.docs ∙ ap (exact_cell RPrecision marks a) c.docs-2.ensures.docs in
+    subst CellIsModest (sym is) ((exact_laws RPrecision tt tt).cell_modest marks a b c.requires.met)
