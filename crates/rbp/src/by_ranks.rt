@@ -20,6 +20,9 @@ use measure_core::{Cell, RunWeights};
 use ranked_cells::{KeptWeights, RankedMeasure};
 use topic_counts::counts::Counts;
 
+/// The greatest rank of a run.
+const MOST_RANKS: usize = 10_000;
+
 /// What documents of both runs add to the sums of shares beyond what their ranks alone add, in parts of
 /// 10^18.
 #[derive(Clone, Copy)]
@@ -108,12 +111,13 @@ fn is_after(y: u32, x: u32) -> bool
 }
 
 /// Whether the first run has a document, and it may be relevant. Of most runs' documents few are both, so
-/// this is one jump, and not one for each condition.
+/// this is one comparison of numbers, and not a jump for each condition.
 #[inline]
 fn is_counted(x: u32, mark: Mark) -> bool
+    requires { x ≤ RANK_LIMIT }
     ensures { result ≡ (nat_lt 0 x && nat_lt (number_of mark) 2) }
 {
-    (x > 0) & (number_of(mark) < 2)
+    x as usize > number_of(mark) / 2 * MOST_RANKS
 }
 
 impl Rbp {

@@ -19,6 +19,22 @@ use Rattle.rbp.proofs.Walk.{IsCommon, all_common}
 use Rattle.rbp.proofs.rbp.Rbp.corrections_by_ranks.Goals as goal
 use Rattle.rbp.proofs.rbp.Rbp.corrections_by_ranks.Goals.{then-is_counted, else-is_counted}
 
+pub is_counted-requires : goal.is_counted-requires
+is_counted-requires c =
+    let r = c.args.self.now in
+    let l = c.loop-place in
+    let i = l.place in
+    let marks = c.args.marks.now in
+    let a = c.args.a.now in
+    let b = c.args.b.now in
+    let docs = c.docs-doc-items in
+    let d = slice_index_or docs.result.now i 0 in
+    let lt : i < length b = omega (arith, c.loop-place-test.true, ap (λ (xs : List ℕ). length xs) docs.ensures.docs) in
+    let is : d ≡ get_or b i 0 = ap (λ (xs : List ℕ). get_or xs i 0) docs.ensures.docs in
+    let within : d < length marks = omega (arith, is, c.requires.met.second.within i 0 lt) in
+    let ranked = c.requires.ranks.each d within in
+    kept_rank_small a d (slice_index_or c.args.ranks.now d 0) c.requires.met.first.short ranked
+
 pub adds-requires-clause-first : goal.adds-requires-clause-first
 adds-requires-clause-first c =
     let r = c.args.self.now in
