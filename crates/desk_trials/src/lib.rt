@@ -3,4 +3,10 @@
 #![tactic(auto)]
 
 #[cfg(test)]
-mod tests;
+mod files;
+#[cfg(test)]
+mod large;
+#[cfg(test)]
+mod lines;
+#[cfg(test)]
+mod sessions;

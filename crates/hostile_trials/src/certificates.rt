@@ -1,5 +1,5 @@
 // Certificates that were cut, changed or forged.
-use crate::outside::{SOUND, run_line};
+use desk_in_memory::{SOUND, run_line};
 use std::alloc::{AllocError, Global};
 use std::test::Fail;
 

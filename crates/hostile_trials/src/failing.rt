@@ -1,9 +1,8 @@
 // Each call of the outside fails once, in turn.
 ghost use Rattle.std.specs.Prelude.{◌≡◌, ◌<◌};
 
-use crate::outside::{Answer, FailingCall, Outside, SOUND, run_line};
+use desk_in_memory::{Answer, FailingCall, Outside, SOUND, run_line};
 use std::alloc::{AllocError, Global};
-use std::process::Abort;
 use std::test::Fail;
 
 const FILES: [(&str, &[u8]); 8] = [
@@ -80,36 +79,39 @@ impl Part {
     }
 }
 
-// Lets each call of a part fail, until a run meets none that does.
-fn fail_in_turn(
-    rt: &impl Abort,
+// Whether a run that met no failing call gave its whole text.
+fn is_whole(answer: &Answer, case: &Case) -> bool {
+    answer.out.as_slice() == case.text.as_bytes() && answer.err.is_empty()
+}
+
+// Whether a run ended at a failing call, after a prefix of its text.
+fn is_cut(answer: &Answer, case: &Case) -> bool {
+    answer.status == 3
+        && case.text.as_bytes().starts_with(&answer.out)
+        && answer.err.as_slice() == b"fault: outside\n".as_slice()
+}
+
+// Lets each call of a part fail, until a run meets none that does, and answers whether each run was as it should be.
+fn is_told_in_turn(
     alloc: Global,
-    case: Case,
+    case: &Case,
     part: Part,
     sizes: (usize, usize),
-) -> Result<(), AllocError>
+) -> Result<bool, AllocError>
     requires given { 0 < sizes.0 }
     requires taken { 0 < sizes.1 }
 {
     for call in 0..2_000u64 {
         let outside = part.failing(sizes, Some(call));
-        let Answer { status, out, err } = run_line(
-            alloc,
-            case.line,
-            &FILES,
-            case.lines.as_bytes(),
-            outside,
-        )?;
-        if status == 0 {
-            assert_eq!(rt; out.as_slice(), case.text.as_bytes());
-            assert!(rt; err.is_empty());
-            return Ok(());
+        let answer = run_line(alloc, case.line, &FILES, case.lines.as_bytes(), outside)?;
+        if answer.status == 0 {
+            return Ok(is_whole(&answer, case));
         }
-        assert_eq!(rt; status, 3);
-        assert!(rt; case.text.as_bytes().starts_with(&out));
-        assert_eq!(rt; err.as_slice(), b"fault: outside\n".as_slice());
+        if !is_cut(&answer, case) {
+            return Ok(false);
+        }
     }
-    panic!(rt; "each run met a failing call")
+    Ok(false)
 }
 
 #[test]
@@ -118,7 +120,11 @@ fn each_call_fails_once(rt: HostRuntime) -> Result<(), Fail> {
     for case in CASES {
         for sizes in [(1, 1), (19, 7), (4096, 4096)] {
             for part in [Part::Files, Part::Input, Part::Output] {
-                fail_in_turn(&rt, alloc, case, part, sizes)?;
+                assert!(rt;
+                    is_told_in_turn(alloc, &case, part, sizes)?,
+                    "{}",
+                    case.line
+                );
             }
         }
     }

@@ -7,5 +7,3 @@ mod certificates;
 mod failing;
 #[cfg(test)]
 mod limits;
-#[cfg(test)]
-mod outside;

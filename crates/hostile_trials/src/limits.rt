@@ -1,8 +1,5 @@
 // Limits that are met, and passed by one.
-use crate::outside::{Outside, SOUND, run_line};
-use file_rows::{FileFault, LineFault};
-use qrels_reader::read_qrels;
-use run_reader::{Used, read_run};
+use desk_in_memory::{Outside, SOUND, run_line};
 use std::alloc::{AllocError, Global};
 use std::test::Fail;
 
@@ -97,42 +94,6 @@ fn cells_have_their_limit(rt: HostRuntime) -> Result<(), Fail> {
         let answered = run_line(alloc, &line, &files, b"", large)?;
         assert_eq!(rt; answered.status, status);
         assert_eq!(rt; answered.err.as_slice(), told.as_bytes());
-    }
-    Ok(())
-}
-
-#[test]
-fn what_came_before_counts(rt: HostRuntime) -> Result<(), Fail> {
-    let alloc = rt.alloc();
-    let qrels = read_qrels(alloc, QRELS)?;
-    let cases = [
-        (
-            b"401 Q0 d 1 9 A\n".as_slice(),
-            20_000_000,
-            0,
-            Some(LineFault::TooManyRows),
-        ),
-        (
-            b"401 Q0 dd 1 9 A\n".as_slice(),
-            0,
-            268_435_455,
-            Some(LineFault::TooManyNameBytes),
-        ),
-        (
-            b"401 Q0 d 1 9 A\n".as_slice(),
-            19_999_999,
-            268_435_455,
-            None,
-        ),
-    ];
-    for (run, rows, name_bytes, fault) in cases {
-        let used = Used { rows, name_bytes };
-        let refused = read_run(alloc, run, None, &qrels, used).err();
-        let wanted = match fault {
-            Some(fault) => Some(FileFault::Line { line: 1, fault }),
-            None => None,
-        };
-        assert_eq!(rt; refused, wanted);
     }
     Ok(())
 }

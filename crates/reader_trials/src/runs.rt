@@ -80,3 +80,39 @@ fn tells_the_first_fault(rt: HostRuntime) -> Result<(), Fail> {
     }
     Ok(())
 }
+
+#[test]
+fn what_came_before_counts(rt: HostRuntime) -> Result<(), Fail> {
+    let alloc = rt.alloc();
+    let qrels = qrels(alloc)?;
+    let cases = [
+        (
+            b"401 Q0 d 1 9 A\n".as_slice(),
+            20_000_000,
+            0,
+            Some(LineFault::TooManyRows),
+        ),
+        (
+            b"401 Q0 dd 1 9 A\n".as_slice(),
+            0,
+            268_435_455,
+            Some(LineFault::TooManyNameBytes),
+        ),
+        (
+            b"401 Q0 d 1 9 A\n".as_slice(),
+            19_999_999,
+            268_435_455,
+            None,
+        ),
+    ];
+    for (run, rows, name_bytes, fault) in cases {
+        let used = Used { rows, name_bytes };
+        let refused = read_run(alloc, run, None, &qrels, used).err();
+        let wanted = match fault {
+            Some(fault) => Some(FileFault::Line { line: 1, fault }),
+            None => None,
+        };
+        assert_eq!(rt; refused, wanted);
+    }
+    Ok(())
+}

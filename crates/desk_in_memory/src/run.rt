@@ -1,6 +1,7 @@
-// The top call over files, input and outputs in memory.
+// The call of a command line.
 ghost use Rattle.std.specs.Prelude.{◌≡◌, ◌<◌};
 
+use crate::outside::{Answer, FailingCall, Outside};
 use any_measure::Common;
 use desk_outside::{MemShelf, MemSink, MemSource};
 use desk_top::run_desk;
@@ -8,41 +9,6 @@ use measure_core::Steps;
 use std::alloc::{AllocError, Global};
 use std::marker::Brand;
 use std::sync::ledger::{Blank, Ledger};
-
-/// Which call of an object fails, counted from 0, if one does.
-pub type FailingCall = Option<u64>;
-
-/// How many bytes the output has room for, how many a call of the input gives and of the output takes at most, and which
-/// of their calls and of those of the files fail.
-#[derive(Clone, Copy)]
-pub struct Outside {
-    pub room: usize,
-    pub given: usize,
-    pub taken: usize,
-    pub files: FailingCall,
-    pub input: FailingCall,
-    pub out: FailingCall,
-    pub err: FailingCall,
-}
-
-/// An outside without a failing call.
-pub const SOUND: Outside = Outside {
-    room: 2_000,
-    given: 4096,
-    taken: 4096,
-    files: None,
-    input: None,
-    out: None,
-    err: None,
-};
-
-/// The status of a call, what its output received, and what its error output was told.
-#[derive(Drop)]
-pub struct Answer {
-    pub status: u8,
-    pub out: Vec<u8>,
-    pub err: Vec<u8>,
-}
 
 const ERROR_ROOM: usize = 2_000;
 
@@ -61,7 +27,8 @@ fn words_of(alloc: Global, line: &str) -> Result<Vec<String>, AllocError> {
     Ok(words)
 }
 
-fn shelf(
+/// A shelf of these files, by name and bytes, of whose calls this one fails.
+pub fn shelf_of(
     alloc: Global,
     files: &[(&str, &[u8])],
     failing: FailingCall,
@@ -71,6 +38,24 @@ fn shelf(
         held.push((String::from_str(alloc, name)?, bytes.to_vec(alloc)?))?;
     }
     Ok(MemShelf::new(held, calls(alloc, failing)?))
+}
+
+fn source_of(alloc: Global, lines: &[u8], outside: Outside) -> Result<MemSource, AllocError>
+    requires { 0 < outside.given }
+{
+    let failing = calls(alloc, outside.input)?;
+    Ok(MemSource::new(lines.to_vec(alloc)?, outside.given, failing))
+}
+
+fn sink_of(
+    alloc: Global,
+    room: usize,
+    taken: usize,
+    failing: FailingCall,
+) -> Result<MemSink, AllocError>
+    requires { 0 < taken }
+{
+    MemSink::new(alloc, room, taken, calls(alloc, failing)?).map_err(|_| AllocError)
 }
 
 fn status_of<L: Ledger>(
@@ -90,11 +75,12 @@ fn status_of<L: Ledger>(
     run_desk(alloc, words, files, input, out, err, &Common, &mut steps)
 }
 
-/// What the call of a command line answers over files, an input and an outside.
-pub fn run_line(
+/// What the call of a command line, words between single spaces, answers over a shelf, these lines of input and an
+/// outside. Which call of the files fails is the shelf's own.
+pub fn run_over(
     alloc: Global,
     line: &str,
-    files: &[(&str, &[u8])],
+    files: &mut MemShelf,
     lines: &[u8],
     outside: Outside,
 ) -> Result<Answer, AllocError>
@@ -102,22 +88,13 @@ pub fn run_line(
     requires taken { 0 < outside.taken }
 {
     let words = words_of(alloc, line)?;
-    let mut shelf = shelf(alloc, files, outside.files)?;
-    let mut input = MemSource::new(
-        lines.to_vec(alloc)?,
-        outside.given,
-        calls(alloc, outside.input)?,
-    );
-    let failing = calls(alloc, outside.out)?;
-    let mut out = MemSink::new(alloc, outside.room, outside.taken, failing).map_err(
-        |_| AllocError,
-    )?;
-    let failing = calls(alloc, outside.err)?;
-    let mut err = MemSink::new(alloc, ERROR_ROOM, 3, failing).map_err(|_| AllocError)?;
+    let mut input = source_of(alloc, lines, outside)?;
+    let mut out = sink_of(alloc, outside.room, outside.taken, outside.out)?;
+    let mut err = sink_of(alloc, ERROR_ROOM, 3, outside.err)?;
     let status = status_of::<Brand>(
         alloc,
         &words,
-        &mut shelf,
+        files,
         &mut input,
         &mut out,
         &mut err,
@@ -128,4 +105,19 @@ pub fn run_line(
         out: out.received().to_vec(alloc)?,
         err: err.received().to_vec(alloc)?,
     })
+}
+
+/// The same over files, by name and bytes.
+pub fn run_line(
+    alloc: Global,
+    line: &str,
+    files: &[(&str, &[u8])],
+    lines: &[u8],
+    outside: Outside,
+) -> Result<Answer, AllocError>
+    requires given { 0 < outside.given }
+    requires taken { 0 < outside.taken }
+{
+    let mut shelf = shelf_of(alloc, files, outside.files)?;
+    run_over(alloc, line, &mut shelf, lines, outside)
 }

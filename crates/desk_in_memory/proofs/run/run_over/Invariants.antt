@@ -1,4 +1,4 @@
-use Rattle.hostile_trials.proofs.outside.run_line.Given as goal
+use Rattle.desk_in_memory.proofs.run.run_over.Given as goal
 
 abbrev pub ghosts-status_of : goal.ghosts-status_of
 ghosts-status_of a = record { name = a.blank.name; parts = a.blank.parts }
