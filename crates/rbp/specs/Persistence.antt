@@ -13,14 +13,14 @@ pub record Persistence : Type 0 where
   pub bottom : ℕ
 
 -- the kept powers are those of the persistence, up to the 10,000th, and ranks are worth their weights, rounded down and up
-pub record AreKnown (top bottom : ℕ) (known : Known) (worths tops : List ℕ) : Type 0 where
+pub record AreKnown (top bottom : ℕ) (known : Known) (worths high_worths : List ℕ) : Type 0 where
   pub persistence : IsPersistence top bottom
   pub below : top < bottom
   pub top_is : known.top ≡ top
   pub bottom_is : known.bottom ≡ bottom
   pub last_is : known.last ≡ RANK_LIMIT
   pub worths_are : AreWorths (low_weight top bottom) worths
-  pub tops_are : AreWorths (high_weight top bottom) tops
+  pub high_worths_are : AreWorths (high_weight top bottom) high_worths
 
 -- from -10^27 to 10^27
 abbrev pub IsLoose : Span → Type 0

@@ -130,7 +130,7 @@ impl Rbp {
     {
         Parts {
             low: self.worths[rank as usize],
-            high: self.tops[rank as usize],
+            high: self.high_worths[rank as usize],
         }
     }
 

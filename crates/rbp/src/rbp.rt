@@ -37,7 +37,7 @@ pub struct Rbp {
     // The weight of each rank rounded down, by the rank: what it is worth in totals.
     pub(crate) worths: Vec<u64>,
     // The weight of each rank rounded up, by the rank.
-    pub(crate) tops: Vec<u64>,
+    pub(crate) high_worths: Vec<u64>,
 }
 
 impl Model for Rbp {
@@ -47,7 +47,7 @@ impl Model for Rbp {
 
     ghost view = { λ r. record { top = r.top; bottom = r.bottom } };
 
-    ghost invariant = { λ r. AreKnown r.top r.bottom r.powers r.worths.items r.tops.items };
+    ghost invariant = { λ r. AreKnown r.top r.bottom r.powers r.worths.items r.high_worths.items };
 }
 
 /// Whether a rank comes before another, where an absent one comes last.
@@ -95,13 +95,13 @@ impl Rbp {
     {
         let powers = Powers::new(alloc, top, bottom, 10000)?;
         let worths = low_weights(alloc, &powers)?;
-        let tops = high_weights(alloc, &powers)?;
+        let high_worths = high_weights(alloc, &powers)?;
         Ok(Rbp {
             top,
             bottom,
             powers,
             worths,
-            tops,
+            high_worths,
         })
     }
 
@@ -128,6 +128,7 @@ impl Rbp {
     {
         // What is kept of the persistence bounds the sums.
         let _ = &self.top;
+        // What the weights and the corrections are of.
         let _ = a;
         let _ = b;
         let _ = marks;
