@@ -1,4 +1,5 @@
 use Rattle.std.proofs.Common.{subst}
+use Rattle.std.proofs.lemmas.Result.{IfOk-weaker}
 use Rattle.desk_model.specs.declared.types.MeasureName.TheVariants.{Precision}
 use Rattle.pair_reports.specs.Reports.{IsTableOn, subject}
 use Rattle.desk_top.proofs.Marking.{marks_known}
@@ -12,3 +13,8 @@ texts_of-requires-clause-table g c =
     let M = g.P.Made.Measure in
     let kept = c.in_ok-table.table in
     subst (λ marks. IsTableOn (M.measured kept.measure) (M.cell_of kept.measure) (M.bounds_of kept.measure) (subject (Precision 10) 1 c.in_ok-demo.demo.desk marks) kept) c.in_ok-marks.ensures (c.in_ok-table.ensures.table 1)
+
+pub returns-clause-text : goal.returns-clause-text
+returns-clause-text g c =
+    let demo = c.in_ok-demo.demo in
+    IfOk-weaker c.texts_of.result _ _ (λ text shown. record { desk = demo.desk; rows = demo.rows; made = c.in_ok-demo.ensures.demo; shown = shown }) c.texts_of.ensures
