@@ -1,5 +1,9 @@
-//! The next document to judge on small desks, under measures of the desk: tests alone.
+//! Desks of small files, whole or in pieces, and the next document to judge on them: tests alone.
 #![tactic(auto)]
 
 #[cfg(test)]
-mod tests;
+mod cuts;
+#[cfg(test)]
+mod desks;
+#[cfg(test)]
+mod proposals;

@@ -1,39 +1,12 @@
 // Proposals worked out by hand. There are two runs, so there is one pair.
-ghost use Rattle.std.specs.Prelude.{◌≡◌, ◌≤◌, length, IfOk};
 ghost use Rattle.desk_model.specs.MeasureText.{IsMeasure};
-ghost use Rattle.run_reader.specs.declared.limits.TheConstants.{MOST_RUN_ROWS};
-ghost use Rattle.topics_pool.specs.Rows.{total_rows};
 
+use crate::desks::{desk_of, marks_of};
 use any_measure::AnyMeasure;
-use desk_model::{Marks, MeasureName, Verdict};
+use desk_model::{MeasureName, Verdict};
 use next_document::{Proposal, next};
-use qrels_reader::{Qrels, read_qrels};
-use run_reader::{RunRows, Used, read_run};
 use std::alloc::Global;
 use std::test::Fail;
-use topics_pool::build_desk;
-
-fn read_runs(
-    alloc: Global,
-    qrels: &Qrels,
-    first: &[u8],
-    second: &[u8],
-) -> Result<Vec<RunRows>, Fail>
-    ensures two { IfOk result (λ runs. length runs.items ≡ 2) }
-    ensures rows { IfOk result (λ runs. total_rows runs.items ≤ MOST_RUN_ROWS) }
-{
-    let none = Used {
-        rows: 0,
-        name_bytes: 0,
-    };
-    let first = read_run(alloc, first, None, qrels, none)?;
-    let second = read_run(alloc, second, None, qrels, first.used())?;
-    let _ = second.used();
-    let mut runs = Vec::new(alloc);
-    runs.push(first)?;
-    runs.push(second)?;
-    Ok(runs)
-}
 
 // The proposal for these files at level 1, where the pair has this verdict.
 fn next_of(
@@ -44,11 +17,9 @@ fn next_of(
 ) -> Result<Option<Proposal>, Fail>
     requires { IsMeasure name }
 {
-    let qrels = read_qrels(alloc, files[0])?;
-    let runs = read_runs(alloc, &qrels, files[1], files[2])?;
-    let desk = build_desk(alloc, qrels, runs)?;
-    let _ = desk.topic_count();
-    let marks = Marks::of_file(alloc, &desk, 1)?;
+    let [qrels, first, second] = files;
+    let desk = desk_of(alloc, &[qrels], &[first], &[second])?;
+    let marks = marks_of(alloc, &desk)?;
     let measure = AnyMeasure::new(alloc, name)?;
     Ok(next(&measure, &desk, &marks, &[verdict]))
 }
