@@ -3,6 +3,10 @@
 #![tactic(auto)]
 
 #[cfg(test)]
+mod anew;
+#[cfg(test)]
 mod counting;
 #[cfg(test)]
 mod kept;
+#[cfg(test)]
+mod session;
