@@ -8,3 +8,4 @@ pub mod Blocks
 pub mod Strands
 pub mod Counted
 pub mod Ranked
+pub mod Slack

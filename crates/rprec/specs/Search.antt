@@ -1,16 +1,17 @@
 -- The search for the best of many greedy choices.
 use Rattle.desk_model.specs.Limits.{RANK_LIMIT}
-use Rattle.std.specs.Prelude.{◌≡◌, ℕ, ◌+◌, ◌<◌, ◌≤◌, ◌&&◌, ◌||◌, ◌⊎◌, Bool, false, not, nat_lt, if◌then◌else◌, slice_index_or}
+use Rattle.std.specs.Prelude.{◌≡◌, ℕ, ◌+◌, ◌<◌, ◌≤◌, ◌&&◌, ◌||◌, ◌⊎◌, Bool, true, false, not, nat_lt, if◌then◌else◌, slice_index_or}
 use Rattle.topic_counts.specs.declared.counts.Counts.{Counts}
 use Rattle.rprec.specs.declared.depths.Column.{Column}
 use Rattle.rprec.specs.declared.prefixes.Prefixes.{Prefixes}
 use Rattle.rprec.specs.declared.greedy.Candidate.{Candidate}
 use Rattle.rprec.specs.declared.search.Choices.{Choices}
+use Rattle.rprec.specs.declared.search.Slack.{Slack}
 use Rattle.rprec.specs.Greedy.{AreFew, beats, candidate}
 
 -- the counts at a place of a column, and of two columns
 abbrev pub counts_at : Column → ℕ → Counts
-counts_at column place = slice_index_or column.counts place (record { relevant = 0; unjudged = 0 })
+counts_at column place = record { relevant = slice_index_or column.relevant place 0; unjudged = slice_index_or column.unjudged place 0 }
 
 abbrev pub prefixes_at : Column → Column → ℕ → Prefixes
 prefixes_at first second place = record { first = counts_at first place; second = counts_at second place }
@@ -56,3 +57,9 @@ pub record IsChoiceOf (choices : ℕ → Candidate) (start end : ℕ) (earlier b
 pub record IsBestOf (choices : ℕ → Candidate) (start end : ℕ) (earlier best : Candidate) : Type 0 where
   pub choice : IsChoiceOf choices start end earlier best
   pub none : (place : ℕ) → start ≤ place → place < end → precedes (choices place) best ≡ false
+
+-- what is added to the counts of both runs: a candidate with a number of relevant documents from the low to the high one has a greater difference than another one where the second sum is no greater than the first
+pub record IsSlack (low high : ℕ) (best : Candidate) (slack : Slack) : Type 0 where
+  pub behind : (c : Candidate) → low ≤ c.count → c.count ≤ high → c.second + slack.second ≤ c.first + slack.first → beats best c ≡ true
+  pub first_few : slack.first ≤ 200000000
+  pub second_few : slack.second ≤ 200000000

@@ -13,10 +13,12 @@ use topic_counts::counts::Counts;
 /// How many depths are looked at in one go: the length of a column.
 pub const STRETCH: u32 = 1024;
 
-/// The counts of one of two runs at consecutive depths.
+/// The counts of one of two runs at consecutive depths: of its relevant documents, and of its own
+/// unjudged ones.
 #[derive(Drop)]
 pub struct Column {
-    pub counts: [Counts; 1024],
+    pub relevant: [u32; 1024],
+    pub unjudged: [u32; 1024],
 }
 
 /// The counts of two runs at consecutive depths, those of the first depth at place 0.
@@ -29,7 +31,8 @@ pub struct Depths {
 impl Column {
     fn new() -> Column {
         Column {
-            counts: [Counts::NONE; 1024],
+            relevant: [0; 1024],
+            unjudged: [0; 1024],
         }
     }
 
@@ -38,7 +41,10 @@ impl Column {
         requires { place < 1024 }
         ensures { result ≡ counts_of self.now place }
     {
-        self.counts[place as usize]
+        Counts {
+            relevant: self.relevant[place as usize],
+            unjudged: self.unjudged[place as usize],
+        }
     }
 
     fn put(&mut self, place: u32, counts: Counts)
@@ -46,7 +52,8 @@ impl Column {
         ensures here { counts_of self.new place ≡ counts }
         ensures others { (other : ℕ) → other ≢ place → counts_of self.new other ≡ counts_of self.old other }
     {
-        self.counts[place as usize] = counts;
+        self.relevant[place as usize] = counts.relevant;
+        self.unjudged[place as usize] = counts.unjudged;
     }
 }
 

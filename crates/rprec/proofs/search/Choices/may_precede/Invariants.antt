@@ -3,4 +3,4 @@ use Rattle.rprec.specs.Search.{choice_of, precedes}
 use Rattle.rprec.proofs.search.Choices.may_precede.Given as goal
 
 abbrev pub invariant-loop-place : goal.invariant-loop-place
-invariant-loop-place l = l.found ≡ false → (place : ℕ) → l.start ≤ place → place < l.place → precedes (choice_of l.self place) l.best ≡ false
+invariant-loop-place l = l.found ≡ false → (place : ℕ) → l.start ≤ place → place < l.place → precedes (choice_of l.self place) l.fn.best ≡ false
