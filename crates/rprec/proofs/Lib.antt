@@ -9,3 +9,4 @@ pub mod Strands
 pub mod Counted
 pub mod Ranked
 pub mod Slack
+pub mod Packed

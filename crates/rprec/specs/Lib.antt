@@ -4,3 +4,4 @@ pub mod Picks
 pub mod Laws
 pub mod Search
 pub mod Walk
+pub mod Packed

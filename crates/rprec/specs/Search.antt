@@ -8,10 +8,11 @@ use Rattle.rprec.specs.declared.greedy.Candidate.{Candidate}
 use Rattle.rprec.specs.declared.search.Choices.{Choices}
 use Rattle.rprec.specs.declared.search.Slack.{Slack}
 use Rattle.rprec.specs.Greedy.{AreFew, beats, candidate}
+use Rattle.rprec.specs.Packed.{unpack}
 
 -- the counts at a place of a column, and of two columns
 abbrev pub counts_at : Column → ℕ → Counts
-counts_at column place = record { relevant = slice_index_or column.relevant place 0; unjudged = slice_index_or column.unjudged place 0 }
+counts_at column place = unpack (slice_index_or column.numbers place 0)
 
 abbrev pub prefixes_at : Column → Column → ℕ → Prefixes
 prefixes_at first second place = record { first = counts_at first place; second = counts_at second place }

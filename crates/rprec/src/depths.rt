@@ -2,10 +2,11 @@ ghost use Rattle.std.specs.Prelude.{◌≡◌, ◌≢◌, ℕ, ◌+◌, ◌<◌,
 ghost use Rattle.desk_model.specs.Limits.{RANK_LIMIT};
 ghost use Rattle.desk_model.specs.Ranking.{IsRanking};
 ghost use Rattle.rprec.specs.Greedy.{ArePrefixes};
+ghost use Rattle.rprec.specs.Packed.{unpack, unpacked_of};
 ghost use Rattle.rprec.specs.Search.{counts_at as counts_of, prefixes_at};
 ghost use Rattle.rprec.specs.Shared.{AreShared};
 
-use crate::prefixes::{Prefixes, counts_at, deepened, next_counts};
+use crate::prefixes::{Packed, Prefixes, counts_at, counts_in, deepened, next_counts, number_of};
 use crate::shared::Shared;
 use desk_model::Mark;
 use topic_counts::counts::Counts;
@@ -13,12 +14,10 @@ use topic_counts::counts::Counts;
 /// How many depths are looked at in one go: the length of a column.
 pub const STRETCH: u32 = 1024;
 
-/// The counts of one of two runs at consecutive depths: of its relevant documents, and of its own
-/// unjudged ones.
+/// The counts of one of two runs at consecutive depths, each two in one number.
 #[derive(Drop)]
 pub struct Column {
-    pub relevant: [u32; 1024],
-    pub unjudged: [u32; 1024],
+    pub numbers: [u32; 1024],
 }
 
 /// The counts of two runs at consecutive depths, those of the first depth at place 0.
@@ -30,10 +29,7 @@ pub struct Depths {
 
 impl Column {
     fn new() -> Column {
-        Column {
-            relevant: [0; 1024],
-            unjudged: [0; 1024],
-        }
+        Column { numbers: [0; 1024] }
     }
 
     /// The counts at a place.
@@ -41,19 +37,15 @@ impl Column {
         requires { place < 1024 }
         ensures { result ≡ counts_of self.now place }
     {
-        Counts {
-            relevant: self.relevant[place as usize],
-            unjudged: self.unjudged[place as usize],
-        }
+        counts_in(self.numbers[place as usize])
     }
 
-    fn put(&mut self, place: u32, counts: Counts)
+    fn put(&mut self, place: u32, number: u32)
         requires { place < 1024 }
-        ensures here { counts_of self.new place ≡ counts }
+        ensures here { counts_of self.new place ≡ unpack number }
         ensures others { (other : ℕ) → other ≢ place → counts_of self.new other ≡ counts_of self.old other }
     {
-        self.relevant[place as usize] = counts.relevant;
-        self.unjudged[place as usize] = counts.unjudged;
+        self.numbers[place as usize] = number;
     }
 }
 
@@ -66,13 +58,13 @@ impl Depths {
         }
     }
 
-    fn put(&mut self, place: u32, prefixes: Prefixes)
+    fn put(&mut self, place: u32, packed: Packed)
         requires { place < 1024 }
-        ensures here { prefixes_at self.new.first self.new.second place ≡ prefixes }
+        ensures here { prefixes_at self.new.first self.new.second place ≡ unpacked_of packed }
         ensures others { (other : ℕ) → other ≢ place → prefixes_at self.new.first self.new.second other ≡ prefixes_at self.old.first self.old.second other }
     {
-        self.first.put(place, prefixes.first);
-        self.second.put(place, prefixes.second);
+        self.first.put(place, packed.first);
+        self.second.put(place, packed.second);
     }
 
     /// Enters the counts at so many depths beyond one, where both runs are as long.
@@ -97,16 +89,18 @@ impl Depths {
         ensures each { (place : ℕ) → place < count → ArePrefixes marks.now (take (depth + place + 1) a.now) (take (depth + place + 1) b.now) (prefixes_at self.new.first self.new.second place) }
         ensures last { ArePrefixes marks.now (take (depth + count) a.now) (take (depth + count) b.now) result }
     {
-        let mut prefixes = prefixes;
+        let mut packed = prefixes.in_numbers();
         for place in 0..count {
             let next = depth + place;
             let both = u32::from(shared.counts[next as usize]);
             let one = counts_at(a, next, marks);
             let two = counts_at(b, next, marks);
-            prefixes = deepened(prefixes, one, two, both);
-            self.put(place, prefixes);
+            let first = number_of(one);
+            let second = number_of(two);
+            packed = deepened(packed, first, second, both);
+            self.put(place, packed);
         }
-        prefixes
+        packed.unpacked()
     }
 
     /// Enters the counts at so many depths beyond one, where a run may end before.
@@ -129,16 +123,18 @@ impl Depths {
         ensures each { (place : ℕ) → place < count → ArePrefixes marks.now (take (depth + place + 1) a.now) (take (depth + place + 1) b.now) (prefixes_at self.new.first self.new.second place) }
         ensures last { ArePrefixes marks.now (take (depth + count) a.now) (take (depth + count) b.now) result }
     {
-        let mut prefixes = prefixes;
+        let mut packed = prefixes.in_numbers();
         for place in 0..count {
             let next = depth + place;
             let both = u32::from(shared.counts[next as usize]);
             let one = next_counts(a, next, marks);
             let two = next_counts(b, next, marks);
-            prefixes = deepened(prefixes, one, two, both);
-            self.put(place, prefixes);
+            let first = number_of(one);
+            let second = number_of(two);
+            packed = deepened(packed, first, second, both);
+            self.put(place, packed);
         }
-        prefixes
+        packed.unpacked()
     }
 
     /// Enters the counts at so many depths beyond one, and gives the last of them.

@@ -1,7 +1,9 @@
-ghost use Rattle.std.specs.Prelude.{◌≡◌, ℕ, ◌+◌, ◌<◌, List, length, take, true, false};
+ghost use Rattle.std.specs.Prelude.{◌≡◌, ℕ, ◌+◌, ◌<◌, ◌≤◌, List, length, take, true, false};
+ghost use Rattle.desk_model.specs.Limits.{RANK_LIMIT};
 ghost use Rattle.desk_model.specs.Ranking.{IsRanking};
 ghost use Rattle.desk_model.specs.declared.types.Mark.{Mark as M};
-ghost use Rattle.rprec.specs.Greedy.{AreBefore, ArePrefixes, AreNext, swapped, one_of};
+ghost use Rattle.rprec.specs.Greedy.{AreNext, swapped, one_of};
+ghost use Rattle.rprec.specs.Packed.{AreNextPacked, ArePacked, pack, packed_of, unpack, unpacked_of};
 
 use desk_model::Mark;
 use topic_counts::counts::Counts;
@@ -14,7 +16,59 @@ pub struct Prefixes {
     pub second: Counts,
 }
 
+/// The counts of two runs' first documents, where one number holds both counts of a run.
+#[derive(Clone, Copy, PartialEq, Eq, Debug)]
+pub struct Packed {
+    pub first: u32,
+    pub second: u32,
+}
+
+/// What a relevant document adds to a number that holds two counts, where an unjudged one adds 1.
+const RELEVANT: u32 = 65_536;
+
+/// The number that holds two counts.
+pub fn number_of(counts: Counts) -> u32
+    requires { counts.relevant + counts.unjudged ≤ RANK_LIMIT }
+    ensures { result ≡ pack counts }
+{
+    counts.relevant * RELEVANT + counts.unjudged
+}
+
+/// The two counts in a number.
+pub fn counts_in(number: u32) -> Counts
+    ensures { result ≡ unpack number }
+{
+    Counts {
+        relevant: number / RELEVANT,
+        unjudged: number % RELEVANT,
+    }
+}
+
+impl Packed {
+    /// The counts, each by itself.
+    pub fn unpacked(self) -> Prefixes
+        ensures { result ≡ unpacked_of self }
+    {
+        Prefixes {
+            first: counts_in(self.first),
+            second: counts_in(self.second),
+        }
+    }
+}
+
 impl Prefixes {
+    /// With both counts of each run in one number.
+    pub fn in_numbers(self) -> Packed
+        requires first { self.first.relevant + self.first.unjudged ≤ RANK_LIMIT }
+        requires second { self.second.relevant + self.second.unjudged ≤ RANK_LIMIT }
+        ensures { result ≡ packed_of self }
+    {
+        Packed {
+            first: number_of(self.first),
+            second: number_of(self.second),
+        }
+    }
+
     /// With the swapped runs.
     pub fn swapped(self) -> Prefixes
         ensures { result ≡ swapped self }
@@ -65,20 +119,14 @@ pub fn next_counts(docs: &[u32], place: u32, marks: &[Mark]) -> Counts
     }
 }
 
-/// The counts with those of the next document of each run, where it is known how many unjudged ones
-/// both have now and had not before.
-pub fn deepened(prefixes: Prefixes, one: Counts, two: Counts, both: u32) -> Prefixes
-    requires { (marks : List M) × (a : List ℕ) × (b : List ℕ) × (place : ℕ) × AreBefore marks a b place prefixes one two both }
-    ensures { (marks : List M) (a b : List ℕ) (place : ℕ) → AreBefore marks a b place prefixes one two both → ArePrefixes marks (take (place + 1) a) (take (place + 1) b) result }
+/// The counts with those of the next document of each run, which are packed too, where it is known how
+/// many unjudged ones both have now and had not before.
+pub fn deepened(packed: Packed, one: u32, two: u32, both: u32) -> Packed
+    requires { (marks : List M) × (a : List ℕ) × (b : List ℕ) × (place : ℕ) × AreNextPacked marks a b place packed one two both }
+    ensures { (marks : List M) (a b : List ℕ) (place : ℕ) → AreNextPacked marks a b place packed one two both → ArePacked marks (take (place + 1) a) (take (place + 1) b) result }
 {
-    Prefixes {
-        first: Counts {
-            relevant: prefixes.first.relevant + one.relevant,
-            unjudged: prefixes.first.unjudged + one.unjudged - both,
-        },
-        second: Counts {
-            relevant: prefixes.second.relevant + two.relevant,
-            unjudged: prefixes.second.unjudged + two.unjudged - both,
-        },
+    Packed {
+        first: packed.first + one - both,
+        second: packed.second + two - both,
     }
 }

@@ -2,36 +2,79 @@ use Rattle.std.proofs.Common.{◌≡◌, ℕ, ◌+◌, take, arith, sym, subst, 
 use Rattle.std.proofs.lemmas.Bool.{cases_lt}
 use Rattle.rprec.specs.declared.prefixes.Prefixes.{Prefixes}
 use Rattle.rprec.specs.Greedy.{ArePrefixes}
+use Rattle.rprec.specs.Packed.{ArePacked}
 use Rattle.rprec.specs.Search.{prefixes_at}
 use Rattle.rprec.proofs.Counted.{counted_before}
+use Rattle.rprec.proofs.Packed.{first_few, one_few, packed_prefixes, second_few}
 use Rattle.rprec.proofs.depths.Depths.enter_beyond.Goals as goal
+
+pub in_numbers-packed-requires-clause-first : goal.in_numbers-packed-requires-clause-first
+in_numbers-packed-requires-clause-first c = first_few c.args.marks.now c.args.a.now c.args.b.now c.args.depth c.args.prefixes c.requires.a.short c.requires.prefixes
+
+pub in_numbers-packed-requires-clause-second : goal.in_numbers-packed-requires-clause-second
+in_numbers-packed-requires-clause-second c = second_few c.args.marks.now c.args.a.now c.args.b.now c.args.depth c.args.prefixes c.requires.b.short c.requires.prefixes
+
+pub number_of-first-requires : goal.number_of-first-requires
+number_of-first-requires c = omega (arith, one_few c.args.marks.now c.args.a.now (c.args.depth + c.loop-place.place) c.next_counts-one.result c.next_counts-one.ensures)
+
+pub number_of-second-requires : goal.number_of-second-requires
+number_of-second-requires c = omega (arith, one_few c.args.marks.now c.args.b.now (c.args.depth + c.loop-place.place) c.next_counts-two.result c.next_counts-two.ensures)
 
 pub loop-place-init : goal.loop-place-init
 loop-place-init c = record {
-  prefixes = subst (λ (r : ℕ). ArePrefixes c.args.marks.now (take r c.args.a.now) (take r c.args.b.now) c.args.prefixes) (omega arith) c.requires.prefixes;
+  packed = subst (λ (r : ℕ). ArePacked c.args.marks.now (take r c.args.a.now) (take r c.args.b.now) c.in_numbers-packed.result) (omega arith) (record { prefixes = c.args.prefixes; counts = c.requires.prefixes; same = c.in_numbers-packed.ensures });
   each = λ place lt. absurd (omega arith);
 }
 
-pub deepened-prefixes-requires : goal.deepened-prefixes-requires
-deepened-prefixes-requires c = (c.args.marks.now, c.args.a.now, c.args.b.now, c.args.depth + c.loop-place.place, counted_before c.args.marks.now c.args.a.now c.args.b.now (c.args.depth + c.loop-place.place) c.loop-place.prefixes c.next_counts-one.result c.next_counts-two.result c.args.shared.now.counts c.from-both.result c.from-both.ensures c.requires.a c.requires.b c.requires.shared (omega (arith, c.requires.depth, c.loop-place-test.true)) c.loop-place.invariant.prefixes c.next_counts-one.ensures c.next_counts-two.ensures)
+pub deepened-packed-requires : goal.deepened-packed-requires
+deepened-packed-requires c = (
+  c.args.marks.now,
+  c.args.a.now,
+  c.args.b.now,
+  c.args.depth + c.loop-place.place,
+  record {
+    prefixes = c.loop-place.invariant.packed.prefixes;
+    first = c.next_counts-one.result;
+    second = c.next_counts-two.result;
+    before = counted_before c.args.marks.now c.args.a.now c.args.b.now (c.args.depth + c.loop-place.place) c.loop-place.invariant.packed.prefixes c.next_counts-one.result c.next_counts-two.result c.args.shared.now.counts c.from-both.result c.from-both.ensures c.requires.a c.requires.b c.requires.shared (omega (arith, c.requires.depth, c.loop-place-test.true)) c.loop-place.invariant.packed.counts c.next_counts-one.ensures c.next_counts-two.ensures;
+    same = c.loop-place.invariant.packed.same;
+    one_packed = c.number_of-first.ensures;
+    two_packed = c.number_of-second.ensures;
+  },
+)
 
 pub loop-place-preserved : goal.loop-place-preserved
 loop-place-preserved c =
-    let after = c.deepened-prefixes.ensures c.args.marks.now c.args.a.now c.args.b.now (c.args.depth + c.loop-place.place) (counted_before c.args.marks.now c.args.a.now c.args.b.now (c.args.depth + c.loop-place.place) c.loop-place.prefixes c.next_counts-one.result c.next_counts-two.result c.args.shared.now.counts c.from-both.result c.from-both.ensures c.requires.a c.requires.b c.requires.shared (omega (arith, c.requires.depth, c.loop-place-test.true)) c.loop-place.invariant.prefixes c.next_counts-one.ensures c.next_counts-two.ensures) in
+    let marks = c.args.marks.now in
+    let a = c.args.a.now in
+    let b = c.args.b.now in
+    let here = c.args.depth + c.loop-place.place in
+    let after : ArePacked marks (take (here + 1) a) (take (here + 1) b) c.deepened-packed.result = c.deepened-packed.ensures marks a b here (record {
+      prefixes = c.loop-place.invariant.packed.prefixes;
+      first = c.next_counts-one.result;
+      second = c.next_counts-two.result;
+      before = counted_before c.args.marks.now c.args.a.now c.args.b.now (c.args.depth + c.loop-place.place) c.loop-place.invariant.packed.prefixes c.next_counts-one.result c.next_counts-two.result c.args.shared.now.counts c.from-both.result c.from-both.ensures c.requires.a c.requires.b c.requires.shared (omega (arith, c.requires.depth, c.loop-place-test.true)) c.loop-place.invariant.packed.counts c.next_counts-one.ensures c.next_counts-two.ensures;
+      same = c.loop-place.invariant.packed.same;
+      one_packed = c.number_of-first.ensures;
+      two_packed = c.number_of-second.ensures;
+    }) in
     record {
-      prefixes = subst (λ (r : ℕ). ArePrefixes c.args.marks.now (take r c.args.a.now) (take r c.args.b.now) c.deepened-prefixes.result) (omega arith) after;
-      each = λ place lt.
-          let at : Prefixes → Type 0 = λ f. ArePrefixes c.args.marks.now (take (c.args.depth + place + 1) c.args.a.now) (take (c.args.depth + place + 1) c.args.b.now) f in
-          elim (cases_lt place c.loop-place.place) [
-            | inl less ↦ subst at (sym (c.put.ensures.others place (λ e. absurd (omega (arith, e, less))))) (c.loop-place.invariant.each place less)
-            | inr more ↦
-                let same : c.loop-place.place ≡ place = omega (arith, lt, more) in
-                subst (λ (p : ℕ). ArePrefixes c.args.marks.now (take (c.args.depth + p + 1) c.args.a.now) (take (c.args.depth + p + 1) c.args.b.now) (prefixes_at c.put.new.self.first c.put.new.self.second p)) same
-                (subst (λ (f : Prefixes). ArePrefixes c.args.marks.now (take (c.args.depth + c.loop-place.place + 1) c.args.a.now) (take (c.args.depth + c.loop-place.place + 1) c.args.b.now) f) (sym c.put.ensures.here) after)
-          ];
+      packed = subst (λ (r : ℕ). ArePacked marks (take r a) (take r b) c.deepened-packed.result) (omega arith) after;
+      each = λ place lt. elim (cases_lt place c.loop-place.place) [
+        | inl less ↦
+            subst (λ (f : Prefixes). ArePrefixes marks (take (c.args.depth + place + 1) a) (take (c.args.depth + place + 1) b) f) (sym (c.put.ensures.others place (λ e. absurd (omega (arith, e, less))))) (c.loop-place.invariant.each place less)
+        | inr more ↦
+            let same : c.loop-place.place ≡ place = omega (arith, lt, more) in
+            subst (λ (p : ℕ). ArePrefixes marks (take (c.args.depth + p + 1) a) (take (c.args.depth + p + 1) b) (prefixes_at c.put.new.self.first c.put.new.self.second p)) same
+            (subst (λ (f : Prefixes). ArePrefixes marks (take (here + 1) a) (take (here + 1) b) f) (sym c.put.ensures.here) (packed_prefixes marks a b (here + 1) c.deepened-packed.result c.requires.a.short c.requires.b.short after))
+      ];
     }
 
 pub returns-clause-last : goal.returns-clause-last
 returns-clause-last c =
+    let marks = c.args.marks.now in
+    let a = c.args.a.now in
+    let b = c.args.b.now in
     let ended : c.loop-place.place ≡ c.args.count = omega (arith, c.loop-place-test.false, c.loop-place.auto) in
-    subst (λ (p : ℕ). ArePrefixes c.args.marks.now (take (c.args.depth + p) c.args.a.now) (take (c.args.depth + p) c.args.b.now) c.loop-place.prefixes) ended c.loop-place.invariant.prefixes
+    let last = packed_prefixes marks a b (c.args.depth + c.loop-place.place) c.loop-place.packed c.requires.a.short c.requires.b.short c.loop-place.invariant.packed in
+    subst (λ (p : ℕ). ArePrefixes marks (take (c.args.depth + p) a) (take (c.args.depth + p) b) c.unpacked.result) ended (subst (ArePrefixes marks (take (c.args.depth + c.loop-place.place) a) (take (c.args.depth + c.loop-place.place) b)) (sym c.unpacked.ensures) last)

@@ -1,0 +1,37 @@
+-- Two counts in one number.
+use Rattle.std.specs.Prelude.{◌≡◌, ℕ, ◌+◌, ◌*◌, ◌/◌, ◌%◌, List}
+use Rattle.desk_model.specs.declared.types.Mark.{Mark}
+use Rattle.topic_counts.specs.declared.counts.Counts.{Counts}
+use Rattle.rprec.specs.declared.prefixes.Packed.{Packed}
+use Rattle.rprec.specs.declared.prefixes.Prefixes.{Prefixes}
+use Rattle.rprec.specs.Greedy.{AreBefore, ArePrefixes}
+
+-- the number that holds two counts, and the counts that a number holds
+abbrev pub pack : Counts → ℕ
+pack counts = counts.relevant * 65536 + counts.unjudged
+
+abbrev pub unpack : ℕ → Counts
+unpack number = record { relevant = number / 65536; unjudged = number % 65536 }
+
+-- the same for the counts of two runs
+abbrev pub packed_of : Prefixes → Packed
+packed_of prefixes = record { first = pack prefixes.first; second = pack prefixes.second }
+
+abbrev pub unpacked_of : Packed → Prefixes
+unpacked_of packed = record { first = unpack packed.first; second = unpack packed.second }
+
+-- numbers that hold the counts of two lists
+pub record ArePacked (marks : List Mark) (xs ys : List ℕ) (packed : Packed) : Type 0 where
+  pub prefixes : Prefixes
+  pub counts : ArePrefixes marks xs ys prefixes
+  pub same : packed ≡ packed_of prefixes
+
+-- and those of the documents at a place, where so many unjudged ones of these are then shared
+pub record AreNextPacked (marks : List Mark) (a b : List ℕ) (place : ℕ) (packed : Packed) (one two both : ℕ) : Type 0 where
+  pub prefixes : Prefixes
+  pub first : Counts
+  pub second : Counts
+  pub before : AreBefore marks a b place prefixes first second both
+  pub same : packed ≡ packed_of prefixes
+  pub one_packed : one ≡ pack first
+  pub two_packed : two ≡ pack second
