@@ -1,5 +1,5 @@
 -- Two counts in one number.
-use Rattle.std.proofs.Common.{ℕ, Bool, true, false, ◌+◌, ◌/◌, ◌%◌, ◌<◌, ◌≤◌, List, length, take, arith, ap, ◌∙◌, inl, inr}
+use Rattle.std.proofs.Common.{◌≡◌, ℕ, Bool, true, false, ◌+◌, ◌/◌, ◌%◌, ◌<◌, ◌≤◌, List, length, take, refl, arith, ap, ◌∙◌, inl, inr}
 use Rattle.std.specs.Prelude.{if◌then◌else◌, slice_index}
 use Rattle.std.proofs.lemmas.Bool.{cases_lt}
 use Rattle.std.proofs.lemmas.List.{length-take}
@@ -7,11 +7,13 @@ use Rattle.std.proofs.lemmas.Nat.{div-mul-add, mod-mul-add}
 use Rattle.desk_model.specs.Mark.{mark_at}
 use Rattle.desk_model.specs.Completion.{picked_value}
 use Rattle.desk_model.specs.declared.types.Mark.{Mark}
+use Rattle.desk_model.specs.declared.types.Mark.TheVariants.{Unjudged, Relevant, Other}
+use Rattle.topic_counts.specs.Own.{AreCountsOf}
 use Rattle.topic_counts.specs.declared.counts.Counts.{Counts}
 use Rattle.rprec.specs.declared.prefixes.Packed.{Packed}
 use Rattle.rprec.specs.declared.prefixes.Prefixes.{Prefixes}
-use Rattle.rprec.specs.Greedy.{AreBefore, AreNext, ArePrefixes}
-use Rattle.rprec.specs.Packed.{ArePacked, unpacked_of}
+use Rattle.rprec.specs.Greedy.{AreBefore, AreNext, ArePrefixes, one_of}
+use Rattle.rprec.specs.Packed.{ArePacked, IsNext, counts_for, pack, unpacked_of}
 use Rattle.rprec.proofs.Steps.{same_counts}
 
 -- ---- sizes
@@ -48,3 +50,15 @@ packed_prefixes marks a b n packed sa sb h =
     (ap (λ (p : Packed). p.second / 65536) h.same ∙ div-mul-add f.second.relevant 65536 f.second.unjudged second_low)
     (ap (λ (p : Packed). p.second % 65536) h.same ∙ mod-mul-add f.second.relevant 65536 f.second.unjudged second_low)
     h.counts
+
+-- ---- the next document
+pub next_here : (marks : List Mark) (docs : List ℕ) (place number : ℕ) → place < length docs → number ≡ pack (counts_for (mark_at marks (slice_index docs place))) → IsNext marks docs place number
+next_here marks docs place number lt e = record { counts = counts_for (mark_at marks (slice_index docs place)); next = record { here = λ h. either (mark_at marks (slice_index docs place)); past = λ h. absurd (omega (arith, lt, h)) }; same = e }
+  where
+    either : (m : Mark) → AreCountsOf (one_of false m) (one_of true m) (counts_for m)
+    either Relevant = record { least = refl; most = refl }
+    either Unjudged = record { least = refl; most = refl }
+    either Other = record { least = refl; most = refl }
+
+pub next_past : (marks : List Mark) (docs : List ℕ) (place : ℕ) → length docs ≤ place → IsNext marks docs place 0
+next_past marks docs place le = record { counts = record { relevant = 0; unjudged = 0 }; next = record { here = λ h. absurd (omega (arith, le, h)); past = λ h. record { least = refl; most = refl } }; same = refl }

@@ -6,7 +6,7 @@ ghost use Rattle.rprec.specs.Packed.{unpack, unpacked_of};
 ghost use Rattle.rprec.specs.Search.{counts_at as counts_of, prefixes_at};
 ghost use Rattle.rprec.specs.Shared.{AreShared};
 
-use crate::prefixes::{Packed, Prefixes, counts_at, counts_in, deepened, next_counts, number_of};
+use crate::prefixes::{Packed, Prefixes, counts_in, deepened, next_number, number_at};
 use crate::shared::Shared;
 use desk_model::Mark;
 use topic_counts::counts::Counts;
@@ -93,11 +93,9 @@ impl Depths {
         for place in 0..count {
             let next = depth + place;
             let both = u32::from(shared.counts[next as usize]);
-            let one = counts_at(a, next, marks);
-            let two = counts_at(b, next, marks);
-            let first = number_of(one);
-            let second = number_of(two);
-            packed = deepened(packed, first, second, both);
+            let one = number_at(a, next, marks);
+            let two = number_at(b, next, marks);
+            packed = deepened(packed, one, two, both);
             self.put(place, packed);
         }
         packed.unpacked()
@@ -127,11 +125,9 @@ impl Depths {
         for place in 0..count {
             let next = depth + place;
             let both = u32::from(shared.counts[next as usize]);
-            let one = next_counts(a, next, marks);
-            let two = next_counts(b, next, marks);
-            let first = number_of(one);
-            let second = number_of(two);
-            packed = deepened(packed, first, second, both);
+            let one = next_number(a, next, marks);
+            let two = next_number(b, next, marks);
+            packed = deepened(packed, one, two, both);
             self.put(place, packed);
         }
         packed.unpacked()

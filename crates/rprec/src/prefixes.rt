@@ -1,9 +1,9 @@
-ghost use Rattle.std.specs.Prelude.{◌≡◌, ℕ, ◌+◌, ◌<◌, ◌≤◌, List, length, take, true, false};
+ghost use Rattle.std.specs.Prelude.{◌≡◌, ℕ, ◌+◌, ◌<◌, ◌≤◌, List, length, take};
 ghost use Rattle.desk_model.specs.Limits.{RANK_LIMIT};
 ghost use Rattle.desk_model.specs.Ranking.{IsRanking};
 ghost use Rattle.desk_model.specs.declared.types.Mark.{Mark as M};
-ghost use Rattle.rprec.specs.Greedy.{AreNext, swapped, one_of};
-ghost use Rattle.rprec.specs.Packed.{AreNextPacked, ArePacked, pack, packed_of, unpack, unpacked_of};
+ghost use Rattle.rprec.specs.Greedy.{swapped};
+ghost use Rattle.rprec.specs.Packed.{AreNextPacked, ArePacked, IsNext, counts_for, pack, packed_of, unpack, unpacked_of};
 
 use desk_model::Mark;
 use topic_counts::counts::Counts;
@@ -80,42 +80,35 @@ impl Prefixes {
     }
 }
 
-/// The counts of one document of this mark, which the compiler makes a table of.
-fn counts_of(mark: Mark) -> Counts
-    ensures relevant { result.relevant ≡ one_of false mark }
-    ensures either { result.relevant + result.unjudged ≡ one_of true mark }
+/// The number that holds the counts of one document of this mark, which the compiler makes a table of.
+fn number_for(mark: Mark) -> u32
+    ensures { result ≡ pack (counts_for mark) }
 {
     match mark {
-        Mark::Relevant => Counts {
-            relevant: 1,
-            unjudged: 0,
-        },
-        Mark::Unjudged => Counts {
-            relevant: 0,
-            unjudged: 1,
-        },
-        Mark::Other => Counts::NONE,
+        Mark::Relevant => RELEVANT,
+        Mark::Unjudged => 1,
+        Mark::Other => 0,
     }
 }
 
-/// The counts of the document at a place of a ranking.
-pub fn counts_at(docs: &[u32], place: u32, marks: &[Mark]) -> Counts
+/// The counts of the document at a place of a ranking, packed.
+pub fn number_at(docs: &[u32], place: u32, marks: &[Mark]) -> u32
     requires docs { IsRanking (length marks.now) docs.now }
     requires place { place < length docs.now }
-    ensures { AreNext marks.now docs.now place result }
+    ensures { IsNext marks.now docs.now place result }
 {
-    counts_of(marks[docs[place as usize] as usize])
+    number_for(marks[docs[place as usize] as usize])
 }
 
-/// The counts of the document at a place of a ranking, if there is one.
-pub fn next_counts(docs: &[u32], place: u32, marks: &[Mark]) -> Counts
+/// The counts of the document at a place of a ranking, packed, if there is one.
+pub fn next_number(docs: &[u32], place: u32, marks: &[Mark]) -> u32
     requires { IsRanking (length marks.now) docs.now }
-    ensures { AreNext marks.now docs.now place result }
+    ensures { IsNext marks.now docs.now place result }
 {
     if (place as usize) < docs.len() {
-        counts_at(docs, place, marks)
+        number_at(docs, place, marks)
     } else {
-        Counts::NONE
+        0
     }
 }
 

@@ -5,7 +5,7 @@ use Rattle.rprec.specs.Greedy.{ArePrefixes}
 use Rattle.rprec.specs.Packed.{ArePacked}
 use Rattle.rprec.specs.Search.{prefixes_at}
 use Rattle.rprec.proofs.Counted.{counted_before}
-use Rattle.rprec.proofs.Packed.{first_few, one_few, packed_prefixes, second_few}
+use Rattle.rprec.proofs.Packed.{first_few, packed_prefixes, second_few}
 use Rattle.rprec.proofs.depths.Depths.enter_inside.Goals as goal
 
 pub in_numbers-packed-requires-clause-first : goal.in_numbers-packed-requires-clause-first
@@ -13,12 +13,6 @@ in_numbers-packed-requires-clause-first c = first_few c.args.marks.now c.args.a.
 
 pub in_numbers-packed-requires-clause-second : goal.in_numbers-packed-requires-clause-second
 in_numbers-packed-requires-clause-second c = second_few c.args.marks.now c.args.a.now c.args.b.now c.args.depth c.args.prefixes c.requires.b.short c.requires.prefixes
-
-pub number_of-first-requires : goal.number_of-first-requires
-number_of-first-requires c = omega (arith, one_few c.args.marks.now c.args.a.now (c.args.depth + c.loop-place.place) c.counts_at-one.result c.counts_at-one.ensures)
-
-pub number_of-second-requires : goal.number_of-second-requires
-number_of-second-requires c = omega (arith, one_few c.args.marks.now c.args.b.now (c.args.depth + c.loop-place.place) c.counts_at-two.result c.counts_at-two.ensures)
 
 pub loop-place-init : goal.loop-place-init
 loop-place-init c = record {
@@ -34,12 +28,12 @@ deepened-packed-requires c = (
   c.args.depth + c.loop-place.place,
   record {
     prefixes = c.loop-place.invariant.packed.prefixes;
-    first = c.counts_at-one.result;
-    second = c.counts_at-two.result;
-    before = counted_before c.args.marks.now c.args.a.now c.args.b.now (c.args.depth + c.loop-place.place) c.loop-place.invariant.packed.prefixes c.counts_at-one.result c.counts_at-two.result c.args.shared.now.counts c.from-both.result c.from-both.ensures c.requires.a c.requires.b c.requires.shared (omega (arith, c.requires.depth, c.loop-place-test.true)) c.loop-place.invariant.packed.counts c.counts_at-one.ensures c.counts_at-two.ensures;
+    first = c.number_at-one.ensures.counts;
+    second = c.number_at-two.ensures.counts;
+    before = counted_before c.args.marks.now c.args.a.now c.args.b.now (c.args.depth + c.loop-place.place) c.loop-place.invariant.packed.prefixes c.number_at-one.ensures.counts c.number_at-two.ensures.counts c.args.shared.now.counts c.from-both.result c.from-both.ensures c.requires.a c.requires.b c.requires.shared (omega (arith, c.requires.depth, c.loop-place-test.true)) c.loop-place.invariant.packed.counts c.number_at-one.ensures.next c.number_at-two.ensures.next;
     same = c.loop-place.invariant.packed.same;
-    one_packed = c.number_of-first.ensures;
-    two_packed = c.number_of-second.ensures;
+    one_packed = c.number_at-one.ensures.same;
+    two_packed = c.number_at-two.ensures.same;
   },
 )
 
@@ -51,12 +45,12 @@ loop-place-preserved c =
     let here = c.args.depth + c.loop-place.place in
     let after : ArePacked marks (take (here + 1) a) (take (here + 1) b) c.deepened-packed.result = c.deepened-packed.ensures marks a b here (record {
       prefixes = c.loop-place.invariant.packed.prefixes;
-      first = c.counts_at-one.result;
-      second = c.counts_at-two.result;
-      before = counted_before c.args.marks.now c.args.a.now c.args.b.now (c.args.depth + c.loop-place.place) c.loop-place.invariant.packed.prefixes c.counts_at-one.result c.counts_at-two.result c.args.shared.now.counts c.from-both.result c.from-both.ensures c.requires.a c.requires.b c.requires.shared (omega (arith, c.requires.depth, c.loop-place-test.true)) c.loop-place.invariant.packed.counts c.counts_at-one.ensures c.counts_at-two.ensures;
+      first = c.number_at-one.ensures.counts;
+      second = c.number_at-two.ensures.counts;
+      before = counted_before c.args.marks.now c.args.a.now c.args.b.now (c.args.depth + c.loop-place.place) c.loop-place.invariant.packed.prefixes c.number_at-one.ensures.counts c.number_at-two.ensures.counts c.args.shared.now.counts c.from-both.result c.from-both.ensures c.requires.a c.requires.b c.requires.shared (omega (arith, c.requires.depth, c.loop-place-test.true)) c.loop-place.invariant.packed.counts c.number_at-one.ensures.next c.number_at-two.ensures.next;
       same = c.loop-place.invariant.packed.same;
-      one_packed = c.number_of-first.ensures;
-      two_packed = c.number_of-second.ensures;
+      one_packed = c.number_at-one.ensures.same;
+      two_packed = c.number_at-two.ensures.same;
     }) in
     record {
       packed = subst (λ (r : ℕ). ArePacked marks (take r a) (take r b) c.deepened-packed.result) (omega arith) after;

@@ -1,21 +1,17 @@
-use Rattle.std.proofs.Common.{◌≡◌, ℕ, Bool, true, false, ◌||◌, refl, arith, subst, inl, inr}
+use Rattle.std.proofs.Common.{◌≡◌, ℕ, true, false, arith, subst, inl, inr}
 use Rattle.std.proofs.lemmas.Bool.{cases_lt}
+use Rattle.small_lemmas.proofs.Tests.{neither}
 use Rattle.rprec.specs.Greedy.{beats}
 use Rattle.rprec.specs.Search.{choice_of, precedes}
 use Rattle.rprec.proofs.Blocks.{beaten_not_before}
 use Rattle.rprec.proofs.search.Choices.may_precede.Goals as goal
-
-both : (f v : Bool) → (f || v) ≡ false → (f ≡ false) × (v ≡ false)
-both false false h = (refl, refl)
-both false true h = absurd (cc)
-both true v h = absurd (cc)
 
 pub loop-place-init : goal.loop-place-init
 loop-place-init c = λ h place lo hi. absurd (omega (arith, lo, hi))
 
 pub loop-place-preserved : goal.loop-place-preserved
 loop-place-preserved c = λ h place lo hi.
-    let none = both c.loop-place.found c.exceeds-found.result h in
+    let none = neither c.loop-place.found c.exceeds-found.result h in
     let self = c.args.self.now in
     let here = choice_of self c.loop-place.place in
     elim (cases_lt place c.loop-place.place) [
