@@ -58,33 +58,30 @@ fn tells_faults(rt: HostRuntime) {
         ),
     ];
     for (text, fault) in cases {
-        assert_eq!(rt; refusal(&rt, text), fault);
+        assert!(rt; refusal(&rt, text) == fault);
     }
 }
 
 fn padded(alloc: Global, name: usize, spaces: usize) -> Result<Vec<u8>, AllocError> {
-    let mut text = Vec::new(alloc);
-    for _ in 0..name {
-        text.push(b'd')?;
-    }
+    let mut text = vec![in alloc; b'd'; name]?;
     text.extend_from_slice(b" 0 d 1")?;
-    for _ in 0..spaces {
-        text.push(b' ')?;
-    }
+    let spaces = vec![in alloc; b' '; spaces]?;
+    text.extend_from_slice(&spaces)?;
     Ok(text)
 }
 
 #[test]
-fn keeps_lengths(rt: HostRuntime) {
+fn keeps_lengths(rt: HostRuntime) -> Result<(), AllocError> {
     for (name, spaces, fault) in [
         (255, 0, None),
         (256, 0, at_line(1, LineFault::NameTooLong)),
         (3, 4087, None),
         (3, 4088, at_line(1, LineFault::LineTooLong)),
     ] {
-        let text = padded(rt.alloc(), name, spaces).expect(&rt, "memory is not wanting");
-        assert_eq!(rt; refusal(&rt, &text), fault);
+        let text = padded(rt.alloc(), name, spaces)?;
+        assert!(rt; refusal(&rt, &text) == fault);
     }
+    Ok(())
 }
 
 #[test]

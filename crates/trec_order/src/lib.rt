@@ -5,6 +5,3 @@ mod entry;
 mod ranked;
 
 pub use ranked::{RankedNames, order_is_one, ranking};
-
-#[cfg(test)]
-mod tests;
