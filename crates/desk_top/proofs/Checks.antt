@@ -1,6 +1,6 @@
 -- The meaning of a check.
 use Rattle.std.proofs.Common.{◌≡◌, ℕ, zero, suc, ◌<◌, ◌≤◌, true, rules, List, [], ◌∷◌, ◌++◌, length, refl, ap, sym, subst, ◌∙◌, arith, inl, inr}
-use Rattle.std.specs.Prelude.{◌⊎◌, Result, Ok, Err, IfErr, IfSome, slice_get, unwrap_or, Some, codes, decimal, slice_index_or}
+use Rattle.std.specs.Prelude.{Result, Ok, Err, IfErr, slice_get, unwrap_or, Some, codes, decimal, slice_index_or}
 use Rattle.std.specs.List.{AllByRecursion, zip}
 use Rattle.std.proofs.Math.Nat.{min-le_left, min-le_right}
 use Rattle.desk_words.specs.declared.command.Check.{Check}
@@ -28,18 +28,17 @@ use Rattle.order_certificate.specs.declared.certificate.Evidence.{Evidence}
 use Rattle.order_certificate.specs.declared.certificate.Evidence.TheVariants.{Above, Equal, Open}
 use Rattle.order_verifier.specs.Refusal.{Compared, topics_in, HasBoundTooGreat}
 use Rattle.order_verifier.specs.Verified.{IsVerified}
-use Rattle.desk_files.specs.Files.{Refused, Refusal}
-use Rattle.desk_files.specs.Checks.{CheckComes, CheckMayOpen}
+use Rattle.desk_files.specs.Checks.{CheckMayOpen}
+use Rattle.desk_files.specs.declared.stop.Stop.{Stop}
 use Rattle.desk_files.specs.Load.{Opens}
 use Rattle.desk_files.proofs.Checking.{check_opens_qrels}
 use Rattle.desk_top.specs.Verification.{IsReasonOn, reason_text, verification_text, verification_status, IsVerificationOf}
-use Rattle.desk_top.specs.Told.{Writes, status_line, refusal_line}
-use Rattle.desk_outside.specs.Seen.{Shelf, Source, Sink, ReceivedNothing}
-use Rattle.desk_top.specs.Printing.{IsPrinted, IsBroken, IsUnread}
+use Rattle.desk_top.specs.Told.{TellsStop, Writes}
+use Rattle.desk_outside.specs.Seen.{Shelf, Source, Sink}
+use Rattle.desk_top.specs.Printing.{IsPrinted, IsStopped}
 use Rattle.desk_top.specs.Meaning.{check_printing, check_meaning}
 use Rattle.desk_top.specs.Meets.{Meets}
-use Rattle.desk_top.proofs.Meeting.{meets_memory}
-use Rattle.desk_top.proofs.Printed.{Answers, meets_printed, meets_refused, meets_failure}
+use Rattle.desk_top.proofs.Printed.{Answers, meets_printed, meets_stopped}
 
 -- a check has some text
 some_text : (desk : Desk) (answer : Result (Unit {0}) Rejected) → 0 < length (verification_text desk answer)
@@ -64,17 +63,8 @@ module _ (check : Check) (shelf : Shelf) (input : Source) (out err : Sink) where
   pub check_printed : (steps status : ℕ) → IsPrinted (check_printing check) shelf out status → Writes err.had err.has err.before err.after [] → Opens (CheckMayOpen shelf.files check) shelf.had shelf.has → Meets (check_meaning check) shelf input out err steps steps status
   check_printed steps status has line opened = meets_printed (check_printing check) (check_meaning check) (check_answers check) shelf input out err steps steps status has line (inl refl) (inr opened)
 
-  pub check_refused : (steps status : ℕ) (refusal : Refusal) → status ≡ 1 → ReceivedNothing out → IfSome shelf.files (λ files. CheckComes files check (Err (Refused refusal))) → Writes err.had err.has err.before err.after (refusal_line refusal) →
-      Opens (CheckMayOpen shelf.files check) shelf.had shelf.has → Meets (check_meaning check) shelf input out err steps steps status
-  check_refused steps status refusal one nothing read line opened =
-      meets_refused (check_printing check) (check_meaning check) (check_answers check) shelf input out err steps steps status refusal one nothing read line (inl refl) (inr opened)
-
-  pub check_no_memory : (steps status : ℕ) → status ≡ 4 → ReceivedNothing out → Writes err.had err.has err.before err.after (status_line 4) → Opens (CheckMayOpen shelf.files check) shelf.had shelf.has → Meets (check_meaning check) shelf input out err steps steps status
-  check_no_memory steps status four nothing line opened = meets_memory (check_meaning check) shelf input out err steps steps status four nothing line (inl refl) (inr opened)
-
-  pub check_failed : (steps status : ℕ) → status ≡ 3 → IsBroken (check_printing check) shelf out ⊎ (ReceivedNothing out × IsUnread (check_printing check) shelf) → Writes err.had err.has err.before err.after (status_line 3) → Opens (CheckMayOpen shelf.files check) shelf.had shelf.has →
-      Meets (check_meaning check) shelf input out err steps steps status
-  check_failed steps status three stopped line opened = meets_failure (check_printing check) (check_meaning check) (check_answers check) shelf input out err steps steps status three stopped line (inl refl) (inr opened)
+  pub check_stopped : (steps status : ℕ) (stop : Stop) → IsStopped (check_printing check) shelf out stop → TellsStop stop err status → Opens (CheckMayOpen shelf.files check) shelf.had shelf.has → Meets (check_meaning check) shelf input out err steps steps status
+  check_stopped steps status stop stopped told opened = meets_stopped (check_printing check) (check_meaning check) (check_answers check) shelf input out err steps steps status stop stopped told (inl refl) (inr opened)
 
 -- ---- a reason in a line
 name_there : (names : List (List ℕ)) (i : ℕ) → AllByRecursion (λ name. is_name name ≡ true) names → IsInLine (slice_index_or names i [])

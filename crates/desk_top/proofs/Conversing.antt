@@ -9,6 +9,10 @@ use Rattle.desk_model.specs.Desk.{Desk}
 use Rattle.topics_pool.specs.Rows.{IsDeskOf}
 use Rattle.desk_files.specs.Files.{Halt, Missing, Refused, Refusal}
 use Rattle.desk_files.specs.Load.{Loaded, loaded, DeskMayOpen, Opens, Reads}
+use Rattle.desk_files.specs.Outcome.{Stops}
+use Rattle.desk_files.specs.Views.{refusal_of}
+use Rattle.desk_files.specs.declared.stop.Stop.{Stop}
+use Rattle.desk_files.specs.declared.stop.Stop.TheVariants as stops
 use Rattle.desk_files.proofs.Opening.{may_open_qrels}
 use Rattle.judge_session.specs.declared.change.Change.{Change}
 use Rattle.session_lines.specs.Request.{heard_of}
@@ -24,7 +28,7 @@ use Rattle.desk_top.specs.Conversation.{setting_on, sayings, status_at, told_at,
 use Rattle.desk_top.specs.Meaning.{Meaning, session_meaning}
 use Rattle.desk_top.specs.Meets.{HasAnswer, IsGiven, Gives, OutputFailed, FilesFailed, OpensWithin, Meets}
 use Rattle.desk_top.specs.Report.{sources_of}
-use Rattle.desk_top.specs.Told.{Writes, status_line, refusal_line}
+use Rattle.desk_top.specs.Told.{TellsStop, Writes, status_line, refusal_line}
 use Rattle.desk_top.proofs.Meeting.{no_text, given, meets_given, meets_outside, meets_memory}
 use Rattle.desk_top.proofs.Printed.{found_may_come, refusal_may_come, missing_may_come}
 
@@ -43,14 +47,14 @@ module _ (job : Job) (shelf : Shelf) (input : Source) (out err : Sink) where
   comes files found = loaded files (sources_of job) ≡ found
 
   -- the files are refused
-  pub session_refused : (before status : ℕ) (refusal : Refusal) → status ≡ 1 → ReceivedNothing out → IfSome shelf.files (λ files. loaded files (sources_of job) ≡ Err (Refused refusal)) → Writes err.had err.has err.before err.after (refusal_line refusal) →
+  session_refused : (before status : ℕ) (refusal : Refusal) → status ≡ 1 → ReceivedNothing out → IfSome shelf.files (λ files. loaded files (sources_of job) ≡ Err (Refused refusal)) → Writes err.had err.has err.before err.after (refusal_line refusal) →
       Opens (DeskMayOpen shelf.files (sources_of job)) shelf.had shelf.has → Meets (session_meaning job) shelf input out err before before status
   session_refused before status refusal one nothing read line opened =
       meets_given the_meaning shelf input out err before before status (λ three. omega (arith, one, three)) (λ four. omega (arith, one, four))
       (given the_meaning shelf input out err status (halted (Refused refusal)) (λ i. (Err (Refused refusal), refusal_may_come comes shelf.files refusal read, refl)) one (no_text out nothing) line) (inl refl) (inr opened)
 
   -- the files failed, or one is missing
-  pub session_unread : (before status : ℕ) → status ≡ 3 → ReceivedNothing out → Rose shelf.before shelf.after ⊎ IsSomeAnd shelf.files (λ files. loaded files (sources_of job) ≡ Err Missing) → Writes err.had err.has err.before err.after (status_line 3) →
+  session_unread : (before status : ℕ) → status ≡ 3 → ReceivedNothing out → Rose shelf.before shelf.after ⊎ IsSomeAnd shelf.files (λ files. loaded files (sources_of job) ≡ Err Missing) → Writes err.had err.has err.before err.after (status_line 3) →
       Opens (DeskMayOpen shelf.files (sources_of job)) shelf.had shelf.has → Meets (session_meaning job) shelf input out err before before status
   session_unread before status three nothing why line opened = meets_outside the_meaning shelf input out err before before status three (because why) line (inl refl) (inr opened)
     where
@@ -59,8 +63,16 @@ module _ (job : Job) (shelf : Shelf) (input : Source) (out err : Sink) where
       because (inr missing) = inl (given the_meaning shelf input out err status (halted Missing) (λ i. (Err Missing, missing_may_come comes shelf.files missing, refl)) three (no_text out nothing) line)
 
   -- memory ran out before the first line
-  pub session_no_memory : (before status : ℕ) → status ≡ 4 → ReceivedNothing out → Writes err.had err.has err.before err.after (status_line 4) → Opens (DeskMayOpen shelf.files (sources_of job)) shelf.had shelf.has → Meets (session_meaning job) shelf input out err before before status
+  session_no_memory : (before status : ℕ) → status ≡ 4 → ReceivedNothing out → Writes err.had err.has err.before err.after (status_line 4) → Opens (DeskMayOpen shelf.files (sources_of job)) shelf.had shelf.has → Meets (session_meaning job) shelf input out err before before status
   session_no_memory before status four nothing line opened = meets_memory the_meaning shelf input out err before before status four nothing line (inl refl) (inr opened)
+
+  -- the files stopped it, and why was told
+  pub session_stopped : (before status : ℕ) (stop : Stop) → ReceivedNothing out → Stops shelf.files shelf.before shelf.after stop (λ held. loaded held (sources_of job)) → TellsStop stop err status → Opens (DeskMayOpen shelf.files (sources_of job)) shelf.had shelf.has →
+      Meets (session_meaning job) shelf input out err before before status
+  session_stopped before status (stops.Refused refusal) nothing why (inl one) opened = session_refused before status (refusal_of refusal) one.0 nothing why one.1 opened
+  session_stopped before status (stops.Refused refusal) nothing why (inr four) opened = session_no_memory before status four.0 nothing four.1 opened
+  session_stopped before status stops.Outside nothing why told opened = session_unread before status told.0 nothing why told.1 opened
+  session_stopped before status stops.Memory nothing why told opened = session_no_memory before status told.0 nothing told.1 opened
 
   module _ (rows : Loaded) (read : Reads shelf.files (sources_of job) rows) (desk : Desk) (ranked : IsDeskOf rows.qrels rows.runs desk) where
     abbrev s : Setting

@@ -5,16 +5,17 @@ use Rattle.std.specs.Io.KnownBytes.{prepend_known}
 use Rattle.desk_outside.specs.Outside.{Files}
 use Rattle.desk_outside.proofs.Told.{prepend_known-nil}
 use Rattle.desk_files.specs.Files.{Halt, Missing, Refused, Refusal}
-use Rattle.desk_top.specs.Told.{Writes, status_line, refusal_line}
+use Rattle.desk_files.specs.Views.{refusal_of}
+use Rattle.desk_top.specs.Told.{TellsStop, Writes, status_line, refusal_line}
 use Rattle.desk_outside.specs.Seen.{Shelf, Source, Sink, ReceivedNothing, ReceivedAll, ReceivedPrefix}
 use Rattle.desk_files.specs.declared.stop.Stop.{Stop}
 use Rattle.desk_files.specs.declared.stop.Stop.TheVariants as stops
 use Rattle.desk_top.specs.Answer.{Answer, Moment, said_with, halted}
-use Rattle.desk_top.specs.Printing.{Printing, HasPrinted, IsPrinted, IsBroken, IsUnread, Ends, IsPut}
+use Rattle.desk_top.specs.Printing.{Printing, HasPrinted, IsPrinted, IsBroken, IsUnread, IsStopped, Ends, IsPut}
 use Rattle.desk_outside.specs.Inputs.{Input, Cut, IsPart}
 use Rattle.desk_top.specs.Meaning.{Meaning, MayCome, AnswersFiles}
 use Rattle.desk_top.specs.Meets.{HasAnswer, Gives, OutputFailed, FilesFailed, EvaluatesWithin, OpensWithin, Meets}
-use Rattle.desk_top.proofs.Meeting.{no_text, given, meets_given, meets_outside}
+use Rattle.desk_top.proofs.Meeting.{no_text, given, meets_given, meets_memory, meets_outside}
 
 module _ {X : Type 0} (comes : Files → Result X Halt → Type 0) where
   pub found_may_come : (known : Option Files) (found : X) → IfSome known (λ files. comes files (Ok found)) → MayCome known comes (Ok found)
@@ -62,7 +63,7 @@ module _ {X : Type 0} (command : Printing X) (meaning : Meaning) (by : Answers c
       (given meaning shelf input out err status (answer_of _ has) (text_is_answer _ has) has.holds.0 (subst (ReceivedAll out) (sym (append-nil has.text)) has.holds.1) line) cells opened
 
   -- the files are refused
-  pub meets_refused : (before after status : ℕ) (refusal : Refusal) → status ≡ 1 → ReceivedNothing out → IfSome shelf.files (λ files. command.comes files (Err (Refused refusal))) → Writes err.had err.has err.before err.after (refusal_line refusal) →
+  meets_refused : (before after status : ℕ) (refusal : Refusal) → status ≡ 1 → ReceivedNothing out → IfSome shelf.files (λ files. command.comes files (Err (Refused refusal))) → Writes err.had err.has err.before err.after (refusal_line refusal) →
       EvaluatesWithin meaning shelf input before after → OpensWithin meaning shelf → Meets meaning shelf input out err before after status
   meets_refused before after status refusal one nothing read line cells opened =
       meets_given meaning shelf input out err before after status (λ three. omega (arith, one, three)) (λ four. omega (arith, one, four))
@@ -77,9 +78,16 @@ module _ {X : Type 0} (command : Printing X) (meaning : Meaning) (by : Answers c
   why_outside status three (inr (nothing, inr missing)) line =
       inl (given meaning shelf input out err status (halted Missing) (λ i. by.answers shelf.files i _ (Err Missing, missing_may_come command.comes shelf.files missing, refl)) three (no_text out nothing) line)
 
-  pub meets_failure : (before after status : ℕ) → status ≡ 3 → IsBroken command shelf out ⊎ (ReceivedNothing out × IsUnread command shelf) → Writes err.had err.has err.before err.after (status_line 3) →
+  meets_failure : (before after status : ℕ) → status ≡ 3 → IsBroken command shelf out ⊎ (ReceivedNothing out × IsUnread command shelf) → Writes err.had err.has err.before err.after (status_line 3) →
       EvaluatesWithin meaning shelf input before after → OpensWithin meaning shelf → Meets meaning shelf input out err before after status
   meets_failure before after status three stopped line cells opened = meets_outside meaning shelf input out err before after status three (why_outside status three stopped line) line cells opened
+
+  -- the command stopped, and told why
+  pub meets_stopped : (before after status : ℕ) (stop : Stop) → IsStopped command shelf out stop → TellsStop stop err status → EvaluatesWithin meaning shelf input before after → OpensWithin meaning shelf → Meets meaning shelf input out err before after status
+  meets_stopped before after status (stops.Refused refusal) stopped (inl one) cells opened = meets_refused before after status (refusal_of refusal) one.0 stopped.0 stopped.1 one.1 cells opened
+  meets_stopped before after status (stops.Refused refusal) stopped (inr four) cells opened = meets_memory meaning shelf input out err before after status four.0 stopped.0 four.1 cells opened
+  meets_stopped before after status stops.Outside stopped told cells opened = meets_failure before after status told.0 stopped told.1 cells opened
+  meets_stopped before after status stops.Memory stopped told cells opened = meets_memory meaning shelf input out err before after status told.0 stopped told.1 cells opened
 
 -- how the printing of a text ends
 pub ends_put : {X : Type 0} (command : Printing X) (shelf : Shelf) (out : Sink) (found : X) (moment : Moment) (status : ℕ) (text : List ℕ) (result : Result ℕ Stop) →

@@ -1,24 +1,23 @@
 -- The meaning of a report.
 use Rattle.std.proofs.Common.{◌≡◌, ℕ, List, [], refl, ◌∙◌, arith, inl, inr}
-use Rattle.std.specs.Prelude.{◌⊎◌, Err, IfSome}
+use Rattle.std.specs.Prelude.{◌⊎◌}
 use Rattle.desk_words.specs.declared.command.Job.{Job}
 use Rattle.desk_model.specs.Desk.{Desk}
-use Rattle.desk_files.specs.Files.{Refused, Refusal}
-use Rattle.desk_files.specs.Load.{loaded, DeskMayOpen, Opens}
+use Rattle.desk_files.specs.Load.{DeskMayOpen, Opens}
+use Rattle.desk_files.specs.declared.stop.Stop.{Stop}
 use Rattle.desk_files.proofs.Opening.{may_open_qrels}
 use Rattle.desk_top.specs.declared.report.Report.{Report}
 use Rattle.desk_top.specs.declared.report.Report.TheVariants.{Table, Certificate}
 use Rattle.pair_reports.specs.Reports.{cells_of}
 use Rattle.desk_top.specs.Report.{IsReportOf, CountsSteps, sources_of}
-use Rattle.desk_top.specs.Told.{Writes, status_line, refusal_line}
-use Rattle.desk_outside.specs.Seen.{Shelf, Source, Sink, ReceivedNothing}
-use Rattle.desk_top.specs.Printing.{IsPrinted, IsBroken, IsUnread}
+use Rattle.desk_top.specs.Told.{TellsStop, Writes}
+use Rattle.desk_outside.specs.Seen.{Shelf, Source, Sink}
+use Rattle.desk_top.specs.Printing.{IsPrinted, IsStopped}
 use Rattle.desk_outside.specs.Inputs.{Cut}
 use Rattle.desk_top.specs.Meaning.{report_printing, report_meaning}
 use Rattle.desk_top.specs.Meets.{EvaluatesWithin, Meets}
-use Rattle.desk_top.proofs.Meeting.{meets_memory}
 use Rattle.desk_outside.proofs.Told.{prepend_known-nil}
-use Rattle.desk_top.proofs.Printed.{Answers, meets_printed, meets_refused, meets_failure}
+use Rattle.desk_top.proofs.Printed.{Answers, meets_printed, meets_stopped}
 
 -- a report comes with status 0 or 6
 report_status : (report : Report) (job : Job) (desk : Desk) (status : ℕ) (text : List ℕ) → IsReportOf report job desk status text → (status ≡ 0) ⊎ (status ≡ 6)
@@ -49,17 +48,7 @@ module _ (report : Report) (job : Job) (shelf : Shelf) (input : Source) (out err
   report_printed before after status same has line steps opened =
       meets_printed (report_printing report job) (report_meaning report job) (report_answers report job) shelf input out err before after status has line (report_cells report job shelf input before after same steps) (inr opened)
 
-  pub report_refused : (before after status : ℕ) (refusal : Refusal) → input.rest ≡ input.left → status ≡ 1 → ReceivedNothing out → IfSome shelf.files (λ files. loaded files (sources_of job) ≡ Err (Refused refusal)) → Writes err.had err.has err.before err.after (refusal_line refusal) →
-      CountsSteps shelf.files job before after → Opens (DeskMayOpen shelf.files (sources_of job)) shelf.had shelf.has → Meets (report_meaning report job) shelf input out err before after status
-  report_refused before after status refusal same one nothing read line steps opened =
-      meets_refused (report_printing report job) (report_meaning report job) (report_answers report job) shelf input out err before after status refusal one nothing read line (report_cells report job shelf input before after same steps) (inr opened)
-
-  pub report_no_memory : (before after status : ℕ) → input.rest ≡ input.left → status ≡ 4 → ReceivedNothing out → Writes err.had err.has err.before err.after (status_line 4) → CountsSteps shelf.files job before after → Opens (DeskMayOpen shelf.files (sources_of job)) shelf.had shelf.has →
+  pub report_stopped : (before after status : ℕ) (stop : Stop) → input.rest ≡ input.left → IsStopped (report_printing report job) shelf out stop → TellsStop stop err status → CountsSteps shelf.files job before after → Opens (DeskMayOpen shelf.files (sources_of job)) shelf.had shelf.has →
       Meets (report_meaning report job) shelf input out err before after status
-  report_no_memory before after status same four nothing line steps opened =
-      meets_memory (report_meaning report job) shelf input out err before after status four nothing line (report_cells report job shelf input before after same steps) (inr opened)
-
-  pub report_failed : (before after status : ℕ) → input.rest ≡ input.left → status ≡ 3 → IsBroken (report_printing report job) shelf out ⊎ (ReceivedNothing out × IsUnread (report_printing report job) shelf) → Writes err.had err.has err.before err.after (status_line 3) →
-      CountsSteps shelf.files job before after → Opens (DeskMayOpen shelf.files (sources_of job)) shelf.had shelf.has → Meets (report_meaning report job) shelf input out err before after status
-  report_failed before after status same three stopped line steps opened =
-      meets_failure (report_printing report job) (report_meaning report job) (report_answers report job) shelf input out err before after status three stopped line (report_cells report job shelf input before after same steps) (inr opened)
+  report_stopped before after status stop same stopped told steps opened =
+      meets_stopped (report_printing report job) (report_meaning report job) (report_answers report job) shelf input out err before after status stop stopped told (report_cells report job shelf input before after same steps) (inr opened)

@@ -1,9 +1,10 @@
 // What is told on the error output. A failure there changes nothing.
-ghost use Rattle.std.specs.Prelude.{◌≡◌, ◌⊎◌, ℕ, ◌++◌, OnOk, IfOk, codes, decimal};
-ghost use Rattle.desk_top.specs.Told.{Writes, fault_word, fault_text, refusal_text, refusal_line, long_input_line, status_line};
+ghost use Rattle.std.specs.Prelude.{◌≡◌, ◌≤◌, ◌⊎◌, ℕ, ◌++◌, OnOk, IfOk, codes, decimal};
+ghost use Rattle.desk_top.specs.Told.{TellsStop, Writes, fault_word, fault_text, refusal_text, refusal_line, long_input_line, status_line};
+ghost use Rattle.desk_outside.specs.Seen.{sink};
 ghost use Rattle.desk_files.specs.Views.{refusal_of};
 
-use desk_files::Refusal;
+use desk_files::{Refusal, Stop};
 use desk_outside::{Sink, put_all};
 use itoa::Buffer;
 use qrels_reader::LineFault;
@@ -156,5 +157,17 @@ pub fn tell_refused<E: Sink>(alloc: Global, err: &mut E, refusal: &Refusal) -> u
             REFUSED
         }
         Err(_) => tell_memory(err),
+    }
+}
+
+/// Tells why a command stopped, and answers its status: 1 for a refusal, 3 for a fault of the outside, and 4 where memory ran out.
+pub fn tell_stop<E: Sink>(alloc: Global, err: &mut E, stop: &Stop<'_>) -> u8
+    ensures known { result ≤ 4 }
+    ensures told { TellsStop stop.now (sink (E.received err.old) (E.received err.new) (E.faults err.old) (E.faults err.new)) result }
+{
+    match stop {
+        Stop::Refused(refusal) => tell_refused(alloc, err, refusal),
+        Stop::Outside => tell_outside(err),
+        Stop::Memory => tell_memory(err),
     }
 }

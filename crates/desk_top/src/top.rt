@@ -10,9 +10,9 @@ ghost use Rattle.desk_top.specs.Meets.{Meets, SaysTruth, LeavesInput};
 use crate::demo::{demo_text, put_demo};
 use crate::report::{Report, print_report};
 use crate::session::answer_session;
-use crate::tell::{tell_memory, tell_outside, tell_refused, tell_usage};
+use crate::tell::{tell_memory, tell_stop, tell_usage};
 use crate::verify::print_verification;
-use desk_files::{Stop, load_desk};
+use desk_files::load_desk;
 use desk_outside::{Shelf, Sink, Source};
 use desk_words::{Check, Command, Job, WordsFault, read_words};
 use measure_core::{Maker, Steps};
@@ -51,9 +51,7 @@ fn run_report<F: Shelf, S: Source, K: Sink, E: Sink, P: Maker, L: Ledger>(
 {
     match print_report(alloc, files, out, report, job, maker, steps) {
         Ok(status) => status,
-        Err(Stop::Refused(refusal)) => tell_refused(alloc, err, &refusal),
-        Err(Stop::Outside) => tell_outside(err),
-        Err(Stop::Memory) => tell_memory(err),
+        Err(stop) => tell_stop(alloc, err, &stop),
     }
 }
 
@@ -79,9 +77,7 @@ fn run_check<F: Shelf, S: Source, K: Sink, E: Sink, L: Ledger>(
 {
     match print_verification(alloc, files, out, check) {
         Ok(status) => status,
-        Err(Stop::Refused(refusal)) => tell_refused(alloc, err, &refusal),
-        Err(Stop::Outside) => tell_outside(err),
-        Err(Stop::Memory) => tell_memory(err),
+        Err(stop) => tell_stop(alloc, err, &stop),
     }
 }
 
@@ -109,9 +105,7 @@ fn run_session<F: Shelf, S: Source, K: Sink, E: Sink, P: Maker, L: Ledger>(
 {
     match load_desk(alloc, files, &job.qrels, &job.runs) {
         Ok(desk) => answer_session(alloc, &desk, job, input, out, err, maker, steps),
-        Err(Stop::Refused(refusal)) => tell_refused(alloc, err, &refusal),
-        Err(Stop::Outside) => tell_outside(err),
-        Err(Stop::Memory) => tell_memory(err),
+        Err(stop) => tell_stop(alloc, err, &stop),
     }
 }
 

@@ -14,6 +14,3 @@ pub use fault::DeskFault;
 pub use judgement_pool::{PoolCount, pool_count};
 pub use laws::{desk_is_one, rows_add_up};
 pub use limits::{MOST_CELLS, MOST_RUNS};
-
-#[cfg(test)]
-mod tests;

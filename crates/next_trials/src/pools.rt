@@ -1,0 +1,23 @@
+// A small desk and the pool of a depth on it, by hand.
+use crate::desks::{desk_of, marks_of};
+use std::test::Fail;
+use topics_pool::{PoolCount, pool_count};
+
+#[test]
+fn two_runs_make_a_desk_and_a_pool(rt: HostRuntime) -> Result<(), Fail> {
+    let alloc = rt.alloc();
+    let qrels: &[u8] = b"402 0 b 1\n401 0 c 2\n401 0 a 0\n402 0 x -1\n";
+    let first: &[u8] = b"401 Q0 c 1 3.0 A\n401 Q0 d 2 2.0 A\n402 Q0 b 1 1.0 A\n";
+    let second: &[u8] = b"401 Q0 a 1 1.0 B\n403 Q0 z 1 1 B\n401 Q0 e 2 5.0 B\n";
+    let desk = desk_of(alloc, &[qrels], &[first], &[second])?;
+    let marks = marks_of(alloc, &desk)?;
+    assert!(rt; 0 < desk.topic_count());
+    let pool = PoolCount {
+        size: 4,
+        judged: 2,
+        relevant: 1,
+        unjudged: 2,
+    };
+    assert_eq!(rt; pool_count(&desk, &marks, 0, 2), pool);
+    Ok(())
+}
