@@ -7,7 +7,7 @@ use Rattle.std.proofs.lemmas.Str.Parse.{digit_at, digit_from_value}
 use Rattle.std.proofs.lemmas.Nat.{mod-mul-add}
 use Rattle.std.proofs.lemmas.Bool.{cases_lt}
 use Rattle.std.proofs.lemmas.Int.{ints}
-use Rattle.std.proofs.Math.Nat.{pow-succ', mul_assoc, zero-mul}
+use Rattle.std.proofs.Math.Nat.{pow-succ', mul_assoc, zero-mul, mul-le-mul_left, pow-le-pow_right}
 use Rattle.std.proofs.Math.Pow.{pow-add}
 use Rattle.decimal_score.specs.Significand.{AreSignificant, EndsInDigit, AreKept, HasLastZeros, IsLongNumber, IsSignificand}
 
@@ -21,6 +21,19 @@ digits_left n ds i all within =
 pub digits_value_after-ge : (n : ℕ) (ds : List ℕ) → n ≤ digits_value_after 10 n ds
 digits_value_after-ge n [] = omega arith
 digits_value_after-ge n (c ∷ ds) = omega (arith, digits_value_after-ge (n * 10 + digit_value c) ds)
+
+-- more digits make no greater number than as many nines
+pub digits_value_after-lt : (b n : ℕ) (ds : List ℕ) → AllDigits 10 ds → n < b → digits_value_after 10 n ds < b * 10 ^ length ds
+digits_value_after-lt b n [] all lt = omega arith
+digits_value_after-lt b n (c ∷ ds) all lt =
+    let more = digits_value_after-lt (b * 10) (n * 10 + digit_value c) ds all.1 (omega (arith, all.0)) in
+    let p = ap (λ x. b * x) (pow-succ' 10 (length ds)) in
+    omega (arith, more, p)
+
+-- 9 digits behind 9
+pub few_digits : (n : ℕ) (ds : List ℕ) → AllDigits 10 ds → n < 10 ^ 9 → length ds ≤ 9 → digits_value_after 10 n ds < 10 ^ 18
+few_digits n ds all lt few =
+    omega (arith, digits_value_after-lt (10 ^ 9) n ds all lt, mul-le-mul_left (10 ^ 9) (pow-le-pow_right {n = 10} (omega arith) few))
 
 -- digits behind digits
 pub digits_value_after-append : (n : ℕ) (xs ys : List ℕ) → digits_value_after 10 n (xs ++ ys) ≡ digits_value_after 10 (digits_value_after 10 n xs) ys

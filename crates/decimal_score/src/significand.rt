@@ -1,10 +1,16 @@
-ghost use Rattle.std.specs.Prelude.{◌≡◌, ◌^◌, ◌<◌, ◌≤◌, ◌++◌, min, IfSome, IfNone};
+ghost use Rattle.std.specs.Prelude.{◌≡◌, ◌^◌, ◌<◌, ◌≤◌, ◌++◌, min, length, IfSome, IfNone};
 ghost use Rattle.std.specs.Int.RustNames.{unsigned_abs};
 ghost use Rattle.std.specs.Str.Parse.{AllDigits, digits_value, digits_value_after};
 ghost use Rattle.decimal_score.specs.Text.{signed};
 ghost use Rattle.decimal_score.specs.Significand.{IsSignificand, IsLongNumber, AreSignificant, EndsInDigit, AreKept};
 
 use crate::key::{LIMIT, with_sign};
+
+/// So many digits, behind as many, make a number of 64 bits.
+const FEW: usize = 9;
+
+/// One more than the greatest number of so many digits.
+const FEW_LIMIT: u128 = 1_000_000_000;
 
 /// An exponent that puts every number out of range.
 pub const FAR: u128 = 1 << 80;
@@ -42,8 +48,38 @@ fn kept_parts<'a>(whole: &'a [u8], fraction: &'a [u8]) -> (&'a [u8], &'a [u8])
     }
 }
 
+/// A number of at most 9 digits with at most 9 more behind it, which fits in 64 bits.
+fn with_few(start: u64, digits: &[u8]) -> u64
+    requires all_digits { AllDigits 10 digits.now }
+    requires few { length digits.now ≤ FEW }
+    requires small { start < 10 ^ 9 }
+    ensures value { result ≡ digits_value_after 10 start digits.now }
+    ensures small { result < 10 ^ 18 }
+{
+    let mut number = start;
+    for digit in digits {
+        number = number * 10 + u64::from(*digit - b'0');
+    }
+    number
+}
+
 /// The number with more digits behind it, or None where it would have more than 30.
 fn appended(start: u128, digits: &[u8]) -> Option<u128>
+    requires all_digits { AllDigits 10 digits.now }
+    requires short { start < 10 ^ 30 }
+    ensures short { IfSome result (λ n. n < 10 ^ 30) }
+    ensures value { IfSome result (λ n. n ≡ digits_value_after 10 start digits.now) }
+    ensures long { IfNone result (10 ^ 30 ≤ digits_value_after 10 start digits.now) }
+{
+    if start < FEW_LIMIT && digits.len() <= FEW {
+        Some(u128::from(with_few(start as u64, digits)))
+    } else {
+        with_many(start, digits)
+    }
+}
+
+/// The same, digit by digit in 128 bits.
+fn with_many(start: u128, digits: &[u8]) -> Option<u128>
     requires all_digits { AllDigits 10 digits.now }
     requires short { start < 10 ^ 30 }
     ensures short { IfSome result (λ n. n < 10 ^ 30) }

@@ -4,3 +4,4 @@ pub mod FieldLemmas
 pub mod Marking
 pub mod DigitLists
 pub mod WholeLines
+pub mod FieldBytes

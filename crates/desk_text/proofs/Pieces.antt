@@ -67,7 +67,7 @@ is_last xs i j lt eq e =
     e ∙ ap (λ ys. onto (slice_range xs i j) (lines ys)) none ∙ onto_rest (slice_range xs i j) some
     ∙ ap (λ ys. slice_range xs i j ∷ lines ys) (sym none)
 
-slice_none : (xs : List ℕ) (i : ℕ) → slice_range xs i (i + 0) ≡ []
+pub slice_none : (xs : List ℕ) (i : ℕ) → slice_range xs i (i + 0) ≡ []
 slice_none xs i = (let k : i + 0 - i ≡ 0 = omega arith in ap (λ n. take n (drop i xs)) k)
 
 -- no line feed stands in a stretch

@@ -77,6 +77,10 @@ is_separator b = b == 32 || b == 9 || b == 13
 abbrev pub is_bad : ℕ → Bool
 is_bad b = (nat_lt b 33 && not (is_separator b)) || b == 127
 
+-- a byte that stands in no field: a separator or a bad one
+abbrev pub is_stop : ℕ → Bool
+is_stop b = is_separator b || is_bad b
+
 -- a line that is passed over: it is not too long, and holds nothing but separators
 abbrev pub is_blank : List ℕ → Bool
 is_blank line = nat_le (length line) LONGEST_LINE && list_all is_separator line

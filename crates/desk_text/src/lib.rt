@@ -7,6 +7,7 @@ mod laws;
 mod line;
 mod number;
 mod places;
+mod stops;
 
 pub use arriving::{Lines, Memory, Pushed};
 pub use field::{fields, is_blank};

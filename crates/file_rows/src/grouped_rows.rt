@@ -111,9 +111,10 @@ impl<V: RowValue> GroupedRows<V> {
         ensures ok { OnOk result (self.new ≡ self.old ++ record { name = name.now; rows = [] } ∷ []) }
         ensures err { OnErr result (self.new ≡ self.old) }
     {
+        let rows = no_rows(alloc, &self.grouped)?;
         self.grouped.reserve(1)?;
         self.topics.add(alloc, name)?;
-        match self.grouped.push(ValuedRows::new(alloc)) {
+        match self.grouped.push(rows) {
             Ok(()) => Ok(()),
             Err(_) => unreachable!(),
         }
@@ -173,6 +174,19 @@ impl<V: RowValue> GroupedRows<V> {
         *grouped = ValuedRows::new(alloc);
         self.rows -= rows;
         self.name_bytes -= name_bytes;
+    }
+}
+
+// No row of a new topic, and room for as many as the topic before it has, since the topics of a file mostly have about as many.
+fn no_rows<V: RowValue>(
+    alloc: Global,
+    before: &[ValuedRows<V>],
+) -> Result<ValuedRows<V>, AllocError>
+    ensures { IfOk result (λ rows. rows ≡ []) }
+{
+    match before.last() {
+        Some(last) => ValuedRows::with_room_of(alloc, last),
+        None => Ok(ValuedRows::new(alloc)),
     }
 }
 

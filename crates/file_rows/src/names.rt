@@ -34,6 +34,16 @@ impl Names {
         }
     }
 
+    /// No name, and room for some names of so many bytes together. It fails only where memory runs out.
+    pub fn with_room(alloc: Global, names: usize, name_bytes: usize) -> Result<Names, AllocError>
+        ensures { IfOk result (λ names. names ≡ []) }
+    {
+        Ok(Names {
+            bytes: Vec::with_capacity(alloc, name_bytes)?,
+            ends: Vec::with_capacity(alloc, names)?,
+        })
+    }
+
     /// How many names there are.
     pub fn len(&self) -> usize
         ensures { result ≡ length self.now }

@@ -33,6 +33,15 @@ impl SeenNames {
         }
     }
 
+    /// No name, and room for some names. It fails only where memory runs out.
+    pub fn with_room(alloc: Global, names: usize) -> Result<SeenNames, AllocError>
+        ensures { IfOk result (λ seen. seen ≡ []) }
+    {
+        Ok(SeenNames {
+            names: IndexSet::with_capacity(alloc, names)?,
+        })
+    }
+
     /// Puts a copy of a name at the end where it is not there yet, and answers whether it was not. It fails only where memory
     /// runs out, and then changes nothing.
     pub fn insert(&mut self, alloc: Global, name: &[u8]) -> Result<bool, AllocError>

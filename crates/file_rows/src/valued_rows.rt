@@ -37,6 +37,16 @@ impl<V: RowValue> ValuedRows<V> {
         }
     }
 
+    /// No document, and room for as many as other rows have, with their names. It fails only where memory runs out.
+    pub fn with_room_of(alloc: Global, other: &ValuedRows<V>) -> Result<ValuedRows<V>, AllocError>
+        ensures { IfOk result (λ rows. rows ≡ []) }
+    {
+        Ok(ValuedRows {
+            documents: Names::with_room(alloc, other.len(), other.name_bytes())?,
+            values: Vec::with_capacity(alloc, other.len())?,
+        })
+    }
+
     /// How many documents there are.
     pub fn len(&self) -> usize
         ensures { result ≡ length self.now }

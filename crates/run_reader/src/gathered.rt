@@ -94,6 +94,16 @@ impl Gathered {
         }
     }
 
+    // How many rows the topic that came last has: one that follows mostly has about as many.
+    fn last_depth(&self) -> usize {
+        let topics = self.kept.topics();
+        if topics == 0 {
+            0
+        } else {
+            self.kept.at(topics - 1).len()
+        }
+    }
+
     // A row of a topic that has no place.
     fn put_new(&mut self, row: &RowText<'_>) -> Result<(), AllocError>
         requires tracked { IsTracked self.old }
@@ -104,9 +114,9 @@ impl Gathered {
         ensures tracked { OnOk result (IsTracked self.new) }
     {
         let t = self.kept.topics();
+        let mut seen = SeenNames::with_room(self.alloc, self.last_depth())?;
         self.kept.add_topic(self.alloc, row.topic)?;
         self.kept.add_row(t, row.document, row.score)?;
-        let mut seen = SeenNames::new(self.alloc);
         seen.insert(self.alloc, row.document)?;
         self.seen.push(seen)?;
         self.last_topic.clear();

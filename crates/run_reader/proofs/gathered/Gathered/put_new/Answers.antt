@@ -24,6 +24,6 @@ returns-clause-tracked c =
     ap documents_seen (c.in_ok-add_row.ensures.ok ∙ ap₂ (λ ts t. with_valued ts t (valued_of row)) c.in_ok-add_topic.ensures.ok c.topics-t.ensures)
     ∙ seen_new kept row.topic (valued_of row) in
     record {
-      seen = c.in_ok-push.ensures.items ∙ ap₂ (λ ds d. ds ++ d ∷ []) c.requires.tracked.seen (c.in_ok-insert.ensures.names ∙ ap (λ ns. insert_key bytes_eq ns row.document) c.new-seen.ensures) ∙ sym documents;
+      seen = c.in_ok-push.ensures.items ∙ ap₂ (λ ds d. ds ++ d ∷ []) c.requires.tracked.seen (c.in_ok-insert.ensures.names ∙ ap (λ ns. insert_key bytes_eq ns row.document) c.in_ok-seen.ensures) ∙ sym documents;
       last = grind (arith, common_steps);
     }

@@ -2,7 +2,7 @@ use Rattle.std.proofs.Common.{◌*◌, arith, drop, get_or, ◌∙◌, sym, ap, 
 use Rattle.std.specs.Str.Parse.{digits_value_after}
 use Rattle.std.proofs.lemmas.Str.Parse.{digit_at}
 use Rattle.decimal_score.proofs.Digits.{digits_left, digits_value_after-ge}
-use Rattle.decimal_score.proofs.significand.appended.Goals as goal
+use Rattle.decimal_score.proofs.significand.with_many.Goals as goal
 
 pub returns-then-number-clause-long : goal.returns-then-number-clause-long
 returns-then-number-clause-long c =

@@ -1,6 +1,6 @@
 use Rattle.std.proofs.Common.{◌≡◌, ◌^◌, ◌<◌, drop}
 use Rattle.std.specs.Str.Parse.{digits_value_after}
-use Rattle.decimal_score.proofs.significand.appended.Given as goal
+use Rattle.decimal_score.proofs.significand.with_many.Given as goal
 
 abbrev pub invariant-loop-digit : goal.invariant-loop-digit
 invariant-loop-digit l =
