@@ -11,4 +11,3 @@ pub mod Truth
 pub mod Replying
 pub mod Showing
 pub mod Truthful
-pub mod Statuses

@@ -7,4 +7,3 @@ pub mod Conversation
 pub mod Showing
 pub mod Meaning
 pub mod Meets
-pub mod Laws

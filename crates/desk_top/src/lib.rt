@@ -2,7 +2,6 @@
 #![tactic(auto)]
 
 mod demo;
-pub mod laws;
 mod output;
 mod report;
 mod session;

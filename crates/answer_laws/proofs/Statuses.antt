@@ -29,7 +29,7 @@ use Rattle.session_stream.specs.declared.stream.TheConstants.{LONGEST_INPUT}
 use Rattle.desk_top.specs.Conversation.{status_at, IsSessionOn}
 use Rattle.desk_top.specs.Meaning.{Meaning, AnswersFiles, meaning_of, report_printing, check_printing, session_meaning, words_meaning}
 use Rattle.desk_top.specs.Meets.{Gives, OutputFailed, FilesFailed, Meets, Stopped, OpensWithin}
-use Rattle.desk_top.specs.Laws.{AreGood, HaltAt, IsStatusOf, HasFiles, IsCallOver, OtherWordsAreUsage, GoodFilesAreAnswered, MissingFileIsOutside, RefusalIsTold, StatusesAreFew}
+use Rattle.answer_laws.specs.Laws.{AreGood, HaltAt, IsStatusOf, HasFiles, IsCallOver, OtherWordsAreUsage, GoodFilesAreAnswered, MissingFileIsOutside, RefusalIsTold, StatusesAreFew}
 
 -- the answers of words that ask for a command are those of the command
 command_answers : CommandIsUnique → (words : List (List ℕ)) (command : Command) → IsCommandOf words command → (known : Option Files) (input : Input) (answer : Answer) → (words_meaning words).answers known input answer → (meaning_of command).answers known input answer

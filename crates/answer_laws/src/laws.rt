@@ -1,5 +1,5 @@
 //! What follows for every call that meets what its words mean, each law the contract of a function that does nothing.
-ghost use Rattle.desk_top.specs.Laws.{OtherWordsAreUsage, GoodFilesAreAnswered, MissingFileIsOutside, RefusalIsTold, StatusesAreFew};
+ghost use Rattle.answer_laws.specs.Laws.{OtherWordsAreUsage, GoodFilesAreAnswered, MissingFileIsOutside, RefusalIsTold, StatusesAreFew};
 
 use desk_words::laws::command_is_unique;
 use order_certificate::{first_bad_line_is_unique, text_and_certificate_are_one};
