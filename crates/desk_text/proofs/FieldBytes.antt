@@ -1,14 +1,17 @@
 -- Bytes that stand in no field.
-use Rattle.std.proofs.Common.{◌≡◌, ℕ, ◌+◌, ◌-◌, ◌/◌, ◌%◌, ◌^◌, ◌<◌, ◌≤◌, List, length, get_or, cond, ltb, leb, eqb, true, false, refl, ap, ap₂, sym, ◌∙◌, arith, bit_or, shr-shr}
+use Rattle.std.proofs.Common.{◌≡◌, ℕ, ◌+◌, ◌-◌, ◌*◌, ◌/◌, ◌%◌, ◌^◌, ◌<◌, ◌≤◌, List, length, get_or, cond, ltb, leb, eqb, true, false, refl, ap, ap₂, sym, ◌∙◌, arith, subst, bit_or, pow_pos, shl_exact, shr-shr}
 use Rattle.std.specs.Prelude.{Bool, ◌||◌, ◌==◌, nat_lt, position, Some, None, map, max}
 use Rattle.std.specs.Int.{bit_at}
 use Rattle.std.specs.Simd.Lanes.{mask_l, chunk}
-use Rattle.std.proofs.lemmas.Simd.{bit_mask_l, get_or-chunk, length-chunk}
-use Rattle.std.proofs.lemmas.Nat.Bits.{bit_at_or}
-use Rattle.std.proofs.lemmas.List.{get_or-map, get_or_past, length-map}
+use Rattle.std.proofs.lemmas.Simd.{bit_mask_l, get_or-chunk, length-chunk, mask_l-lt}
+use Rattle.std.proofs.lemmas.Nat.{or_lt}
+use Rattle.std.proofs.lemmas.Nat.Bits.{bit_at_or, bit_at_above, bit_at_cat_high, bit_at_cat_low, bit_at-zero}
+use Rattle.std.proofs.lemmas.List.{get_or-map, length-map}
 use Rattle.std.proofs.lemmas.List.Sums.{position_or_len_is}
 use Rattle.std.proofs.lemmas.Bool.{lt-ltb, le-ltb, leb-true, leb-false}
 use Rattle.desk_text.specs.Lines.{is_separator, is_bad, is_stop}
+use Rattle.desk_text.specs.Stops.{AreFirstStops, IsInField}
+use Rattle.desk_text.specs.declared.stops.FirstStops.{FirstStops}
 
 pub separator_is_good : (b : ℕ) → is_separator b ≡ true → is_bad b ≡ false
 separator_is_good b h = grind arith
@@ -76,63 +79,91 @@ stop_bit line from a b k room e f lt =
     ∙ ap₂ (λ s t. cond (s || t) 1 0) (get_or-map (λ x. ltb x 33) xs k 0 false (omega arith)) (get_or-map (λ x. eqb x 127) xs k 0 false (omega arith))
     ∙ ap (λ x. cond (ltb x 33 || eqb x 127) 1 0) at ∙ ap (λ t. cond t 1 0) (sym (stop_is (get_or line (from + k) 0)))
 
-pub no_bit : (line : List ℕ) (from a b k : ℕ) → from + 16 ≤ length line → a ≡ mask_l (map (λ x. ltb x 33) (chunk from 16 line)) → b ≡ mask_l (map (λ x. eqb x 127) (chunk from 16 line))
-    → 16 ≤ k → bit_at (bit_or a b) k ≡ 0
-no_bit line from a b k room e f le =
-    let xs = chunk from 16 line in
-    let long : length xs ≡ 16 = length-chunk from 16 line room in
-    either (λ x. ltb x 33) (λ x. eqb x 127) xs a b k e f
-    ∙ ap₂ (λ s t. cond (s || t) 1 0) (get_or_past (map (λ x. ltb x 33) xs) k false (omega (arith, length-map xs (λ x. ltb x 33)))) (get_or_past (map (λ x. eqb x 127) xs) k false (omega (arith, length-map xs (λ x. eqb x 127))))
+pub few_bits : (line : List ℕ) (from a b : ℕ) → from + 16 ≤ length line → a ≡ mask_l (map (λ x. ltb x 33) (chunk from 16 line)) → b ≡ mask_l (map (λ x. eqb x 127) (chunk from 16 line))
+    → bit_or a b < 65536
+few_bits line from a b room e f = or_lt 16 a b (small (λ x. ltb x 33) a e) (small (λ x. eqb x 127) b f)
+  where
+    small : (p : ℕ → Bool) (n : ℕ) → n ≡ mask_l (map p (chunk from 16 line)) → n < 2 ^ 16
+    small p n e =
+        let long : length (map p (chunk from 16 line)) ≡ 16 = length-map (chunk from 16 line) p ∙ length-chunk from 16 line room in
+        subst (λ m. m < 2 ^ 16) (sym e) (subst (λ m. mask_l (map p (chunk from 16 line)) < 2 ^ m) long (mask_l-lt (map p (chunk from 16 line))))
 
 not_set : (b : Bool) → ◌≡◌ {A = ℕ} (cond b 1 0) 0 → b ≡ false
 not_set true h = absurd (omega (arith, h))
 not_set false h = refl
 
-is_set : (b : Bool) → ◌≡◌ {A = ℕ} (cond b 1 0) 1 → b ≡ true
-is_set true h = refl
-is_set false h = absurd (omega (arith, h))
+-- ---- what is known of the first bytes of a line
+-- 16 bits moved to a place: below it there is none
+moved : (more from i : ℕ) → more < 65536 → from + 16 ≤ 64 → bit_at (more * 2 ^ from % 2 ^ 64) i ≡ bit_at (more * 2 ^ from + 0) i
+moved more from i few room = ap (λ n. bit_at n i) (shl_exact 16 from 64 few (omega arith) ∙ add_none (more * 2 ^ from))
+  where
+    add_none : (n : ℕ) → n ≡ n + 0
+    add_none n = omega arith
 
--- Bits are shifted, so that the first is that of a byte after the start.
-module _ (line : List ℕ) (from start bits : ℕ) (after : start ≤ from)
-    (tells : (k : ℕ) → k < 16 → bit_at bits k ≡ cond (is_stop (get_or line (start + k) 0)) 1 0) where
-  pub shifted : (i : ℕ) → bit_at (bits / 2 ^ (from - start)) i ≡ bit_at bits ((from - start) + i)
-  shifted i = ap (λ n. n % 2) (shr-shr bits (from - start) i)
+moved_below : (more from i : ℕ) → more < 65536 → from + 16 ≤ 64 → i < from → bit_at (more * 2 ^ from % 2 ^ 64) i ≡ 0
+moved_below more from i few room lt = moved more from i few room ∙ bit_at_cat_low more from 0 i lt ∙ bit_at-zero i
 
-  same : (i : ℕ) → from ≤ i → i < start + 16 → bit_at (bits / 2 ^ (from - start)) (i - from) ≡ cond (is_stop (get_or line i 0)) 1 0
-  same i le lt =
-      let e : (from - start) + (i - from) ≡ i - start = omega arith in
-      let f : start + (i - start) ≡ i = omega arith in
-      shifted (i - from) ∙ ap (bit_at bits) e ∙ tells (i - start) (omega arith) ∙ ap (λ j. cond (is_stop (get_or line j 0)) 1 0) f
+moved_above : (more from i : ℕ) → more < 65536 → from + 16 ≤ 64 → from ≤ i → bit_at (more * 2 ^ from % 2 ^ 64) i ≡ bit_at more (i - from)
+moved_above more from i few room le = moved more from i few room ∙ bit_at_cat_high more from 0 i (pow_pos from) le
 
-  pub clear : (i : ℕ) → from ≤ i → i < start + 16 → bit_at (bits / 2 ^ (from - start)) (i - from) ≡ 0 → is_stop (get_or line i 0) ≡ false
-  clear i le lt z = not_set _ (sym (same i le lt) ∙ z)
+-- whether a byte stands in no field, as a number
+abbrev told : List ℕ → ℕ → ℕ
+told line i = cond (is_stop (get_or line i 0)) 1 0
 
-  pub stop : (i : ℕ) → from ≤ i → i < start + 16 → bit_at (bits / 2 ^ (from - start)) (i - from) ≡ 1 → is_stop (get_or line i 0) ≡ true
-  stop i le lt z = is_set _ (sym (same i le lt) ∙ z)
+-- with the 16 bytes from a place on
+module _ (line : List ℕ) (first : FirstStops) (from more : ℕ) (known : AreFirstStops line first) (next : from ≤ first.known) (further : first.known ≤ from + 16) (room : from + 16 ≤ 64) (few : more < 65536)
+    (tells : (k : ℕ) → k < 16 → bit_at more k ≡ told line (from + k)) where
+  here : (i : ℕ) → from ≤ i → i < from + 16 → bit_at (more * 2 ^ from % 2 ^ 64) i ≡ told line i
+  here i le lt =
+      let e : from + (i - from) ≡ i = omega arith in
+      moved_above more from i few room le ∙ tells (i - from) (omega arith) ∙ ap (told line) e
+
+  together : (i : ℕ) → bit_at (bit_or first.bits (more * 2 ^ from % 2 ^ 64)) i ≡ max (bit_at first.bits i) (bit_at (more * 2 ^ from % 2 ^ 64) i)
+  together i = bit_at_or first.bits (more * 2 ^ from % 2 ^ 64) i
+
+  each : (i : ℕ) → i < from + 16 → bit_at (bit_or first.bits (more * 2 ^ from % 2 ^ 64)) i ≡ told line i
+  each i lt = by (leb from i) refl (leb first.known i) refl
+    where
+      by : (late : Bool) → leb from i ≡ late → (new : Bool) → leb first.known i ≡ new → bit_at (bit_or first.bits (more * 2 ^ from % 2 ^ 64)) i ≡ told line i
+      by true e true f = omega (arith, together i, here i (leb-true from i e) lt, known.none i (leb-true first.known i f))
+      by true e false f = omega (arith, together i, here i (leb-true from i e) lt, known.each i (leb-false first.known i f))
+      by false e new f = let before = leb-false from i e in omega (arith, together i, moved_below more from i few room before, known.each i (omega (arith, before)))
+
+  none : (i : ℕ) → from + 16 ≤ i → bit_at (bit_or first.bits (more * 2 ^ from % 2 ^ 64)) i ≡ 0
+  none i le = omega (arith, together i, moved_above more from i few room (omega arith), bit_at_above more 16 (i - from) few (omega arith), known.none i (omega arith))
+
+  pub more_known : from + 16 ≤ length line → AreFirstStops line (record { known = from + 16; bits = bit_or first.bits (more * 2 ^ from % 2 ^ 64) })
+  more_known within = record { few = room; within = within; each = each; none = none }
+
+-- Bits are shifted, so that the first is that of a later byte.
+module _ (line : List ℕ) (first : FirstStops) (from : ℕ) (known : AreFirstStops line first) where
+  shifted : (i : ℕ) → bit_at (first.bits / 2 ^ from) i ≡ bit_at first.bits (from + i)
+  shifted i = ap (λ n. n % 2) (shr-shr first.bits from i)
+
+  clear : (i : ℕ) → from ≤ i → i < first.known → bit_at (first.bits / 2 ^ from) (i - from) ≡ 0 → is_stop (get_or line i 0) ≡ false
+  clear i le lt z =
+      let e : from + (i - from) ≡ i = omega arith in
+      not_set _ (sym (shifted (i - from) ∙ ap (bit_at first.bits) e ∙ known.each i lt) ∙ z)
+
+  -- no bit is set: all known bytes stand in the field
+  pub all_clear : from < first.known → first.bits / 2 ^ from ≡ 0 → IsInField line from first.known
+  all_clear lt z = record {
+    order = omega (arith, lt);
+    within = known.within;
+    each = λ i le under. clear i le under (ap (λ n. bit_at n (i - from)) z ∙ bit_at-zero (i - from));
+  }
 
   -- the lowest bit that is set is that of the first byte that stands in no field
-  pub placed : (r : ℕ) → bit_at (bits / 2 ^ (from - start)) r ≡ 1 → ((i : ℕ) → i < r → bit_at (bits / 2 ^ (from - start)) i ≡ 0) → from < start + 16 → start + 16 ≤ length line
-      → ((k : ℕ) → 16 ≤ k → bit_at bits k ≡ 0) → is_stop (get_or line from 0) ≡ false → (from < from + r) × (from + r ≤ length line) × ((i : ℕ) → from ≤ i → i < from + r → is_stop (get_or line i 0) ≡ false)
-  placed r set below near room none here = (away, omega (arith, low), before)
+  pub first_clear : (r : ℕ) → bit_at (first.bits / 2 ^ from) r ≡ 1 → ((i : ℕ) → i < r → bit_at (first.bits / 2 ^ from) i ≡ 0) → IsInField line from (from + r)
+  first_clear r set below = record {
+    order = omega arith;
+    within = omega (arith, low, known.within);
+    each = λ i le lt. clear i le (omega (arith, lt, low)) (below (i - from) (omega arith));
+  }
     where
-      low : (from - start) + r < 16
-      low = by (leb 16 ((from - start) + r)) refl
+      low : from + r < first.known
+      low = by (leb first.known (from + r)) refl
         where
-          by : (far : Bool) → leb 16 ((from - start) + r) ≡ far → (from - start) + r < 16
-          by true e = absurd (omega (arith, shifted r, none ((from - start) + r) (leb-true 16 ((from - start) + r) e), set))
-          by false e = leb-false 16 ((from - start) + r) e
-
-      away : from < from + r
-      away = by (leb r 0) refl
-        where
-          by : (is_first : Bool) → leb r 0 ≡ is_first → from < from + r
-          by true e =
-              let zero_is : r ≡ 0 = omega (arith, leb-true r 0 e) in
-              let first : from - from ≡ r = omega (arith, zero_is) in
-              let it : is_stop (get_or line from 0) ≡ true = stop from (omega arith) near (ap (bit_at (bits / 2 ^ (from - start))) first ∙ set) in
-              let no : ◌≡◌ {A = ℕ} 1 0 = ap (λ b. cond b 1 0) (sym it ∙ here) in
-              absurd (omega (arith, no))
-          by false e = let some = leb-false r 0 e in omega (arith, some)
-
-      before : (i : ℕ) → from ≤ i → i < from + r → is_stop (get_or line i 0) ≡ false
-      before i le lt = clear i le (omega (arith, low)) (below (i - from) (omega arith))
+          by : (far : Bool) → leb first.known (from + r) ≡ far → from + r < first.known
+          by true e = absurd (omega (arith, shifted r, known.none (from + r) (leb-true first.known (from + r) e), set))
+          by false e = leb-false first.known (from + r) e

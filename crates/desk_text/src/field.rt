@@ -7,7 +7,7 @@ ghost use Rattle.desk_text.specs.Places.{count_of, places_of};
 
 use crate::line::LONGEST_LINE;
 use crate::places::{BadByte, Fields};
-use crate::stops::next_stop;
+use crate::stops::{FirstStops, next_stop};
 
 fn is_separator(byte: u8) -> bool
     ensures { result ≡ is_separator byte }
@@ -61,9 +61,10 @@ pub fn fields(line: &[u8]) -> Result<Fields, BadByte>
 {
     let mut count = 0;
     let mut places = [(0, 0); 6];
+    let first = FirstStops::of(line);
     let mut at = skip(line, 0);
     while at < line.len() {
-        let end = next_stop(line, at);
+        let end = next_stop(line, first, at);
         if is_cut(line, end) {
             return Err(BadByte { at: end });
         }

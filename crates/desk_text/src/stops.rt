@@ -1,15 +1,19 @@
-// Where the bytes of a field end, found 16 bytes at a time.
-ghost use Rattle.std.specs.Prelude.{◌≡◌, ℕ, ◌+◌, ◌<◌, ◌≤◌, length, slice_index, if◌then◌else◌, false, true};
+// Where the bytes of a field end. The first bytes of a line are looked at 16 at a time, once for all its fields.
+ghost use Rattle.std.specs.Prelude.{◌≡◌, ℕ, List, ◌+◌, ◌<◌, ◌≤◌, length, slice_index, if◌then◌else◌, false, true};
 ghost use Rattle.std.specs.Int.{bit_at};
 ghost use Rattle.desk_text.specs.Lines.{is_stop};
+ghost use Rattle.desk_text.specs.Stops.{AreFirstStops, IsInField};
 
 use std::simd::prelude::*;
 
 // How many bytes are looked at together.
 const TOGETHER: usize = 16;
 
+// How many bytes of a line are looked at in this way: as many as a number has bits.
+const MOST_KNOWN: usize = 64;
+
 /// Whether a byte stands in no field.
-pub(crate) fn is_stop(byte: u8) -> bool
+fn is_stop(byte: u8) -> bool
     ensures { result ≡ is_stop byte }
 {
     byte < 33 || byte == 127
@@ -20,7 +24,7 @@ pub(crate) fn is_stop(byte: u8) -> bool
 fn stops(line: &[u8], from: usize) -> u64
     requires { from + 16 ≤ length line.now }
     ensures bits { (k : ℕ) → k < 16 → bit_at result k ≡ (if is_stop (slice_index line.now (from + k)) then 1 else 0) }
-    ensures none { (k : ℕ) → 16 ≤ k → bit_at result k ≡ 0 }
+    ensures few { result < 65536 }
 {
     let bytes = u8x16::from_slice(&line[from..]);
     let low = bytes.simd_lt(u8x16::splat(33)).to_bitmask();
@@ -28,53 +32,78 @@ fn stops(line: &[u8], from: usize) -> u64
     low | delete
 }
 
-// Past bytes of a field from a place on: to the first that stands in no field, or to the end of the 16 in which it is looked for.
-#[inline(always)]
-fn past_together(line: &[u8], from: usize) -> usize
-    requires long { 16 ≤ length line.now }
-    requires from { from < length line.now }
-    requires field { is_stop (slice_index line.now from) ≡ false }
-    ensures more { from < result }
-    ensures within { result ≤ length line.now }
-    ensures field { (i : ℕ) → from ≤ i → i < result → is_stop (slice_index line.now i) ≡ false }
-{
-    let start = from.min(line.len() - TOGETHER);
-    let found = stops(line, start) >> (from - start);
-    if found == 0 {
-        start + TOGETHER
-    } else {
-        from + found.trailing_zeros() as usize
-    }
+/// Which of the first bytes of a line stand in no field.
+#[derive(Clone, Copy)]
+pub(crate) struct FirstStops {
+    // Of how many bytes this is known.
+    known: usize,
+    // Bit `i` tells it of byte `i`.
+    bits: u64,
 }
 
-// Past bytes of a field from a place on.
-#[inline(always)]
-fn past(line: &[u8], from: usize) -> usize
-    requires from { from < length line.now }
-    requires field { is_stop (slice_index line.now from) ≡ false }
-    ensures more { from < result }
-    ensures within { result ≤ length line.now }
-    ensures field { (i : ℕ) → from ≤ i → i < result → is_stop (slice_index line.now i) ≡ false }
-{
-    if line.len() < TOGETHER {
-        from + 1
-    } else {
-        past_together(line, from)
+impl FirstStops {
+    /// Those of up to 64 bytes of a line. Of a line of less than 16 bytes nothing is known.
+    #[inline(always)]
+    pub(crate) fn of(line: &[u8]) -> FirstStops
+        ensures { AreFirstStops line.now result }
+    {
+        let none = FirstStops { known: 0, bits: 0 };
+        if line.len() < TOGETHER {
+            return none;
+        }
+        let last = line.len().min(MOST_KNOWN) - TOGETHER;
+        none.with_more(line, 0)
+            .with_more(line, last.min(16))
+            .with_more(line, last.min(32))
+            .with_more(line, last)
+    }
+
+    // With the 16 bytes from a place on.
+    #[inline(always)]
+    fn with_more(self, line: &[u8], from: usize) -> FirstStops
+        requires known { AreFirstStops line.now self }
+        requires next { from ≤ self.known }
+        requires more { self.known ≤ from + 16 }
+        requires few { from + 16 ≤ 64 }
+        requires within { from + 16 ≤ length line.now }
+        ensures known { AreFirstStops line.now result }
+        ensures count { result.known ≡ from + 16 }
+    {
+        FirstStops {
+            known: from + TOGETHER,
+            bits: self.bits | (stops(line, from) << from),
+        }
+    }
+
+    // Past bytes of a field from a place on: to the first known one that stands in no field, or past all known ones.
+    #[inline(always)]
+    fn past(self, from: usize) -> usize
+        requires { self.known ≤ 64 }
+        ensures { (line : List ℕ) → AreFirstStops line self → from ≤ length line → IsInField line from result }
+    {
+        if self.known <= from {
+            return from;
+        }
+        let found = self.bits >> from;
+        if found == 0 {
+            self.known
+        } else {
+            from + found.trailing_zeros() as usize
+        }
     }
 }
 
 /// The first byte from a place on that stands in no field, or the end of the line.
 #[inline(always)]
-pub(crate) fn next_stop(line: &[u8], from: usize) -> usize
-    requires { from ≤ length line.now }
-    ensures from { from ≤ result }
-    ensures within { result ≤ length line.now }
-    ensures field { (i : ℕ) → from ≤ i → i < result → is_stop (slice_index line.now i) ≡ false }
+pub(crate) fn next_stop(line: &[u8], first: FirstStops, from: usize) -> usize
+    requires first { AreFirstStops line.now first }
+    requires from { from ≤ length line.now }
+    ensures field { IsInField line.now from result }
     ensures stop { result < length line.now → is_stop (slice_index line.now result) ≡ true }
 {
-    let mut at = from;
+    let mut at = first.past(from);
     while at < line.len() && !is_stop(line[at]) {
-        at = past(line, at);
+        at += 1;
     }
     at
 }

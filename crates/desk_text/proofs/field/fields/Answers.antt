@@ -13,7 +13,7 @@ returns-then-is_cut-clause-bad c =
     let end = c.next_stop-end.result in
     let lt : end < length line = c.is_cut.ensures.within c.if-is_cut.true in
     let good : (i : ℕ) → i < end → is_bad (get_or line i 0) ≡ false =
-    both (λ i. is_bad (get_or line i 0) ≡ false) c.loop-at.at end c.loop-at.invariant.good (λ i from to. (in_no_stop (get_or line i 0) (c.next_stop-end.ensures.field i from to)).1) in
+    both (λ i. is_bad (get_or line i 0) ≡ false) c.loop-at.at end c.loop-at.invariant.good (λ i from to. (in_no_stop (get_or line i 0) (c.next_stop-end.ensures.field.each i from to)).1) in
     let found = bad_found line end lt good (bad_stop (get_or line end 0) (c.next_stop-end.ensures.stop lt) (c.is_cut.ensures.cut c.if-is_cut.true)) in
     λ i. option_map (λ at. record { at = at }) (sym found i)
 
@@ -24,13 +24,13 @@ loop-at-preserved c =
     let end = c.next_stop-end.result in
     let next = c.skip-at-in-loop-at.result in
     let ends = c.is_cut.ensures.ends c.if-is_cut.false in
-    let some : at < end = some_byte line at end c.loop-at-test.true c.next_stop-end.ensures.from (c.loop-at.invariant.stops c.loop-at-test.true) ends in
-    let field = field_found line at end some c.next_stop-end.ensures.within (λ i from to. (in_no_stop (get_or line i 0) (c.next_stop-end.ensures.field i from to)).0) ends in
+    let some : at < end = some_byte line at end c.loop-at-test.true c.next_stop-end.ensures.field.order (c.loop-at.invariant.stops c.loop-at-test.true) ends in
+    let field = field_found line at end some c.next_stop-end.ensures.field.within (λ i from to. (in_no_stop (get_or line i 0) (c.next_stop-end.ensures.field.each i from to)).0) ends in
     let good : (i : ℕ) → i < end → is_bad (get_or line i 0) ≡ false =
-    both (λ i. is_bad (get_or line i 0) ≡ false) at end c.loop-at.invariant.good (λ i from to. (in_no_stop (get_or line i 0) (c.next_stop-end.ensures.field i from to)).1) in
+    both (λ i. is_bad (get_or line i 0) ≡ false) at end c.loop-at.invariant.good (λ i from to. (in_no_stop (get_or line i 0) (c.next_stop-end.ensures.field.each i from to)).1) in
     record {
       marked = marked_more line c.loop-at.count c.loop-at.places c.if-count-lt6.places at end next c.loop-at.invariant.marked
-          field c.skip-at-in-loop-at.ensures.fields some c.next_stop-end.ensures.within c.skip-at-in-loop-at.ensures.from c.loop-at.invariant.six
+          field c.skip-at-in-loop-at.ensures.fields some c.next_stop-end.ensures.field.within c.skip-at-in-loop-at.ensures.from c.loop-at.invariant.six
           (elim c.if-count-lt6.branch [ then-count-lt6 w ↦ inl (w.if-count-lt6.true, w.places-is) | else-count-lt6 w ↦ inr (w.if-count-lt6.false, w.places-is) ]);
       six = elim c.if-count-lt6.branch [ then-count-lt6 w ↦ ap length w.places-is ∙ (length-set c.loop-at.places c.loop-at.count (at, end) ∙ c.loop-at.invariant.six) | else-count-lt6 w ↦ ap length w.places-is ∙ c.loop-at.invariant.six ];
       within = c.skip-at-in-loop-at.ensures.within;
