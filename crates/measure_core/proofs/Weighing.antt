@@ -1,7 +1,6 @@
 -- A document that neither of two rankings has weighs nothing.
-use Rattle.std.proofs.Common.{◌≡◌, ℕ, zero, suc, ◌+◌, Bool, true, false, nat_eq, max, List, [], ◌∷◌, take, Option, Some, None, refl, ap, sym, ◌∙◌}
-use Rattle.std.specs.Prelude.{◌||◌, is_some}
-use Rattle.std.specs.List.{position_from}
+use Rattle.std.proofs.Common.{◌≡◌, ℕ, Bool, true, false, max, List, Option, Some, None, refl, ap, sym, ◌∙◌}
+use Rattle.std.specs.Prelude.{is_some}
 use Rattle.desk_model.specs.Ranking.{rank}
 use Rattle.desk_model.proofs.Unranked.{unranked_in}
 use Rattle.desk_model.specs.declared.types.Mark.{Mark}

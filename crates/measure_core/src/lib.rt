@@ -16,6 +16,6 @@ pub use kept::KeptCell;
 pub use maker::Maker;
 pub use measure::Measure;
 pub use rankings::TopicRankings;
-pub use room::{CellRoom, RunWeights};
+pub use room::{BLOCK, CellRoom, RunSums, RunWeights};
 pub use shift::Shift;
 pub use steps::Steps;

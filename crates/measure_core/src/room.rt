@@ -26,6 +26,21 @@ impl RunWeights {
     };
 }
 
+/// How many documents of a run a block has.
+pub const BLOCK: u32 = 10;
+
+/// Sums over a run's first documents on a topic, of what a measure likes to add up: for each number of
+/// blocks, from 0 to as many as the longest run has, over the documents of so many first blocks.
+#[derive(Clone, Copy)]
+pub struct RunSums {
+    pub numbers: [u32; 1001],
+}
+
+impl RunSums {
+    /// Sums of nothing.
+    pub const NONE: RunSums = RunSums { numbers: [0; 1001] };
+}
+
 /// Room for what a measure keeps while it finds the cells of all pairs on a topic. What it holds
 /// between two topics is anything, and a measure does without it on a topic that it is too small for.
 #[derive(Drop)]
@@ -38,6 +53,8 @@ pub struct CellRoom {
     pub counts: Vec<Counts>,
     /// Weights for each run.
     pub weights: Vec<RunWeights>,
+    /// Sums for each run.
+    pub sums: Vec<RunSums>,
 }
 
 impl CellRoom {
@@ -47,16 +64,19 @@ impl CellRoom {
         ensures ranks { IfOk result (λ room. length room.ranks.items ≡ documents) }
         ensures counts { IfOk result (λ room. length room.counts.items ≡ runs) }
         ensures weights { IfOk result (λ room. length room.weights.items ≡ runs) }
+        ensures sums { IfOk result (λ room. length room.sums.items ≡ runs) }
     {
         let marks = vec![in alloc; Mark::Other; documents as usize]?;
         let ranks = vec![in alloc; 0u32; documents as usize]?;
         let counts = vec![in alloc; Counts::NONE; runs as usize]?;
         let weights = vec![in alloc; RunWeights::NONE; runs as usize]?;
+        let sums = vec![in alloc; RunSums::NONE; runs as usize]?;
         Ok(CellRoom {
             marks,
             ranks,
             counts,
             weights,
+            sums,
         })
     }
 }

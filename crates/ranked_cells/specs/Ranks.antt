@@ -7,6 +7,7 @@ use Rattle.desk_model.specs.Score.{true_count}
 use Rattle.desk_model.specs.declared.pairs.PairPlaces.{PairPlaces}
 use Rattle.desk_model.specs.declared.types.Mark.{Mark}
 use Rattle.measure_core.specs.Pairs.{DeskTopic, ranking_on, runs_on}
+use Rattle.measure_core.specs.declared.room.RunSums.{RunSums}
 use Rattle.measure_core.specs.declared.room.RunWeights.{RunWeights}
 use Rattle.topic_counts.specs.Own.{AreCountsOf}
 use Rattle.topic_counts.specs.declared.counts.Counts.{Counts}
@@ -28,6 +29,10 @@ AreRanksBefore t at ranks = at.first + 1 ≢ at.second → AreRanks (ranking_on 
 -- the weights of each run
 abbrev pub AreRunWeights : (List ℕ → RunWeights) → DeskTopic → List RunWeights → Type 0
 AreRunWeights weights_of t weights = (run : ℕ) → run < runs_on t → (none : RunWeights) → slice_index_or weights run none ≡ weights_of (ranking_on t run)
+
+-- the sums of each run
+abbrev pub AreRunSums : (List ℕ → List ℕ → Type 0) → DeskTopic → List RunSums → Type 0
+AreRunSums are_sums t sums = (run : ℕ) → run < runs_on t → (none : RunSums) → are_sums (ranking_on t run) (slice_index_or sums run none).numbers
 
 -- the counts of all documents of the topic
 pub record AreTopicCounts (marks : List Mark) (all : Counts) : Type 0 where

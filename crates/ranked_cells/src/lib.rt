@@ -5,5 +5,5 @@
 pub mod ranked_measure;
 pub mod rows;
 
-pub use ranked_measure::{KeptWeights, RankedMeasure};
+pub use ranked_measure::{KeptPair, KeptSums, KeptWeights, RankedMeasure};
 pub use rows::{place_ranks, ranked_cells};

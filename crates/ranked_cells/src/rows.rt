@@ -1,13 +1,15 @@
-ghost use Rattle.std.specs.Prelude.{◌≡◌, ◌+◌, ◌<◌, ◌≤◌, true, false, All, length};
+ghost use Rattle.std.specs.Prelude.{◌≡◌, ◌+◌, ◌<◌, ◌≤◌, true, false, All, length, slice_index_or};
 ghost use Rattle.desk_model.specs.Pairs.{pairs_of};
 ghost use Rattle.desk_model.specs.Ranking.{IsRanking};
 ghost use Rattle.measure_core.specs.Laws.{CellIsModest};
+ghost use Rattle.measure_core.specs.declared.room.RunSums.{RunSums as S};
+ghost use Rattle.measure_core.specs.declared.room.RunWeights.{RunWeights as W};
 ghost use Rattle.measure_core.specs.Pairs.{AreAllMet, pair_cells, ranking_on, run_numbers, runs_on};
-ghost use Rattle.ranked_cells.specs.Ranks.{AreRanks, AreRanksBefore, AreRunWeights};
+ghost use Rattle.ranked_cells.specs.Ranks.{AreRanks, AreRanksBefore, AreRunSums, AreRunWeights};
 
-use crate::ranked_measure::{KeptWeights, RankedMeasure};
+use crate::ranked_measure::{KeptPair, KeptSums, KeptWeights, RankedMeasure};
 use desk_model::{Mark, PairPlaces, Ranking};
-use measure_core::{CellRoom, KeptCell, RunWeights, Steps, TopicRankings};
+use measure_core::{CellRoom, KeptCell, RunSums, RunWeights, Steps, TopicRankings};
 use std::sync::ledger::Ledger;
 use topic_counts::topic::all_documents;
 
@@ -23,19 +25,26 @@ pub fn place_ranks(ranking: &Ranking, ranks: &mut [u32])
     }
 }
 
-/// Finds the weights of each run.
+/// Finds the weights and the sums of each run.
 fn weigh_runs<R: RankedMeasure>(
     measure: &R,
     rankings: &TopicRankings<'_>,
     marks: &[Mark],
     weights: &mut [RunWeights],
+    sums: &mut [RunSums],
 )
     requires met { AreAllMet marks.now rankings.now }
-    requires room { runs_on rankings.now ≤ length weights.old }
-    ensures { AreRunWeights (R.weights_of measure.now marks.now) rankings.now weights.new }
+    requires weights { runs_on rankings.now ≤ length weights.old }
+    requires sums { runs_on rankings.now ≤ length sums.old }
+    ensures weights { AreRunWeights (R.weights_of measure.now marks.now) rankings.now weights.new }
+    ensures sums { AreRunSums (R.are_sums measure.now marks.now) rankings.now sums.new }
+    ensures as_many_weights { length weights.new ≡ length weights.old }
+    ensures as_many_sums { length sums.new ≡ length sums.old }
 {
     for run in 0..rankings.runs() {
-        weights[run as usize] = measure.run_weights(rankings.ranking(run), marks);
+        let ranking = rankings.ranking(run);
+        weights[run as usize] = measure.run_weights(ranking, marks);
+        sums[run as usize] = measure.run_sums(ranking, marks);
     }
 }
 
@@ -56,19 +65,44 @@ fn rank_first(rankings: &TopicRankings<'_>, marks: &[Mark], at: PairPlaces, rank
     }
 }
 
-/// The cells of all pairs of runs, by the weights of each run. It is one step for each.
+/// What is kept of the two runs of a pair.
+fn kept_pair<'k>(weights: &[RunWeights], sums: &'k [RunSums], at: PairPlaces) -> KeptPair<'k>
+    requires order { at.first < at.second }
+    requires weights { at.second < length weights.now }
+    requires sums { at.second < length sums.now }
+    ensures first { (none : W) → result.weights.first ≡ slice_index_or weights.now at.first none }
+    ensures second { (none : W) → result.weights.second ≡ slice_index_or weights.now at.second none }
+    ensures first_sums { (none : S) → result.sums.first.now ≡ slice_index_or sums.now at.first none }
+    ensures second_sums { (none : S) → result.sums.second.now ≡ slice_index_or sums.now at.second none }
+{
+    KeptPair {
+        weights: KeptWeights {
+            first: weights[at.first as usize],
+            second: weights[at.second as usize],
+        },
+        sums: KeptSums {
+            first: &sums[at.first as usize],
+            second: &sums[at.second as usize],
+        },
+    }
+}
+
+/// The cells of all pairs of runs, by the weights and the sums of each run. It is one step for each.
 fn fill_cells<R: RankedMeasure, L: Ledger>(
     measure: &R,
     rankings: &TopicRankings<'_>,
     marks: &[Mark],
     weights: &[RunWeights],
+    sums: &[RunSums],
     ranks: &mut [u32],
     cells: &mut [KeptCell],
     steps: &mut Steps<L>,
 )
     requires met { AreAllMet marks.now rankings.now }
     requires weights { AreRunWeights (R.weights_of measure.now marks.now) rankings.now weights.now }
+    requires sums { AreRunSums (R.are_sums measure.now marks.now) rankings.now sums.now }
     requires weighed { runs_on rankings.now ≤ length weights.now }
+    requires summed { runs_on rankings.now ≤ length sums.now }
     requires room { length marks.now ≤ length ranks.old }
     requires count { length cells.old ≡ length (pairs_of (run_numbers (runs_on rankings.now))) }
     ensures cells { cells.new ≡ pair_cells (R.ranked_cell_of measure.now marks.now) rankings.now }
@@ -80,10 +114,7 @@ fn fill_cells<R: RankedMeasure, L: Ledger>(
     let mut at = PairPlaces::START;
     for place in 0..cells.len() {
         rank_first(rankings, marks, at, ranks);
-        let kept = KeptWeights {
-            first: weights[at.first as usize],
-            second: weights[at.second as usize],
-        };
+        let kept = kept_pair(weights, sums, at);
         let a = rankings.ranking(at.first);
         let b = rankings.ranking(at.second);
         cells[place] = KeptCell::of(measure.ranked_cell(a, b, marks, ranks, kept, all));
@@ -96,7 +127,7 @@ fn fill_cells<R: RankedMeasure, L: Ledger>(
 /// enough for the topic; where it is not, nothing changes. It is one step for each pair, and takes no
 /// memory.
 ///
-/// The weights of each run are found once. For each first run the ranks of its documents are set apart,
+/// The weights and the sums of each run are found once. For each first run the ranks of its documents are set apart,
 /// and each later run goes over its own documents by them.
 pub fn ranked_cells<R: RankedMeasure, L: Ledger>(
     measure: &R,
@@ -115,10 +146,12 @@ pub fn ranked_cells<R: RankedMeasure, L: Ledger>(
 {
     let ranks = &mut room.ranks;
     let weights = &mut room.weights;
-    let fits = marks.len() <= ranks.len() && rankings.runs() as usize <= weights.len();
+    let sums = &mut room.sums;
+    let runs = rankings.runs() as usize;
+    let fits = marks.len() <= ranks.len() && runs <= weights.len() && runs <= sums.len();
     if fits {
-        weigh_runs(measure, rankings, marks, weights);
-        fill_cells(measure, rankings, marks, weights, ranks, cells, steps);
+        weigh_runs(measure, rankings, marks, weights, sums);
+        fill_cells(measure, rankings, marks, weights, sums, ranks, cells, steps);
     }
     fits
 }

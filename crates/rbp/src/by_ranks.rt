@@ -16,8 +16,8 @@ use crate::rbp::Rbp;
 use crate::weights::{Parts, number_of};
 use desk_model::{Mark, Ranking};
 use fractions::Span;
-use measure_core::{Cell, RunWeights};
-use ranked_cells::{KeptWeights, RankedMeasure};
+use measure_core::{Cell, RunSums, RunWeights};
+use ranked_cells::{KeptPair, RankedMeasure};
 use topic_counts::counts::Counts;
 
 /// The greatest rank of a run.
@@ -223,14 +223,21 @@ impl Rbp {
 }
 
 impl RankedMeasure for Rbp {
+    ghost use Rattle.std.specs.Prelude.{⊤};
     ghost use Rattle.rbp.specs.Numbers.{biased_cell, run_weights};
 
     ghost ranked_cell_of = { λ r. biased_cell r.top r.bottom };
 
     ghost weights_of = { λ r. run_weights r.top r.bottom };
 
+    ghost are_sums = { λ _ _ _ _. ⊤ };
+
     fn run_weights(&self, ranking: &Ranking, marks: &[Mark]) -> RunWeights {
         self.kept_weights(marks, ranking.docs())
+    }
+
+    fn run_sums(&self, _ranking: &Ranking, _marks: &[Mark]) -> RunSums {
+        RunSums::NONE
     }
 
     fn ranked_cell(
@@ -239,7 +246,7 @@ impl RankedMeasure for Rbp {
         b: &Ranking,
         marks: &[Mark],
         ranks: &[u32],
-        weights: KeptWeights,
+        kept: KeptPair<'_>,
         _all: Counts,
     ) -> Cell {
         // What is kept of the persistence bounds the ends.
@@ -248,7 +255,7 @@ impl RankedMeasure for Rbp {
             a,
             b,
             marks,
-            weights,
+            kept.weights,
             self.corrections_by_ranks(a, b, marks, ranks),
         )
     }

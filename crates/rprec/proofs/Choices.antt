@@ -24,7 +24,8 @@ use Rattle.measure_laws.proofs.RprecEnds.{count_picked, count_three}
 use Rattle.topic_counts.specs.declared.counts.Counts.{Counts}
 use Rattle.rprec.specs.declared.prefixes.Prefixes.{Prefixes}
 use Rattle.rprec.specs.declared.greedy.Candidate.{Candidate}
-use Rattle.rprec.specs.Greedy.{ArePrefixes, AreTopic, AreFew, AreGains, beats, swapped}
+use Rattle.rprec.specs.Greedy.{AreTopic, AreFew, AreGains, beats}
+use Rattle.rprec.proofs.Steps.{ArePrefixes}
 
 -- ---- the gains of a greedy choice
 pub gains_are : (marks : List Mark) (a b : List ℕ) (r chosen : ℕ) (f : Prefixes) (all : Counts) (c : Candidate) → IsRanking (length marks) a → IsRanking (length marks) b →
@@ -103,6 +104,3 @@ all_open marks =
 pub few_are : (marks : List Mark) (a b : List ℕ) (r : ℕ) (f : Prefixes) (all : Counts) → IsRanking (length marks) a → IsRanking (length marks) b → ArePrefixes marks (take r a) (take r b) f → AreTopic marks all → all.relevant + all.unjudged ≤ 25000000 → AreFew f all
 few_are marks a b r f all ra rb h topic few =
     let small = prefixes_small marks a b r f ra rb h in record { first = small.0; second = small.1; within = own_both marks a b r f all ra rb h topic; total = few }
-
-pub few_swapped : (f g : Prefixes) (all : Counts) → AreFew f all → g ≡ swapped f → AreFew g all
-few_swapped f g all h e = subst (λ x. AreFew x all) (sym e) (record { first = h.second; second = h.first; within = omega (arith, h.within); total = h.total })

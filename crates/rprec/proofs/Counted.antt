@@ -12,11 +12,12 @@ use Rattle.desk_model.specs.declared.types.Mark.{Mark}
 use Rattle.desk_model.specs.declared.types.Mark.TheVariants.{Unjudged, Relevant, Other}
 use Rattle.topic_counts.specs.declared.counts.Counts.{Counts}
 use Rattle.rprec.specs.declared.prefixes.Prefixes.{Prefixes}
-use Rattle.rprec.specs.Greedy.{AreBefore, ArePrefixes, AreNext, number_if, one_of}
+use Rattle.rprec.specs.Greedy.{AreNext, one_of}
 use Rattle.rprec.specs.Shared.{AreShared, met, entered as counts_entered}
 use Rattle.rprec.specs.Walk.{AreCounted, AreRanksOf, AreWalked, IsWalk, both, flagged_at}
 use Rattle.std.proofs.Math.Bool.{and-false}
 use Rattle.rprec.proofs.Flags.{AreFlags, entered, flagged, opened, rank_place}
+use Rattle.rprec.proofs.Steps.{AreBefore, ArePrefixes, number_if}
 
 -- 1 or 0
 abbrev pub one_where : Bool → ℕ

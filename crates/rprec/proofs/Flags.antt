@@ -18,9 +18,9 @@ use Rattle.desk_model.specs.declared.types.Mark.{Mark}
 use Rattle.desk_model.proofs.Counts.{IsDistinct-take}
 use Rattle.topic_counts.specs.declared.counts.Counts.{Counts}
 use Rattle.rprec.specs.declared.prefixes.Prefixes.{Prefixes}
-use Rattle.rprec.specs.Greedy.{AreBefore, ArePrefixes, swapped}
+use Rattle.rprec.specs.Greedy.{swapped}
 use Rattle.rprec.specs.Walk.{AreRanksOf, AreWalked, IsWalk, both}
-use Rattle.rprec.proofs.Steps.{prefixes_swapped, after_next, number_either}
+use Rattle.rprec.proofs.Steps.{AreBefore, ArePrefixes, after_next, number_either, prefixes_swapped}
 
 -- for each place of a list, whether another has the document among so many first ones
 pub record AreFlags (xs ys : List ℕ) (depth : ℕ → ℕ) (flags : List Bool) : Type 0 where

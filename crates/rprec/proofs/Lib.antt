@@ -4,9 +4,11 @@ pub mod Ends
 pub mod Walks
 pub mod Tails
 pub mod Flags
-pub mod Blocks
+pub mod Preferred
 pub mod Strands
 pub mod Counted
 pub mod Ranked
-pub mod Slack
 pub mod Packed
+pub mod Counts
+pub mod Pairs
+pub mod Bounds

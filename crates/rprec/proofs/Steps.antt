@@ -1,10 +1,12 @@
 -- What one more document changes in the counts of two lists.
 use Rattle.std.proofs.Common.{◌≡◌, ℕ, ◌+◌, ◌<◌, ◌≤◌, Bool, true, false, not, ◌&&◌, nat_eq, List, [], ◌∷◌, ◌++◌, length, take, get_or, count_by, ◌-◌, arith, refl, ap, ◌∙◌, sym, subst, inl, inr}
+use Rattle.std.specs.Prelude.{if◌then◌else◌, slice_index}
 use Rattle.std.specs.List.{IsDistinct}
 use Rattle.std.proofs.lemmas.Bool.{cases_lt}
 use Rattle.std.proofs.lemmas.Grind.{common_steps}
 use Rattle.std.proofs.lemmas.List.{take_more, length-append}
 use Rattle.std.proofs.lemmas.List.Sums.{sum_by_push}
+use Rattle.desk_model.specs.Limits.{RANK_LIMIT}
 use Rattle.desk_model.specs.Mark.{mark_at}
 use Rattle.desk_model.specs.Classes.{only_count}
 use Rattle.desk_model.specs.Completion.{picked_value, with_picked}
@@ -16,7 +18,29 @@ use Rattle.desk_model.proofs.PrecisionEnds.{difference_outside}
 use Rattle.measure_laws.proofs.RecallEnds.{every}
 use Rattle.topic_counts.specs.declared.counts.Counts.{Counts}
 use Rattle.rprec.specs.declared.prefixes.Prefixes.{Prefixes}
-use Rattle.rprec.specs.Greedy.{ArePrefixes, AreNext, swapped, number_if, one_of}
+use Rattle.rprec.specs.Greedy.{AreNext, swapped, one_of}
+
+-- the counts of two lists: of relevant documents, as far apart as those that each alone has, and of the unjudged ones that each alone has
+pub record ArePrefixes (marks : List Mark) (xs ys : List ℕ) (prefixes : Prefixes) : Type 0 where
+  pub relevant : prefixes.first.relevant + only_count false marks ys xs ≡ prefixes.second.relevant + only_count false marks xs ys
+  pub first : prefixes.first.unjudged + only_count false marks xs ys ≡ only_count true marks xs ys
+  pub second : prefixes.second.unjudged + only_count false marks ys xs ≡ only_count true marks ys xs
+  pub first_few : prefixes.first.relevant + prefixes.first.unjudged ≤ length xs
+  pub second_few : prefixes.second.relevant + prefixes.second.unjudged ≤ length ys
+
+-- a number, or none
+abbrev pub number_if : Bool → ℕ → ℕ
+number_if taken number = if taken then number else 0
+
+-- the counts of two lists up to a place, those of the documents there, and how many unjudged ones of these the other list has by then: the second at an earlier place, the first at no later one
+pub record AreBefore (marks : List Mark) (xs ys : List ℕ) (place : ℕ) (prefixes : Prefixes) (one two : Counts) (both : ℕ) : Type 0 where
+  pub short : place < RANK_LIMIT
+  pub first_distinct : IsDistinct nat_eq xs
+  pub second_distinct : IsDistinct nat_eq ys
+  pub counts : ArePrefixes marks (take place xs) (take place ys) prefixes
+  pub first : AreNext marks xs place one
+  pub second : AreNext marks ys place two
+  pub shared : both ≡ number_if (is_in (take place ys) (slice_index xs place)) one.unjudged + number_if (is_in (take (place + 1) xs) (slice_index ys place)) two.unjudged
 
 -- ---- lists
 whole : (xs : List ℕ) (i : ℕ) → length xs ≤ i → take i xs ≡ xs
@@ -35,20 +59,21 @@ with_false : (b : Bool) → one_if (b && not true) ≡ 0
 with_false true = refl
 with_false false = refl
 
-own_more : (q : ℕ → Bool) (xs longer : List ℕ) (x : ℕ) → longer ≡ xs ++ x ∷ [] → count_by q longer ≡ count_by q xs + one_if (q x)
-own_more q xs longer x e = ap (count_by q) e ∙ sum_by_push (λ d. one_if (q d)) xs x
+-- a count with one more document
+pub count_push : (q : ℕ → Bool) (xs longer : List ℕ) (x : ℕ) → longer ≡ xs ++ x ∷ [] → count_by q longer ≡ count_by q xs + one_if (q x)
+count_push q xs longer x e = ap (count_by q) e ∙ sum_by_push (λ d. one_if (q d)) xs x
 
 -- the counts of the list with one more document, and of the other list
 own_next : (taken : Bool) (marks : List Mark) (xs longer ys : List ℕ) (x : ℕ) (v : Bool) → longer ≡ xs ++ x ∷ [] → is_in ys x ≡ v →
     only_count taken marks longer ys ≡ only_count taken marks xs ys + one_if (picked_value taken (mark_at marks x) && not v)
 own_next taken marks xs longer ys x v e f =
-    own_more (λ d. with_picked marks (λ _. taken) d && not (is_in ys d)) xs longer x e ∙ ap (λ b. only_count taken marks xs ys + one_if (picked_value taken (mark_at marks x) && not b)) f
+    count_push (λ d. with_picked marks (λ _. taken) d && not (is_in ys d)) xs longer x e ∙ ap (λ b. only_count taken marks xs ys + one_if (picked_value taken (mark_at marks x) && not b)) f
 
 other_next : (taken : Bool) (marks : List Mark) (xs longer ys : List ℕ) (x : ℕ) (v : Bool) → longer ≡ xs ++ x ∷ [] → is_in ys x ≡ v → IsDistinct nat_eq xs → IsDistinct nat_eq longer → IsDistinct nat_eq ys →
     only_count taken marks ys longer + one_if (picked_value taken (mark_at marks x)) ≡ only_count taken marks ys xs + one_if (picked_value taken (mark_at marks x) && not v)
 other_next taken marks xs longer ys x v e f dx dl dy =
     let p = with_picked marks (λ _. taken) in
-    omega (arith, difference_outside p xs ys dx dy, difference_outside p longer ys dl dy, own_more p xs longer x e, own_next taken marks xs longer ys x v e f)
+    omega (arith, difference_outside p xs ys dx dy, difference_outside p longer ys dl dy, count_push p xs longer x e, own_next taken marks xs longer ys x v e f)
 
 -- those that are relevant are among those that can be
 fewer_relevant : (marks : List Mark) (xs ys : List ℕ) → only_count false marks xs ys ≤ only_count true marks xs ys
@@ -190,13 +215,3 @@ after_next marks docs ys place b f one distinct h next = elim (cases_lt place (l
 pub number_either : (b : Bool) (n : ℕ) → number_if (not b) n + number_if b n ≡ n
 number_either true n = omega arith
 number_either false n = omega arith
-
--- counts with the same fields
-pub same_counts : (marks : List Mark) (xs ys : List ℕ) (f g : Prefixes) → g.first.relevant ≡ f.first.relevant → g.first.unjudged ≡ f.first.unjudged → g.second.relevant ≡ f.second.relevant → g.second.unjudged ≡ f.second.unjudged → ArePrefixes marks xs ys f → ArePrefixes marks xs ys g
-same_counts marks xs ys f g ea eb ec ed h = record {
-  relevant = omega (arith, ea, ec, h.relevant);
-  first = omega (arith, eb, h.first);
-  second = omega (arith, ed, h.second);
-  first_few = omega (arith, ea, eb, h.first_few);
-  second_few = omega (arith, ec, ed, h.second_few);
-}

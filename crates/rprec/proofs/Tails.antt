@@ -16,9 +16,10 @@ use Rattle.measure_laws.proofs.RprecEnds.{greedy_positive, range_push}
 use Rattle.topic_counts.specs.declared.counts.Counts.{Counts}
 use Rattle.rprec.specs.declared.prefixes.Prefixes.{Prefixes}
 use Rattle.rprec.specs.declared.greedy.Candidate.{Candidate}
-use Rattle.rprec.specs.Greedy.{ArePrefixes, AreTopic, AreGains, IsLeast, beats, better_of, candidate, best_beyond}
+use Rattle.rprec.specs.Greedy.{AreTopic, AreGains, IsLeast, beats, better_of, candidate, best_beyond}
 use Rattle.rprec.specs.Search.{IsBestOf, precedes}
 use Rattle.rprec.proofs.Choices.{scaled_test, smaller_is, gains_are, own_both}
+use Rattle.rprec.proofs.Steps.{ArePrefixes}
 
 -- ---- tests
 pub smaller_no_greater : (s t : Scores) → is_smaller s t ≡ true → NoGreater s t

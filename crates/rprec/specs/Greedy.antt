@@ -1,10 +1,8 @@
 -- The greedy choices of R-precision in counts of documents.
-use Rattle.std.specs.Prelude.{nat_eq, take, ◌≡◌, ℕ, ◌+◌, ◌-◌, ◌*◌, ◌<◌, ◌≤◌, min, max, nat_lt, Bool, true, false, if◌then◌else◌, List, length, slice_index}
-use Rattle.std.specs.List.{IsDistinct}
+use Rattle.std.specs.Prelude.{take, ◌≡◌, ℕ, ◌+◌, ◌-◌, ◌*◌, ◌<◌, ◌≤◌, min, max, nat_lt, Bool, true, false, not, if◌then◌else◌, List, length, slice_index, count_by}
 use Rattle.desk_model.specs.Limits.{DOCUMENT_LIMIT, RANK_LIMIT}
 use Rattle.desk_model.specs.Mark.{mark_at}
-use Rattle.desk_model.specs.Classes.{only_count}
-use Rattle.desk_model.specs.Completion.{picked_value}
+use Rattle.desk_model.specs.Completion.{picked_value, with_picked}
 use Rattle.desk_model.specs.Ranking.{is_in}
 use Rattle.desk_model.specs.Score.{true_among}
 use Rattle.desk_model.specs.declared.types.Mark.{Mark}
@@ -19,32 +17,18 @@ use Rattle.rprec.specs.declared.greedy.Candidate.{Candidate}
 abbrev pub one_of : Bool → Mark → ℕ
 one_of taken mark = if picked_value taken mark then 1 else 0
 
--- the counts of two lists: of relevant documents, as far apart as those that each alone has, and of the unjudged ones that each alone has
-pub record ArePrefixes (marks : List Mark) (xs ys : List ℕ) (prefixes : Prefixes) : Type 0 where
-  pub relevant : prefixes.first.relevant + only_count false marks ys xs ≡ prefixes.second.relevant + only_count false marks xs ys
-  pub first : prefixes.first.unjudged + only_count false marks xs ys ≡ only_count true marks xs ys
-  pub second : prefixes.second.unjudged + only_count false marks ys xs ≡ only_count true marks ys xs
-  pub first_few : prefixes.first.relevant + prefixes.first.unjudged ≤ length xs
-  pub second_few : prefixes.second.relevant + prefixes.second.unjudged ≤ length ys
+-- the counts of a list: of its relevant documents, and of the unjudged ones that another list has not
+abbrev pub own_counts : List Mark → List ℕ → List ℕ → Counts
+own_counts marks docs others = record { relevant = count_by (with_picked marks (λ _. false)) docs; unjudged = count_by (open_in marks (λ doc. not (is_in others doc))) docs }
 
--- a number, or none
-abbrev pub number_if : Bool → ℕ → ℕ
-number_if taken number = if taken then number else 0
+-- those of the first documents of two runs
+abbrev pub prefixes_of : List Mark → List ℕ → List ℕ → ℕ → Prefixes
+prefixes_of marks a b depth = record { first = own_counts marks (take depth a) (take depth b); second = own_counts marks (take depth b) (take depth a) }
 
 -- the counts of the document at a place of a list, and none where the list ends before it
 pub record AreNext (marks : List Mark) (docs : List ℕ) (place : ℕ) (counts : Counts) : Type 0 where
   pub here : place < length docs → AreCountsOf (one_of false (mark_at marks (slice_index docs place))) (one_of true (mark_at marks (slice_index docs place))) counts
   pub past : length docs ≤ place → AreCountsOf 0 0 counts
-
--- the counts of two lists up to a place, those of the documents there, and how many unjudged ones of these the other list has by then: the second at an earlier place, the first at no later one
-pub record AreBefore (marks : List Mark) (xs ys : List ℕ) (place : ℕ) (prefixes : Prefixes) (one two : Counts) (both : ℕ) : Type 0 where
-  pub short : place < RANK_LIMIT
-  pub first_distinct : IsDistinct nat_eq xs
-  pub second_distinct : IsDistinct nat_eq ys
-  pub counts : ArePrefixes marks (take place xs) (take place ys) prefixes
-  pub first : AreNext marks xs place one
-  pub second : AreNext marks ys place two
-  pub shared : both ≡ number_if (is_in (take place ys) (slice_index xs place)) one.unjudged + number_if (is_in (take (place + 1) xs) (slice_index ys place)) two.unjudged
 
 -- the counts of the lists swapped
 abbrev pub swapped : Prefixes → Prefixes

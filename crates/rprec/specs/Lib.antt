@@ -5,3 +5,4 @@ pub mod Laws
 pub mod Search
 pub mod Walk
 pub mod Packed
+pub mod Sums

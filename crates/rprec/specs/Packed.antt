@@ -5,7 +5,7 @@ use Rattle.desk_model.specs.declared.types.Mark.TheVariants.{Unjudged, Relevant,
 use Rattle.topic_counts.specs.declared.counts.Counts.{Counts}
 use Rattle.rprec.specs.declared.prefixes.Packed.{Packed}
 use Rattle.rprec.specs.declared.prefixes.Prefixes.{Prefixes}
-use Rattle.rprec.specs.Greedy.{AreBefore, AreNext, ArePrefixes}
+use Rattle.rprec.specs.Greedy.{AreNext}
 
 -- the number that holds two counts, and the counts that a number holds
 abbrev pub pack : Counts → ℕ
@@ -32,19 +32,3 @@ pub record IsNext (marks : List Mark) (docs : List ℕ) (place number : ℕ) : T
   pub counts : Counts
   pub next : AreNext marks docs place counts
   pub same : number ≡ pack counts
-
--- numbers that hold the counts of two lists
-pub record ArePacked (marks : List Mark) (xs ys : List ℕ) (packed : Packed) : Type 0 where
-  pub prefixes : Prefixes
-  pub counts : ArePrefixes marks xs ys prefixes
-  pub same : packed ≡ packed_of prefixes
-
--- and those of the documents at a place, where so many unjudged ones of these are then shared
-pub record AreNextPacked (marks : List Mark) (a b : List ℕ) (place : ℕ) (packed : Packed) (one two both : ℕ) : Type 0 where
-  pub prefixes : Prefixes
-  pub first : Counts
-  pub second : Counts
-  pub before : AreBefore marks a b place prefixes first second both
-  pub same : packed ≡ packed_of prefixes
-  pub one_packed : one ≡ pack first
-  pub two_packed : two ≡ pack second

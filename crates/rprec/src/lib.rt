@@ -2,13 +2,15 @@
 //! R, where R is the number of relevant documents of the topic.
 #![tactic(auto)]
 
-pub mod depths;
+pub mod blocks;
 pub mod extremes;
 pub mod greedy;
+pub mod pair;
 pub mod prefixes;
 pub mod rprec;
 pub mod search;
 pub mod shared;
+pub mod sums;
 pub mod values;
 
 pub use rprec::Rprec;

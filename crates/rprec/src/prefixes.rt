@@ -1,9 +1,7 @@
-ghost use Rattle.std.specs.Prelude.{◌≡◌, ℕ, ◌+◌, ◌<◌, ◌≤◌, List, length, take};
-ghost use Rattle.desk_model.specs.Limits.{RANK_LIMIT};
+ghost use Rattle.std.specs.Prelude.{◌≡◌, ◌<◌, length};
 ghost use Rattle.desk_model.specs.Ranking.{IsRanking};
-ghost use Rattle.desk_model.specs.declared.types.Mark.{Mark as M};
 ghost use Rattle.rprec.specs.Greedy.{swapped};
-ghost use Rattle.rprec.specs.Packed.{AreNextPacked, ArePacked, IsNext, counts_for, pack, packed_of, unpack, unpacked_of};
+ghost use Rattle.rprec.specs.Packed.{IsNext, counts_for, pack, unpack, unpacked_of};
 
 use desk_model::Mark;
 use topic_counts::counts::Counts;
@@ -25,14 +23,6 @@ pub struct Packed {
 
 /// What a relevant document adds to a number that holds two counts, where an unjudged one adds 1.
 const RELEVANT: u32 = 65_536;
-
-/// The number that holds two counts.
-pub fn number_of(counts: Counts) -> u32
-    requires { counts.relevant + counts.unjudged ≤ RANK_LIMIT }
-    ensures { result ≡ pack counts }
-{
-    counts.relevant * RELEVANT + counts.unjudged
-}
 
 /// The two counts in a number.
 pub fn counts_in(number: u32) -> Counts
@@ -57,18 +47,6 @@ impl Packed {
 }
 
 impl Prefixes {
-    /// With both counts of each run in one number.
-    pub fn in_numbers(self) -> Packed
-        requires first { self.first.relevant + self.first.unjudged ≤ RANK_LIMIT }
-        requires second { self.second.relevant + self.second.unjudged ≤ RANK_LIMIT }
-        ensures { result ≡ packed_of self }
-    {
-        Packed {
-            first: number_of(self.first),
-            second: number_of(self.second),
-        }
-    }
-
     /// With the swapped runs.
     pub fn swapped(self) -> Prefixes
         ensures { result ≡ swapped self }
@@ -109,17 +87,5 @@ pub fn next_number(docs: &[u32], place: u32, marks: &[Mark]) -> u32
         number_at(docs, place, marks)
     } else {
         0
-    }
-}
-
-/// The counts with those of the next document of each run, which are packed too, where it is known how
-/// many unjudged ones both have now and had not before.
-pub fn deepened(packed: Packed, one: u32, two: u32, both: u32) -> Packed
-    requires { (marks : List M) × (a : List ℕ) × (b : List ℕ) × (place : ℕ) × AreNextPacked marks a b place packed one two both }
-    ensures { (marks : List M) (a b : List ℕ) (place : ℕ) → AreNextPacked marks a b place packed one two both → ArePacked marks (take (place + 1) a) (take (place + 1) b) result }
-{
-    Packed {
-        first: packed.first + one - both,
-        second: packed.second + two - both,
     }
 }

@@ -8,15 +8,19 @@ ghost use Rattle.measure_core.specs.Made.{IsMadeFor};
 ghost use Rattle.measure_core.specs.Numbers.{exact_least, exact_cell};
 ghost use Rattle.rprec.specs.Greedy.{AreTopic, IsLeast, IsSmall};
 ghost use Rattle.rprec.specs.Shared.{AreShared};
+ghost use Rattle.rprec.specs.Sums.{AreSumsOf};
 
 use crate::extremes::find_extremes;
 use crate::greedy::Candidate;
 use crate::shared::Shared;
+use crate::sums::sums_of_run;
 use crate::values::{values, wanted_for};
 use desk_model::{Mark, MeasureName, Memory, Ranking};
 use fractions::{Span, span_of};
-use measure_core::{Cell, CellRoom, KeptCell, Measure, RunWeights, Shift, Steps, TopicRankings};
-use ranked_cells::{KeptWeights, RankedMeasure, ranked_cells};
+use measure_core::{
+    Cell, CellRoom, KeptCell, Measure, RunSums, RunWeights, Shift, Steps, TopicRankings,
+};
+use ranked_cells::{KeptPair, RankedMeasure, ranked_cells};
 use std::alloc::Global;
 use std::sync::ledger::Ledger;
 use topic_counts::counts::{Counts, is_among_first};
@@ -61,14 +65,24 @@ fn topic(marks: &[Mark]) -> Counts
 }
 
 /// The ends of the least and the greatest difference, in units.
-fn cell_of(a: &[u32], b: &[u32], shared: &Shared, all: Counts, marks: &[Mark]) -> Cell
+fn cell_of(
+    a: &[u32],
+    b: &[u32],
+    first: &RunSums,
+    second: &RunSums,
+    shared: &Shared,
+    all: Counts,
+    marks: &[Mark],
+) -> Cell
     requires met { AreMet marks.now a.now b.now }
+    requires first { AreSumsOf marks.now a.now first.now.numbers }
+    requires second { AreSumsOf marks.now b.now second.now.numbers }
     requires shared { AreShared marks.now a.now b.now shared.now.counts }
     requires topic { AreTopic marks.now all }
     requires few { all.relevant + all.unjudged ≤ DOCUMENT_LIMIT }
     ensures { result ≡ exact_cell R marks.now a.now b.now }
 {
-    let extremes = find_extremes(a, b, shared, all, marks);
+    let extremes = find_extremes(a, b, first, second, shared, all, marks);
     Cell {
         least: span(extremes.least),
         most: span(extremes.most).negate(),
@@ -87,7 +101,9 @@ fn least_values(
 {
     let all = topic(marks);
     let shared = Shared::between(a, b, marks);
-    let count = find_extremes(a.docs(), b.docs(), &shared, all, marks)
+    let first = sums_of_run(a.docs(), marks);
+    let second = sums_of_run(b.docs(), marks);
+    let count = find_extremes(a.docs(), b.docs(), &first, &second, &shared, all, marks)
         .least
         .count;
     values(
@@ -103,13 +119,20 @@ fn least_values(
 impl RankedMeasure for Rprec {
     ghost use Rattle.desk_model.specs.declared.types.MeasureName.TheVariants.{RPrecision as R};
     ghost use Rattle.measure_core.specs.Numbers.{exact_cell};
+    ghost use Rattle.rprec.specs.Sums.{AreSumsOf};
 
     ghost ranked_cell_of = { λ _. exact_cell R };
+
+    ghost are_sums = { λ _. AreSumsOf };
 
     ghost weights_of = { λ _ _ _. record { relevant_low = 0; relevant_high = 0; possible_low = 0; possible_high = 0 } };
 
     fn run_weights(&self, _ranking: &Ranking, _marks: &[Mark]) -> RunWeights {
         RunWeights::NONE
+    }
+
+    fn run_sums(&self, ranking: &Ranking, marks: &[Mark]) -> RunSums {
+        sums_of_run(ranking.docs(), marks)
     }
 
     fn ranked_cell(
@@ -118,11 +141,20 @@ impl RankedMeasure for Rprec {
         b: &Ranking,
         marks: &[Mark],
         ranks: &[u32],
-        _weights: KeptWeights,
+        kept: KeptPair<'_>,
         all: Counts,
     ) -> Cell {
         let shared = Shared::by_ranks(a, b, ranks, marks);
-        cell_of(a.docs(), b.docs(), &shared, all, marks)
+        let KeptPair { weights: _, sums } = kept;
+        cell_of(
+            a.docs(),
+            b.docs(),
+            sums.first,
+            sums.second,
+            &shared,
+            all,
+            marks,
+        )
     }
 }
 
@@ -154,11 +186,17 @@ impl Measure for Rprec {
     ) -> Cell {
         steps.tick();
         let shared = Shared::between(a, b, marks);
-        cell_of(a.docs(), b.docs(), &shared, topic(marks), marks)
+        let first = sums_of_run(a.docs(), marks);
+        let second = sums_of_run(b.docs(), marks);
+        let all = topic(marks);
+        cell_of(a.docs(), b.docs(), &first, &second, &shared, all, marks)
     }
 
     fn bounds(&self, a: &Ranking, marks: &[Mark]) -> Span {
-        let cell = cell_of(a.docs(), &[], &Shared::none(), topic(marks), marks);
+        let shared = Shared::none();
+        let first = sums_of_run(a.docs(), marks);
+        let second = sums_of_run(&[], marks);
+        let cell = cell_of(a.docs(), &[], &first, &second, &shared, topic(marks), marks);
         Span {
             lo: cell.least.lo,
             hi: cell.most.hi,

@@ -1,8 +1,9 @@
-use Rattle.std.proofs.Common.{ℕ, List, ap, sym, subst, ◌∙◌, arith}
+use Rattle.std.proofs.Common.{ℕ, List, [], ap, sym, subst, ◌∙◌, arith}
 use Rattle.desk_model.specs.Pairs.{pairs_of}
 use Rattle.measure_core.specs.Laws.{CellIsModest}
 use Rattle.measure_core.specs.Pairs.{ranking_on, run_numbers, runs_on}
 use Rattle.measure_core.specs.declared.cell.Cell.{Cell}
+use Rattle.measure_core.specs.declared.room.RunSums.{RunSums}
 use Rattle.measure_core.specs.declared.room.RunWeights.{RunWeights}
 use Rattle.measure_core.proofs.Filling.{filled_more}
 use Rattle.measure_core.proofs.RunPairs.{at_within, at_next, met_pair}
@@ -10,16 +11,24 @@ use Rattle.own_cells.proofs.NextPair.{next_seen}
 use Rattle.ranked_cells.specs.Ranks.{AreRanks}
 use Rattle.ranked_cells.proofs.rows.fill_cells.Goals as goal
 
-abbrev none : RunWeights
-none = record { relevant_low = 0; relevant_high = 0; possible_low = 0; possible_high = 0 }
+abbrev no_weights : RunWeights
+no_weights = record { relevant_low = 0; relevant_high = 0; possible_low = 0; possible_high = 0 }
+
+abbrev no_sums : RunSums
+no_sums = record { numbers = [] }
 
 pub rank_first-requires-clause-within : goal.rank_first-requires-clause-within
 rank_first-requires-clause-within g c = at_within (runs_on c.args.rankings.now) c.loop-place.place c.loop-place.at c.loop-place.invariant.at_pair (omega (arith, c.requires.count))
 
-pub bounds-weights-at-in-loop-place : goal.bounds-weights-at-in-loop-place
-bounds-weights-at-in-loop-place g c =
+pub kept_pair-kept-requires-clause-weights : goal.kept_pair-kept-requires-clause-weights
+kept_pair-kept-requires-clause-weights g c =
     let within = at_within (runs_on c.args.rankings.now) c.loop-place.place c.loop-place.at c.loop-place.invariant.at_pair (omega (arith, c.requires.count)) in
     omega (arith, within, c.requires.weighed)
+
+pub kept_pair-kept-requires-clause-sums : goal.kept_pair-kept-requires-clause-sums
+kept_pair-kept-requires-clause-sums g c =
+    let within = at_within (runs_on c.args.rankings.now) c.loop-place.place c.loop-place.at c.loop-place.invariant.at_pair (omega (arith, c.requires.count)) in
+    omega (arith, within, c.requires.summed)
 
 pub ranking-b-requires : goal.ranking-b-requires
 ranking-b-requires g c = at_within (runs_on c.args.rankings.now) c.loop-place.place c.loop-place.at c.loop-place.invariant.at_pair (omega (arith, c.requires.count))
@@ -30,10 +39,29 @@ ranked_cell-requires-clause-met g c =
     rw (c.ranking-a.ensures, c.ranking-b.ensures)
     (met_pair c.args.marks.now c.args.rankings.now c.loop-place.at.first c.loop-place.at.second c.requires.met (omega (arith, second, c.loop-place.invariant.at_pair.placed.order)) second)
 
+pub ranked_cell-requires-clause-first : goal.ranked_cell-requires-clause-first
+ranked_cell-requires-clause-first g c =
+    let within = at_within (runs_on c.args.rankings.now) c.loop-place.place c.loop-place.at c.loop-place.invariant.at_pair (omega (arith, c.requires.count)) in
+    let order = c.loop-place.invariant.at_pair.placed.order in
+    c.kept_pair-kept.ensures.first no_weights ∙ c.requires.weights c.loop-place.at.first (omega (arith, within, order)) no_weights
+    ∙ ap (g.R.RankedMeasure.weights_of c.args.measure.now c.args.marks.now) (sym c.ranking-a.ensures)
+
 pub ranked_cell-requires-clause-second : goal.ranked_cell-requires-clause-second
 ranked_cell-requires-clause-second g c =
     let within = at_within (runs_on c.args.rankings.now) c.loop-place.place c.loop-place.at c.loop-place.invariant.at_pair (omega (arith, c.requires.count)) in
-    c.requires.weights c.loop-place.at.second within none ∙ ap (g.R.RankedMeasure.weights_of c.args.measure.now c.args.marks.now) (sym c.ranking-b.ensures)
+    c.kept_pair-kept.ensures.second no_weights ∙ c.requires.weights c.loop-place.at.second within no_weights
+    ∙ ap (g.R.RankedMeasure.weights_of c.args.measure.now c.args.marks.now) (sym c.ranking-b.ensures)
+
+pub ranked_cell-requires-clause-first_sums : goal.ranked_cell-requires-clause-first_sums
+ranked_cell-requires-clause-first_sums g c =
+    let within = at_within (runs_on c.args.rankings.now) c.loop-place.place c.loop-place.at c.loop-place.invariant.at_pair (omega (arith, c.requires.count)) in
+    let order = c.loop-place.invariant.at_pair.placed.order in
+    rw (c.ranking-a.ensures, c.kept_pair-kept.ensures.first_sums no_sums) (c.requires.sums c.loop-place.at.first (omega (arith, within, order)) no_sums)
+
+pub ranked_cell-requires-clause-second_sums : goal.ranked_cell-requires-clause-second_sums
+ranked_cell-requires-clause-second_sums g c =
+    let within = at_within (runs_on c.args.rankings.now) c.loop-place.place c.loop-place.at c.loop-place.invariant.at_pair (omega (arith, c.requires.count)) in
+    rw (c.ranking-b.ensures, c.kept_pair-kept.ensures.second_sums no_sums) (c.requires.sums c.loop-place.at.second within no_sums)
 
 pub next-at-requires-clause-within : goal.next-at-requires-clause-within
 next-at-requires-clause-within g c =

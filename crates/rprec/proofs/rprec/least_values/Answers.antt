@@ -12,7 +12,7 @@ returns c =
     let b = c.args.b.now in
     let n = length marks in
     let found = c.find_extremes-count.result.least.count in
-    let count : found ≡ rprec_count marks a b = c.find_extremes-count.ensures.least.chosen ∙ ap (λ x. rprec_count marks x c.docs-2.result.now) c.docs.ensures.docs ∙ ap (λ x. rprec_count marks a x) c.docs-2.ensures.docs in
+    let count : found ≡ rprec_count marks a b = c.find_extremes-count.ensures.least.chosen ∙ ap (λ x. rprec_count marks x c.docs-4.result.now) c.docs-3.ensures.docs ∙ ap (λ x. rprec_count marks a x) c.docs-4.ensures.docs in
     let picked = picks_are marks a b found c.wanted_for.result c.wanted_for.ensures.second c.wanted_for.ensures.both c.wanted_for.ensures.first in
     let greedy = subst (λ (pick : ℕ → Bool). IfOk c.values.result (λ values. AreValues (with_picked marks pick) n values.items)) picked c.values.ensures in
     subst (λ (r : ℕ). IfOk c.values.result (λ values. AreValues (greedy_truth marks a b r) n values.items)) count greedy

@@ -1,0 +1,46 @@
+use Rattle.std.proofs.Common.{◌≡◌, ℕ, ◌+◌, ◌*◌, ◌-◌, ◌<◌, ◌≤◌, arith, ap, ◌∙◌, sym, subst}
+use Rattle.rprec.specs.declared.greedy.Candidate.{Candidate}
+use Rattle.rprec.specs.Greedy.{candidate}
+use Rattle.rprec.specs.Search.{IsChoiceOf, preferred}
+use Rattle.rprec.specs.Sums.{choice_at, prefixes, steps_of}
+use Rattle.rprec.proofs.Preferred.{choice_join, choice_none, choice_one}
+use Rattle.rprec.proofs.pair.RunPair.guess.Goals as goal
+
+pub loop-stretch-init : goal.loop-stretch-init
+loop-stretch-init c = record { choice = choice_none (choice_at c.args.self.now) 0 (steps_of c.args.self.now) c.args.earlier; near = c.requires.earlier }
+
+pub choice_at_block-requires-clause-low : goal.choice_at_block-requires-clause-low
+choice_at_block-requires-clause-low c = omega (arith, c.loop-stretch.auto)
+
+pub choice_at_block-requires-clause-high : goal.choice_at_block-requires-clause-high
+choice_at_block-requires-clause-high c = omega (arith, c.loop-stretch-test.true, c.steps.ensures)
+
+pub preferred-best-requires-clause-best : goal.preferred-best-requires-clause-best
+preferred-best-requires-clause-best c = c.loop-stretch.invariant.near
+
+pub loop-stretch-preserved : goal.loop-stretch-preserved
+loop-stretch-preserved c =
+    let p = c.args.self.now in
+    let choices = choice_at p in
+    let steps = steps_of p in
+    let best = c.loop-stretch.best in
+    let depth = 10 * (c.loop-stretch.stretch * 5) in
+    let chosen = depth - p.all.relevant in
+    let place = chosen - 1 in
+    let low : p.all.relevant < depth = omega (arith, c.loop-stretch.auto) in
+    let high : depth ≤ p.all.relevant + steps = omega (arith, c.loop-stretch-test.true, c.steps.ensures) in
+    let next : place + 1 ≡ chosen = omega (arith, low) in
+    let there : p.all.relevant + (place + 1) ≡ depth = omega (arith, low) in
+    let is : choices place ≡ candidate (prefixes p depth) p.all chosen = ap (λ (k : ℕ). candidate (prefixes p k) p.all (place + 1)) there ∙ ap (candidate (prefixes p depth) p.all) next in
+    let after : preferred (choices place) best ≡ c.preferred-best.result = ap (λ (x : Candidate). preferred x best) (is ∙ sym c.choice_at_block.ensures.value) ∙ sym c.preferred-best.ensures.value in
+    record {
+      choice = subst (λ (x : Candidate). IsChoiceOf choices 0 steps c.args.earlier x) after
+          (choice_join choices 0 steps 0 steps c.args.earlier best (preferred (choices place) best) (omega arith) (omega arith) c.loop-stretch.invariant.choice (choice_one choices 0 steps place best (omega arith) (omega (arith, low, high))));
+      near = c.preferred-best.ensures.near;
+    }
+
+pub returns-clause-choice : goal.returns-clause-choice
+returns-clause-choice c = c.loop-stretch.invariant.choice
+
+pub returns-clause-near : goal.returns-clause-near
+returns-clause-near c = c.loop-stretch.invariant.near

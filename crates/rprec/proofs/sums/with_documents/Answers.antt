@@ -1,0 +1,29 @@
+use Rattle.std.proofs.Common.{◌≡◌, ℕ, ◌+◌, take, length, arith, ap, ◌∙◌, sym, inl, inr}
+use Rattle.std.proofs.lemmas.Bool.{cases_lt}
+use Rattle.std.proofs.lemmas.List.{length-take, take_all}
+use Rattle.rprec.specs.Packed.{pack}
+use Rattle.rprec.specs.Sums.{counts_of}
+use Rattle.rprec.proofs.Counts.{all_few, number_adds}
+use Rattle.rprec.proofs.sums.with_documents.Goals as goal
+
+pub overflow_add-longer : goal.overflow_add-longer
+overflow_add-longer c =
+    let marks = c.args.marks.now in
+    let docs = c.args.docs.now in
+    let place = c.loop-place.place in
+    omega (arith, c.loop-place.invariant, number_adds marks docs place c.number_at-longer.result c.number_at-longer.ensures, all_few marks (take (place + 1) docs), length-take {A = ℕ} (place + 1) docs, c.requires.docs.short)
+
+pub loop-place-preserved : goal.loop-place-preserved
+loop-place-preserved c = omega (arith, c.loop-place.invariant, number_adds c.args.marks.now c.args.docs.now c.loop-place.place c.number_at-longer.result c.number_at-longer.ensures)
+
+pub returns : goal.returns
+returns c =
+    let marks = c.args.marks.now in
+    let docs = c.args.docs.now in
+    let end = c.args.end in
+    let place = c.loop-place.place in
+    let same : take place docs ≡ take end docs = elim (cases_lt end (length docs)) [
+      | inl lt ↦ let here : place ≡ end = omega (arith, lt, c.min-last.ensures, c.loop-place-test.false, c.loop-place.auto.place-end (omega (arith, lt, c.min-last.ensures, c.requires.order))) in ap (λ (k : ℕ). take k docs) here
+      | inr le ↦ take_all place docs (omega (arith, le, c.min-last.ensures, c.loop-place-test.false)) ∙ sym (take_all end docs le)
+    ] in
+    c.loop-place.invariant ∙ ap (λ xs. pack (counts_of marks xs)) same

@@ -1,0 +1,199 @@
+ghost use Rattle.std.specs.Prelude.{◌≡◌, ℕ, ◌+◌, ◌-◌, ◌*◌, ◌<◌, ◌≤◌, false};
+ghost use Rattle.rprec.specs.Greedy.{IsSmall, candidate};
+ghost use Rattle.rprec.specs.Search.{IsBestOf, IsChoiceOf, IsNear, precedes};
+ghost use Rattle.rprec.specs.Sums.{IsPair, choice_at, prefixes, steps_of};
+
+use crate::greedy::{Candidate, greedy_choice};
+use crate::pair::RunPair;
+use crate::prefixes::counts_in;
+use crate::search::{is_less, preferred};
+use measure_core::BLOCK;
+
+/// How many blocks are left out or looked into together.
+const STRETCH: u32 = 5;
+
+impl<'p> RunPair<'p> {
+    /// The greedy choice at the end of a block.
+    fn choice_at_block(&self, block: u32) -> Candidate
+        requires pair { IsPair self.now }
+        requires low { self.now.all.relevant < 10 * block }
+        requires high { 10 * block ≤ self.now.all.relevant + steps_of self.now }
+        ensures value { result ≡ candidate (prefixes self.now (10 * block)) self.now.all (10 * block - self.now.all.relevant) }
+        ensures near { IsNear result }
+    {
+        let prefixes = self.at_block(block).unpacked();
+        greedy_choice(prefixes, block * BLOCK - self.all.relevant, self.all)
+    }
+
+    /// A good one of the greedy choices and an earlier candidate: the best of those at the ends of
+    /// stretches.
+    fn guess(&self, earlier: Candidate) -> Candidate
+        requires pair { IsPair self.now }
+        requires earlier { IsNear earlier }
+        ensures choice { IsChoiceOf (choice_at self.now) 0 (steps_of self.now) earlier result }
+        ensures near { IsNear result }
+    {
+        let length = STRETCH * BLOCK;
+        let first = self.all.relevant / length + 1;
+        let last = (self.all.relevant + self.steps()) / length;
+        let mut best = earlier;
+        for stretch in first..last + 1 {
+            best = preferred(self.choice_at_block(stretch * STRETCH), best);
+        }
+        best
+    }
+
+    /// The end of the part of some depths that begins beyond one, where each part but the last ends at
+    /// a multiple of a length.
+    fn next_end(&self, chosen: u32, length: u32, end: u32) -> u32
+        requires some { 0 < length }
+        requires few { length ≤ 50 }
+        requires order { chosen < end }
+        requires high { end ≤ steps_of self.now }
+        requires longest { self.now.longest ≤ 10000 }
+        ensures later { chosen < result }
+        ensures within { result ≤ end }
+    {
+        let relevant = self.all.relevant;
+        let last = ((relevant + chosen) / length + 1) * length;
+        end.min(last - relevant)
+    }
+
+    /// Whether some greedy choice at these depths may precede a candidate. None does where the
+    /// candidate has a smaller difference than what bounds them all: the relevant documents that the
+    /// first run has at the start, and for the second run all that it has at the end, less what both
+    /// share at the start. At each depth before the one where it may have so many, it has one fewer.
+    fn may_precede(&self, chosen: u32, next: u32, best: Candidate) -> bool
+        requires pair { IsPair self.now }
+        requires order { chosen < next }
+        requires high { next ≤ steps_of self.now }
+        requires best { IsNear best }
+        ensures { result ≡ false → (place : ℕ) → chosen ≤ place → place < next → precedes (choice_at self.now place) best ≡ false }
+    {
+        let relevant = self.all.relevant;
+        let start = (relevant + chosen) / BLOCK;
+        let end = (relevant + next - 1) / BLOCK + 1;
+        let both = self.both.numbers[start as usize];
+        let first = counts_in(self.first.numbers[start as usize]).relevant;
+        let begun = counts_in(self.second.numbers[start as usize] - both);
+        let ended = counts_in(self.second.numbers[end as usize] - both);
+        let most = ended.unjudged.min(next);
+        let lack = relevant.max(start * BLOCK - begun.unjudged);
+        let second = ended.relevant + most;
+        let high = Candidate {
+            count: relevant + next,
+            first,
+            second,
+        };
+        let low = Candidate {
+            count: high.count.min(most + lack),
+            first,
+            second,
+        };
+        !(is_less(best, low) && is_less(best, high))
+    }
+
+    /// The best of the greedy choices at some depths and an earlier candidate, one by one.
+    fn best_in(&self, chosen: u32, next: u32, earlier: Candidate) -> Candidate
+        requires pair { IsPair self.now }
+        requires order { chosen < next }
+        requires high { next ≤ steps_of self.now }
+        requires earlier { IsNear earlier }
+        ensures best { IsBestOf (choice_at self.now) chosen next earlier result }
+        ensures near { IsNear result }
+    {
+        let mut packed = self.packed_at(self.all.relevant + chosen);
+        let mut best = earlier;
+        for place in chosen..next {
+            packed = self.deeper(packed, self.all.relevant + place);
+            best = preferred(greedy_choice(packed.unpacked(), place + 1, self.all), best);
+        }
+        best
+    }
+
+    /// The same at the depths of a block.
+    fn best_in_block(&self, chosen: u32, next: u32, earlier: Candidate) -> Candidate
+        requires pair { IsPair self.now }
+        requires order { chosen < next }
+        requires high { next ≤ steps_of self.now }
+        requires earlier { IsNear earlier }
+        ensures best { IsBestOf (choice_at self.now) chosen next earlier result }
+        ensures near { IsNear result }
+    {
+        if self.may_precede(chosen, next, earlier) {
+            self.best_in(chosen, next, earlier)
+        } else {
+            earlier
+        }
+    }
+
+    /// The same at the depths of some blocks.
+    fn best_in_blocks(&self, start: u32, end: u32, earlier: Candidate) -> Candidate
+        requires pair { IsPair self.now }
+        requires order { start < end }
+        requires high { end ≤ steps_of self.now }
+        requires earlier { IsNear earlier }
+        ensures best { IsBestOf (choice_at self.now) start end earlier result }
+        ensures near { IsNear result }
+    {
+        let mut best = earlier;
+        let mut chosen = start;
+        while chosen < end {
+            let next = self.next_end(chosen, BLOCK, end);
+            best = self.best_in_block(chosen, next, best);
+            chosen = next;
+        }
+        best
+    }
+
+    /// The same at the depths of a stretch.
+    fn best_in_stretch(&self, start: u32, end: u32, earlier: Candidate) -> Candidate
+        requires pair { IsPair self.now }
+        requires order { start < end }
+        requires high { end ≤ steps_of self.now }
+        requires earlier { IsNear earlier }
+        ensures best { IsBestOf (choice_at self.now) start end earlier result }
+        ensures near { IsNear result }
+    {
+        if self.may_precede(start, end, earlier) {
+            self.best_in_blocks(start, end, earlier)
+        } else {
+            earlier
+        }
+    }
+
+    /// The same at all depths.
+    fn best_in_stretches(&self, earlier: Candidate) -> Candidate
+        requires pair { IsPair self.now }
+        requires earlier { IsNear earlier }
+        ensures best { IsBestOf (choice_at self.now) 0 (steps_of self.now) earlier result }
+        ensures near { IsNear result }
+    {
+        let steps = self.steps();
+        let mut best = earlier;
+        let mut chosen = 0;
+        while chosen < steps {
+            let next = self.next_end(chosen, STRETCH * BLOCK, steps);
+            best = self.best_in_stretch(chosen, next, best);
+            chosen = next;
+        }
+        best
+    }
+
+    /// The best of the greedy choices at all depths and the one at the number of documents judged
+    /// relevant: the one with the least difference, and of these the one with the smallest number of
+    /// relevant documents.
+    pub fn best(&self, judged: Candidate) -> Candidate
+        requires pair { IsPair self.now }
+        requires small { IsSmall judged }
+        requires count { judged.count ≡ self.now.all.relevant }
+        ensures best { IsBestOf (choice_at self.now) 0 (steps_of self.now) judged result }
+        ensures small { IsSmall result }
+    {
+        if self.steps() == 0 {
+            judged
+        } else {
+            self.best_in_stretches(self.guess(judged))
+        }
+    }
+}

@@ -1,0 +1,108 @@
+ghost use Rattle.std.specs.Prelude.{◌≡◌, ◌+◌, ◌*◌, ◌<◌, ◌≤◌};
+ghost use Rattle.rprec.specs.Packed.{packed_of};
+ghost use Rattle.rprec.specs.Sums.{IsPair, prefixes, steps_of, swapped_pair};
+
+use crate::prefixes::{Packed, Prefixes, next_number};
+use crate::shared::Shared;
+use crate::sums::SharedSums;
+use desk_model::Mark;
+use measure_core::{BLOCK, RunSums};
+use topic_counts::counts::Counts;
+
+/// Two runs on a topic, and what is known of them at the ends of blocks of documents.
+#[derive(Drop)]
+pub struct RunPair<'p> {
+    pub a: &'p [u32],
+    pub b: &'p [u32],
+    /// The sums of the first run.
+    pub first: &'p RunSums,
+    /// The sums of the second run.
+    pub second: &'p RunSums,
+    /// The sums of what both share.
+    pub both: &'p SharedSums,
+    /// What both share, place by place.
+    pub shared: &'p Shared,
+    pub marks: &'p [Mark],
+    /// The counts of all documents of the topic.
+    pub all: Counts,
+    /// How many documents the longer run has, and at least 1.
+    pub longest: u32,
+}
+
+impl<'p> RunPair<'p> {
+    /// The same with the runs swapped.
+    pub fn swapped(&self) -> RunPair<'p>
+        ensures { result ≡ swapped_pair self.now }
+    {
+        RunPair {
+            a: self.b,
+            b: self.a,
+            first: self.second,
+            second: self.first,
+            both: self.both,
+            shared: self.shared,
+            marks: self.marks,
+            all: self.all,
+            longest: self.longest,
+        }
+    }
+
+    /// How many depths beyond the number of documents judged relevant are to be looked at.
+    pub fn steps(&self) -> u32
+        ensures { result ≡ steps_of self.now }
+    {
+        let beyond = self.longest.saturating_sub(self.all.relevant);
+        beyond.min(self.all.unjudged)
+    }
+
+    /// The counts at the end of a block.
+    pub fn at_block(&self, block: u32) -> Packed
+        requires pair { IsPair self.now }
+        requires block { 10 * block ≤ self.now.longest }
+        ensures { result ≡ packed_of (prefixes self.now (10 * block)) }
+    {
+        let both = self.both.numbers[block as usize];
+        Packed {
+            first: self.first.numbers[block as usize] - both,
+            second: self.second.numbers[block as usize] - both,
+        }
+    }
+
+    /// The counts at the depth after one.
+    pub fn deeper(&self, packed: Packed, depth: u32) -> Packed
+        requires pair { IsPair self.now }
+        requires packed { packed ≡ packed_of (prefixes self.now depth) }
+        requires depth { depth < self.now.longest }
+        ensures { result ≡ packed_of (prefixes self.now (depth + 1)) }
+    {
+        let both = u32::from(self.shared.counts[depth as usize]);
+        let one = next_number(self.a, depth, self.marks);
+        let two = next_number(self.b, depth, self.marks);
+        Packed {
+            first: packed.first + one - both,
+            second: packed.second + two - both,
+        }
+    }
+
+    /// The counts at a depth that a run has.
+    pub fn packed_at(&self, depth: u32) -> Packed
+        requires pair { IsPair self.now }
+        requires depth { depth ≤ self.now.longest }
+        ensures { result ≡ packed_of (prefixes self.now depth) }
+    {
+        let block = depth / BLOCK;
+        let mut packed = self.at_block(block);
+        for place in block * BLOCK..depth {
+            packed = self.deeper(packed, place);
+        }
+        packed
+    }
+
+    /// The counts at any depth.
+    pub fn prefixes_at(&self, depth: u32) -> Prefixes
+        requires { IsPair self.now }
+        ensures { result ≡ prefixes self.now depth }
+    {
+        self.packed_at(depth.min(self.longest)).unpacked()
+    }
+}

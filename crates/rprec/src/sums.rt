@@ -1,0 +1,78 @@
+ghost use Rattle.std.specs.Prelude.{◌≡◌, ℕ, ◌+◌, ◌*◌, ◌<◌, ◌≤◌, length, sum, take, slice_index_or};
+ghost use Rattle.desk_model.specs.Limits.{RANK_LIMIT};
+ghost use Rattle.desk_model.specs.Ranking.{IsRanking};
+ghost use Rattle.rprec.specs.Packed.{pack};
+ghost use Rattle.rprec.specs.Sums.{AreSharedSums, AreSumsOf, counts_of};
+
+use crate::prefixes::number_at;
+use crate::shared::Shared;
+use desk_model::Mark;
+use measure_core::{BLOCK, RunSums};
+
+/// How many blocks the longest run has.
+const BLOCKS: u32 = 1000;
+
+/// For each number of blocks, from 0, how many unjudged documents two runs share up to there.
+#[derive(Drop)]
+pub struct SharedSums {
+    pub numbers: [u32; 1001],
+}
+
+/// The counts of a run's documents up to one place, from those up to an earlier one.
+fn with_documents(number: u32, start: u32, end: u32, docs: &[u32], marks: &[Mark]) -> u32
+    requires docs { IsRanking (length marks.now) docs.now }
+    requires order { start ≤ end }
+    requires number { number ≡ pack (counts_of marks.now (take start docs.now)) }
+    ensures { result ≡ pack (counts_of marks.now (take end docs.now)) }
+{
+    let last = end.min(docs.len() as u32);
+    let mut longer = number;
+    for place in start..last {
+        longer = longer + number_at(docs, place, marks);
+    }
+    longer
+}
+
+/// The counts of a run's documents up to the end of each block, both in one number.
+pub fn sums_of_run(docs: &[u32], marks: &[Mark]) -> RunSums
+    requires { IsRanking (length marks.now) docs.now }
+    ensures { AreSumsOf marks.now docs.now result.numbers }
+{
+    let mut numbers = [0; 1001];
+    let mut number = 0;
+    for block in 0..BLOCKS {
+        number = with_documents(number, block * BLOCK, (block + 1) * BLOCK, docs, marks);
+        numbers[block as usize + 1] = number;
+    }
+    RunSums { numbers }
+}
+
+/// How many documents are shared up to the end of a block, from those up to its start.
+fn with_block(number: u32, block: u32, shared: &Shared) -> u32
+    requires few { (place : ℕ) → slice_index_or shared.now.counts place 0 ≤ 2 }
+    requires block { block < 1000 }
+    requires number { number ≡ sum (take (10 * block) shared.now.counts) }
+    ensures { result ≡ sum (take (10 * (block + 1)) shared.now.counts) }
+{
+    let start = block * BLOCK;
+    let mut longer = number;
+    for place in start..start + BLOCK {
+        longer = longer + u32::from(shared.counts[place as usize]);
+    }
+    longer
+}
+
+/// How many documents are shared at the end of each block, up to a depth.
+pub fn sums_of_shared(shared: &Shared, depth: u32) -> SharedSums
+    requires few { (place : ℕ) → slice_index_or shared.now.counts place 0 ≤ 2 }
+    requires depth { depth ≤ RANK_LIMIT }
+    ensures { AreSharedSums shared.now.counts result.numbers depth }
+{
+    let mut numbers = [0; 1001];
+    let mut number = 0;
+    for block in 0..depth / BLOCK {
+        number = with_block(number, block, shared);
+        numbers[block as usize + 1] = number;
+    }
+    SharedSums { numbers }
+}
