@@ -1,6 +1,6 @@
 -- The meaning of a session.
-use Rattle.std.proofs.Common.{◌≡◌, ℕ, ◌<◌, ◌≤◌, ◌+◌, ◌*◌, List, [], ◌∷◌, ◌++◌, length, refl, ap, sym, subst, ◌∙◌, arith, inl, inr}
-use Rattle.std.specs.Prelude.{◌⊎◌, Ok, Err, Result, Option, IfSome, IsSomeAnd, flat_map}
+use Rattle.std.proofs.Common.{◌≡◌, ℕ, ◌<◌, List, [], ◌∷◌, ◌++◌, length, refl, ap, sym, subst, ◌∙◌, arith, inl, inr}
+use Rattle.std.specs.Prelude.{◌⊎◌, Ok, Err, Result, IfSome, IsSomeAnd, flat_map}
 use Rattle.desk_outside.specs.Outside.{Files, Rose}
 use Rattle.desk_outside.specs.Inputs.{Input, IsInput, IsPart}
 use Rattle.desk_outside.specs.Seen.{Shelf, Source, Sink, ReceivedNothing, ReceivedAll, ReceivedPrefix}
@@ -18,7 +18,7 @@ use Rattle.judge_session.specs.declared.change.Change.{Change}
 use Rattle.session_lines.specs.Request.{heard_of}
 use Rattle.session_replies.specs.Replies.{Setting, changes_after}
 use Rattle.session_stream.specs.Hearing.{End, Done, TooLong, Failed, hearing_of}
-use Rattle.session_stream.specs.Text.{AreReplies, joined, HasReplies, EndsSession, EvaluatesWithin, end_of}
+use Rattle.session_stream.specs.Text.{AreReplies, joined, HasReplies, EndsSession, EvaluatesWithin}
 use Rattle.session_stream.specs.declared.stream.Ended.{Ended}
 use Rattle.session_stream.specs.declared.stream.Ended.TheVariants as ended
 use Rattle.session_stream.specs.declared.stream.Fault.{Fault}

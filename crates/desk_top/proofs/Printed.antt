@@ -1,7 +1,6 @@
 -- What became of a text that a command prints meets its meaning.
 use Rattle.std.proofs.Common.{◌≡◌, ℕ, ◌<◌, List, [], ◌∷◌, length, refl, sym, subst, ◌∙◌, arith, append-nil, inl, inr}
 use Rattle.std.specs.Prelude.{Option, Some, None, Result, Ok, Err, IfSome, IsSomeAnd, ◌⊎◌}
-use Rattle.std.specs.Io.KnownBytes.{prepend_known}
 use Rattle.desk_outside.specs.Outside.{Files}
 use Rattle.desk_outside.proofs.Told.{prepend_known-nil}
 use Rattle.desk_files.specs.Files.{Halt, Missing, Refused, Refusal}

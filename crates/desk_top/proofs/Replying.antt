@@ -1,11 +1,10 @@
 -- The replies of a session are true.
-use Rattle.std.proofs.Common.{◌≡◌, ◌≢◌, ℕ, suc, ◌<◌, ◌≤◌, Bool, true, false, List, [], ◌∷◌, ◌++◌, length, take, refl, ap, sym, subst, ◌∙◌, arith, rules, inl, inr, ℤ, pos, negsuc}
-use Rattle.std.specs.Prelude.{codes, decimal, Option, Some, None, Result, Ok, Err, slice_index_or, nat_eq, map, MatchBool, ◌⊎◌}
-use Rattle.std.specs.List.{AllByRecursion}
+use Rattle.std.proofs.Common.{◌≡◌, ℕ, suc, Bool, true, false, List, [], ◌∷◌, ◌++◌, length, take, refl, sym, subst, arith, rules, inl, inr, ℤ, pos, negsuc}
+use Rattle.std.specs.Prelude.{codes, decimal, Option, Some, None, Result, Ok, Err, slice_index_or, nat_eq, map, MatchBool}
 use Rattle.std.specs.Fmt.{signed_decimal}
 use Rattle.std.proofs.lemmas.Bool.{cases_lt}
 use Rattle.std.proofs.lemmas.List.{get_or_past}
-use Rattle.desk_model.specs.Book.{Book, IsBook}
+use Rattle.desk_model.specs.Book.{Book}
 use Rattle.desk_model.specs.Desk.{Desk, IsDesk}
 use Rattle.desk_model.specs.MeasureText.{IsMeasure}
 use Rattle.desk_model.specs.Name.{is_name, number_of}
@@ -16,16 +15,15 @@ use Rattle.judge_session.specs.Session.{last_that, first_that, is_live_by, is_un
 use Rattle.judge_session.specs.declared.change.Change.{Change}
 use Rattle.judge_session.specs.declared.answers.JudgeFault.{JudgeFault}
 use Rattle.judge_session.specs.declared.answers.JudgeFault.TheVariants.{UnknownTopic, UnknownDocument, HistoryFull, Memory}
-use Rattle.desk_report.specs.Judging.{grade_text, pool_line}
-use Rattle.desk_report.specs.Table.{ended}
-use Rattle.pair_reports.specs.Reports.{Subject, IsPairText, IsNextText}
+use Rattle.desk_report.specs.Judging.{grade_text}
+use Rattle.pair_reports.specs.Reports.{IsPairText, IsNextText}
 use Rattle.printed_claims.specs.Claims.{IsTrueText, IsInLine, IsTrueProposal, IsOtherWord}
-use Rattle.printed_claims.proofs.Spelling.{AreInLine, in_line-append, in_line-spaced, ink_in_line}
+use Rattle.printed_claims.proofs.Spelling.{AreInLine, in_line-spaced, ink_in_line}
 use Rattle.desk_model.proofs.Words.{name_word}
 use Rattle.printed_claims.proofs.Texts.{decimal_ink}
 use Rattle.printed_claims.proofs.Others.{in_line_back, other_word}
-use Rattle.session_lines.specs.Request.{Request, Judge, Undo, Redo, Table, Pair, Certify, Pool, Next, Qrels, Quit, Heard, Blank, TooLong, Bad, Asked}
-use Rattle.session_replies.specs.Replies.{Setting, IsReply, IsCertified, IsPoolReply, OnNumbers, refusal, fault_word, change_reply, judge_reply, undo_reply, redo_reply, marks_after, subject_after, changes_after, all_in_force}
+use Rattle.session_lines.specs.Request.{Judge, Undo, Redo, Table, Pair, Certify, Pool, Next, Qrels, Quit, Heard, Blank, TooLong, Bad, Asked}
+use Rattle.session_replies.specs.Replies.{Setting, IsReply, IsCertified, IsPoolReply, OnNumbers, refusal, fault_word, judge_reply, undo_reply, redo_reply, marks_after, subject_after, changes_after, all_in_force}
 use Rattle.session_replies.proofs.Marks.{marks_of_desk}
 use Rattle.desk_top.specs.Conversation.{asks_next}
 use Rattle.desk_top.proofs.Truth.{PrintsTruth, table_is_true, certificate_is_true, close_is_true}

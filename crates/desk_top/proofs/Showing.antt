@@ -1,12 +1,10 @@
 -- The meaning of a demo.
-use Rattle.std.proofs.Common.{◌≡◌, ℕ, ◌<◌, Bool, true, false, List, [], ◌∷◌, ◌++◌, length, take, flat_map, refl, ap, sym, subst, ◌∙◌, arith, inl, inr, append-nil, append_assoc}
-use Rattle.std.specs.Prelude.{codes, decimal, map, ◌⊎◌}
-use Rattle.desk_outside.specs.Outside.{Rose}
-use Rattle.desk_outside.specs.Inputs.{Input, Cut}
+use Rattle.std.proofs.Common.{◌≡◌, ℕ, ◌<◌, true, false, List, [], ◌∷◌, ◌++◌, length, take, flat_map, refl, ap, sym, subst, ◌∙◌, arith, inl, inr, append-nil, append_assoc}
+use Rattle.std.specs.Prelude.{codes, decimal, map}
+use Rattle.desk_outside.specs.Inputs.{Cut}
 use Rattle.desk_outside.specs.Seen.{Shelf, Source, Sink, ReceivedNothing, ReceivedAll, ReceivedPrefix}
 use Rattle.desk_outside.proofs.Told.{prepend_known-nil}
 use Rattle.desk_model.specs.Desk.{Desk}
-use Rattle.desk_model.specs.declared.types.Mark.{Mark}
 use Rattle.desk_model.specs.declared.types.Verdict.{Verdict}
 use Rattle.desk_model.specs.Verdict.{verdict}
 use Rattle.desk_report.specs.Table.{ended}

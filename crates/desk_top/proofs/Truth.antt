@@ -6,11 +6,8 @@ use Rattle.std.proofs.lemmas.Bool.{cases_lt}
 use Rattle.std.specs.Prelude.{Option, Result, codes, Ok, Err, Some, ◌⊎◌}
 use Rattle.desk_outside.proofs.Told.{append_known-nil, prefix_whole}
 use Rattle.desk_outside.specs.Outside.{Files}
-use Rattle.desk_words.specs.Words.{IsCommandOf}
 use Rattle.desk_words.specs.declared.command.Check.{Check}
 use Rattle.desk_words.specs.declared.command.Job.{Job}
-use Rattle.desk_words.specs.declared.command.Command.{Command}
-use Rattle.desk_words.specs.declared.command.Command.TheVariants.{Table, Certify, Session, Verify, Demo}
 use Rattle.desk_model.specs.MeasureText.{IsMeasure}
 use Rattle.desk_model.specs.Desk.{Desk, IsDesk, AreMarksOf}
 use Rattle.desk_model.specs.Verdict.{verdict}
@@ -38,11 +35,10 @@ use Rattle.desk_top.specs.Answer.{Answer, Saying, Moment, text_of, IsTrueOf, Are
 use Rattle.desk_top.specs.Verification.{reason_text, verification_text, marks_for}
 use Rattle.desk_top.specs.Printing.{Printing}
 use Rattle.desk_outside.specs.Inputs.{Input, Whole, Cut, IsInput, IsPart}
-use Rattle.desk_top.specs.Meaning.{Meaning, AnswersFiles, report_printing, check_printing, usage_meaning, meaning_of, words_meaning}
+use Rattle.desk_top.specs.Meaning.{Meaning, AnswersFiles, report_printing, check_printing}
 use Rattle.desk_top.specs.Meets.{HasAnswer, Gives, OutputFailed, FilesFailed, Stopped, Meets, ReceivesPart, SaysTruth, IsTruthful}
 use Rattle.desk_top.proofs.Marking.{marks_known}
 use Rattle.desk_top.proofs.Checks.{reason_in_line}
-use Rattle.desk_top.proofs.Asking.{table_asked, certificate_asked}
 use Rattle.desk_top.proofs.Meeting.{sent_is}
 
 -- texts that are always true are true as far as they were received

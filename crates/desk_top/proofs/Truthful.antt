@@ -1,7 +1,6 @@
 -- Each command says only what is true.
-use Rattle.std.proofs.Common.{◌≡◌, ℕ, List, [], ◌∷◌, sym, subst, take, inl, inr}
-use Rattle.std.specs.Prelude.{Option, Ok, Err, Some}
-use Rattle.desk_outside.specs.Inputs.{Input}
+use Rattle.std.proofs.Common.{ℕ, List, [], ◌∷◌, sym, subst, inl, inr}
+use Rattle.std.specs.Prelude.{Ok, Err}
 use Rattle.desk_words.specs.Words.{IsCommandOf}
 use Rattle.desk_words.specs.declared.command.Command.{Command}
 use Rattle.desk_words.specs.declared.command.Command.TheVariants.{Table, Certify, Session, Verify, Demo}

@@ -1,5 +1,5 @@
 -- How a call meets what its words mean.
-use Rattle.std.specs.Prelude.{◌≡◌, ◌⊎◌, ℕ, ◌<◌, ◌≤◌, ◌+◌, List, [], ◌∷◌, length, Option, Some, IfSome, ◌++◌}
+use Rattle.std.specs.Prelude.{◌≡◌, ◌⊎◌, ℕ, ◌<◌, ◌≤◌, ◌+◌, List, [], ◌∷◌, length, Option, Some, ◌++◌}
 use Rattle.desk_outside.specs.Outside.{Files, Rose}
 use Rattle.desk_files.specs.Load.{Opens}
 use Rattle.desk_top.specs.Told.{Writes, status_line}

@@ -4,8 +4,6 @@ use Rattle.desk_outside.specs.Outside.{Rose}
 use Rattle.desk_outside.specs.Seen.{Sink, ReceivedAll, ReceivedPrefix}
 use Rattle.desk_model.specs.Desk.{Desk, file_marks}
 use Rattle.desk_model.specs.Verdict.{verdict}
-use Rattle.desk_model.specs.declared.types.Mark.{Mark}
-use Rattle.desk_model.specs.declared.types.MeasureName.{MeasureName}
 use Rattle.desk_model.specs.declared.types.MeasureName.TheVariants.{Precision}
 use Rattle.desk_model.specs.declared.types.Totals.{Totals}
 use Rattle.pair_table.specs.Numbers.{AreAllPairNumbers}

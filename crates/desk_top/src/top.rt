@@ -1,10 +1,11 @@
 // The top call.
-ghost use Rattle.std.specs.Prelude.{◌≡◌, ◌<◌, ◌≤◌, length, map, string_bytes};
+ghost use Rattle.std.specs.Prelude.{◌≡◌, ◌<◌, ◌≤◌, ℕ, List, length, map, string_bytes};
 ghost use Rattle.desk_top.specs.Report.{IsAsked};
 ghost use Rattle.desk_outside.specs.Seen.{shelf, source, sink, Shelf as SeenShelf, Source as SeenSource};
 ghost use Rattle.desk_model.specs.MeasureText.{IsMeasure};
 ghost use Rattle.order_certificate.specs.Certificate.{IsLevel};
-ghost use Rattle.desk_top.specs.Meaning.{report_meaning, check_meaning, session_meaning, demo_meaning, words_meaning};
+ghost use Rattle.desk_words.specs.Words.{IsCommandOf};
+ghost use Rattle.desk_top.specs.Meaning.{report_meaning, check_meaning, session_meaning, demo_meaning, meaning_of, words_meaning};
 ghost use Rattle.desk_top.specs.Meets.{Meets, SaysTruth, LeavesInput};
 
 use crate::demo::{demo_text, put_demo};
@@ -130,10 +131,10 @@ fn run_demo<K: Sink, E: Sink, P: Maker, L: Ledger>(
     }
 }
 
-// Runs the command of the words, and answers its status.
-fn run_words<F: Shelf, S: Source, K: Sink, E: Sink, P: Maker, L: Ledger>(
+// Runs a command that words mean, and answers its status.
+fn run_command<F: Shelf, S: Source, K: Sink, E: Sink, P: Maker, L: Ledger>(
     alloc: Global,
-    words: &[String],
+    command: &Command,
     files: &mut F,
     input: &mut S,
     out: &mut K,
@@ -141,22 +142,18 @@ fn run_words<F: Shelf, S: Source, K: Sink, E: Sink, P: Maker, L: Ledger>(
     maker: &P,
     steps: &mut Steps<L>,
 ) -> u8
+    requires { (words : List (List ℕ)) × IsCommandOf words command.now }
     ensures known { result ≤ 6 }
-    ensures meets { Meets (words_meaning (map string_bytes words.now))
+    ensures meets { Meets (meaning_of command.now)
         (shelf (F.files files.old) (F.opened files.old) (F.opened files.new) (F.faults files.old) (F.faults files.new))
         (source (S.rest input.old) (S.rest input.new) (S.faults input.old) (S.faults input.new))
         (sink (K.received out.old) (K.received out.new) (K.faults out.old) (K.faults out.new))
         (sink (E.received err.old) (E.received err.new) (E.faults err.old) (E.faults err.new))
         steps.old steps.new result }
-    ensures input { LeavesInput (words_meaning (map string_bytes words.now)) input.old input.new }
+    ensures input { LeavesInput (meaning_of command.now) input.old input.new }
     ensures files { F.files files.new ≡ F.files files.old }
 {
-    let command = match read_words(alloc, words) {
-        Ok(command) => command,
-        Err(WordsFault::Usage) => return tell_usage(err),
-        Err(WordsFault::Memory) => return tell_memory(err),
-    };
-    match &command {
+    match command {
         Command::Table(job) => run_report(
             alloc,
             Report::Table,
@@ -182,6 +179,34 @@ fn run_words<F: Shelf, S: Source, K: Sink, E: Sink, P: Maker, L: Ledger>(
         Command::Session(job) => { run_session(alloc, job, files, input, out, err, maker, steps) }
         Command::Verify(check) => run_check(alloc, check, files, input, out, err, steps),
         Command::Demo { seed } => run_demo(alloc, *seed, out, err, maker, steps),
+    }
+}
+
+// Runs the command of the words, and answers its status.
+fn run_words<F: Shelf, S: Source, K: Sink, E: Sink, P: Maker, L: Ledger>(
+    alloc: Global,
+    words: &[String],
+    files: &mut F,
+    input: &mut S,
+    out: &mut K,
+    err: &mut E,
+    maker: &P,
+    steps: &mut Steps<L>,
+) -> u8
+    ensures known { result ≤ 6 }
+    ensures meets { Meets (words_meaning (map string_bytes words.now))
+        (shelf (F.files files.old) (F.opened files.old) (F.opened files.new) (F.faults files.old) (F.faults files.new))
+        (source (S.rest input.old) (S.rest input.new) (S.faults input.old) (S.faults input.new))
+        (sink (K.received out.old) (K.received out.new) (K.faults out.old) (K.faults out.new))
+        (sink (E.received err.old) (E.received err.new) (E.faults err.old) (E.faults err.new))
+        steps.old steps.new result }
+    ensures input { LeavesInput (words_meaning (map string_bytes words.now)) input.old input.new }
+    ensures files { F.files files.new ≡ F.files files.old }
+{
+    match read_words(alloc, words) {
+        Ok(command) => run_command(alloc, &command, files, input, out, err, maker, steps),
+        Err(WordsFault::Usage) => tell_usage(err),
+        Err(WordsFault::Memory) => tell_memory(err),
     }
 }
 
