@@ -1,5 +1,5 @@
 //! The words after the first, as clap reads them.
-ghost use Rattle.std.specs.Prelude.{◌≡◌, ◌≢◌, true, [], IfOk, OnOk, Err, map, string_bytes};
+ghost use Rattle.std.specs.Prelude.{◌≡◌, ◌≢◌, true, [], IfOk, OnOk, Err, map, string_bytes, codes};
 ghost use Rattle.clap.specs.Words.{app_of, fault_of, found_of, is_simple, is_simple_and_free, kind_of, matches_of, rows_of, with_rule};
 ghost use Rattle.desk_words.specs.Parser.{bare_app, check_app, job_app, option_rule, other_rule, seed_app};
 
@@ -101,21 +101,41 @@ fn bare<'a>(alloc: Global) -> Command<'a>
         .disable_version_flag(true)
 }
 
+// The command whose first option names the judgements.
+fn judged_command<'a>(alloc: Global) -> Result<Command<'a>, AllocError>
+    ensures app { IfOk result (λ c. app_of c ≡ with_rule bare_app (option_rule (codes "qrels"))) }
+{
+    with_option(alloc, bare(alloc), "qrels")
+}
+
+// The command of judgements and a measure.
+fn measured_command<'a>(alloc: Global) -> Result<Command<'a>, AllocError>
+    ensures app { IfOk result (λ c. app_of c ≡ with_rule (with_rule bare_app (option_rule (codes "qrels"))) (option_rule (codes "measure"))) }
+{
+    with_option(alloc, judged_command(alloc)?, "measure")
+}
+
+// The command with a last option, and with runs as the words of no option.
+fn with_last_option<'a>(
+    alloc: Global,
+    command: Command<'a>,
+    name: &'a str,
+) -> Result<Command<'a>, AllocError>
+    ensures app { IfOk result (λ c. app_of c ≡ with_rule (with_rule (app_of command.entry) (option_rule name.entry.now)) (other_rule (codes "RUN"))) }
+{
+    with_others(alloc, with_option(alloc, command, name)?, "RUN")
+}
+
 fn job_command<'a>(alloc: Global) -> Result<Command<'a>, AllocError>
     ensures app { IfOk result (λ c. app_of c ≡ job_app) }
 {
-    let command = with_option(alloc, bare(alloc), "qrels")?;
-    let command = with_option(alloc, command, "measure")?;
-    let command = with_option(alloc, command, "level")?;
-    with_others(alloc, command, "RUN")
+    with_last_option(alloc, measured_command(alloc)?, "level")
 }
 
 fn check_command<'a>(alloc: Global) -> Result<Command<'a>, AllocError>
     ensures app { IfOk result (λ c. app_of c ≡ check_app) }
 {
-    let command = with_option(alloc, bare(alloc), "qrels")?;
-    let command = with_option(alloc, command, "cert")?;
-    with_others(alloc, command, "RUN")
+    with_last_option(alloc, judged_command(alloc)?, "cert")
 }
 
 fn seed_command<'a>(alloc: Global) -> Result<Command<'a>, AllocError>
