@@ -7,7 +7,15 @@ mod certificates;
 #[cfg(test)]
 mod ends;
 #[cfg(test)]
+mod host;
+#[cfg(test)]
 mod lines;
+#[cfg(test)]
+mod memory;
+#[cfg(test)]
+mod reading;
+#[cfg(test)]
+mod scores;
 #[cfg(test)]
 mod texts;
 #[cfg(test)]

@@ -7,6 +7,3 @@ mod lines;
 
 pub use demo::{DemoDesk, demo_desk};
 pub use laws::texts_are_read;
-
-#[cfg(test)]
-mod tests;

@@ -1,5 +1,6 @@
 // A demo over an output in memory, and the texts that it reads. What is expected was worked out by a program in another
 // language, from the definitions.
+use demo_desk::demo_desk;
 use demo_texts::{Generator, qrels_text, run_text};
 use desk_in_memory::{SOUND, run_line};
 use std::test::Fail;
@@ -36,5 +37,18 @@ fn the_first_lines_are_made(rt: HostRuntime) -> Result<(), Fail> {
         next.as_slice()
             .starts_with(b"401 Q0 D1966 0 40.423 S2\n401 Q0 D1973 1 12.286 S2\n")
     );
+    Ok(())
+}
+
+#[test]
+fn the_desk_of_a_seed_is_made(rt: HostRuntime) -> Result<(), Fail> {
+    let demo = demo_desk(rt.alloc(), 7)?;
+    assert_eq!(rt; demo.rows, 200_000);
+    let desk = &demo.desk;
+    assert_eq!(rt; desk.topic_count(), 50);
+    assert_eq!(rt; desk.topic(0).name(), b"401".as_slice());
+    assert_eq!(rt; desk.topic(0).doc_count(), 1_902);
+    assert_eq!(rt; desk.topic(49).name(), b"450".as_slice());
+    assert_eq!(rt; desk.topic(49).doc_count(), 1_735);
     Ok(())
 }

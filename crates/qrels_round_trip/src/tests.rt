@@ -41,33 +41,40 @@ fn printed(alloc: Global, desk: &Desk) -> Result<Vec<u8>, Fail> {
     Ok(qrels_text(alloc, desk, 0, book.grades())?)
 }
 
+// Whether the judgements of a desk are printed as this text, and of a desk of that text again.
+fn is_printed_again(alloc: Global, qrels: &[u8], run: &[u8], text: &[u8]) -> Result<bool, Fail> {
+    let first = printed(alloc, &desk_of(alloc, qrels, run)?)?;
+    let second = printed(alloc, &desk_of(alloc, &first, run)?)?;
+    Ok(first.as_slice() == text && second.as_slice() == text)
+}
+
 #[test]
 fn a_printed_text_is_read_again(rt: HostRuntime) -> Result<(), Fail> {
-    let alloc = rt.alloc();
+    let qrels = b"401 0 d4 -1\n401 0 d1 +1\n401 0 d2 00\n";
     let run = b"401 Q0 d3 1 3.0 A\n401 Q0 d1 2 2.0 A\n402 Q0 x 1 1.0 A\n";
-    let desk = desk_of(alloc, b"401 0 d4 -1\n401 0 d1 +1\n401 0 d2 00\n", run)?;
-    let text = printed(alloc, &desk)?;
-    assert_eq!(rt;
-        text.as_slice(),
-        b"401 0 d1 1\n401 0 d2 0\n401 0 d4 -1\n".as_slice()
-    );
-    let again = desk_of(alloc, &text, run)?;
-    assert_eq!(rt; printed(alloc, &again)?.as_slice(), text.as_slice());
+    let text = b"401 0 d1 1\n401 0 d2 0\n401 0 d4 -1\n";
+    assert!(rt; is_printed_again(rt.alloc(), qrels, run, text)?);
     Ok(())
+}
+
+// Whether grade 2 of the third document of the first topic is told in this line.
+fn is_told(alloc: Global, desk: &Desk, line: &[u8]) -> Result<bool, Fail> {
+    let _ = desk.topic_count();
+    if desk.topic(0).doc_count() < 3 {
+        return Ok(false);
+    }
+    let changed = Changed {
+        topic: 0,
+        doc: 2,
+        grade: Some(2),
+    };
+    Ok(changed_line(alloc, b"judged", desk, &changed)?.as_slice() == line)
 }
 
 #[test]
 fn a_change_is_told_by_names(rt: HostRuntime) -> Result<(), Fail> {
     let alloc = rt.alloc();
     let desk = desk_of(alloc, b"401 0 d1 1\n401 0 d2 0\n", b"401 Q0 d3 1 3.0 A\n")?;
-    let _ = desk.topic_count();
-    assert!(rt; 2 < desk.topic(0).doc_count());
-    let changed = Changed {
-        topic: 0,
-        doc: 2,
-        grade: Some(2),
-    };
-    let line = changed_line(alloc, b"judged", &desk, &changed)?;
-    assert_eq!(rt; line.as_slice(), b"judged 401 d3 2\n".as_slice());
+    assert!(rt; is_told(alloc, &desk, b"judged 401 d3 2\n")?);
     Ok(())
 }
