@@ -67,7 +67,7 @@ impl<'a> NameIndex<'a> {
         ensures names { OnOk result (self.new ≡ insert_key bytes_eq self.old name.now) }
         ensures unchanged { OnErr result (self.new ≡ self.old) }
     {
-        let (_, is_new) = self.names.insert_full(BorrowedKey { bytes: name })?;
+        let is_new = self.names.insert(BorrowedKey { bytes: name })?;
         Ok(is_new)
     }
 

@@ -49,7 +49,7 @@ impl SeenNames {
         ensures names { OnOk result (self.new ≡ insert_key bytes_eq self.old name.now) }
         ensures unchanged { OnErr result (self.new ≡ self.old) }
     {
-        let (_, is_new) = self.names.insert_full(NameKey::new(alloc, name)?)?;
+        let is_new = self.names.insert(NameKey::new(alloc, name)?)?;
         Ok(is_new)
     }
 }
