@@ -111,13 +111,11 @@ impl<V: RowValue> GroupedRows<V> {
         ensures ok { OnOk result (self.new ≡ self.old ++ record { name = name.now; rows = [] } ∷ []) }
         ensures err { OnErr result (self.new ≡ self.old) }
     {
-        let rows = no_rows(alloc, &self.grouped)?;
         self.grouped.reserve(1)?;
+        let rows = no_rows(alloc, &self.grouped)?;
         self.topics.add(alloc, name)?;
-        match self.grouped.push(rows) {
-            Ok(()) => Ok(()),
-            Err(_) => unreachable!(),
-        }
+        self.grouped.push_reserved(rows);
+        Ok(())
     }
 
     /// Puts a row at the end of topic `t`. It fails only where memory runs out, and then changes nothing.
@@ -136,21 +134,11 @@ impl<V: RowValue> GroupedRows<V> {
     }
 
     /// The same rows, in no more room than they take. It fails only where memory runs out.
-    pub fn packed(self, alloc: Global) -> Result<GroupedRows<V>, AllocError>
+    pub fn packed(mut self, alloc: Global) -> Result<GroupedRows<V>, AllocError>
         ensures { IfOk result (λ packed. packed ≡ self) }
     {
-        let GroupedRows {
-            topics,
-            grouped,
-            rows,
-            name_bytes,
-        } = self;
-        Ok(GroupedRows {
-            topics,
-            grouped: packed_all(alloc, &grouped)?,
-            rows,
-            name_bytes,
-        })
+        self.grouped = packed_all(alloc, &self.grouped)?;
+        Ok(self)
     }
 
     /// Gives back the rows of a topic, where it is there. The topic stays, and has no row then.

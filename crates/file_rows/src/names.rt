@@ -87,10 +87,8 @@ impl Names {
         let end = (self.bytes.len() + name.len()) as u32;
         self.ends.reserve(1)?;
         self.bytes.extend_from_slice(name)?;
-        match self.ends.push(end) {
-            Ok(()) => Ok(()),
-            Err(_) => unreachable!(),
-        }
+        self.ends.push_reserved(end);
+        Ok(())
     }
 }
 

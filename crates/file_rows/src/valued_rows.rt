@@ -95,9 +95,7 @@ impl<V: RowValue> ValuedRows<V> {
     {
         self.values.reserve(1)?;
         self.documents.push(document)?;
-        match self.values.push(value) {
-            Ok(()) => Ok(()),
-            Err(_) => unreachable!(),
-        }
+        self.values.push_reserved(value);
+        Ok(())
     }
 }

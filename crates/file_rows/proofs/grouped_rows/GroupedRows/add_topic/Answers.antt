@@ -11,8 +11,8 @@ add-requires g c =
 
 pub invariant_of-self-2 : goal.invariant_of-self-2
 invariant_of-self-2 g c =
-    is_counted (topic_added (holding c.self.invariant c.self.view_is) _ _ c.args.name.now c.in_ok-add.ensures.ok (c.in-Ok.ensures.items ∙ ap₂ (λ js j. js ++ j ∷ []) c.reserve.ensures.items c.in_ok-rows.ensures))
+    is_counted (topic_added (holding c.self.invariant c.self.view_is) _ _ c.args.name.now c.in_ok-add.ensures.ok (c.push_reserved.ensures.items ∙ ap₂ (λ js j. js ++ j ∷ []) c.reserve.ensures.items c.in_ok-rows.ensures))
 
 pub returns-clause-ok : goal.returns-clause-ok
 returns-clause-ok g c =
-    (topic_added (holding c.self.invariant c.self.view_is) _ _ c.args.name.now c.in_ok-add.ensures.ok (c.in-Ok.ensures.items ∙ ap₂ (λ js j. js ++ j ∷ []) c.reserve.ensures.items c.in_ok-rows.ensures)).topics_are
+    (topic_added (holding c.self.invariant c.self.view_is) _ _ c.args.name.now c.in_ok-add.ensures.ok (c.push_reserved.ensures.items ∙ ap₂ (λ js j. js ++ j ∷ []) c.reserve.ensures.items c.in_ok-rows.ensures)).topics_are

@@ -13,13 +13,13 @@ overflow_cast-end c =
 pub invariant_of-self-2 : goal.invariant_of-self-2
 invariant_of-self-2 c =
     let end = c.len.result + length c.args.name.now in
-    let p : Pushed c.self.inside.ends.items c.self.inside.bytes.items c.push.new.self.items c.extend_from_slice.new.self.items c.args.name.now =
-    pushed _ _ _ _ _ end c.self.invariant (c.in-Ok.ensures.items ∙ ap (λ xs. xs ++ end ∷ []) c.reserve.ensures.items) c.in_ok-extend_from_slice.ensures.items (omega arith) in
+    let p : Pushed c.self.inside.ends.items c.self.inside.bytes.items c.push_reserved.new.self.items c.extend_from_slice.new.self.items c.args.name.now =
+    pushed _ _ _ _ _ end c.self.invariant (c.push_reserved.ensures.items ∙ ap (λ xs. xs ++ end ∷ []) c.reserve.ensures.items) c.in_ok-extend_from_slice.ensures.items (omega arith) in
     p.is_cut
 
 pub returns-clause-ok : goal.returns-clause-ok
 returns-clause-ok c =
     let end = c.len.result + length c.args.name.now in
-    let p : Pushed c.self.inside.ends.items c.self.inside.bytes.items c.push.new.self.items c.extend_from_slice.new.self.items c.args.name.now =
-    pushed _ _ _ _ _ end c.self.invariant (c.in-Ok.ensures.items ∙ ap (λ xs. xs ++ end ∷ []) c.reserve.ensures.items) c.in_ok-extend_from_slice.ensures.items (omega arith) in
+    let p : Pushed c.self.inside.ends.items c.self.inside.bytes.items c.push_reserved.new.self.items c.extend_from_slice.new.self.items c.args.name.now =
+    pushed _ _ _ _ _ end c.self.invariant (c.push_reserved.ensures.items ∙ ap (λ xs. xs ++ end ∷ []) c.reserve.ensures.items) c.in_ok-extend_from_slice.ensures.items (omega arith) in
     p.names ∙ ap (λ ns. ns ++ c.args.name.now ∷ []) c.self.view_is

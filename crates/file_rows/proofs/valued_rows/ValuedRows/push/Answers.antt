@@ -1,10 +1,15 @@
-use Rattle.std.proofs.Common.{◌≡◌, length, sym, ap, ap₂, ◌∙◌, arith, ◌++◌, ◌∷◌, []}
-use Rattle.std.specs.Prelude.{map, sum_by}
+use Rattle.std.proofs.Common.{◌≡◌, List, length, sym, ap, ap₂, ◌∙◌, arith, ◌++◌, ◌∷◌, []}
+use Rattle.std.specs.Prelude.{map, sum_by, ℤ}
 use Rattle.std.proofs.lemmas.List.{length-map, map-append}
-use Rattle.file_rows.specs.Grouped.{bytes_in}
+use Rattle.file_rows.specs.Grouped.{Valued, bytes_in}
 use Rattle.file_rows.specs.Names.{valued_in}
+use Rattle.file_rows.proofs.RowFiles.{valued}
 use Rattle.file_rows.proofs.Zipped.{members_in-append, bytes_in-members_in}
 use Rattle.file_rows.proofs.valued_rows.ValuedRows.push.Goals as goal
+
+-- the numbers of values of which one was put at the end
+numbers_pushed : {V : Type 0} (number : V → ℤ) (old kept new : List V) (value : V) → kept ≡ old → new ≡ kept ++ value ∷ [] → map number new ≡ map number old ++ number value ∷ []
+numbers_pushed number old kept new value e f = ap (map number) (f ∙ ap (λ vs. vs ++ value ∷ []) e) ∙ map-append number old (value ∷ [])
 
 pub push-requires : goal.push-requires
 push-requires g c =
@@ -19,8 +24,6 @@ returns-clause-ok g c =
     let values = c.self.inside.values.items in
     let number = g.V.RowValue.number in
     let same : length c.self.inside.documents ≡ length (map number values) = c.self.invariant ∙ sym (length-map values number) in
-    let more : map number c.push-2.new.self.items ≡ map number values ++ number c.args.value ∷ [] =
-    ap (map number) (c.in-Ok.ensures.items ∙ ap (λ vs. vs ++ c.args.value ∷ []) c.reserve.ensures.items) ∙ map-append number values (c.args.value ∷ []) in
-    ap₂ valued_in c.in_ok-push.ensures.ok more
-    ∙ members_in-append c.self.inside.documents (map number values) c.args.document.now (number c.args.value) same
-    ∙ ap (λ js. js ++ record { document = c.args.document.now; value = number c.args.value } ∷ []) c.self.view_is
+    let more = numbers_pushed number values c.reserve.new.self.items c.push_reserved.new.self.items c.args.value c.reserve.ensures.items c.push_reserved.ensures.items in
+    let made = members_in-append c.self.inside.documents (map number values) c.args.document.now (number c.args.value) same in
+    ◌∙◌ {A = List Valued} (ap₂ valued_in c.in_ok-push.ensures.ok more) (made ∙ ap (λ js. js ++ valued c.args.document.now (number c.args.value) ∷ []) c.self.view_is)
