@@ -1,6 +1,6 @@
-use Rattle.std.proofs.Common.{◌≡◌, List, length, sym, ap, ap₂, ◌∙◌, arith, ◌++◌, ◌∷◌, []}
+use Rattle.std.proofs.Common.{◌≡◌, ◌+◌, List, length, sym, ap, ap₂, ◌∙◌, arith, ◌++◌, ◌∷◌, []}
 use Rattle.std.specs.Prelude.{map, sum_by, ℤ}
-use Rattle.std.proofs.lemmas.List.{length-map, map-append}
+use Rattle.std.proofs.lemmas.List.{length-map, length_push, map-append}
 use Rattle.file_rows.specs.Grouped.{Valued, bytes_in}
 use Rattle.file_rows.specs.Names.{valued_in}
 use Rattle.file_rows.proofs.RowFiles.{valued}
@@ -27,3 +27,11 @@ returns-clause-ok g c =
     let more = numbers_pushed number values c.reserve.new.self.items c.push_reserved.new.self.items c.args.value c.reserve.ensures.items c.push_reserved.ensures.items in
     let made = members_in-append c.self.inside.documents (map number values) c.args.document.now (number c.args.value) same in
     ◌∙◌ {A = List Valued} (ap₂ valued_in c.in_ok-push.ensures.ok more) (made ∙ ap (λ js. js ++ valued c.args.document.now (number c.args.value) ∷ []) c.self.view_is)
+
+pub invariant_of-self : goal.invariant_of-self
+invariant_of-self g c = c.self.invariant ∙ sym (ap length c.reserve.ensures.items)
+
+pub invariant_of-self-2 : goal.invariant_of-self-2
+invariant_of-self-2 g c =
+    ap length c.in_ok-push.ensures.ok ∙ length_push c.self.inside.documents c.args.document.now ∙ ap (λ n. n + 1) (c.self.invariant ∙ sym (ap length c.reserve.ensures.items))
+    ∙ sym (ap length c.push_reserved.ensures.items ∙ length_push c.reserve.new.self.items c.args.value)
