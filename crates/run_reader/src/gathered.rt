@@ -1,5 +1,5 @@
 // The rows of a run that is being read.
-ghost use Rattle.std.specs.Prelude.{◌≡◌, ◌+◌, ◌^◌, ◌<◌, [], false, true, length, IfOk, OnOk};
+ghost use Rattle.std.specs.Prelude.{◌≡◌, ◌+◌, ◌^◌, ◌<◌, [], ◌∷◌, false, true, length, IfOk, OnOk};
 ghost use Rattle.std.specs.List.{list_any};
 ghost use Rattle.std.specs.Str.{bytes_eq};
 ghost use Rattle.file_rows.specs.Grouped.{is_topic, with_row_on, rows_in, place_of, row_count, name_bytes_in};
@@ -43,11 +43,22 @@ impl Gathered {
         ensures tracked { OnOk result (IsTracked self.new) }
     {
         if topic != self.last_topic.as_slice() {
-            self.last_topic.clear();
-            self.last_topic.extend_from_slice(topic)?;
-            self.last = self.kept.place(topic);
+            self.look_up(topic)?;
         }
         Ok(self.last)
+    }
+
+    // Looks a topic up among the kept ones.
+    fn look_up(&mut self, topic: &[u8]) -> Result<(), AllocError>
+        ensures topic { OnOk result (self.new.last_topic.items ≡ topic.now) }
+        ensures last { OnOk result (self.new.last ≡ place_of self.new.last_topic.items self.new.kept) }
+        ensures kept { self.new.kept ≡ self.old.kept }
+        ensures seen { self.new.seen ≡ self.old.seen }
+    {
+        self.last_topic.clear();
+        self.last_topic.extend_from_slice(topic)?;
+        self.last = self.kept.place(topic);
+        Ok(())
     }
 
     /// How many rows a topic has.
@@ -113,15 +124,34 @@ impl Gathered {
         ensures added { OnOk result (self.new.kept ≡ with_row_on self.old.kept (row_said row.now)) }
         ensures tracked { OnOk result (IsTracked self.new) }
     {
-        let t = self.kept.topics();
-        let mut seen = SeenNames::with_room(self.alloc, self.last_depth())?;
-        self.kept.add_topic(self.alloc, row.topic)?;
-        self.kept.add_row(t, row.document, row.score)?;
-        seen.insert(self.alloc, row.document)?;
+        let seen = one_seen(self.alloc, row.document, self.last_depth())?;
+        keep_first(self.alloc, &mut self.kept, row)?;
         self.seen.push(seen)?;
-        self.last_topic.clear();
-        self.last_topic.extend_from_slice(row.topic)?;
-        self.last = self.kept.place(row.topic);
-        Ok(())
+        self.look_up(row.topic)
     }
+}
+
+// The document of the first row of a topic, and room for as many as there may be.
+fn one_seen(alloc: Global, document: &[u8], room: usize) -> Result<SeenNames, AllocError>
+    ensures { IfOk result (λ seen. seen ≡ document.now ∷ []) }
+{
+    let mut seen = SeenNames::with_room(alloc, room)?;
+    seen.insert(alloc, document)?;
+    Ok(seen)
+}
+
+// Keeps the first row of a topic.
+fn keep_first(
+    alloc: Global,
+    kept: &mut GroupedRows<Score>,
+    row: &RowText<'_>,
+) -> Result<(), AllocError>
+    requires new { is_topic row.now.topic.now kept.old ≡ false }
+    requires rows { row_count kept.old + 1 < 2 ^ 32 }
+    requires names { name_bytes_in kept.old + length row.now.document.now < 2 ^ 32 }
+    ensures { OnOk result (kept.new ≡ with_row_on kept.old (row_said row.now)) }
+{
+    let t = kept.topics();
+    kept.add_topic(alloc, row.topic)?;
+    kept.add_row(t, row.document, row.score)
 }
