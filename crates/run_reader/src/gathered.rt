@@ -105,6 +105,13 @@ impl Gathered {
         }
     }
 
+    /// The kept rows, in no more room than they take.
+    pub fn packed(self) -> Result<GroupedRows<Score>, AllocError>
+        ensures { IfOk result (λ kept. kept ≡ self.kept) }
+    {
+        self.kept.packed(self.alloc)
+    }
+
     // How many rows the topic that came last has: one that follows mostly has about as many.
     fn last_depth(&self) -> usize {
         let topics = self.kept.topics();

@@ -1,5 +1,5 @@
 // A reader of the lines of a run file.
-ghost use Rattle.std.specs.Prelude.{◌≡◌, ◌⊎◌, ◌+◌, ◌<◌, ◌≤◌, [], ◌∷◌, ◌++◌, List, ℕ, length, true, false, not, if◌then◌else◌, unwrap_or, All, IfErr, IfOk, IfSome, OnOk, Ok, Err, Some};
+ghost use Rattle.std.specs.Prelude.{◌≡◌, ◌⊎◌, ◌+◌, ◌<◌, ◌≤◌, [], ◌∷◌, ◌++◌, List, ℕ, length, true, false, not, if◌then◌else◌, unwrap_or, option_map, All, IfErr, IfOk, IfSome, OnOk, Ok, Err, Some};
 ghost use Rattle.desk_text.specs.Lines.{lines};
 ghost use Rattle.desk_model.specs.Name.{is_name};
 ghost use Rattle.file_rows.specs.Reading.{checked, IsTooLong, IsUnlessMemory};
@@ -7,7 +7,7 @@ ghost use Rattle.file_rows.specs.Rows.{Row};
 ghost use Rattle.file_rows.specs.Grouped.{grouped, is_topic, names_of, place_of, with_row_on, row_count, name_bytes_in};
 ghost use Rattle.file_rows.specs.declared.limits.TheConstants.{MOST_NAME_BYTES};
 ghost use Rattle.run_reader.specs.Run.{run_of, limits_after, faults_after, IsRun, IsWithinLimits};
-ghost use Rattle.run_reader.specs.Reader.{row_said, given_in, name_in, name_after, IsSound, ReadsLine, HasRead, IsReady, run_with};
+ghost use Rattle.run_reader.specs.Reader.{row_said, given_in, given_or, name_in, name_after, IsSound, ReadsLine, HasRead, IsReady, run_with};
 
 use crate::gathered::Gathered;
 use crate::limits::{MOST_RANKS, MOST_RUN_ROWS};
@@ -135,16 +135,15 @@ impl<'q> RowReader<'q> {
             used,
             given,
         } = beside;
-        let kept = gathered.kept.packed(gathered.alloc)?;
+        let Some(name) = given_or(given, tag) else {
+            return Err(FileFault::NoTag);
+        };
+        let kept = gathered.packed()?;
         let used = Used {
             rows: used.rows + kept.rows(),
             name_bytes: used.name_bytes + kept.name_bytes(),
         };
-        match (given, tag) {
-            (Some(name), _) => Ok(RunRows::new(name, kept, used)),
-            (None, Some(name)) => Ok(RunRows::new(name, kept, used)),
-            (None, None) => Err(FileFault::NoTag),
-        }
+        Ok(RunRows::new(name, kept, used))
     }
 
     // Reads a line that is too long.
@@ -269,6 +268,13 @@ impl<'q> RowReader<'q> {
         }
         Ok(())
     }
+}
+
+// The name that is given, else the tag.
+fn given_or(given: Option<Vec<u8>>, tag: Option<Vec<u8>>) -> Option<Vec<u8>>
+    ensures { option_map (λ name. name.items) result ≡ given_or (option_map (λ name. name.items) given) (option_map (λ tag. tag.items) tag) }
+{
+    given.or(tag)
 }
 
 // A repeated document is told before a limit.
