@@ -19,10 +19,12 @@ fn push_number(out: &mut Vec<u8>, number: usize) -> Result<(), AllocError>
     out.extend_from_slice(Buffer::new().format(number).as_bytes())
 }
 
+// A space and a number.
 fn push_signed(out: &mut Vec<u8>, number: i128) -> Result<(), AllocError>
     requires { IsNumber number }
-    ensures { OnOk result (out.new.items ≡ out.old.items ++ signed_decimal number) }
+    ensures { OnOk result (out.new.items ≡ out.old.items ++ 32 ∷ signed_decimal number) }
 {
+    out.extend_from_slice(b" ")?;
     out.extend_from_slice(Buffer::new().format(number).as_bytes())
 }
 
@@ -56,7 +58,6 @@ fn push_low(out: &mut Vec<u8>, bound: &TopicBound) -> Result<(), AllocError>
 {
     out.extend_from_slice(b"topic ")?;
     out.extend_from_slice(bound.topic.as_bytes())?;
-    out.extend_from_slice(b" ")?;
     push_signed(out, bound.low)
 }
 
@@ -74,7 +75,6 @@ fn push_low_high_line(out: &mut Vec<u8>, bound: &TopicBound) -> Result<(), Alloc
     ensures { OnOk result (out.new.items ≡ out.old.items ++ ended (low_high_line bound.now)) }
 {
     push_low(out, bound)?;
-    out.extend_from_slice(b" ")?;
     push_signed(out, bound.high)?;
     out.extend_from_slice(b"\n")
 }
@@ -118,9 +118,7 @@ fn push_count_line(
 {
     out.extend_from_slice(word)?;
     out.extend_from_slice(topic)?;
-    out.extend_from_slice(b" ")?;
-    push_number(out, count)?;
-    out.extend_from_slice(b"\n")
+    push_number_line(out, b" ", count)
 }
 
 fn push_list(out: &mut Vec<u8>, word: &[u8], topic: &[u8], names: &[Name]) -> Result<(), AllocError>

@@ -1,0 +1,10 @@
+use Rattle.std.proofs.Common.{refl, arith, map}
+use Rattle.order_certificate.specs.Certificate.{low_high_line}
+use Rattle.order_certificate.proofs.Joins.{one_line_more, all_written}
+use Rattle.order_certificate.proofs.writing.push_lows_and_highs.Goals as goal
+
+pub loop-bound-preserved : goal.loop-bound-preserved
+loop-bound-preserved c = one_line_more low_high_line _ _ _ c.args.bounds.now c.loop-bound.bound-index c.bound-item.result (omega arith) c.bound-item.is c.loop-bound.invariant c.in_ok-push_low_high_line.ensures
+
+pub returns : goal.returns
+returns c = all_written (map low_high_line) _ _ c.args.bounds.now c.loop-bound.bound-index refl (omega arith) c.loop-bound.invariant
