@@ -18,7 +18,7 @@ use std::alloc::{AllocError, Global};
 use std::cmp::Ordering;
 
 /// What a certificate claims.
-#[derive(Clone, Copy, PartialEq, Eq, Debug)]
+#[derive(Clone, Copy, Debug)]
 pub enum Claim {
     Above,
     Equal,
