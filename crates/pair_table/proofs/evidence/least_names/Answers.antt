@@ -9,4 +9,5 @@ relevant-requires-clause-truth g c = ap length c.deref.ensures.value ∙ c.in_ok
 pub returns : goal.returns
 returns g c =
     let measure = g.M.Measure.measured c.args.measure.now in
-    IfOk-weaker c.relevant.result _ _ (λ names is. is ∙ case_listed measure c.args.book.now.docs c.args.marks.now c.args.a.now c.args.b.now _ c.deref.result.now c.requires.count c.deref.ensures.value c.in_ok-truth.ensures) c.relevant.ensures
+    let listed = case_listed measure c.args.book.now.docs c.args.marks.now c.args.a.now c.args.b.now c.in_ok-truth.truth.items c.deref.result.now c.requires.count c.deref.ensures.value c.in_ok-truth.ensures in
+    IfOk-weaker c.relevant.result _ _ (λ names is. is ∙ listed) c.relevant.ensures

@@ -1,11 +1,24 @@
-use Rattle.std.proofs.Common.{◌≡◌, ℕ, ◌<◌, Bool, false, List, [], length, get_or, ap, sym, ◌∙◌, arith}
+use Rattle.std.proofs.Common.{◌≡◌, ℕ, ◌<◌, Bool, true, false, List, [], length, get_or, ap, sym, subst, ◌∙◌, arith}
 use Rattle.std.specs.Prelude.{Vec, ◌&&◌}
 use Rattle.std.specs.declared.alloc.Global.{Global}
 use Rattle.std.proofs.lemmas.Option.{get_or_from_slice_get}
 use Rattle.desk_model.specs.Mark.{is_unjudged, mark_at}
-use Rattle.pair_table.proofs.Listing.{added_test, passed_more, passed_same}
+use Rattle.desk_model.specs.Name.{is_name}
+use Rattle.pair_table.proofs.Listing.{added_test, passed, passed_more, passed_same}
 use Rattle.pair_table.proofs.evidence.relevant.Goals as goal
 use Rattle.pair_table.proofs.evidence.relevant.Goals.{then-is_added+in_ok-name+in-Ok, else-is_added}
+
+pub copied-requires : goal.copied-requires
+copied-requires c =
+    let docs = c.args.book.now.docs in
+    let within : c.loop-doc.doc < length docs = omega (arith, c.doc_count-doc-end.ensures.count) in
+    subst (λ name. is_name name ≡ true) (get_or_from_slice_get docs c.loop-doc.doc c.doc_name.result.now [] c.doc_name.ensures) (c.doc_count-doc-end.ensures.book.documents c.loop-doc.doc [] within)
+
+pub returns : goal.returns
+returns c =
+    let docs = c.args.book.now.docs in
+    let end : c.loop-doc.doc ≡ length docs = omega (arith, c.doc_count-doc-end.ensures.count) in
+    c.new.ensures ∙ c.loop-doc.invariant.made ∙ ap (passed docs (λ doc. is_unjudged (mark_at c.args.marks.now doc) && get_or c.args.truth.now doc false)) end
 
 pub loop-doc-preserved : goal.loop-doc-preserved
 loop-doc-preserved c =
