@@ -1,4 +1,4 @@
-use Rattle.std.proofs.Common.{◌≡◌, ℕ, ◌+◌, List, length, map, ap, sym, subst, ◌∙◌, arith}
+use Rattle.std.proofs.Common.{◌≡◌, ℕ, ◌+◌, All, List, length, map, ap, sym, subst, ◌∙◌, arith}
 use Rattle.std.specs.Prelude.{slice_set}
 use Rattle.std.specs.Vec.{with_items}
 use Rattle.std.proofs.lemmas.List.{with_items_is}
@@ -6,11 +6,27 @@ use Rattle.desk_model.specs.Verdict.{verdict}
 use Rattle.desk_model.specs.declared.types.Totals.{Totals}
 use Rattle.desk_model.specs.declared.types.Verdict.{Verdict}
 use Rattle.fractions.specs.declared.span.Span.{Span}
-use Rattle.pair_table.specs.Kept.{Kept, TopicNumbers, IsKeptTable, numbers_on, topic_at, kept_totals, kept_bounds}
+use Rattle.pair_table.specs.Kept.{Kept, TopicNumbers, AreTopicNumbers, IsKeptTable, numbers_on, topic_at, kept_totals, kept_bounds}
 use Rattle.pair_table.proofs.Changing.{changed_stands}
 use Rattle.pair_table.proofs.Keeping.{kept_again, kept_along}
 use Rattle.pair_table.proofs.PairNumbers.{length-pairs}
 use Rattle.pair_table.proofs.table.Table.change.Goals as goal
+
+pub renew_topic-requires-clause-sizes : goal.renew_topic-requires-clause-sizes
+renew_topic-requires-clause-sizes g c =
+    let topics : List TopicNumbers = c.self.inside.topics.items in
+    let same = ap (λ (k : Kept _). k.runs) c.self.view_is ∙ c.requires.others.runs in
+    subst (All (AreTopicNumbers (length c.args.desk.now.runs))) (sym c.deref_mut.ensures.value) (subst (λ r. All (AreTopicNumbers r) topics) same c.self.invariant.numbers)
+
+pub renew_topic-requires-clause-totals : goal.renew_topic-requires-clause-totals
+renew_topic-requires-clause-totals g c =
+    let same = ap (λ (k : Kept _). k.runs) c.self.view_is ∙ c.requires.others.runs in
+    c.deref_mut-2.ensures.value ∙ c.self.invariant.sums ∙ ap (λ r. kept_totals r c.self.inside.topics.items) same ∙ ap (kept_totals (length c.args.desk.now.runs)) (sym c.deref_mut.ensures.value)
+
+pub renew_topic-requires-clause-bounds : goal.renew_topic-requires-clause-bounds
+renew_topic-requires-clause-bounds g c =
+    let same = ap (λ (k : Kept _). k.runs) c.self.view_is ∙ c.requires.others.runs in
+    c.deref_mut-3.ensures.value ∙ c.self.invariant.summed_bounds ∙ ap (λ r. kept_bounds r c.self.inside.topics.items) same ∙ ap (kept_bounds (length c.args.desk.now.runs)) (sym c.deref_mut.ensures.value)
 
 pub invariant_of-self : goal.invariant_of-self
 invariant_of-self g c =

@@ -21,6 +21,19 @@ evaluate_topics-requires-clause-cells g c =
     subst (All (λ (kept : TopicNumbers). length kept.cells ≡ pairs)) (sym c.deref_mut.ensures.value)
     (λ k d lt. c.in-Ok.ensures.cells k d lt ∙ ap pair_count c.run_count-runs.ensures.count ∙ sym (length-pairs (length c.args.desk.now.runs)))
 
+pub evaluate_topics-requires-clause-bounds : goal.evaluate_topics-requires-clause-bounds
+evaluate_topics-requires-clause-bounds g c =
+    subst (All (λ (kept : TopicNumbers). length kept.bounds ≡ length c.args.desk.now.runs)) (sym c.deref_mut.ensures.value)
+    (λ k d lt. c.in-Ok.ensures.bounds k d lt ∙ c.run_count-runs.ensures.count)
+
+pub fill_verdicts-requires : goal.fill_verdicts-requires
+fill_verdicts-requires g c =
+    let totals : List Totals = c.add_topics.new.totals in
+    let rooms = c.in-Ok-sum_rooms in
+    let size = c.add_topics.auto.totals ∙ ap length c.deref_mut-2.ensures.value in
+    let totals_is = with_items_is rooms.totals totals (omega (arith, size, rooms.totals.ok.0)) in
+    ap length c.deref_mut-4.ensures.value ∙ rooms.ensures.verdicts ∙ sym (ap length (c.deref-2.ensures.value ∙ totals_is) ∙ size ∙ rooms.ensures.totals.0)
+
 pub add_topics-requires-clause-sizes : goal.add_topics-requires-clause-sizes
 add_topics-requires-clause-sizes g c =
     let topics : List TopicNumbers = c.evaluate_topics.new.topics in
