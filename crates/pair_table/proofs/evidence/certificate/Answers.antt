@@ -1,6 +1,18 @@
-use Rattle.std.proofs.Common.{refl, sym, ap, Some, ◌∙◌}
+use Rattle.std.proofs.Common.{◌≡◌, [], true, refl, sym, ap, subst, Some, ◌∙◌}
+use Rattle.std.proofs.lemmas.Option.{get_or_from_slice_get}
+use Rattle.desk_model.specs.Name.{is_name}
 use Rattle.pair_table.proofs.Listing.{number_there}
 use Rattle.pair_table.proofs.evidence.certificate.Goals as goal
+
+pub copied-requires : goal.copied-requires
+copied-requires g c =
+    let runs = c.args.desk.now.runs in
+    subst (λ name. is_name name ≡ true) (get_or_from_slice_get runs c.args.first c.run_name.result.now [] c.run_name.ensures) (c.run_count-runs.ensures.desk.named c.args.first [] c.requires.first)
+
+pub copied-requires-2 : goal.copied-requires-2
+copied-requires-2 g c =
+    let runs = c.args.desk.now.runs in
+    subst (λ name. is_name name ≡ true) (get_or_from_slice_get runs c.args.second c.run_name-2.result.now [] c.run_name-2.ensures) (c.run_count-runs.ensures.desk.named c.args.second [] c.requires.second)
 
 pub returns-clause-compares : goal.returns-clause-compares
 returns-clause-compares g c =
