@@ -1,12 +1,35 @@
-use Rattle.std.proofs.Common.{◌≡◌, inl, inr, ap, sym, ◌∙◌, subst}
+use Rattle.std.proofs.Common.{◌≡◌, ◌<◌, arith, inl, inr, ap, sym, ◌∙◌, subst}
 use Rattle.std.specs.List.{Contains, zip}
+use Rattle.std.proofs.lemmas.Option.{slice_get_within}
 use Rattle.desk_model.specs.Pairs.{pairs_of}
 use Rattle.desk_model.specs.declared.types.Totals.{Totals}
 use Rattle.pair_table.specs.Sums.{run_numbers, swapped_totals}
-use Rattle.pair_table.specs.Kept.{Kept, AreSumsOf}
+use Rattle.pair_table.specs.Kept.{Kept, AreSumsOf, AreModestTotals}
 use Rattle.pair_table.proofs.Swapped.{swapped_twice}
 use Rattle.pair_table.proofs.Zips.{beside}
 use Rattle.pair_table.proofs.table.Table.totals.Goals as goal
+
+pub pair_number-requires-clause-within : goal.pair_number-requires-clause-within
+pair_number-requires-clause-within g c = subst (λ n. c.args.j < n) (sym (ap (λ (k : Kept _). k.runs) c.self.view_is)) c.requires.second
+
+pub pair_number-requires-else-i-j-clause-within : goal.pair_number-requires-else-i-j-clause-within
+pair_number-requires-else-i-j-clause-within g c = subst (λ n. c.args.i < n) (sym (ap (λ (k : Kept _). k.runs) c.self.view_is)) c.requires.first
+
+pub index-requires : goal.index-requires
+index-requires g c =
+    let within = slice_get_within (pairs_of (run_numbers c.self.inside.runs)) c.pair_number.result (c.args.i, c.args.j) c.pair_number.ensures in
+    omega (arith, within, c.self.invariant.each_pair, c.self.inside.totals.ok.0)
+
+pub index-requires-else-i-j : goal.index-requires-else-i-j
+index-requires-else-i-j g c =
+    let within = slice_get_within (pairs_of (run_numbers c.self.inside.runs)) c.pair_number-else-i-j.result (c.args.j, c.args.i) c.pair_number-else-i-j.ensures in
+    omega (arith, within, c.self.invariant.each_pair, c.self.inside.totals.ok.0)
+
+pub swapped_sums-requires : goal.swapped_sums-requires
+swapped_sums-requires g c =
+    let k = c.pair_number-else-i-j.result in
+    let within = slice_get_within (pairs_of (run_numbers c.self.inside.runs)) k (c.args.j, c.args.i) c.pair_number-else-i-j.ensures in
+    subst AreModestTotals (sym c.index-else-i-j.ensures) (c.self.invariant.near_sums k c.index-else-i-j.result.now (subst (λ n. k < n) (sym c.self.invariant.each_pair) within))
 
 pub returns-then-i-j : goal.returns-then-i-j
 returns-then-i-j g c =
