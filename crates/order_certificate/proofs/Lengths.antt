@@ -1,9 +1,8 @@
 -- How long the lines of a certificate can be.
 use Rattle.std.proofs.Common.{◌≡◌, ℕ, suc, ◌+◌, ◌^◌, ◌<◌, ◌≤◌, List, [], ◌∷◌, ◌++◌, length, sym, subst, true, arith, ℤ, pos, negsuc, length-append, length-drop}
-use Rattle.std.specs.Prelude.{◌&&◌, nat_le, codes, decimal}
-use Rattle.std.specs.List.{All, AllByRecursion, list_all}
+use Rattle.std.specs.Prelude.{codes, decimal}
+use Rattle.std.specs.List.{All, AllByRecursion}
 use Rattle.std.specs.Fmt.{signed_decimal}
-use Rattle.std.proofs.lemmas.Bool.{and_parts, leb-true}
 use Rattle.std.proofs.lemmas.Fmt.{length-decimal-le}
 use Rattle.std.proofs.lemmas.List.Elements.{All-from_recursion}
 use Rattle.std.proofs.Math.Nat.{pow-le-pow_right}
