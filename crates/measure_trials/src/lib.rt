@@ -7,6 +7,8 @@ mod plain;
 pub use plain::{difference, is_in, judged};
 
 #[cfg(test)]
+mod answers;
+#[cfg(test)]
 mod row_tests;
 #[cfg(test)]
 mod tail_tests;

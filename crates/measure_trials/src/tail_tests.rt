@@ -1,16 +1,20 @@
 //! Rank-biased precision against the plain sum of its definition, in every completion of small topics
 //! with some short tails.
+ghost use Rattle.desk_model.specs.MeasureText.{IsMeasure};
+
+use crate::answers::ask;
 use crate::plain::{difference, is_in};
-use crate::tests::{MARKS, O, R, RANKINGS, U, cell_once, ranking};
-use any_measure::AnyMeasure;
+use crate::tests::{MARKS, O, R, RANKINGS, U};
 use desk_model::{Mark, MeasureName};
 use fractions::Span;
-use measure_core::{Cell, Measure};
+use measure_core::Cell;
 use std::alloc::Global;
-use std::marker::Brand;
 use std::process::Abort;
-use std::sync::ledger::Blank;
 use std::test::Fail;
+
+const HALF: MeasureName = MeasureName::Biased { top: 5, bottom: 10 };
+
+const MOST: MeasureName = MeasureName::Biased { top: 8, bottom: 10 };
 
 const TAILS: [&[bool]; 5] = [
     &[],
@@ -20,7 +24,7 @@ const TAILS: [&[bool]; 5] = [
     &[true, true, true],
 ];
 
-const TENTH: i128 = 100_000_000_000_000_000;
+const HUNDREDTH: i128 = 10_000_000_000_000_000;
 
 /// The score of the places so far, and what the next one adds where it is relevant, in parts of 10^-7.
 #[derive(Clone, Copy)]
@@ -112,47 +116,56 @@ fn is_bounded(bounds: Span, persistence: u64, relevant: u32, docs: &[u32]) -> bo
     true
 }
 
-fn compare(
-    rt: &impl Abort,
-    alloc: Global,
-    measure: &AnyMeasure,
+/// Whether the cell and the bounds hold every completion, of which there is one at least.
+fn hold_all(
+    cell: Cell,
+    bounds: Span,
     persistence: u64,
     runs: (&[u32], &[u32]),
     marks: &[Mark],
-) -> Result<(), Fail> {
-    assert!(rt; marks.len() <= 100);
-    let universe = marks.len() as u32;
-    let first = ranking(rt, alloc, runs.0, universe)?;
-    let second = ranking(rt, alloc, runs.1, universe)?;
-    let cell = cell_once::<Brand>(measure, &first, &second, marks, Blank::new(1));
-    let bounds = measure.bounds(&first, marks);
+) -> bool {
     let mut completions: u32 = 0;
     for relevant in 0..16 {
         if completes(relevant, marks) {
-            let within = holds(cell, persistence, relevant, runs);
-            assert!(rt; within, "{relevant} of {runs:?} under {marks:?}: {cell:?}");
-            let within = is_bounded(bounds, persistence, relevant, runs.0);
-            assert!(rt;
-                within,
-                "{relevant} of {runs:?} under {marks:?}: {bounds:?}"
-            );
+            if !holds(cell, persistence, relevant, runs)
+                || !is_bounded(bounds, persistence, relevant, runs.0)
+            {
+                return false;
+            }
             completions = completions.wrapping_add(1);
         }
     }
-    assert!(rt; completions > 0);
+    completions > 0
+}
+
+fn compare(
+    rt: &impl Abort,
+    alloc: Global,
+    name: MeasureName,
+    persistence: u64,
+    runs: (&[u32], &[u32]),
+    marks: &[Mark],
+) -> Result<(), Fail>
+    requires { IsMeasure name }
+{
+    let answers = ask(rt, alloc, name, runs, marks, 0)?;
+    let hold = hold_all(answers.cell, answers.bounds, persistence, runs, marks);
+    assert!(rt; hold, "{runs:?} under {marks:?}");
     Ok(())
 }
 
 fn compare_all(
     rt: &impl Abort,
     alloc: Global,
-    measure: &AnyMeasure,
+    name: MeasureName,
     persistence: u64,
-) -> Result<(), Fail> {
+) -> Result<(), Fail>
+    requires { IsMeasure name }
+{
     for marks in &MARKS {
         for first in &RANKINGS {
             for second in &RANKINGS {
-                compare(rt, alloc, measure, persistence, (*first, *second), marks)?;
+                compare(rt, alloc, name, persistence, (*first, *second), marks)?;
             }
         }
     }
@@ -161,40 +174,23 @@ fn compare_all(
 
 #[test]
 fn biased_holds_every_completion_with_short_tails(rt: HostRuntime) -> Result<(), Fail> {
-    let alloc = rt.alloc();
-    let half = AnyMeasure::new(alloc, MeasureName::Biased { top: 5, bottom: 10 })?;
-    compare_all(&rt, alloc, &half, 5)?;
-    let most = AnyMeasure::new(alloc, MeasureName::Biased { top: 8, bottom: 10 })?;
-    compare_all(&rt, alloc, &most, 8)
+    compare_all(&rt, rt.alloc(), HALF, 5)?;
+    compare_all(&rt, rt.alloc(), MOST, 8)
 }
 
 #[test]
 fn plain_sums_by_hand(rt: HostRuntime) {
-    assert_eq!(rt; score(5, 0b0001, &[0, 1], &[]), 5_000_000);
-    assert_eq!(rt; score(5, 0b0010, &[0, 1], &[true]), 3_750_000);
-    assert_eq!(rt;
-        score(8, 0b0011, &[1, 0], &[false, true]),
-        3_600_000 + 1_024_000
-    );
-    assert_eq!(rt; difference(5_000_000, 6_000_000), -TENTH);
+    let alone = score(5, 0b0001, &[0, 1], &[]);
+    let followed = score(5, 0b0010, &[0, 1], &[true]);
+    let later = score(8, 0b0011, &[1, 0], &[false, true]);
+    assert!(rt; alone == 5_000_000 && followed == 3_750_000 && later == 3_600_000 + 1_024_000);
+    assert!(rt; difference(5_000_000, 6_000_000) == -10 * HUNDREDTH);
 }
 
-fn cell_by_hand(
-    rt: &impl Abort,
-    alloc: Global,
-    measure: &AnyMeasure,
-    runs: (&[u32], &[u32]),
-    marks: &[Mark],
-) -> Result<Cell, Fail> {
-    assert!(rt; marks.len() <= 100);
-    let universe = marks.len() as u32;
-    let first = ranking(rt, alloc, runs.0, universe)?;
-    let second = ranking(rt, alloc, runs.1, universe)?;
-    Ok(cell_once::<Brand>(measure, &first, &second, marks, Blank::new(1)))
-}
-
-/// From one number to the next, as the long tail leaves it.
+/// From one number to the next, as the long tail leaves it, given in hundredths.
 fn open(least: i128, most: i128) -> Cell {
+    let least = least.wrapping_mul(HUNDREDTH);
+    let most = most.wrapping_mul(HUNDREDTH);
     Cell {
         least: Span {
             lo: least,
@@ -207,18 +203,30 @@ fn open(least: i128, most: i128) -> Cell {
     }
 }
 
+fn expect_cell(
+    rt: &impl Abort,
+    alloc: Global,
+    name: MeasureName,
+    runs: (&[u32], &[u32]),
+    marks: &[Mark],
+    cell: Cell,
+) -> Result<(), Fail>
+    requires { IsMeasure name }
+{
+    let answers = ask(rt, alloc, name, runs, marks, 0)?;
+    assert!(rt; answers.cell == cell, "{runs:?}");
+    Ok(())
+}
+
 #[test]
 fn biased_by_hand(rt: HostRuntime) -> Result<(), Fail> {
     let alloc = rt.alloc();
-    let half = AnyMeasure::new(alloc, MeasureName::Biased { top: 5, bottom: 10 })?;
-    let alone = cell_by_hand(&rt, alloc, &half, (&[0], &[]), &[R])?;
-    assert_eq!(rt; alone, open(-5 * TENTH, 10 * TENTH));
-    let same = cell_by_hand(&rt, alloc, &half, (&[0], &[0]), &[U])?;
-    assert_eq!(rt; same, open(-5 * TENTH, 5 * TENTH));
-    let most = AnyMeasure::new(alloc, MeasureName::Biased { top: 8, bottom: 10 })?;
-    let later = cell_by_hand(&rt, alloc, &most, (&[0, 1], &[1]), &[R, U])?;
-    assert_eq!(rt; later, open(-64 * TENTH / 10, 84 * TENTH / 10));
-    let other = cell_by_hand(&rt, alloc, &most, (&[1], &[0]), &[R, O])?;
-    assert_eq!(rt; other, open(-10 * TENTH, 6 * TENTH));
-    Ok(())
+    let alone = open(-50, 100);
+    expect_cell(&rt, alloc, HALF, (&[0], &[]), &[R], alone)?;
+    let same = open(-50, 50);
+    expect_cell(&rt, alloc, HALF, (&[0], &[0]), &[U], same)?;
+    let later = open(-64, 84);
+    expect_cell(&rt, alloc, MOST, (&[0, 1], &[1]), &[R, U], later)?;
+    let other = open(-100, 60);
+    expect_cell(&rt, alloc, MOST, (&[1], &[0]), &[R, O], other)
 }

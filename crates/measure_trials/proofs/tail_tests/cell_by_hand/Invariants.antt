@@ -1,4 +1,0 @@
-use Rattle.measure_trials.proofs.tail_tests.cell_by_hand.Given as goal
-
-abbrev pub ghosts-cell_once : goal.ghosts-cell_once
-ghosts-cell_once g a = record { name = a.blank.name; parts = a.blank.parts }
