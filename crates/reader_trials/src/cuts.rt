@@ -15,19 +15,37 @@ const NONE: Used = Used {
     name_bytes: 0,
 };
 
-// Qrels whose bytes after a cut are fed one at a time, or all at once.
-fn cut_qrels(alloc: Global, cut: usize, one_by_one: bool) -> Result<Qrels, FileFault> {
+// More than either file has.
+const ALL: usize = 1_000;
+
+fn feed_qrels(reader: &mut QrelsReader, cut: usize, piece: usize) -> Result<(), FileFault> {
     let (before, after) = QRELS.split_at(cut.min(QRELS.len()));
-    let mut reader = QrelsReader::new(alloc)?;
     reader.feed(before)?;
-    if one_by_one {
-        for byte in after {
-            reader.feed(&[*byte])?;
-        }
-    } else {
-        reader.feed(after)?;
+    for part in after.chunks(piece.max(1)) {
+        reader.feed(part)?;
     }
+    Ok(())
+}
+
+// Qrels whose bytes after a cut are fed in pieces of one length.
+fn cut_qrels(alloc: Global, cut: usize, piece: usize) -> Result<Qrels, FileFault> {
+    let mut reader = QrelsReader::new(alloc)?;
+    feed_qrels(&mut reader, cut, piece)?;
     reader.finish()
+}
+
+fn feed_run(
+    reader: &mut RunReader<'_>,
+    run: &[u8],
+    cut: usize,
+    piece: usize,
+) -> Result<(), FileFault> {
+    let (before, after) = run.split_at(cut.min(run.len()));
+    reader.feed(before)?;
+    for part in after.chunks(piece.max(1)) {
+        reader.feed(part)?;
+    }
+    Ok(())
 }
 
 // The same with a run.
@@ -35,20 +53,16 @@ fn cut_run(
     alloc: Global,
     run: &[u8],
     cut: usize,
-    one_by_one: bool,
+    piece: usize,
     qrels: &Qrels,
 ) -> Result<RunRows, FileFault> {
-    let (before, after) = run.split_at(cut.min(run.len()));
     let mut reader = RunReader::new(alloc, None, NONE, qrels)?;
-    reader.feed(before)?;
-    if one_by_one {
-        for byte in after {
-            reader.feed(&[*byte])?;
-        }
-    } else {
-        reader.feed(after)?;
-    }
+    feed_run(&mut reader, run, cut, piece)?;
     reader.finish()
+}
+
+fn at_line(line: u64, fault: LineFault) -> FileFault {
+    FileFault::Line { line, fault }
 }
 
 fn is_whole(qrels: &Qrels) -> bool {
@@ -64,39 +78,43 @@ fn is_whole_run(run: &RunRows) -> bool {
         && run.topic_rows(b"402") == 1
 }
 
+// Whether both files have their rows where they are cut there.
+fn are_whole(alloc: Global, cut: usize, piece: usize) -> Result<bool, FileFault> {
+    let qrels = cut_qrels(alloc, cut, piece)?;
+    let run = cut_run(alloc, RUN, cut, piece, &qrels)?;
+    Ok(is_whole(&qrels) && is_whole_run(&run))
+}
+
 #[test]
-fn a_cut_changes_no_row(rt: HostRuntime) -> Result<(), Fail> {
-    let alloc = rt.alloc();
+fn a_cut_changes_no_row(rt: HostRuntime) {
     for cut in 0..=RUN.len() {
-        for one_by_one in [false, true] {
-            let qrels = cut_qrels(alloc, cut, one_by_one)?;
-            assert!(rt; is_whole(&qrels), "cut at {cut}");
-            let run = cut_run(alloc, RUN, cut, one_by_one, &qrels)?;
-            assert!(rt; is_whole_run(&run), "cut at {cut}");
+        for piece in &[1, ALL] {
+            let whole = are_whole(rt.alloc(), cut, *piece);
+            assert!(rt; whole == Ok(true), "cut at {cut}");
         }
     }
-    Ok(())
+}
+
+// Whether a run has this fault wherever it is cut.
+fn is_refused(alloc: Global, qrels: &Qrels, run: &[u8], fault: FileFault) -> bool {
+    let fault = Some(fault);
+    for cut in 0..=run.len() {
+        for piece in &[1, ALL] {
+            if cut_run(alloc, run, cut, *piece, qrels).err() != fault {
+                return false;
+            }
+        }
+    }
+    true
 }
 
 #[test]
 fn a_cut_changes_no_fault(rt: HostRuntime) -> Result<(), Fail> {
     let alloc = rt.alloc();
-    let qrels = cut_qrels(alloc, 0, false)?;
-    let cases = [
-        (b"401 Q0 d1 1 9".as_slice(), 1, LineFault::BadFieldCount),
-        (
-            b"401 Q0 d1 1 9 A\n\n401 Q0 d1 1 9 A\n401 Q0 d2",
-            3,
-            LineFault::RepeatedDocument,
-        ),
-    ];
-    for (text, line, fault) in cases {
-        for cut in 0..=text.len() {
-            for one_by_one in [false, true] {
-                let read = cut_run(alloc, text, cut, one_by_one, &qrels);
-                assert_eq!(rt; read.err(), Some(FileFault::Line { line, fault }));
-            }
-        }
-    }
+    let qrels = cut_qrels(alloc, 0, ALL)?;
+    let run = b"401 Q0 d1 1 9";
+    assert!(rt; is_refused(alloc, &qrels, run, at_line(1, LineFault::BadFieldCount)));
+    let run = b"401 Q0 d1 1 9 A\n\n401 Q0 d1 1 9 A\n401 Q0 d2";
+    assert!(rt; is_refused(alloc, &qrels, run, at_line(3, LineFault::RepeatedDocument)));
     Ok(())
 }

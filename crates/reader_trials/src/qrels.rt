@@ -57,8 +57,8 @@ fn tells_faults(rt: HostRuntime) {
             at_line(3, LineFault::RepeatedDocument),
         ),
     ];
-    for (text, fault) in cases {
-        assert!(rt; refusal(&rt, text) == fault);
+    for (text, fault) in &cases {
+        assert!(rt; refusal(&rt, text) == *fault);
     }
 }
 
@@ -72,14 +72,14 @@ fn padded(alloc: Global, name: usize, spaces: usize) -> Result<Vec<u8>, AllocErr
 
 #[test]
 fn keeps_lengths(rt: HostRuntime) -> Result<(), AllocError> {
-    for (name, spaces, fault) in [
+    for (name, spaces, fault) in &[
         (255, 0, None),
         (256, 0, at_line(1, LineFault::NameTooLong)),
         (3, 4087, None),
         (3, 4088, at_line(1, LineFault::LineTooLong)),
     ] {
-        let text = padded(rt.alloc(), name, spaces)?;
-        assert!(rt; refusal(&rt, &text) == fault);
+        let text = padded(rt.alloc(), *name, *spaces)?;
+        assert!(rt; refusal(&rt, &text) == *fault);
     }
     Ok(())
 }

@@ -77,8 +77,8 @@ fn tells_the_first_fault(rt: HostRuntime) {
         ),
         (b"401 Q0 d\x01 1 x", at_line(1, LineFault::BadByte)),
     ];
-    for (text, fault) in cases {
-        assert!(rt; read(rt.alloc(), text).err() == fault);
+    for (text, fault) in &cases {
+        assert!(rt; read(rt.alloc(), text).err() == *fault);
     }
 }
 
@@ -99,8 +99,11 @@ fn what_came_before_counts(rt: HostRuntime) {
         ),
         (b"401 Q0 d 1 9 A\n", 19_999_999, 268_435_455, None),
     ];
-    for (text, rows, name_bytes, fault) in cases {
-        let read = read_after(rt.alloc(), text, Used { rows, name_bytes });
-        assert!(rt; read.err() == fault);
+    for (text, rows, name_bytes, fault) in &cases {
+        let used = Used {
+            rows: *rows,
+            name_bytes: *name_bytes,
+        };
+        assert!(rt; read_after(rt.alloc(), text, used).err() == *fault);
     }
 }
