@@ -1,10 +1,10 @@
 // What a session has kept while documents were judged, beside what one makes anew that has the same judgements: over
 // the demo of seed 7, with 50 topics and 28 pairs of runs.
-use crate::counting::{Calls, Counting};
-use crate::session::replies;
+use crate::session::{counts, replies};
 use any_measure::Common;
 use demo_texts::{Generator, RUNS, qrels_text, run_text};
 use std::alloc::{AllocError, Global};
+use std::process::Abort;
 use std::test::Fail;
 
 const SESSION: &str = "session --qrels q --measure P_10 r1 r2 r3 r4 r5 r6 r7 r8";
@@ -14,12 +14,12 @@ const NAMES: [&str; 9] = ["q", "r1", "r2", "r3", "r4", "r5", "r6", "r7", "r8"];
 const REPORTS: &[u8] = b"next\ntable\n";
 
 // The judgements of the demo, and then its runs.
-fn demo_texts(alloc: Global) -> Result<Vec<Vec<u8>>, AllocError> {
+fn demo_texts(alloc: Global) -> Result<Vec<Vec<u8>>, Fail> {
     let mut generator = Generator::new(7);
     let mut texts = Vec::new(alloc);
-    texts.push(qrels_text(alloc, &mut generator).map_err(|_| AllocError)?)?;
+    texts.push(qrels_text(alloc, &mut generator)?)?;
     for run in 0..RUNS {
-        texts.push(run_text(alloc, &mut generator, run).map_err(|_| AllocError)?)?;
+        texts.push(run_text(alloc, &mut generator, run)?)?;
     }
     Ok(texts)
 }
@@ -88,6 +88,45 @@ fn proposed(alloc: Global, reports: &[u8], grade: u32) -> Result<Vec<u8>, AllocE
     Ok(document)
 }
 
+// Asks for the reports, which are those of a session that is made anew, and judges the document that they propose.
+fn follow(
+    rt: &impl Abort,
+    alloc: Global,
+    files: &[(&str, &[u8])],
+    course: &mut Course,
+    grade: Option<u32>,
+) -> Result<(), AllocError> {
+    let said = made_anew(alloc, files, &course.judging)?;
+    assert!(rt; said.starts_with(&course.judged));
+    let reports = &said[course.judged.len()..];
+    course.ask(reports)?;
+    let Some(grade) = grade else {
+        return Ok(());
+    };
+    let document = proposed(alloc, reports, grade)?;
+    course.judge(&document)
+}
+
+fn course_of(
+    rt: &impl Abort,
+    alloc: Global,
+    files: &[(&str, &[u8])],
+) -> Result<Course, AllocError> {
+    let mut course = Course::new(alloc);
+    for judgements in 0..100u32 {
+        follow(rt, alloc, files, &mut course, Some(judgements % 2))?;
+    }
+    follow(rt, alloc, files, &mut course, None)?;
+    Ok(course)
+}
+
+fn expect_kept(rt: &impl Abort, alloc: Global, files: &[(&str, &[u8])]) -> Result<(), AllocError> {
+    let course = course_of(rt, alloc, files)?;
+    let (cells, _) = counts(rt, alloc, SESSION, files, &course.lines, &course.expected)?;
+    assert!(rt; cells >= 1_400 && cells <= 4_200, "{cells} cells");
+    Ok(())
+}
+
 #[test]
 fn kept_tables_and_totals_equal_new_ones(rt: HostRuntime) -> Result<(), Fail> {
     let alloc = rt.alloc();
@@ -96,27 +135,6 @@ fn kept_tables_and_totals_equal_new_ones(rt: HostRuntime) -> Result<(), Fail> {
     for (name, text) in NAMES.iter().zip(texts.iter()) {
         files.push((*name, text.as_slice()))?;
     }
-    let mut course = Course::new(alloc);
-    for judgements in 0..=100u32 {
-        let said = made_anew(alloc, &files, &course.judging)?;
-        assert!(rt; said.starts_with(&course.judged));
-        let reports = &said[course.judged.len()..];
-        course.ask(reports)?;
-        if judgements < 100 {
-            let document = proposed(alloc, reports, judgements % 2)?;
-            course.judge(&document)?;
-        }
-    }
-    let calls = Calls::none();
-    let kept = replies(
-        alloc,
-        SESSION,
-        &files,
-        &course.lines,
-        &Counting { calls: &calls },
-    )?;
-    assert!(rt; kept.as_slice() == course.expected.as_slice());
-    let cells = calls.cell.get();
-    assert!(rt; cells >= 1_400 && cells <= 4_200, "{cells} cells");
+    expect_kept(&rt, alloc, &files)?;
     Ok(())
 }

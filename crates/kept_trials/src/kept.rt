@@ -1,7 +1,7 @@
 // What a session keeps: the cells and weights that its measure is asked for. The expected texts are worked out by hand.
-use crate::counting::{Calls, Counting};
-use crate::session::replies;
+use crate::session::counts;
 use std::alloc::{AllocError, Global};
+use std::process::Abort;
 use std::test::Fail;
 
 const SESSION: &str = "session --qrels q --measure P_1 a b";
@@ -15,18 +15,14 @@ const TIED: [(&str, &[u8]); 3] = [
 #[test]
 fn a_change_evaluates_its_topic_alone(rt: HostRuntime) -> Result<(), Fail> {
     let alloc = rt.alloc();
-    let made = Calls::none();
-    let first = replies(alloc, SESSION, &TIED, b"next\n", &Counting { calls: &made })?;
-    assert_eq!(rt; first.as_slice(), b"next 401 m 1\n".as_slice());
-    assert_eq!(rt; made.cell.get(), 2);
-    let calls = Calls::none();
+    let first = b"next 401 m 1\n";
+    let (cells, _) = counts(&rt, alloc, SESSION, &TIED, b"next\n", first)?;
+    assert!(rt; cells == 2);
     let lines = b"next\njudge ann 401 n 1\njudge ann 401 m 0\njudge ann 402 l 1\npair A B\nnext\n";
-    let all = replies(alloc, SESSION, &TIED, lines, &Counting { calls: &calls })?;
-    assert_eq!(rt;
-        all.as_slice(),
-        b"next 401 m 1\njudged 401 n 1\njudged 401 m 0\njudged 402 l 1\npair A above B 0.500000 1.000000\nnext none\n".as_slice()
-    );
-    assert!(rt; calls.cell.get() <= 5);
+    let all =
+        b"next 401 m 1\njudged 401 n 1\njudged 401 m 0\njudged 402 l 1\npair A above B 0.500000 1.000000\nnext none\n";
+    let (cells, _) = counts(&rt, alloc, SESSION, &TIED, lines, all)?;
+    assert!(rt; cells <= 5);
     Ok(())
 }
 
@@ -40,31 +36,32 @@ fn lines_of(alloc: Global, topics: u32, before: &str, after: &str) -> Result<Str
     Ok(text)
 }
 
+// Fifty judgements, each with a proposal after it.
+fn expect_few_calls(
+    rt: &impl Abort,
+    alloc: Global,
+    files: &[(&str, &[u8])],
+) -> Result<(), AllocError> {
+    let lines = lines_of(alloc, 50, "judge ann ", " a 1\nnext\n")?;
+    let expected = lines_of(alloc, 50, "judged ", " a 1\nnext 401 b 1\n")?;
+    let (lines, expected) = (lines.as_bytes(), expected.as_bytes());
+    let (cells, weights) = counts(rt, alloc, SESSION, files, lines, expected)?;
+    assert!(rt; cells >= 100 && cells <= 150, "{cells} cells");
+    assert!(rt; weights >= 1 && weights <= 600, "{weights} weights");
+    Ok(())
+}
+
 #[test]
 fn totals_are_made_once(rt: HostRuntime) -> Result<(), Fail> {
     let alloc = rt.alloc();
     let q = lines_of(alloc, 100, "", " 0 z 0\n")?;
     let a = lines_of(alloc, 100, "", " Q0 a 1 1 A\n")?;
     let b = lines_of(alloc, 100, "", " Q0 b 1 1 B\n")?;
-    let lines = lines_of(alloc, 50, "judge ann ", " a 1\nnext\n")?;
-    let expected = lines_of(alloc, 50, "judged ", " a 1\nnext 401 b 1\n")?;
-    let calls = Calls::none();
     let files: [(&str, &[u8]); 3] = [
         ("q", q.as_bytes()),
         ("a", a.as_bytes()),
         ("b", b.as_bytes()),
     ];
-    let said = replies(
-        alloc,
-        SESSION,
-        &files,
-        lines.as_bytes(),
-        &Counting { calls: &calls },
-    )?;
-    assert_eq!(rt; said.as_slice(), expected.as_bytes());
-    let cells = calls.cell.get();
-    assert!(rt; cells >= 100 && cells <= 150, "{cells} cells");
-    let weights = calls.weight.get();
-    assert!(rt; weights >= 1 && weights <= 600, "{weights} weights");
+    expect_few_calls(&rt, alloc, &files)?;
     Ok(())
 }

@@ -1,11 +1,13 @@
 // A session over files in memory.
 ghost use Rattle.std.specs.Prelude.{◌≡◌, ◌<◌};
 
+use crate::counting::{Calls, Counting};
 use desk_outside::{MemShelf, MemSink, MemSource};
 use desk_top::run_desk;
 use measure_core::{Maker, Steps};
 use std::alloc::{AllocError, Global};
 use std::marker::Brand;
+use std::process::Abort;
 use std::sync::ledger::{Blank, Ledger};
 
 fn status_of<P: Maker, L: Ledger>(
@@ -13,17 +15,21 @@ fn status_of<P: Maker, L: Ledger>(
     words: &[String],
     files: &mut MemShelf,
     input: &mut MemSource,
-    out: &mut MemSink,
+    outputs: (&mut MemSink, &mut MemSink),
     maker: &P,
     blank: Blank,
-) -> Result<u8, AllocError>
+) -> u8
     requires name { blank.name ≡ L.name }
     requires parts { blank.parts ≡ L.parts }
     requires some { 0 < blank.parts }
 {
-    let mut err = MemSink::new(alloc, 1000, 4096, Vec::new(alloc)).map_err(|_| AllocError)?;
+    let (out, err) = outputs;
     let mut steps: Steps<L> = Steps::new(blank);
-    Ok(run_desk(alloc, words, files, input, out, &mut err, maker, &mut steps))
+    run_desk(alloc, words, files, input, out, err, maker, &mut steps)
+}
+
+fn sink(alloc: Global, room: usize) -> Result<MemSink, AllocError> {
+    MemSink::new(alloc, room, 4096, Vec::new(alloc)).map_err(|_| AllocError)
 }
 
 fn words_of(alloc: Global, line: &str) -> Result<Vec<String>, AllocError> {
@@ -42,6 +48,22 @@ fn shelf_of(alloc: Global, files: &[(&str, &[u8])]) -> Result<MemShelf, AllocErr
     Ok(MemShelf::new(held, Vec::new(alloc)))
 }
 
+fn received<P: Maker>(
+    alloc: Global,
+    words: &[String],
+    files: &mut MemShelf,
+    lines: &[u8],
+    maker: &P,
+) -> Result<Vec<u8>, AllocError> {
+    let mut input = MemSource::new(lines.to_vec(alloc)?, 4096, Vec::new(alloc));
+    let mut out = sink(alloc, 400_000)?;
+    let mut err = sink(alloc, 1_000)?;
+    let outputs = (&mut out, &mut err);
+    let blank = Blank::new(1);
+    let _status = status_of::<P, Brand>(alloc, words, files, &mut input, outputs, maker, blank);
+    out.received().to_vec(alloc)
+}
+
 /// What the session of these words, over these files by name, replies to its input: up to 400,000 bytes.
 pub fn replies<P: Maker>(
     alloc: Global,
@@ -52,11 +74,20 @@ pub fn replies<P: Maker>(
 ) -> Result<Vec<u8>, AllocError> {
     let words = words_of(alloc, line)?;
     let mut shelf = shelf_of(alloc, files)?;
-    let mut input = MemSource::new(lines.to_vec(alloc)?, 4096, Vec::new(alloc));
-    let mut out = MemSink::new(alloc, 400_000, 4096, Vec::new(alloc)).map_err(|_| AllocError)?;
-    let blank = Blank::new(1);
-    let _status = status_of::<P, Brand>(
-        alloc, &words, &mut shelf, &mut input, &mut out, maker, blank,
-    )?;
-    out.received().to_vec(alloc)
+    received(alloc, &words, &mut shelf, lines, maker)
+}
+
+/// How often a session that replies as expected asks its measure for a cell and for a weight.
+pub fn counts(
+    rt: &impl Abort,
+    alloc: Global,
+    line: &str,
+    files: &[(&str, &[u8])],
+    lines: &[u8],
+    expected: &[u8],
+) -> Result<(u64, u64), AllocError> {
+    let calls = Calls::none();
+    let said = replies(alloc, line, files, lines, &Counting { calls: &calls })?;
+    assert!(rt; said.as_slice() == expected);
+    Ok((calls.cell.get(), calls.weight.get()))
 }
