@@ -13,30 +13,30 @@ use std::marker::Brand;
 use std::sync::ledger::{Blank, Ledger};
 use std::test::Fail;
 
-// What stands before and after the number of a line, and why the line is refused.
+// What stands before and after the number of a line, and the reply to it.
 const HOSTILE: [(&str, &str, &str); 22] = [
-    ("judge", " ann 401 d3 1", "BadLine"),
-    ("judge ann 401 d3 ", "x", "BadLine"),
-    ("judge ann 401 d3 1", "000", "BadLine"),
-    ("judge ann 401 d3 -1", "000", "BadLine"),
-    ("judge ann 401 d3 1 ", "", "BadLine"),
-    ("judge ann 401 d3\u{1}", " 1", "BadLine"),
-    ("judge ann 4", " d3 1", "UnknownTopic"),
-    ("judge ann 401 d3", " 1", "UnknownDocument"),
-    ("undo caller", "", "NothingToUndo"),
-    ("undo caller", " x", "BadLine"),
-    ("redo caller", "", "NothingToRedo"),
-    ("redo ann ", "", "BadLine"),
-    ("pair A X", "", "UnknownRun"),
-    ("pair X", " X", "UnknownRun"),
-    ("certify X", " A", "UnknownRun"),
-    ("pool 4", " 1", "UnknownTopic"),
-    ("pool 401 0", "", "BadLine"),
-    ("pool 401 ", "0001", "BadLine"),
-    ("table ", "", "BadLine"),
-    ("qrels", "", "BadLine"),
-    ("quit ", "", "BadLine"),
-    ("\u{7f}", "", "BadLine"),
+    ("judge", " ann 401 d3 1", "no BadLine\n"),
+    ("judge ann 401 d3 ", "x", "no BadLine\n"),
+    ("judge ann 401 d3 1", "000", "no BadLine\n"),
+    ("judge ann 401 d3 -1", "000", "no BadLine\n"),
+    ("judge ann 401 d3 1 ", "", "no BadLine\n"),
+    ("judge ann 401 d3\u{1}", " 1", "no BadLine\n"),
+    ("judge ann 4", " d3 1", "no UnknownTopic\n"),
+    ("judge ann 401 d3", " 1", "no UnknownDocument\n"),
+    ("undo caller", "", "no NothingToUndo\n"),
+    ("undo caller", " x", "no BadLine\n"),
+    ("redo caller", "", "no NothingToRedo\n"),
+    ("redo ann ", "", "no BadLine\n"),
+    ("pair A X", "", "no UnknownRun\n"),
+    ("pair X", " X", "no UnknownRun\n"),
+    ("certify X", " A", "no UnknownRun\n"),
+    ("pool 4", " 1", "no UnknownTopic\n"),
+    ("pool 401 0", "", "no BadLine\n"),
+    ("pool 401 ", "0001", "no BadLine\n"),
+    ("table ", "", "no BadLine\n"),
+    ("qrels", "", "no BadLine\n"),
+    ("quit ", "", "no BadLine\n"),
+    ("\u{7f}", "", "no BadLine\n"),
 ];
 
 // Makes no measure, since no line here needs a table.
@@ -50,19 +50,45 @@ impl Maker for NoMeasure {
     }
 }
 
-// Adds each hostile line with this number, and its reply.
-fn push_hostile(
-    alloc: Global,
-    number: u32,
-    lines: &mut Vec<u8>,
-    replies: &mut Vec<u8>,
-) -> Result<(), AllocError> {
-    for (before, after, reason) in HOSTILE {
-        lines.extend_from_slice(format!(in alloc; "{before}{number}{after}\n")?.as_bytes())?;
-        replies.extend_from_slice(format!(in alloc; "no {reason}\n")?.as_bytes())?;
+/// The lines of a session and the replies to them.
+#[derive(Drop)]
+struct Texts {
+    lines: Vec<u8>,
+    replies: Vec<u8>,
+}
+
+impl Texts {
+    fn push(&mut self, lines: &[u8], replies: &[u8]) -> Result<(), AllocError> {
+        self.lines.extend_from_slice(lines)?;
+        self.replies.extend_from_slice(replies)
     }
-    lines.extend_from_slice(format!(in alloc; "pair A A\n{number:x>4097}\n")?.as_bytes())?;
-    replies.extend_from_slice(b"no SameRun\nno LineTooLong\n")
+
+    // Adds each hostile line with this number.
+    fn push_hostile(&mut self, alloc: Global, number: u32) -> Result<(), AllocError> {
+        for (before, after, reply) in &HOSTILE {
+            let line = format!(in alloc; "{before}{number}{after}\n")?;
+            self.push(line.as_bytes(), reply.as_bytes())?;
+        }
+        let lines = format!(in alloc; "pair A A\n{number:x>4097}\n")?;
+        self.push(lines.as_bytes(), b"no SameRun\nno LineTooLong\n")
+    }
+}
+
+// One judgement, a thousand hostile lines, and then the judgement is undone.
+fn hostile_texts(alloc: Global) -> Result<Texts, AllocError> {
+    let mut texts = Texts {
+        lines: Vec::new(alloc),
+        replies: Vec::new(alloc),
+    };
+    texts.push(b"judge ann 401 d3 1\n", b"judged 401 d3 1\n")?;
+    for number in 0..42u32 {
+        texts.push_hostile(alloc, number)?;
+    }
+    texts.push(
+        b"qrels\nundo ann\nqrels\nundo ann\n",
+        b"401 0 d3 1\nundone 401 d3 -\nno NothingToUndo\n",
+    )?;
+    Ok(texts)
 }
 
 fn hold<L: Ledger>(
@@ -86,21 +112,19 @@ fn hold<L: Ledger>(
     hold_session(alloc, input, out, &given, &NoMeasure, &mut steps)
 }
 
+// Whether a session hears these lines to their end with these replies.
+fn is_answered(alloc: Global, desk: &Desk, texts: &Texts) -> Result<bool, Fail> {
+    let mut input = MemSource::new(texts.lines.to_vec(alloc)?, 100_000, Vec::new(alloc));
+    let mut out = MemSink::new(alloc, 40_000, 4096, Vec::new(alloc))?;
+    let ended = hold::<Brand>(alloc, &mut input, &mut out, desk, Blank::new(1));
+    Ok(ended == Ok(Ended::Done) && out.received() == texts.replies.as_slice())
+}
+
 #[test]
 fn a_thousand_hostile_lines_change_nothing(rt: HostRuntime) -> Result<(), Fail> {
     let alloc = rt.alloc();
+    let texts = hostile_texts(alloc)?;
     let desk = one_document(alloc)?;
-    let mut lines = b"judge ann 401 d3 1\n".to_vec(alloc)?;
-    let mut replies = b"judged 401 d3 1\n".to_vec(alloc)?;
-    for number in 0..42u32 {
-        push_hostile(alloc, number, &mut lines, &mut replies)?;
-    }
-    lines.extend_from_slice(b"qrels\nundo ann\nqrels\nundo ann\n")?;
-    replies.extend_from_slice(b"401 0 d3 1\nundone 401 d3 -\nno NothingToUndo\n")?;
-    let mut input = MemSource::new(lines, 100_000, Vec::new(alloc));
-    let mut out = MemSink::new(alloc, 40_000, 4096, Vec::new(alloc)).map_err(|_| AllocError)?;
-    let ended = hold::<Brand>(alloc, &mut input, &mut out, &desk, Blank::new(1));
-    assert_eq!(rt; ended, Ok(Ended::Done));
-    assert_eq!(rt; out.received(), replies.as_slice());
+    assert!(rt; is_answered(alloc, &desk, &texts)?);
     Ok(())
 }
