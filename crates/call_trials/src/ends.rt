@@ -73,10 +73,10 @@ fn expect(rt: &impl Abort, alloc: Global, row: &Row<'_>) -> Result<(), Fail>
     let a = run_of(alloc, 0, documents)?;
     let b = run_of(alloc, 1, documents)?;
     let ends = TopicEnds::new(alloc, &row.measure)?;
-    assert_eq!(rt; ends.least_low(&a, &b, row.marks), row.low);
-    assert_eq!(rt; ends.least_low(&b, &a, row.marks), row.swapped);
+    assert!(rt; ends.least_low(&a, &b, row.marks) == row.low);
+    assert!(rt; ends.least_low(&b, &a, row.marks) == row.swapped);
     let relevant = OneRelevant { documents, doc: 0 };
-    assert_eq!(rt; ends.upper_end(&a, &b, &relevant), row.upper);
+    assert!(rt; ends.upper_end(&a, &b, &relevant) == row.upper);
     Ok(())
 }
 

@@ -1,15 +1,7 @@
 // A line of each command, in other forms than the plain one.
 use desk_words::{Command, WordsFault, read_words};
-use std::alloc::Global;
+use std::alloc::{AllocError, Global};
 use std::test::Fail;
-
-fn command_of(alloc: Global, line: &str) -> Result<Result<Command, WordsFault>, Fail> {
-    let mut words = Vec::new(alloc);
-    for word in line.split(' ') {
-        words.push(String::from_str(alloc, word)?)?;
-    }
-    Ok(read_words(alloc, words.as_slice()))
-}
 
 fn word_of(command: &Result<Command, WordsFault>) -> &'static str {
     match command {
@@ -23,9 +15,18 @@ fn word_of(command: &Result<Command, WordsFault>) -> &'static str {
     }
 }
 
+// The command of a line by its word.
+fn word_read(alloc: Global, line: &str) -> Result<&'static str, AllocError> {
+    let mut words = Vec::new(alloc);
+    for word in line.split(' ') {
+        words.push(String::from_str(alloc, word)?)?;
+    }
+    Ok(word_of(&read_words(alloc, words.as_slice())))
+}
+
 #[test]
 fn each_command_is_read(rt: HostRuntime) -> Result<(), Fail> {
-    for (line, want) in [
+    for (line, want) in &[
         ("table a --level=2 --measure=Rprec b --qrels=-q c", "table"),
         ("certify --measure recip_rank --qrels q a -- --b", "certify"),
         ("session --qrels q --measure rbp_0.50 A=x=y", "session"),
@@ -33,8 +34,7 @@ fn each_command_is_read(rt: HostRuntime) -> Result<(), Fail> {
         ("demo 4294967295", "demo"),
         ("table --qrels -q --measure P_2 a", "usage"),
     ] {
-        let command = command_of(rt.alloc(), line)?;
-        assert!(rt; word_of(&command) == want, "{line}");
+        assert!(rt; word_read(rt.alloc(), line)? == *want, "{line}");
     }
     Ok(())
 }
