@@ -2,9 +2,9 @@
 ghost use Rattle.std.specs.Prelude.{◌<◌};
 
 use crate::files::FILES;
+use crate::lines::is_cut;
 use desk_in_memory::{Outside, SOUND, run_line};
 use std::alloc::{AllocError, Global};
-use std::process::Abort;
 use std::test::Fail;
 
 const SESSION: &str = "session --qrels q --measure P_2 a b";
@@ -33,32 +33,29 @@ const CONVERSATIONS: [(&str, &str); 5] = [
     ),
 ];
 
-// A session whose input gives at most so many bytes a call ends with status 0 and these replies.
-fn expect_replies(
-    rt: &impl Abort,
+// Whether a session whose input gives at most so many bytes a call ends with status 0 and these replies.
+fn has_replies(
     alloc: Global,
     line: &str,
     lines: &str,
     given: usize,
     replies: &str,
-) -> Result<(), AllocError>
+) -> Result<bool, AllocError>
     requires { 0 < given }
 {
     let outside = Outside { given, ..SOUND };
     let answer = run_line(alloc, line, &FILES, lines.as_bytes(), outside)?;
-    assert_eq!(rt; answer.status, 0, "{lines}");
-    assert_eq!(rt; answer.out.as_slice(), replies.as_bytes(), "{lines}");
-    assert!(rt; answer.err.is_empty());
-    Ok(())
+    Ok(answer.status == 0 && answer.out.as_slice() == replies.as_bytes() && answer.err.is_empty())
 }
 
 #[test]
 fn lines_of_a_session_have_their_replies(rt: HostRuntime) -> Result<(), Fail> {
     let alloc = rt.alloc();
-    for (lines, replies) in CONVERSATIONS {
-        expect_replies(&rt, alloc, SESSION, lines, 1, replies)?;
-        expect_replies(&rt, alloc, SESSION, lines, 19, replies)?;
-        expect_replies(&rt, alloc, SESSION, lines, 4096, replies)?;
+    for (lines, replies) in &CONVERSATIONS {
+        let replied = has_replies(alloc, SESSION, lines, 1, replies)?
+            && has_replies(alloc, SESSION, lines, 19, replies)?
+            && has_replies(alloc, SESSION, lines, 4096, replies)?;
+        assert!(rt; replied, "{lines}");
     }
     Ok(())
 }
@@ -73,9 +70,7 @@ fn a_read_that_fails_ends_the_session(rt: HostRuntime) -> Result<(), Fail> {
     };
     let lines = b"judge ann 401 d3 1\njudge bob 401 d3 0\n";
     let answer = run_line(rt.alloc(), SESSION, &FILES, lines, outside)?;
-    assert_eq!(rt; answer.status, 3);
-    assert_eq!(rt; answer.out.as_slice(), b"judged 401 d3 1\n".as_slice());
-    assert_eq!(rt; answer.err.as_slice(), b"fault: outside\n".as_slice());
+    assert!(rt; is_cut(&answer, b"judged 401 d3 1\n"));
     Ok(())
 }
 
@@ -84,6 +79,6 @@ fn the_next_document_is_proposed(rt: HostRuntime) -> Result<(), Fail> {
     let line = "session --qrels p --measure P_1 e f";
     let lines = "next\njudge ann 401 d2 1\nnext\n";
     let replies = "next 401 d2 1\njudged 401 d2 1\nnext none\n";
-    expect_replies(&rt, rt.alloc(), line, lines, 4096, replies)?;
+    assert!(rt; has_replies(rt.alloc(), line, lines, 4096, replies)?);
     Ok(())
 }

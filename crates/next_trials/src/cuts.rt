@@ -91,14 +91,23 @@ fn single_bytes(alloc: Global, file: &[u8]) -> Result<Vec<&[u8]>, AllocError> {
     Ok(pieces)
 }
 
+// Whether the files, each in these pieces, make the desk.
+fn make_the_desk(
+    alloc: Global,
+    qrels: &[&[u8]],
+    first: &[&[u8]],
+    second: &[&[u8]],
+) -> Result<bool, Fail> {
+    let desk = desk_of(alloc, qrels, first, second)?;
+    Ok(is_expected(&desk))
+}
+
 #[test]
 fn two_pieces_make_the_desk(rt: HostRuntime) -> Result<(), Fail> {
     for at in 0..=FIRST.len().max(SECOND.len()) {
-        let qrels = cut(QRELS, at);
-        let first = cut(FIRST, at);
-        let second = cut(SECOND, at);
-        let desk = desk_of(rt.alloc(), &qrels, &first, &second)?;
-        assert!(rt; is_expected(&desk), "cut at {at}");
+        let (qrels, first, second) = (cut(QRELS, at), cut(FIRST, at), cut(SECOND, at));
+        let made = make_the_desk(rt.alloc(), &qrels, &first, &second)?;
+        assert!(rt; made, "cut at {at}");
     }
     Ok(())
 }
@@ -109,7 +118,6 @@ fn single_bytes_make_the_desk(rt: HostRuntime) -> Result<(), Fail> {
     let qrels = single_bytes(alloc, QRELS)?;
     let first = single_bytes(alloc, FIRST)?;
     let second = single_bytes(alloc, SECOND)?;
-    let desk = desk_of(alloc, &qrels, &first, &second)?;
-    assert!(rt; is_expected(&desk));
+    assert!(rt; make_the_desk(alloc, &qrels, &first, &second)?);
     Ok(())
 }

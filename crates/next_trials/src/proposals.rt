@@ -39,16 +39,16 @@ fn ties_go_to_the_smaller_names(rt: HostRuntime) -> Result<(), Fail> {
         doc: 1,
         weight: 1,
     };
-    assert_eq!(rt; proposal, Some(first));
+    assert!(rt; proposal == Some(first));
     Ok(())
 }
 
 #[test]
 fn settled_pairs_propose_nothing(rt: HostRuntime) -> Result<(), Fail> {
     let measure = MeasureName::Precision(1);
-    assert_eq!(rt; next_of(rt.alloc(), measure, TIED, Verdict::Above)?, None);
-    assert_eq!(rt; next_of(rt.alloc(), measure, TIED, Verdict::Below)?, None);
-    assert_eq!(rt; next_of(rt.alloc(), measure, TIED, Verdict::Equal)?, None);
+    for verdict in &[Verdict::Above, Verdict::Below, Verdict::Equal] {
+        assert!(rt; next_of(rt.alloc(), measure, TIED, *verdict)? == None);
+    }
     Ok(())
 }
 
@@ -62,7 +62,7 @@ fn an_open_pair_may_have_no_proposal(rt: HostRuntime) -> Result<(), Fail> {
         b"401 Q0 u 1 2 B\n401 Q0 d 2 1 B\n",
     ];
     let biased = MeasureName::Biased { top: 5, bottom: 10 };
-    assert_eq!(rt; next_of(rt.alloc(), biased, files, Verdict::Open)?, None);
+    assert!(rt; next_of(rt.alloc(), biased, files, Verdict::Open)? == None);
     Ok(())
 }
 
@@ -77,7 +77,7 @@ fn under_r_precision_judgements_change_weights(rt: HostRuntime) -> Result<(), Fa
         [b"401 0 x 1\n", first, second],
         Verdict::Open,
     )?;
-    assert_eq!(rt; before, None);
+    assert!(rt; before == None);
     let after = next_of(
         rt.alloc(),
         MeasureName::RPrecision,
@@ -89,6 +89,6 @@ fn under_r_precision_judgements_change_weights(rt: HostRuntime) -> Result<(), Fa
         doc: 1,
         weight: 1,
     };
-    assert_eq!(rt; after, Some(d2));
+    assert!(rt; after == Some(d2));
     Ok(())
 }
