@@ -4,7 +4,7 @@ use Rattle.desk_model.specs.MeasureText.{IsMeasure}
 use Rattle.desk_model.specs.declared.types.Mark.{Mark}
 use Rattle.desk_model.specs.declared.types.MeasureName.{MeasureName}
 use Rattle.desk_model.specs.declared.types.MeasureName.TheVariants as name
-use Rattle.fractions.specs.declared.span.Span.{Span}
+use Rattle.topic_counts.specs.declared.span.Span.{Span}
 use Rattle.measure_core.specs.declared.cell.Cell.{Cell}
 use Rattle.measure_core.specs.Laws.{MeetsLaws}
 use Rattle.measure_core.specs.Numbers.{exact_cell, exact_bounds}

@@ -4,7 +4,7 @@ use measure_core::Maker;
 use std::alloc::Global;
 
 /// The maker of every measure.
-#[derive(Debug, Drop)]
+#[derive(Drop)]
 pub struct Common;
 
 impl Maker for Common {

@@ -1,9 +1,9 @@
 use crate::any::AnyMeasure;
 use desk_model::{Mark, MeasureName, Memory, Ranking};
-use fractions::Span;
 use measure_core::{Cell, CellRoom, KeptCell, Measure, Shift, Steps, TopicRankings};
 use std::alloc::Global;
 use std::sync::ledger::Ledger;
+use topic_counts::Span;
 
 impl Measure for AnyMeasure {
     ghost use Rattle.any_measure.specs.Any as any;

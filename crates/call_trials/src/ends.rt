@@ -4,10 +4,10 @@ ghost use Rattle.desk_model.specs.MeasureText.{IsMeasure};
 ghost use Rattle.desk_model.specs.Ranking.{IsRanking};
 
 use desk_model::{Mark, MeasureName, Ranking};
+use order_verifier::{Relevance, TopicEnds};
 use std::alloc::Global;
 use std::process::Abort;
 use std::test::Fail;
-use topic_ends::{Relevance, TopicEnds};
 
 const R: Mark = Mark::Relevant;
 

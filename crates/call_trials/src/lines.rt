@@ -1,9 +1,9 @@
 // What is heard in lines, by hand.
-use session_lines::{Heard, Request, hear};
+use judge_session::{Heard, Request, hear};
 use std::process::Abort;
 
 fn expect_heard(rt: &impl Abort, line: &[u8], want: Heard<'_>) {
-    assert_eq!(rt; hear(line), want, "in {line:?}");
+    assert!(rt; hear(line) == want, "in {line:?}");
 }
 
 #[test]

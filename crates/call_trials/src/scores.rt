@@ -1,5 +1,5 @@
 // The order of scores and the faults of other texts, by hand.
-use decimal_score::{ScoreFault, read_score};
+use desk_text::{ScoreFault, read_score};
 use std::cmp::Ordering;
 
 // Whether two texts are of scores in this order.

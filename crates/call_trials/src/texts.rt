@@ -1,8 +1,8 @@
 // Texts of numbers, measures, pairs and pools, by hand.
-use desk_model::{MeasureName, Totals};
+use desk_model::{
+    MeasureName, PoolCount, Totals, push_grade, push_measure, push_signed, push_whole,
+};
 use desk_report::{close_line, pair_line, pool_line};
-use judgement_pool::PoolCount;
-use number_texts::{push_grade, push_measure, push_signed, push_whole};
 use std::test::Fail;
 
 fn is_text(text: Vec<u8>, shown: &[u8]) -> bool {

@@ -8,7 +8,7 @@ use Rattle.file_rows.specs.Reading.{IsUnlessMemory}
 use Rattle.file_rows.specs.declared.fault.FileFault.{FileFault}
 use Rattle.file_rows.specs.declared.fault.FileFault.TheVariants.{Memory}
 use Rattle.topics_pool.specs.Rows.{first_repeated}
-use Rattle.demo_texts.specs.Texts.{tag_text}
+use Rattle.demo_desk.specs.Texts.{tag_text}
 
 -- where there is a value, memory alone may run out
 pub only_memory : {A : Type 0} (fault : FileFault) (wanted : Result A FileFault) → IsUnlessMemory (Err fault) wanted → IsOk wanted → fault ≡ Memory

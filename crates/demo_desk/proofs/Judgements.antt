@@ -27,8 +27,8 @@ use Rattle.qrels_round_trip.proofs.Reading.{IsOutcome, reads}
 use Rattle.qrels_round_trip.proofs.Text.{lines-of_ended, pulled}
 use Rattle.qrels_round_trip.proofs.OneTopic.{AreFresh, or_second}
 use Rattle.qrels_round_trip.proofs.AllTopics.{IsOf, are_new}
-use Rattle.demo_texts.specs.Draws.{state_after, drawn}
-use Rattle.demo_texts.specs.Texts.{topic_text, document_text, is_listed, grade_by, judgement_lines, topic_judgements, judgements_on}
+use Rattle.demo_desk.specs.Draws.{state_after, drawn}
+use Rattle.demo_desk.specs.Texts.{topic_text, document_text, is_listed, grade_by, judgement_lines, topic_judgements, judgements_on}
 use Rattle.demo_desk.specs.Demo.{HaveTopics}
 use Rattle.demo_desk.proofs.Names.{document_name, document_length, documents_apart, topic_name, topics_apart}
 use Rattle.demo_desk.proofs.Nested.{of_topic, of_topics, of_topics-suc, all_of_topics, most_of_topics, AreNew, HasNames, new_of_topics}

@@ -1,4 +1,5 @@
-pub mod Words
+pub mod TextLines
+pub mod NameWords
 pub mod Names
 pub mod Nested
 pub mod Judgements

@@ -11,8 +11,8 @@ use Rattle.desk_text.proofs.Digits.{own}
 use Rattle.desk_model.specs.Name.{is_name, is_field_byte}
 use Rattle.desk_model.proofs.Names.{same_name}
 use Rattle.qrels_round_trip.proofs.Words.{digits_bytes}
-use Rattle.demo_desk.proofs.Words.{decimal_word}
-use Rattle.demo_texts.specs.Texts.{topic_text, document_text, tag_text}
+use Rattle.demo_desk.proofs.NameWords.{decimal_word}
+use Rattle.demo_desk.specs.Texts.{topic_text, document_text, tag_text}
 
 -- texts that are not one are not equal
 pub apart : (x y : List ℕ) → (x ≡ y → ⊥) → bytes_eq x y ≡ false

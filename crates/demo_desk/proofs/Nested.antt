@@ -7,7 +7,7 @@ use Rattle.std.proofs.lemmas.Grind.{flat_map-append}
 use Rattle.std.proofs.lemmas.List.Elements.{filter-append}
 use Rattle.small_lemmas.proofs.Lists.{all-append}
 use Rattle.qrels_round_trip.proofs.OneTopic.{filter_all}
-use Rattle.demo_texts.proofs.Lines.{range_more}
+use Rattle.demo_desk.proofs.TextLines.{range_more}
 
 -- ---- what is made for each topic and number
 module _ {R : Type 0} (f : ℕ → ℕ → List R) where

@@ -9,15 +9,15 @@ use Rattle.std.proofs.lemmas.List.Folds.{list_any-append}
 use Rattle.desk_text.specs.Lines.{is_separator, is_bad, is_blank, fields_of}
 use Rattle.desk_text.specs.declared.line.TheConstants.{LONGEST_LINE}
 use Rattle.desk_model.specs.Name.{is_name, is_field_byte}
-use Rattle.decimal_score.specs.Reading.{score_of}
+use Rattle.desk_text.specs.Reading.{score_of}
 use Rattle.file_rows.specs.Reading.{field, is_long, and_then, checked}
 use Rattle.file_rows.specs.Rows.{Row}
 use Rattle.run_reader.specs.Rows.{line_fault, row_of, tag_of, form_faults, formed}
 use Rattle.qrels_round_trip.proofs.Line.{passes}
 use Rattle.desk_model.proofs.Words.{name_most}
 use Rattle.qrels_round_trip.proofs.Words.{word_good}
-use Rattle.demo_desk.proofs.Words.{IsFieldWord, word_of_name, decimal_word, first_field, last_field, field_no_separator}
-use Rattle.demo_texts.specs.Texts.{topic_text, document_text, score_text, tag_text, place_line}
+use Rattle.demo_desk.proofs.NameWords.{IsFieldWord, word_of_name, decimal_word, first_field, last_field, field_no_separator}
+use Rattle.demo_desk.specs.Texts.{topic_text, document_text, score_text, tag_text, place_line}
 use Rattle.demo_desk.proofs.Names.{document_name, document_length, topic_name, tag_name}
 use Rattle.demo_desk.proofs.Scores.{score_word, score_short, score_read}
 

@@ -21,8 +21,8 @@ use Rattle.run_reader.specs.Run.{Run, run_of, name_of, named, used_with}
 use Rattle.file_rows.proofs.Grouping.{row_count-grouped}
 use Rattle.qrels_round_trip.proofs.Line.{passes}
 use Rattle.qrels_round_trip.proofs.Text.{lines-ended}
-use Rattle.demo_texts.specs.Draws.{state_after, drawn}
-use Rattle.demo_texts.specs.Texts.{topic_text, document_text, tag_text, place_line, document_at, topic_places, places_on}
+use Rattle.demo_desk.specs.Draws.{state_after, drawn}
+use Rattle.demo_desk.specs.Texts.{topic_text, document_text, tag_text, place_line, document_at, topic_places, places_on}
 use Rattle.demo_desk.specs.Demo.{HaveTopics}
 use Rattle.demo_desk.proofs.Names.{document_length, documents_apart, topics_apart}
 use Rattle.demo_desk.proofs.Nested.{of_topic, of_topics, all_of_topics, count_of_topics, zip_of_topics, IsNew, AreNew, new_of_topics}

@@ -12,9 +12,9 @@ use Rattle.file_rows.specs.declared.fault.FileFault.{FileFault}
 use Rattle.run_reader.specs.Run.{Run, run_of}
 use Rattle.run_reader.specs.declared.used.Used.{Used}
 use Rattle.topics_pool.specs.Rows.{total_rows, run_names}
-use Rattle.demo_texts.specs.Draws.{state_after}
-use Rattle.demo_texts.specs.Texts.{tag_text, qrels_after, run_after, demo_run}
-use Rattle.demo_texts.proofs.Lines.{state_after-add}
+use Rattle.demo_desk.specs.Draws.{state_after}
+use Rattle.demo_desk.specs.Texts.{tag_text, qrels_after, run_after, demo_run}
+use Rattle.demo_desk.proofs.TextLines.{state_after-add}
 use Rattle.demo_desk.specs.Demo.{HaveTopics, SayRuns, runs_after, demo_runs, used_before_runs, TextsAreRead}
 use Rattle.demo_desk.proofs.Faults.{is_ok-from}
 use Rattle.demo_desk.proofs.Judgements.{judgements_are_read}

@@ -12,16 +12,16 @@ use Rattle.std.proofs.lemmas.Int.Digits.{digits_value-lt}
 use Rattle.std.proofs.lemmas.Fmt.{digits_decimal, length-decimal-le}
 use Rattle.desk_text.proofs.Digits.{own}
 use Rattle.desk_model.specs.Name.{is_field_byte}
-use Rattle.decimal_score.specs.declared.score.ScoreFault.{ScoreFault}
-use Rattle.decimal_score.specs.declared.score.ScoreFault.TheVariants.{BadScore, ScoreTooLong, ScoreExponent}
-use Rattle.decimal_score.specs.Text.{Parts, HasParts}
-use Rattle.decimal_score.specs.Value.{number_of, ReadsAs, StandsFor}
-use Rattle.decimal_score.specs.Reading.{score_of}
-use Rattle.decimal_score.proofs.Spellings.{one_spelling}
-use Rattle.decimal_score.proofs.Answer.{reads_as-score_of}
+use Rattle.desk_text.specs.declared.score.ScoreFault.{ScoreFault}
+use Rattle.desk_text.specs.declared.score.ScoreFault.TheVariants.{BadScore, ScoreTooLong, ScoreExponent}
+use Rattle.desk_text.specs.Text.{Parts, HasParts}
+use Rattle.desk_text.specs.Value.{number_of, ReadsAs, StandsFor}
+use Rattle.desk_text.specs.Reading.{score_of}
+use Rattle.desk_text.proofs.Spellings.{one_spelling}
+use Rattle.desk_text.proofs.Answer.{reads_as-score_of}
 use Rattle.qrels_round_trip.proofs.Words.{digits_bytes}
-use Rattle.demo_desk.proofs.Words.{IsFieldWord}
-use Rattle.demo_texts.specs.Texts.{score_text}
+use Rattle.demo_desk.proofs.NameWords.{IsFieldWord}
+use Rattle.demo_desk.specs.Texts.{score_text}
 use Rattle.demo_desk.proofs.Names.{digit_is, four}
 
 abbrev thousandths : ℕ → List ℕ

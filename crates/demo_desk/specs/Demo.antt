@@ -7,9 +7,9 @@ use Rattle.qrels_reader.specs.Grouped.{qrels_of}
 use Rattle.run_reader.specs.Run.{Run, run_of}
 use Rattle.run_reader.specs.declared.used.Used.{Used}
 use Rattle.topics_pool.specs.Rows.{IsDeskOf, total_rows}
-use Rattle.demo_texts.specs.Draws.{state_after}
-use Rattle.demo_texts.specs.Texts.{topic_text, run_after, demo_qrels, demo_run}
-use Rattle.demo_texts.specs.declared.sizes.TheConstants.{TOPICS, PLACES, RUNS}
+use Rattle.demo_desk.specs.Draws.{state_after}
+use Rattle.demo_desk.specs.Texts.{topic_text, run_after, demo_qrels, demo_run}
+use Rattle.demo_desk.specs.declared.sizes.TheConstants.{TOPICS, PLACES, RUNS}
 
 -- the texts of the eight runs
 abbrev pub demo_runs : ℕ → List (List ℕ)

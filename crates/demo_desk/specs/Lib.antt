@@ -1,1 +1,4 @@
+pub mod Draws
+pub mod Texts
+pub mod Summary
 pub mod Demo

@@ -5,13 +5,13 @@ ghost use Rattle.qrels_reader.specs.Grouped.{qrels_of};
 ghost use Rattle.run_reader.specs.Run.{run_of, IsWithinLimits};
 ghost use Rattle.run_reader.specs.declared.limits.TheConstants.{MOST_RUN_ROWS};
 ghost use Rattle.topics_pool.specs.Rows.{IsDeskOf, total_rows, run_names};
-ghost use Rattle.demo_texts.specs.Draws.{state_after};
-ghost use Rattle.demo_texts.specs.Texts.{tag_text, qrels_after, run_after};
-ghost use Rattle.demo_texts.specs.declared.sizes.TheConstants.{TOPICS, DOCUMENTS, PLACES, RUNS};
+ghost use Rattle.demo_desk.specs.Draws.{state_after};
+ghost use Rattle.demo_desk.specs.Texts.{tag_text, qrels_after, run_after};
+ghost use Rattle.demo_desk.specs.declared.sizes.TheConstants.{TOPICS, DOCUMENTS, PLACES, RUNS};
 ghost use Rattle.demo_desk.specs.Demo.{IsDemoDesk, HaveTopics, SayRuns, runs_after, used_before_runs};
 
 use crate::lines::{read_judgement_lines, read_run_lines};
-use demo_texts::{Generator, RUNS, qrels_text, run_text};
+use crate::{Generator, RUNS, qrels_text, run_text};
 use desk_model::{Desk, Memory};
 use qrels_reader::{FileFault, Qrels};
 use run_reader::{RunRows, Used};

@@ -16,3 +16,4 @@ pub mod MarkTests
 pub mod Agreement
 pub mod Sums
 pub mod Words
+pub mod Pools

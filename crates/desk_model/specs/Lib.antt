@@ -17,3 +17,4 @@ pub mod MeasureText
 pub mod Pairs
 pub mod Floors
 pub mod Named
+pub mod Pool

@@ -5,7 +5,7 @@ use crate::name::Name;
 use std::marker::Model;
 
 /// A topic: the names of its documents, its universe, and what the judgements file says of each.
-#[derive(Debug, Drop)]
+#[derive(Drop)]
 pub struct TopicBook {
     name: Name,
     docs: Vec<Name>,

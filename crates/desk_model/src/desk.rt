@@ -11,7 +11,7 @@ use std::marker::Model;
 /// The topics with their universes, and what each run retrieved on each topic.
 ///
 /// Topics are numbered from 0 in ascending order of their names, runs from 0 in the order in which they were given.
-#[derive(Debug, Drop)]
+#[derive(Drop)]
 pub struct Desk {
     topics: Vec<TopicBook>,
     runs: Vec<Name>,

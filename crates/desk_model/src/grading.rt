@@ -15,25 +15,3 @@ pub fn mark(grade: Option<i32>, level: u32) -> Mark
         Some(_) => Mark::Other,
     }
 }
-
-#[cfg(test)]
-mod tests {
-    use super::*;
-
-    #[test]
-    fn marks_at_the_edges_of_the_level(rt: HostRuntime) {
-        for (grade, level, want) in [
-            (None, 1, Mark::Unjudged),
-            (Some(-1000), 1, Mark::Unjudged),
-            (Some(-1), 1, Mark::Unjudged),
-            (Some(0), 1, Mark::Other),
-            (Some(1), 1, Mark::Relevant),
-            (Some(1), 2, Mark::Other),
-            (Some(2), 2, Mark::Relevant),
-            (Some(999), 1000, Mark::Other),
-            (Some(1000), 1000, Mark::Relevant),
-        ] {
-            assert_eq!(rt; mark(grade, level), want, "{grade:?} at level {level}");
-        }
-    }
-}

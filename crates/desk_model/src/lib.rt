@@ -1,4 +1,5 @@
-//! The plain types that all crates share, and the definitions that their contracts cite.
+//! The plain types that all crates share, the definitions that their contracts cite, the pool of a depth, and
+//! numbers and names of measures as text.
 #![tactic(auto)]
 
 pub mod book;
@@ -9,8 +10,10 @@ pub mod marks;
 pub mod measure_text;
 pub mod memory;
 pub mod name;
+pub mod number_text;
 pub mod pairs;
 pub mod placed;
+mod pool;
 pub mod ranking;
 pub mod types;
 
@@ -21,7 +24,11 @@ pub use marks::Marks;
 pub use measure_text::{UnknownMeasure, measure_of_text_is_unique, read_measure};
 pub use memory::Memory;
 pub use name::{Name, NameFault};
+pub use number_text::{
+    push_digits_after_first, push_grade, push_measure, push_number, push_signed, push_whole,
+};
 pub use pairs::PairPlaces;
 pub use placed::Placed;
+pub use pool::{PoolCount, pool_count};
 pub use ranking::Ranking;
 pub use types::{Mark, MeasureName, Totals, Verdict, verdict_of};

@@ -10,7 +10,7 @@ use std::alloc::{AllocError, Global};
 use std::marker::Model;
 
 /// What the judgements say of each document of each topic of a desk.
-#[derive(Debug, Drop)]
+#[derive(Drop)]
 pub struct Marks {
     topics: Vec<Vec<Mark>>,
 }

@@ -16,7 +16,7 @@ pub enum NameFault {
 }
 
 /// The name of a topic, a document or a run: 1 to 255 bytes, none of them a separator or a bad byte.
-#[derive(Debug, Drop)]
+#[derive(Drop)]
 pub struct Name {
     bytes: Vec<u8>,
 }
@@ -85,19 +85,5 @@ impl Name {
         ensures { result ≡ name_cmp self.now other.now }
     {
         self.bytes.as_slice().cmp(other)
-    }
-}
-
-#[cfg(test)]
-mod tests {
-    use super::*;
-    use std::test::Fail;
-
-    #[test]
-    fn a_name_keeps_its_bytes(rt: HostRuntime) -> Result<(), Fail> {
-        let name = Name::new(rt.alloc(), b"FBIS3-1")?;
-        assert_eq!(rt; name.as_bytes(), b"FBIS3-1".as_slice());
-        assert!(rt; Name::new(rt.alloc(), b"two words").is_err());
-        Ok(())
     }
 }

@@ -1,5 +1,5 @@
 /// The places of the two runs of a pair, from 0, the first before the second.
-#[derive(Clone, Copy, PartialEq, Eq, Debug)]
+#[derive(Clone, Copy, PartialEq, Eq)]
 pub struct PairPlaces {
     pub first: u32,
     pub second: u32,

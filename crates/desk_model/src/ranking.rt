@@ -11,7 +11,7 @@ use std::alloc::{AllocError, Global};
 use std::marker::Model;
 
 /// The documents of a run on a topic by their numbers, the best first.
-#[derive(Debug, Drop)]
+#[derive(Drop)]
 pub struct Ranking {
     docs: Vec<u32>,
     // The same documents with their ranks, ascending by document.

@@ -2,7 +2,7 @@ ghost use Rattle.std.specs.Prelude.{◌≡◌};
 ghost use Rattle.desk_model.specs.Verdict.{verdict};
 
 /// What the judgements say of one document.
-#[derive(Clone, Copy, PartialEq, Eq, Debug)]
+#[derive(Clone, Copy, PartialEq, Eq)]
 pub enum Mark {
     /// It has no grade, or one below 0.
     Unjudged,
@@ -13,7 +13,7 @@ pub enum Mark {
 }
 
 /// A measure by its name and its numbers.
-#[derive(Clone, Copy, PartialEq, Eq, Debug)]
+#[derive(Clone, Copy, PartialEq, Eq)]
 pub enum MeasureName {
     /// `P_k` of trec_eval: the relevant documents among the first k, out of k.
     Precision(u32),
@@ -29,7 +29,7 @@ pub enum MeasureName {
 
 /// Four sums over all topics, in units of the measure: the lower and the upper ends of the least
 /// difference of a pair, and those of its greatest difference.
-#[derive(Clone, Copy, PartialEq, Eq, Debug)]
+#[derive(Clone, Copy, PartialEq, Eq)]
 pub struct Totals {
     pub least_lo: i128,
     pub least_hi: i128,
@@ -38,7 +38,7 @@ pub struct Totals {
 }
 
 /// What the four sums of a pair say of the first run and the second.
-#[derive(Clone, Copy, PartialEq, Eq, Debug)]
+#[derive(Clone, Copy, PartialEq, Eq)]
 pub enum Verdict {
     /// The first run's mean is greater in every completion.
     Above,
@@ -70,42 +70,5 @@ pub fn verdict_of(totals: &Totals) -> Verdict
         Verdict::Open
     } else {
         Verdict::Close
-    }
-}
-
-#[cfg(test)]
-mod tests {
-    use super::*;
-
-    fn totals(least_lo: i128, least_hi: i128, most_lo: i128, most_hi: i128) -> Totals {
-        Totals {
-            least_lo,
-            least_hi,
-            most_lo,
-            most_hi,
-        }
-    }
-
-    #[test]
-    fn verdict_and_its_mirror(rt: HostRuntime) {
-        let half: i128 = 500_000_000_000_000_000;
-        for (sums, want) in [
-            (totals(1, 1, 1, 1), Verdict::Above),
-            (totals(-1, -1, -1, -1), Verdict::Below),
-            (totals(1, 2, 7, 9), Verdict::Above),
-            (totals(-9, -7, -2, -1), Verdict::Below),
-            (totals(0, 0, 0, 0), Verdict::Equal),
-            (totals(-half, -half, 0, 0), Verdict::Open),
-            (totals(0, 0, half, half), Verdict::Open),
-            (totals(-half, 1 - half, half - 1, half), Verdict::Open),
-            (totals(-1, 0, 1, 2), Verdict::Open),
-            (totals(-2, -1, 0, 1), Verdict::Open),
-            (totals(0, 1, 0, 1), Verdict::Close),
-            (totals(-1, 0, -1, 0), Verdict::Close),
-            (totals(-1, 0, 0, 1), Verdict::Close),
-            (totals(-1, 1, -1, 1), Verdict::Close),
-        ] {
-            assert_eq!(rt; verdict_of(&sums), want, "of {sums:?}");
-        }
     }
 }

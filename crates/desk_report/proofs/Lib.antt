@@ -1,3 +1,13 @@
 pub mod Numbers
 pub mod Joins
 pub mod Judgements
+pub mod Spelling
+pub mod Texts
+pub mod Rounding
+pub mod Pairing
+pub mod Lines
+pub mod Others
+pub mod Proposed
+pub mod QrelsTexts
+pub mod Truths
+pub mod Reporting

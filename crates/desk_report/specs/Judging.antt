@@ -5,7 +5,7 @@ use Rattle.std.specs.List.{zip}
 use Rattle.desk_model.specs.Book.{Book}
 use Rattle.desk_model.specs.Desk.{Desk}
 use Rattle.desk_model.specs.Named.{book_at, name_at}
-use Rattle.judgement_pool.specs.declared.pool.PoolCount.{PoolCount}
+use Rattle.desk_model.specs.declared.pool.PoolCount.{PoolCount}
 use Rattle.next_document.specs.declared.proposal.Proposal.{Proposal}
 use Rattle.desk_report.specs.Table.{ended}
 

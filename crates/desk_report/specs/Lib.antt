@@ -2,3 +2,5 @@ pub mod Means
 pub mod Table
 pub mod Close
 pub mod Judging
+pub mod Claims
+pub mod Reports

@@ -1,6 +1,6 @@
 -- How means are printed: outward, with six digits after the point.
 use Rattle.std.specs.Prelude.{ℕ, suc, ◌+◌, ◌/◌, ◌%◌, List, ◌∷◌, ◌++◌, drop, decimal, ℤ, pos, negsuc, ◌*ℤ◌}
-use Rattle.fractions.specs.Numbers.{floor_of, ceiling_of}
+use Rattle.topic_counts.specs.Numbers.{floor_of, ceiling_of}
 
 -- the six digits of a number of millionths below one
 abbrev pub six_digits : ℕ → List ℕ

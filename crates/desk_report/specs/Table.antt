@@ -9,8 +9,8 @@ use Rattle.desk_model.specs.declared.types.MeasureName.{MeasureName}
 use Rattle.desk_model.specs.declared.types.Totals.{Totals}
 use Rattle.desk_model.specs.declared.types.Verdict.{Verdict}
 use Rattle.desk_model.specs.declared.types.Verdict.TheVariants.{Above, Below, Equal, Open, Close}
-use Rattle.fractions.specs.Ends.{IsNear}
-use Rattle.fractions.specs.declared.span.Span.{Span}
+use Rattle.topic_counts.specs.Ends.{IsNear}
+use Rattle.topic_counts.specs.declared.span.Span.{Span}
 use Rattle.desk_report.specs.Means.{ends_text}
 
 -- how a verdict is printed

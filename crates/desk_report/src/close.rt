@@ -3,8 +3,7 @@ ghost use Rattle.std.specs.Prelude.{◌≡◌, ◌++◌, ◌∷◌, codes, IfOk,
 ghost use Rattle.desk_report.specs.Table.{ended};
 ghost use Rattle.desk_report.specs.Close.{sum_text, sums_text, close_line};
 
-use desk_model::{Memory, Totals};
-use number_texts::push_signed;
+use desk_model::{Memory, Totals, push_signed};
 use std::alloc::{AllocError, Global};
 
 // A sum, after a space.

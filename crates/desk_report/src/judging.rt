@@ -4,11 +4,9 @@ ghost use Rattle.desk_model.specs.Named.{book_at};
 ghost use Rattle.desk_report.specs.Table.{ended};
 ghost use Rattle.desk_report.specs.Judging.{grade_text, changed_line, pool_line, next_line};
 
-use desk_model::{Desk, Memory};
+use desk_model::{Desk, Memory, PoolCount, push_grade, push_number, push_whole};
 use judge_session::Changed;
-use judgement_pool::PoolCount;
 use next_document::Proposal;
-use number_texts::{push_grade, push_number, push_whole};
 use std::alloc::{AllocError, Global};
 
 // A grade in force, or `-`.

@@ -2,13 +2,13 @@
 ghost use Rattle.desk_model.specs.Limits.{TOPIC_LIMIT};
 ghost use Rattle.std.specs.Prelude.{◌≡◌, ◌+◌, ◌*◌, ◌<◌, ◌≤◌, ◌^◌, ◌++◌, decimal, pos, neg_ℤ, ◌≤ℤ◌, ◌*ℤ◌, OnOk};
 ghost use Rattle.std.specs.Prelude.{unsigned_abs};
-ghost use Rattle.fractions.specs.Ends.{IsShort};
-ghost use Rattle.fractions.specs.Numbers.{floor_of, ceiling_of};
+ghost use Rattle.topic_counts.specs.Ends.{IsShort};
+ghost use Rattle.topic_counts.specs.Numbers.{floor_of, ceiling_of};
 ghost use Rattle.desk_report.specs.Means.{six_digits, millionths, decimal_text, ends_text};
 
-use fractions::Span;
-use number_texts::{push_digits_after_first, push_whole};
+use desk_model::{push_digits_after_first, push_whole};
 use std::alloc::AllocError;
+use topic_counts::Span;
 
 const MILLION: i128 = 1_000_000;
 

@@ -4,8 +4,7 @@ ghost use Rattle.desk_model.specs.Named.{book_at};
 ghost use Rattle.desk_report.specs.Table.{ended};
 ghost use Rattle.desk_report.specs.Judging.{qrels_line, qrels_lines_of, topic_qrels_text};
 
-use desk_model::{Desk, Memory, TopicBook};
-use number_texts::push_grade;
+use desk_model::{Desk, Memory, TopicBook, push_grade};
 use std::alloc::{AllocError, Global};
 
 const UNJUDGED: i32 = -1;

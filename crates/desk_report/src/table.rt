@@ -4,14 +4,15 @@ ghost use Rattle.std.specs.Prelude.{unsigned_abs};
 ghost use Rattle.desk_model.specs.Limits.{TOPIC_LIMIT};
 ghost use Rattle.desk_model.specs.MeasureText.{measure_text};
 ghost use Rattle.desk_model.specs.Pairs.{pairs_of};
-ghost use Rattle.fractions.specs.Ends.{IsShort};
+ghost use Rattle.topic_counts.specs.Ends.{IsShort};
 ghost use Rattle.desk_report.specs.Table.{AreNearTotals, ended, word_of, head_lines, run_line, run_lines, pair_line, pair_lines, table_text};
 
 use crate::means::{parts, push_ends};
-use desk_model::{Desk, MeasureName, Memory, PairPlaces, Totals, Verdict, verdict_of};
-use fractions::Span;
-use number_texts::{push_measure, push_number};
+use desk_model::{
+    Desk, MeasureName, Memory, PairPlaces, Totals, Verdict, push_measure, push_number, verdict_of,
+};
 use std::alloc::{AllocError, Global};
+use topic_counts::Span;
 
 fn push_line_feed(out: &mut Vec<u8>) -> Result<(), AllocError>
     ensures { OnOk result (out.new.items ≡ out.old.items ++ 10 ∷ []) }

@@ -5,3 +5,9 @@ pub mod Marking
 pub mod DigitLists
 pub mod WholeLines
 pub mod FieldBytes
+pub mod Spellings
+pub mod KeyOrder
+pub mod ScoreDigits
+pub mod Sizes
+pub mod Readings
+pub mod Answer

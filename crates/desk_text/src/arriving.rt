@@ -8,11 +8,11 @@ use std::alloc::Global;
 use std::marker::Model;
 
 /// Memory ran out.
-#[derive(Clone, Copy, Debug, PartialEq, Eq)]
+#[derive(Clone, Copy, PartialEq, Eq, Debug)]
 pub struct Memory;
 
 /// What a line took of a piece.
-#[derive(Clone, Copy, Debug, PartialEq, Eq)]
+#[derive(Clone, Copy, PartialEq, Eq)]
 pub struct Pushed {
     /// How many bytes of the piece were taken, the line feed among them.
     pub used: usize,
@@ -23,7 +23,7 @@ pub struct Pushed {
 /// The lines of a text whose bytes arrive in pieces, one line at a time. It keeps the bytes of a line without its line
 /// feed, and none once they are more than 4,096. A user reads a line once it has ended, or at the end of the text, and
 /// then clears it.
-#[derive(Debug, Drop)]
+#[derive(Drop)]
 pub struct Lines {
     bytes: Vec<u8>,
     long: bool,

@@ -1,12 +1,17 @@
-//! Lines of a text, fields of a line, and numbers in digits. Only `Lines::new` takes memory.
+//! Lines of a text, fields of a line, numbers in digits, and exact decimal scores: their texts, their order and
+//! their faults. Only `Lines::new` takes memory.
 #![tactic(auto)]
 
 mod arriving;
 mod field;
+mod key;
 mod laws;
 mod line;
 mod number;
 mod places;
+mod score;
+mod significand;
+mod spelling;
 mod stops;
 
 pub use arriving::{Lines, Memory, Pushed};
@@ -18,6 +23,4 @@ pub use laws::{
 pub use line::{LONGEST_LINE, Line, next_line};
 pub use number::{plain, plain_is_decimal, whole};
 pub use places::{BadByte, Fields};
-
-#[cfg(test)]
-mod tests;
+pub use score::{Score, ScoreFault, read_score};

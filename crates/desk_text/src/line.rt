@@ -10,7 +10,7 @@ pub const LONGEST_LINE: usize = 4096;
 pub(crate) const LINE_FEED: u8 = b'\n';
 
 /// Where a line stands in its text, and where the next one begins. Places are numbered from 0.
-#[derive(Clone, Copy, Debug, PartialEq, Eq)]
+#[derive(Clone, Copy, PartialEq, Eq)]
 pub struct Line {
     /// The place of its first byte.
     pub start: usize,

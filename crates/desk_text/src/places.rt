@@ -4,14 +4,14 @@ ghost use Rattle.desk_text.specs.Lines.{fields_of, AreFields};
 ghost use Rattle.desk_text.specs.Places.{count_of, places_of};
 
 /// A line holds a byte that may stand in no line.
-#[derive(Clone, Copy, Debug, PartialEq, Eq)]
+#[derive(Clone, Copy, PartialEq, Eq, Debug)]
 pub struct BadByte {
     /// The place of the first such byte, counted from 0.
     pub at: usize,
 }
 
 /// How many fields a line has, and where the first six of them stand.
-#[derive(Clone, Copy, Debug)]
+#[derive(Clone, Copy)]
 pub struct Fields {
     pub(crate) count: usize,
     pub(crate) places: [(usize, usize); 6],

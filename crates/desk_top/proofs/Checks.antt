@@ -12,11 +12,11 @@ use Rattle.order_verifier.specs.declared.rejected.Rejected.{Rejected}
 use Rattle.order_verifier.specs.declared.rejected.Rejected.TheVariants.{WrongNames, BoundTooGreat, NoSum, NotCompletion, NoDifference}
 use Rattle.std.proofs.lemmas.List.Elements.{recursion_from_All}
 use Rattle.topics_pool.specs.Rows.{topic_names}
-use Rattle.printed_claims.specs.Claims.{IsInLine}
-use Rattle.printed_claims.proofs.Spelling.{AreInLine, ink_in_line, in_line-append}
+use Rattle.desk_report.specs.Claims.{IsInLine}
+use Rattle.desk_report.proofs.Spelling.{AreInLine, ink_in_line, in_line-append}
 use Rattle.desk_model.proofs.Words.{name_word}
-use Rattle.printed_claims.proofs.Texts.{decimal_ink}
-use Rattle.printed_claims.proofs.Others.{in_line_back}
+use Rattle.desk_report.proofs.Texts.{decimal_ink}
+use Rattle.desk_report.proofs.Others.{in_line_back}
 use Rattle.std.proofs.lemmas.List.{length-map}
 use Rattle.std.proofs.lemmas.Option.{slice_get_within, unwrap_or-slice_get}
 use Rattle.std.proofs.lemmas.Slice.Zip.{length-zip}

@@ -15,7 +15,7 @@ use Rattle.desk_files.specs.declared.stop.Stop.{Stop}
 use Rattle.desk_files.specs.declared.stop.Stop.TheVariants as stops
 use Rattle.desk_files.proofs.Opening.{may_open_qrels}
 use Rattle.judge_session.specs.declared.change.Change.{Change}
-use Rattle.session_lines.specs.Request.{heard_of}
+use Rattle.judge_session.specs.Request.{heard_of}
 use Rattle.session_replies.specs.Replies.{Setting, changes_after}
 use Rattle.session_stream.specs.Hearing.{End, Done, TooLong, Failed, hearing_of}
 use Rattle.session_stream.specs.Text.{AreReplies, joined, HasReplies, EndsSession, EvaluatesWithin}

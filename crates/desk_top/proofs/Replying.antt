@@ -8,7 +8,7 @@ use Rattle.desk_model.specs.Book.{Book}
 use Rattle.desk_model.specs.Desk.{Desk, IsDesk}
 use Rattle.desk_model.specs.MeasureText.{IsMeasure}
 use Rattle.desk_model.specs.Name.{is_name, number_of}
-use Rattle.judgement_pool.specs.declared.pool.PoolCount.{PoolCount}
+use Rattle.desk_model.specs.declared.pool.PoolCount.{PoolCount}
 use Rattle.judge_session.specs.InForce.{judgeable, grade_in_force}
 use Rattle.desk_model.specs.Named.{book_at}
 use Rattle.judge_session.specs.Session.{last_that, first_that, is_live_by, is_undone_by, undone, redone}
@@ -16,13 +16,13 @@ use Rattle.judge_session.specs.declared.change.Change.{Change}
 use Rattle.judge_session.specs.declared.answers.JudgeFault.{JudgeFault}
 use Rattle.judge_session.specs.declared.answers.JudgeFault.TheVariants.{UnknownTopic, UnknownDocument, HistoryFull, Memory}
 use Rattle.desk_report.specs.Judging.{grade_text}
-use Rattle.pair_reports.specs.Reports.{IsPairText, IsNextText}
-use Rattle.printed_claims.specs.Claims.{IsTrueText, IsInLine, IsTrueProposal, IsOtherWord}
-use Rattle.printed_claims.proofs.Spelling.{AreInLine, in_line-spaced, ink_in_line}
+use Rattle.desk_report.specs.Reports.{IsPairText, IsNextText}
+use Rattle.desk_report.specs.Claims.{IsTrueText, IsInLine, IsTrueProposal, IsOtherWord}
+use Rattle.desk_report.proofs.Spelling.{AreInLine, in_line-spaced, ink_in_line}
 use Rattle.desk_model.proofs.Words.{name_word}
-use Rattle.printed_claims.proofs.Texts.{decimal_ink}
-use Rattle.printed_claims.proofs.Others.{in_line_back, other_word}
-use Rattle.session_lines.specs.Request.{Judge, Undo, Redo, Table, Pair, Certify, Pool, Next, Qrels, Quit, Heard, Blank, TooLong, Bad, Asked}
+use Rattle.desk_report.proofs.Texts.{decimal_ink}
+use Rattle.desk_report.proofs.Others.{in_line_back, other_word}
+use Rattle.judge_session.specs.Request.{Judge, Undo, Redo, Table, Pair, Certify, Pool, Next, Qrels, Quit, Heard, Blank, TooLong, Bad, Asked}
 use Rattle.session_replies.specs.Replies.{Setting, IsReply, IsCertified, IsPoolReply, OnNumbers, refusal, fault_word, judge_reply, undo_reply, redo_reply, marks_after, subject_after, changes_after, all_in_force}
 use Rattle.session_replies.proofs.Marks.{marks_of_desk}
 use Rattle.desk_top.specs.Conversation.{asks_next}

@@ -8,7 +8,7 @@ use Rattle.desk_files.specs.declared.stop.Stop.{Stop}
 use Rattle.desk_files.proofs.Opening.{may_open_qrels}
 use Rattle.desk_top.specs.declared.report.Report.{Report}
 use Rattle.desk_top.specs.declared.report.Report.TheVariants.{Table, Certificate}
-use Rattle.pair_reports.specs.Reports.{cells_of}
+use Rattle.desk_report.specs.Reports.{cells_of}
 use Rattle.desk_top.specs.Report.{IsReportOf, CountsSteps, sources_of}
 use Rattle.desk_top.specs.Told.{TellsStop, Writes}
 use Rattle.desk_outside.specs.Seen.{Shelf, Source, Sink}

@@ -8,12 +8,12 @@ use Rattle.desk_model.specs.Desk.{Desk}
 use Rattle.desk_model.specs.declared.types.Verdict.{Verdict}
 use Rattle.desk_model.specs.Verdict.{verdict}
 use Rattle.desk_report.specs.Table.{ended}
-use Rattle.pair_reports.specs.Reports.{Subject, IsNextText, cells_of}
-use Rattle.demo_report.specs.Summary.{number_line, summary_lines}
-use Rattle.printed_claims.specs.Claims.{IsTrueText, IsTrueProposal, IsOtherWord}
-use Rattle.printed_claims.proofs.Spelling.{ink_in_line}
-use Rattle.printed_claims.proofs.Texts.{decimal_ink}
-use Rattle.printed_claims.proofs.Others.{in_line_back, other_word}
+use Rattle.desk_report.specs.Reports.{Subject, IsNextText, cells_of}
+use Rattle.demo_desk.specs.Summary.{number_line, summary_lines}
+use Rattle.desk_report.specs.Claims.{IsTrueText, IsTrueProposal, IsOtherWord}
+use Rattle.desk_report.proofs.Spelling.{ink_in_line}
+use Rattle.desk_report.proofs.Texts.{decimal_ink}
+use Rattle.desk_report.proofs.Others.{in_line_back, other_word}
 use Rattle.desk_top.specs.Answer.{Answer, Saying, said_with, text_of, IsTrueOf, AreAlwaysTrue}
 use Rattle.desk_top.specs.Meaning.{demo_meaning}
 use Rattle.desk_top.specs.Meets.{EvaluatesWithin, Meets, IsTruthful}

@@ -24,11 +24,11 @@ use Rattle.order_verifier.specs.declared.rejected.Rejected.{Rejected}
 use Rattle.order_certificate.specs.declared.certificate.Certificate.{Certificate}
 use Rattle.pair_table.specs.Numbers.{HaveEnds}
 use Rattle.pair_table.specs.Evidence.{Says, IsCertificateOf}
-use Rattle.printed_claims.specs.Claims.{IsTrueText, TablesAreTrue, CertificatesAreTrue, CloseLinesAreTrue, AnswerLinesAreTrue, PairLinesAreTrue, OtherLinesAreTrue, NextLinesAreTrue, QrelsTextsAreTrue, NoTextIsTrue}
+use Rattle.desk_report.specs.Claims.{IsTrueText, TablesAreTrue, CertificatesAreTrue, CloseLinesAreTrue, AnswerLinesAreTrue, PairLinesAreTrue, OtherLinesAreTrue, NextLinesAreTrue, QrelsTextsAreTrue, NoTextIsTrue}
 use Rattle.desk_files.specs.Files.{Missing, NoMemory, Refused}
 use Rattle.desk_top.specs.declared.report.Report.{Report}
 use Rattle.desk_top.specs.declared.report.Report.TheVariants as reports
-use Rattle.pair_reports.specs.Reports.{Subject, IsTableText, IsCertificateText, IsCloseText, run_name}
+use Rattle.desk_report.specs.Reports.{Subject, IsTableText, IsCertificateText, IsCloseText, run_name}
 use Rattle.desk_top.specs.Report.{IsReportOf, marks_in, subject_of}
 use Rattle.desk_outside.specs.Seen.{Shelf, Source, Sink, ReceivedPrefix}
 use Rattle.desk_top.specs.Answer.{Answer, Saying, Moment, text_of, IsTrueOf, AreTrue, AreAlwaysTrue}

@@ -9,7 +9,7 @@ use Rattle.desk_model.specs.Desk.{IsDesk}
 use Rattle.desk_model.specs.MeasureText.{IsMeasure}
 use Rattle.desk_files.specs.Files.{Missing, NoMemory, Refused}
 use Rattle.judge_session.specs.declared.change.Change.{Change}
-use Rattle.session_lines.specs.Request.{heard_of}
+use Rattle.judge_session.specs.Request.{heard_of}
 use Rattle.session_replies.specs.Replies.{Setting, changes_after}
 use Rattle.session_stream.specs.Hearing.{hearing_of}
 use Rattle.session_stream.specs.Text.{AreReplies}

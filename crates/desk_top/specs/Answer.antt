@@ -5,7 +5,7 @@ use Rattle.desk_model.specs.declared.types.Mark.{Mark}
 use Rattle.desk_model.specs.declared.types.MeasureName.{MeasureName}
 use Rattle.order_certificate.specs.Claim.{ClaimHolds}
 use Rattle.order_certificate.specs.declared.certificate.Certificate.{Certificate}
-use Rattle.printed_claims.specs.Claims.{IsTrueText, IsTrueProposal}
+use Rattle.desk_report.specs.Claims.{IsTrueText, IsTrueProposal}
 use Rattle.desk_files.specs.Files.{Halt, Missing, NoMemory, Refused}
 use Rattle.desk_top.specs.Told.{refusal_line, status_line}
 

@@ -6,7 +6,7 @@ use Rattle.desk_words.specs.declared.command.Job.{Job}
 use Rattle.desk_model.specs.Desk.{Desk}
 use Rattle.topics_pool.specs.Rows.{IsDeskOf}
 use Rattle.judge_session.specs.declared.change.Change.{Change}
-use Rattle.session_lines.specs.Request.{Heard, Asked, Next, heard_of}
+use Rattle.judge_session.specs.Request.{Heard, Asked, Next, heard_of}
 use Rattle.session_replies.specs.Replies.{Setting, changes_after, marks_after}
 use Rattle.session_stream.specs.Hearing.{End, Done, TooLong, Failed, hearing_of}
 use Rattle.session_stream.specs.Text.{AreReplies, EndsSession, end_of}

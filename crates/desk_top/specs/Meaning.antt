@@ -16,7 +16,7 @@ use Rattle.desk_files.specs.Load.{Loaded, loaded, DeskMayOpen, HasDesk}
 use Rattle.desk_files.specs.Checks.{CheckComes, CheckMayOpen}
 use Rattle.desk_top.specs.declared.report.Report.{Report}
 use Rattle.desk_top.specs.declared.report.Report.TheVariants as reports
-use Rattle.pair_reports.specs.Reports.{cells_of}
+use Rattle.desk_report.specs.Reports.{cells_of}
 use Rattle.desk_top.specs.Report.{IsReportOf, sources_of, marks_in}
 use Rattle.desk_top.specs.Verification.{IsVerificationOf, marks_for}
 use Rattle.session_stream.specs.Hearing.{hearing_of}

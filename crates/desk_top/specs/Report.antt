@@ -8,9 +8,9 @@ use Rattle.desk_model.specs.Desk.{Desk, file_marks}
 use Rattle.desk_model.specs.MeasureText.{IsMeasure}
 use Rattle.desk_model.specs.declared.types.Mark.{Mark}
 use Rattle.order_certificate.specs.Certificate.{IsLevel}
-use Rattle.pair_reports.specs.Reports.{Subject, subject, IsTableText, IsCertificateText, IsCloseText, cells_of}
-use Rattle.pair_reports.specs.declared.reports.Certified.{Certified}
-use Rattle.pair_reports.specs.declared.reports.Certified.TheVariants as certified
+use Rattle.desk_report.specs.Reports.{Subject, subject, IsTableText, IsCertificateText, IsCloseText, cells_of}
+use Rattle.desk_report.specs.declared.reports.Certified.{Certified}
+use Rattle.desk_report.specs.declared.reports.Certified.TheVariants as certified
 use Rattle.desk_files.specs.Load.{Sources, sources, HasDesk}
 use Rattle.desk_top.specs.declared.report.Report.{Report}
 use Rattle.desk_top.specs.declared.report.Report.TheVariants as reports

@@ -8,9 +8,9 @@ use Rattle.desk_model.specs.declared.types.MeasureName.TheVariants.{Precision}
 use Rattle.desk_model.specs.declared.types.Totals.{Totals}
 use Rattle.pair_table.specs.Numbers.{AreAllPairNumbers}
 use Rattle.desk_report.specs.Table.{ended}
-use Rattle.pair_reports.specs.Reports.{Subject, subject, IsNextText, cells_of}
+use Rattle.desk_report.specs.Reports.{Subject, subject, IsNextText, cells_of}
 use Rattle.demo_desk.specs.Demo.{IsDemoDesk}
-use Rattle.demo_report.specs.Summary.{summary_lines}
+use Rattle.demo_desk.specs.Summary.{summary_lines}
 use Rattle.desk_top.specs.Answer.{Answer, Moment, Saying, said_with}
 use Rattle.desk_top.specs.Told.{Writes, status_line}
 

@@ -2,17 +2,16 @@
 ghost use Rattle.std.specs.Prelude.{◌≡◌, ◌≤◌, IfOk};
 ghost use Rattle.desk_model.specs.Desk.{IsDesk};
 ghost use Rattle.desk_outside.specs.Seen.{sink};
-ghost use Rattle.pair_reports.specs.Reports.{IsTableOn};
+ghost use Rattle.desk_report.specs.Reports.{IsTableOn};
 ghost use Rattle.desk_top.specs.Showing.{demo_subject, IsShown, IsDemoText, CountsDemo, IsPutWhole};
 
 use crate::output::DONE;
 use crate::tell::tell_outside;
-use demo_desk::{DemoDesk, demo_desk};
-use demo_report::summary_text;
+use demo_desk::{DemoDesk, demo_desk, summary_text};
 use desk_model::{Marks, MeasureName, Memory};
 use desk_outside::{Sink, put_all};
+use desk_report::{next_report, table_on};
 use measure_core::{Maker, Measure, Steps};
-use pair_reports::{next_report, table_on};
 use pair_table::Table;
 use std::alloc::Global;
 use std::sync::ledger::Ledger;

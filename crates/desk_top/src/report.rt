@@ -2,7 +2,7 @@
 ghost use Rattle.std.specs.Prelude.{◌≡◌, ◌≤◌, ◌+◌, length, IfOk};
 ghost use Rattle.desk_files.specs.Load.{DeskMayOpen, Opens};
 ghost use Rattle.desk_top.specs.Report.{IsAsked, IsPrintedAs, IsReportOf, CountsSteps, least_runs, sources_of};
-ghost use Rattle.pair_reports.specs.Reports.{cells_of};
+ghost use Rattle.desk_report.specs.Reports.{cells_of};
 ghost use Rattle.desk_top.specs.Printing.{Ends};
 ghost use Rattle.desk_top.specs.Meaning.{report_printing};
 ghost use Rattle.desk_outside.specs.Seen.{shelf, sink};
@@ -11,9 +11,9 @@ use crate::output::{DONE, Printed, put_printed};
 use desk_files::{Stop, load_desk};
 use desk_model::{Desk, Marks, Memory};
 use desk_outside::{Shelf, Sink};
+use desk_report::{Certified, certified_report, table_on, table_report};
 use desk_words::Job;
 use measure_core::{Maker, Steps};
-use pair_reports::{Certified, certified_report, table_on, table_report};
 use std::alloc::Global;
 use std::sync::ledger::Ledger;
 

@@ -15,15 +15,15 @@ use crate::tell::{tell_memory, tell_stop, tell_usage};
 use crate::verify::print_verification;
 use desk_files::load_desk;
 use desk_outside::{Shelf, Sink, Source};
-use desk_words::{Check, Command, Job, WordsFault, read_words};
-use measure_core::{Maker, Steps};
-use order_certificate::evidence_implies_claim;
-use pair_table::evidence_laws::certificates_are_evidence;
-use printed_claims::laws::{
+use desk_report::claims::{
     answer_lines_are_true, close_lines_are_true, next_lines_are_true, no_text_is_true,
     other_lines_are_true, printed_certificates_are_true, printed_pair_lines_are_true,
     printed_tables_are_true, qrels_texts_are_true,
 };
+use desk_words::{Check, Command, Job, WordsFault, read_words};
+use measure_core::{Maker, Steps};
+use order_certificate::evidence_implies_claim;
+use pair_table::evidence_laws::certificates_are_evidence;
 use std::alloc::Global;
 use std::sync::ledger::Ledger;
 

@@ -1,5 +1,6 @@
 // No clause keeps a body from answering 'out of memory' for large inputs alone.
-use desk_in_memory::{Answer, Outside, SOUND, run_line};
+use crate::outside::{Answer, Outside, SOUND};
+use crate::run::run_line;
 use std::alloc::{AllocError, Global};
 use std::test::Fail;
 

@@ -1,12 +1,24 @@
-//! The top call over files in memory: tests alone. They stand above it, so that it waits for no measure and is proved
-//! once.
+//! The top call over files, input and outputs in memory: what commands and sessions print, a demo, an outside that fails
+//! and hostile input. Tests alone; they stand above the top call, so that it waits for no measure and is proved once.
 #![tactic(auto)]
 
+#[cfg(test)]
+mod certificates;
+#[cfg(test)]
+mod demos;
+#[cfg(test)]
+mod failing;
 #[cfg(test)]
 mod files;
 #[cfg(test)]
 mod large;
 #[cfg(test)]
+mod limits;
+#[cfg(test)]
 mod lines;
+#[cfg(test)]
+mod outside;
+#[cfg(test)]
+mod run;
 #[cfg(test)]
 mod sessions;

@@ -1,6 +1,7 @@
 // Command lines and what they answer. The expected texts are worked out by hand.
 use crate::files::FILES;
-use desk_in_memory::{Answer, Outside, SOUND, run_line, run_over, shelf_of};
+use crate::outside::{Answer, Outside, SOUND};
+use crate::run::{run_line, run_over, shelf_of};
 use desk_outside::Shelf;
 use std::alloc::{AllocError, Global};
 use std::test::Fail;

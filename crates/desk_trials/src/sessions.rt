@@ -3,7 +3,8 @@ ghost use Rattle.std.specs.Prelude.{◌<◌};
 
 use crate::files::FILES;
 use crate::lines::is_cut;
-use desk_in_memory::{Outside, SOUND, run_line};
+use crate::outside::{Outside, SOUND};
+use crate::run::run_line;
 use std::alloc::{AllocError, Global};
 use std::test::Fail;
 

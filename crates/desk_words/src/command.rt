@@ -6,7 +6,7 @@ use desk_model::{MeasureName, Name};
 use std::marker::Model;
 
 /// Why there is no command.
-#[derive(Clone, Copy, PartialEq, Eq, Debug)]
+#[derive(Clone, Copy, PartialEq, Eq)]
 pub enum WordsFault {
     /// The words are of no command.
     Usage,
@@ -15,7 +15,7 @@ pub enum WordsFault {
 }
 
 /// A command with what its words say.
-#[derive(Debug, Drop)]
+#[derive(Drop)]
 pub enum Command {
     /// Print the table of all pairs.
     Table(Job),
@@ -30,7 +30,7 @@ pub enum Command {
 }
 
 /// Runs that are to be compared.
-#[derive(Debug, Drop)]
+#[derive(Drop)]
 pub struct Job {
     /// The file of judgements.
     pub qrels: Path,
@@ -43,7 +43,7 @@ pub struct Job {
 }
 
 /// A certificate that is to be checked.
-#[derive(Debug, Drop)]
+#[derive(Drop)]
 pub struct Check {
     /// The file of judgements.
     pub qrels: Path,
@@ -54,14 +54,14 @@ pub struct Check {
 }
 
 /// A file of a run, and the name that the words give the run.
-#[derive(Debug, Drop)]
+#[derive(Drop)]
 pub struct RunWord {
     pub name: Option<Name>,
     pub path: Path,
 }
 
 /// The path of a file.
-#[derive(Debug, Drop)]
+#[derive(Drop)]
 pub struct Path {
     text: String,
 }
@@ -91,7 +91,7 @@ impl Path {
 }
 
 /// From 1 to 256 runs, in their order.
-#[derive(Debug, Drop)]
+#[derive(Drop)]
 pub struct RunWords {
     words: Vec<RunWord>,
 }

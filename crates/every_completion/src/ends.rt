@@ -2,7 +2,7 @@ ghost use Rattle.std.specs.Prelude.{◌≡◌};
 ghost use Rattle.std.specs.Int.{int_min, int_max};
 
 /// The floors and the ceilings of unit times the least and the greatest difference of two runs.
-#[derive(Clone, Copy, PartialEq, Eq, Debug)]
+#[derive(Clone, Copy, PartialEq, Eq)]
 pub struct Ends {
     pub least_lo: i128,
     pub least_hi: i128,

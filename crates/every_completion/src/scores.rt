@@ -9,7 +9,7 @@ ghost use Rattle.every_completion.specs.Walk.{value_of, IsSmall, LooksAtNoTail};
 use desk_model::{Mark, MeasureName};
 
 /// An exact fraction.
-#[derive(Clone, Copy, PartialEq, Eq, Debug)]
+#[derive(Clone, Copy, PartialEq, Eq)]
 pub struct Fraction {
     pub num: u64,
     pub den: u64,

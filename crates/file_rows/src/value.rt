@@ -1,5 +1,5 @@
 // The value of a row.
-use decimal_score::Score;
+use desk_text::Score;
 
 /// The value of a row, a whole number to clauses: a grade or a score.
 pub trait RowValue: Copy {

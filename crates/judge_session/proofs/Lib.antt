@@ -1,3 +1,6 @@
+pub mod LineNumbers
+pub mod Forms
+pub mod Lines
 pub mod Names
 pub mod Grades
 pub mod Undoing

@@ -1,5 +1,5 @@
 /// What a call made of a change: its document, and the grade in force there after the call.
-#[derive(Clone, Copy, PartialEq, Eq, Debug)]
+#[derive(Clone, Copy, PartialEq, Eq)]
 pub struct Changed {
     /// The number of the topic in the desk, from 0.
     pub topic: u32,

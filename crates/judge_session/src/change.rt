@@ -1,7 +1,7 @@
 use desk_model::Name;
 
 /// A judgement of a document, live or undone.
-#[derive(Debug, Drop)]
+#[derive(Drop)]
 pub struct Change {
     /// The caller who judged.
     pub who: Name,

@@ -1,5 +1,5 @@
 /// What is kept of a caller.
-#[derive(Clone, Copy, PartialEq, Eq, Debug)]
+#[derive(Clone, Copy, PartialEq, Eq)]
 pub struct Counts {
     /// How many live changes there are.
     pub live: u32,

@@ -2,7 +2,7 @@
 // the demo of seed 7, with 50 topics and 28 pairs of runs.
 use crate::session::{counts, replies};
 use any_measure::Common;
-use demo_texts::{Generator, RUNS, qrels_text, run_text};
+use demo_desk::{Generator, RUNS, qrels_text, run_text};
 use std::alloc::{AllocError, Global};
 use std::process::Abort;
 use std::test::Fail;

@@ -1,6 +1,6 @@
 -- A cell of two spans, and of four ends.
 use Rattle.std.proofs.Common.{◌≡◌, ℤ, ap, ◌∙◌}
-use Rattle.fractions.specs.declared.span.Span.{Span}
+use Rattle.topic_counts.specs.declared.span.Span.{Span}
 use Rattle.measure_core.specs.declared.cell.Cell.{Cell}
 
 abbrev pub cell : Span → Span → Cell

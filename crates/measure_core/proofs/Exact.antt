@@ -22,13 +22,13 @@ use Rattle.measure_laws.proofs.Scores.{score-most, difference_low, difference_hi
 use Rattle.measure_laws.proofs.LeastCases.{least_case_is_least}
 use Rattle.measure_laws.proofs.Swapping.{most_ends}
 use Rattle.measure_laws.proofs.Weights.{unit-size}
-use Rattle.fractions.specs.Ends.{IsShort}
-use Rattle.fractions.specs.Numbers.{difference_span, negated}
-use Rattle.fractions.proofs.Spans.{difference_floor, difference_ceiling, span, span_same}
+use Rattle.topic_counts.specs.Ends.{IsShort}
+use Rattle.topic_counts.specs.Numbers.{difference_span, negated}
+use Rattle.topic_counts.proofs.Spans.{difference_floor, difference_ceiling, span, span_same}
 use Rattle.desk_model.specs.declared.types.Mark.{Mark}
 use Rattle.desk_model.specs.declared.types.MeasureName.{MeasureName}
 use Rattle.desk_model.specs.declared.types.MeasureName.TheVariants.{Precision, Recall, RPrecision, Reciprocal, Biased}
-use Rattle.fractions.specs.declared.span.Span.{Span}
+use Rattle.topic_counts.specs.declared.span.Span.{Span}
 use Rattle.measure_laws.proofs.Unique.{greatest_unique, smallest_unique, extremes_unique}
 use Rattle.measure_core.specs.declared.cell.Cell.{Cell}
 use Rattle.measure_core.specs.Laws.{IsMet, Bounds, swapped_cell, SpanIsModest, MeetsLaws}

@@ -7,3 +7,12 @@ pub mod Weighing
 pub mod Shifting
 pub mod Filling
 pub mod RunPairs
+pub mod Walking
+pub mod Sides
+pub mod Alone
+pub mod Apart
+pub mod NextPair
+pub mod Telling
+pub mod Placing
+pub mod Unplaced
+pub mod MoreBits

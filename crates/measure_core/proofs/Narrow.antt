@@ -15,9 +15,9 @@ use Rattle.measure_laws.specs.Cases.{least_truth}
 use Rattle.measure_laws.specs.Shares.{AreNear, biased_least_lo, biased_least_hi, biased_ends}
 use Rattle.measure_laws.proofs.Unique.{extremes_unique, precision_ends_are}
 use Rattle.measure_laws.proofs.Persistence.{ends_near}
-use Rattle.fractions.specs.Ends.{IsFloor, IsCeiling}
-use Rattle.fractions.specs.Numbers.{scaled_difference, difference_span}
-use Rattle.fractions.proofs.Spans.{difference_floor, difference_ceiling}
+use Rattle.topic_counts.specs.Ends.{IsFloor, IsCeiling}
+use Rattle.topic_counts.specs.Numbers.{scaled_difference, difference_span}
+use Rattle.topic_counts.proofs.Spans.{difference_floor, difference_ceiling}
 use Rattle.measure_core.specs.Laws.{AreMet}
 use Rattle.measure_laws.specs.Ends.{HasEnds}
 use Rattle.measure_core.specs.Made.{ends_of, AreNarrow}

@@ -7,13 +7,13 @@ use Rattle.desk_model.specs.Extremes.{InEveryScore, AreBounds}
 use Rattle.desk_model.proofs.Topics.{score-den, over-den}
 use Rattle.measure_laws.proofs.LeastEnds.{at_most_no_greater, at_least_no_greater}
 use Rattle.measure_laws.proofs.ReciprocalEnds.{IsAtMostOther, from_parts, same_order}
-use Rattle.fractions.specs.Numbers.{difference_span}
-use Rattle.fractions.proofs.Spans.{difference_floor, difference_ceiling}
+use Rattle.topic_counts.specs.Numbers.{difference_span}
+use Rattle.topic_counts.proofs.Spans.{difference_floor, difference_ceiling}
 use Rattle.measure_core.specs.Laws.{SpanIsModest}
 use Rattle.measure_core.proofs.Exact.{difference_modest}
 use Rattle.desk_model.specs.declared.types.Mark.{Mark}
 use Rattle.desk_model.specs.declared.types.MeasureName.{MeasureName}
-use Rattle.fractions.specs.declared.span.Span.{Span}
+use Rattle.topic_counts.specs.declared.span.Span.{Span}
 
 -- the floor of unit times a score, and the ceiling of unit times another
 abbrev pub score_bounds : ℕ → Fraction → Fraction → Span

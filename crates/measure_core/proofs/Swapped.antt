@@ -12,9 +12,9 @@ use Rattle.small_lemmas.proofs.Numbers.{neg_twice}
 use Rattle.measure_laws.proofs.Swapping.{at_most_swapped, at_least_swapped, every_swapped}
 use Rattle.measure_laws.proofs.LeastCases.{least_truth-Completes}
 use Rattle.measure_laws.proofs.Weights.{unit-size, weight-most, weight-even}
-use Rattle.fractions.specs.declared.span.Span.{Span}
-use Rattle.fractions.specs.Numbers.{negated}
-use Rattle.fractions.proofs.Spans.{span_same}
+use Rattle.topic_counts.specs.declared.span.Span.{Span}
+use Rattle.topic_counts.specs.Numbers.{negated}
+use Rattle.topic_counts.proofs.Spans.{span_same}
 use Rattle.measure_core.specs.declared.cell.Cell.{Cell}
 use Rattle.measure_core.specs.Laws.{AreMet, Encloses, LiesIn, LeastCaseLiesIn, MostCaseLiesIn, swapped_cell, SpanIsModest, CellIsModest, MeetsLaws, OwesLaws}
 

@@ -12,8 +12,8 @@ use Rattle.measure_laws.specs.Measures.{unit_of}
 use Rattle.measure_laws.specs.Cases.{least_truth, HasLeastTails}
 use Rattle.measure_laws.specs.Weights.{weight_of}
 use Rattle.measure_laws.specs.Shares.{IsModest}
-use Rattle.fractions.specs.declared.span.Span.{Span}
-use Rattle.fractions.specs.Numbers.{negated}
+use Rattle.topic_counts.specs.declared.span.Span.{Span}
+use Rattle.topic_counts.specs.Numbers.{negated}
 use Rattle.measure_core.specs.declared.cell.Cell.{Cell}
 
 -- a ranking over the universe of the marks

@@ -3,3 +3,9 @@ pub mod Made
 pub mod Numbers
 pub mod Shifts
 pub mod Pairs
+pub mod Places
+pub mod OneSide
+pub mod Worths
+pub mod Told
+pub mod Bits
+pub mod Ranks

@@ -5,8 +5,8 @@ use Rattle.desk_model.specs.declared.types.Mark.{Mark}
 use Rattle.desk_model.specs.declared.types.MeasureName.{MeasureName}
 use Rattle.measure_laws.specs.Measures.{unit_of}
 use Rattle.measure_laws.specs.Cases.{least_truth}
-use Rattle.fractions.specs.declared.span.Span.{Span}
-use Rattle.fractions.specs.Numbers.{difference_span, negated}
+use Rattle.topic_counts.specs.declared.span.Span.{Span}
+use Rattle.topic_counts.specs.Numbers.{difference_span, negated}
 use Rattle.measure_core.specs.declared.cell.Cell.{Cell}
 
 -- the floor and the ceiling of unit times the difference of the least case

@@ -1,11 +1,11 @@
 ghost use Rattle.std.specs.Prelude.{◌≡◌};
-ghost use Rattle.fractions.specs.Ends.{IsShort};
+ghost use Rattle.topic_counts.specs.Ends.{IsShort};
 ghost use Rattle.measure_laws.specs.Shares.{IsModest};
 ghost use Rattle.measure_core.specs.Laws.{CellIsModest};
 
 use crate::cell::Cell;
-use fractions::Span;
 use std::marker::Model;
+use topic_counts::Span;
 
 /// A cell in 32 bytes: its ends lie from -2*10^18 to 2*10^18.
 #[derive(Clone, Copy)]

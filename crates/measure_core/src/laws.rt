@@ -6,7 +6,7 @@ ghost use Rattle.desk_model.specs.declared.types.MeasureName.{MeasureName};
 ghost use Rattle.desk_model.specs.declared.types.MeasureName.TheVariants.{Precision};
 ghost use Rattle.desk_model.specs.MeasureText.{IsMeasure};
 ghost use Rattle.measure_laws.specs.Measures.{IsExactMeasure};
-ghost use Rattle.fractions.specs.declared.span.Span.{Span};
+ghost use Rattle.topic_counts.specs.declared.span.Span.{Span};
 ghost use Rattle.measure_core.specs.declared.cell.Cell.{Cell};
 ghost use Rattle.measure_core.specs.Laws.{AreMet, MeetsLaws, OwesLaws};
 ghost use Rattle.measure_laws.specs.Ends.{HasEnds};

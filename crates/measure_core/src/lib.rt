@@ -1,21 +1,41 @@
-//! What a measure is, for all that stands above it.
+//! What a measure is, by a trait with laws, and what measures share on a topic: the rankings, the cells of all pairs
+//! of runs, for measures that look at the documents that one of two runs alone has among its first k, and for those
+//! that look at the ranks of the documents of both; and quick passes over two rankings, which add the weights of their
+//! documents to totals or take them back.
 #![tactic(auto)]
 
+pub mod bits;
+pub mod by_ranks;
 pub mod cell;
 pub mod kept;
 pub mod laws;
 pub mod maker;
 pub mod measure;
+pub mod one_side;
+pub mod own_measure;
+pub mod own_rows;
+mod places;
+pub mod ranked_measure;
+pub mod ranked_rows;
 pub mod rankings;
 pub mod room;
 pub mod shift;
 pub mod steps;
+pub mod worths;
 
+pub use bits::has_bit;
+pub use by_ranks::shift_by_ranks;
 pub use cell::Cell;
 pub use kept::KeptCell;
 pub use maker::Maker;
 pub use measure::Measure;
+pub use one_side::shift_one_side;
+pub use own_measure::OwnMeasure;
+pub use own_rows::own_cells;
+pub use ranked_measure::{FirstRun, KeptPair, KeptSums, KeptWeights, RankedMeasure};
+pub use ranked_rows::{place_ranks, ranked_cells};
 pub use rankings::TopicRankings;
 pub use room::{BLOCK, CellRoom, RunSums, RunWeights};
 pub use shift::Shift;
 pub use steps::Steps;
+pub use worths::{RankWorth, rank_or_none, worths_of};

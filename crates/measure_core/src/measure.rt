@@ -7,7 +7,7 @@ ghost use Rattle.measure_laws.specs.Measures.{unit_of};
 ghost use Rattle.measure_laws.specs.Cases.{least_truth};
 ghost use Rattle.measure_laws.specs.Weights.{weight_of};
 ghost use Rattle.measure_core.specs.declared.cell.Cell.{Cell as C};
-ghost use Rattle.fractions.specs.declared.span.Span.{Span as S};
+ghost use Rattle.topic_counts.specs.declared.span.Span.{Span as S};
 ghost use Rattle.measure_core.specs.Laws.{AreMet, IsMet, AreValues, CellIsModest, MeetsLaws};
 ghost use Rattle.measure_core.specs.Pairs.{AreAllMet, pair_cells, run_numbers, runs_on};
 ghost use Rattle.measure_core.specs.Shifts.{HaveRoom, AreShifted};
@@ -19,9 +19,9 @@ use crate::room::CellRoom;
 use crate::shift::Shift;
 use crate::steps::Steps;
 use desk_model::{Mark, MeasureName, Memory, PairPlaces, Ranking};
-use fractions::Span;
 use std::alloc::Global;
 use std::sync::ledger::Ledger;
+use topic_counts::Span;
 
 /// A measure of rankings over incomplete judgements. Rankings are over the universe of the marks,
 /// documents are numbered from 0, and numbers are in units of the measure.

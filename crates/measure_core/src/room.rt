@@ -1,4 +1,4 @@
-ghost use Rattle.std.specs.Prelude.{◌≡◌, length, IfOk};
+ghost use Rattle.std.specs.Prelude.{◌≡◌, ◌+◌, ◌/◌, length, IfOk};
 
 use desk_model::Mark;
 use std::alloc::{AllocError, Global};
@@ -6,7 +6,7 @@ use topic_counts::counts::Counts;
 
 /// The sums of the weights of a run's documents on a topic, in parts of 10^18, those of the weights
 /// rounded down and of the weights rounded up.
-#[derive(Clone, Copy, PartialEq, Eq, Debug)]
+#[derive(Clone, Copy, PartialEq, Eq)]
 pub struct RunWeights {
     /// Of the relevant documents.
     pub relevant_low: u64,
@@ -47,6 +47,8 @@ impl RunSums {
 pub struct CellRoom {
     /// A mark for each document.
     pub marks: Vec<Mark>,
+    /// A bit for each document, 64 in each number.
+    pub bits: Vec<u64>,
     /// A rank for each document, from 1, and 0 for none.
     pub ranks: Vec<u32>,
     /// Counts for each run.
@@ -61,18 +63,21 @@ impl CellRoom {
     /// Room for topics of so many documents and runs, and for smaller ones.
     pub fn new(alloc: Global, documents: u32, runs: u32) -> Result<CellRoom, AllocError>
         ensures marks { IfOk result (λ room. length room.marks.items ≡ documents) }
+        ensures bits { IfOk result (λ room. length room.bits.items ≡ documents / 64 + 1) }
         ensures ranks { IfOk result (λ room. length room.ranks.items ≡ documents) }
         ensures counts { IfOk result (λ room. length room.counts.items ≡ runs) }
         ensures weights { IfOk result (λ room. length room.weights.items ≡ runs) }
         ensures sums { IfOk result (λ room. length room.sums.items ≡ runs) }
     {
         let marks = vec![in alloc; Mark::Other; documents as usize]?;
+        let bits = vec![in alloc; 0u64; documents as usize / 64 + 1]?;
         let ranks = vec![in alloc; 0u32; documents as usize]?;
         let counts = vec![in alloc; Counts::NONE; runs as usize]?;
         let weights = vec![in alloc; RunWeights::NONE; runs as usize]?;
         let sums = vec![in alloc; RunSums::NONE; runs as usize]?;
         Ok(CellRoom {
             marks,
+            bits,
             ranks,
             counts,
             weights,

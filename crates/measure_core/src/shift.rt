@@ -1,7 +1,7 @@
 ghost use Rattle.measure_core.specs.Shifts.{HasRoom, IsShifted};
 
 /// Whether weights are added to totals or taken back from them.
-#[derive(Clone, Copy, Debug, PartialEq, Eq)]
+#[derive(Clone, Copy, PartialEq, Eq)]
 pub enum Shift {
     /// They are added.
     Add,

@@ -7,13 +7,13 @@ ghost use Rattle.measure_core.specs.Laws.{AreMet};
 use any_measure::{AnyMeasure, Common};
 use desk_model::{Mark, MeasureName, Memory, Ranking};
 use every_completion::is_ranking;
-use fractions::Span;
 use measure_core::{Cell, Maker, Measure, Steps};
 use std::alloc::Global;
 use std::marker::Brand;
 use std::process::Abort;
 use std::sync::ledger::{Blank, Ledger};
 use std::test::Fail;
+use topic_counts::Span;
 
 /// The cell and both cases of two runs, the bounds of the first, and the weight of a document.
 #[derive(Drop)]

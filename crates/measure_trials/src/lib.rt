@@ -1,15 +1,19 @@
 //! The measures beside a walk through every completion of small topics, and beside the plain sums of
-//! rank-biased precision: tests, and what they compute by themselves.
+//! rank-biased precision, and what they stand on, by examples: tests alone.
 #![tactic(auto)]
-
-mod plain;
-
-pub use plain::{difference, is_in, judged};
 
 #[cfg(test)]
 mod answers;
 #[cfg(test)]
+mod model;
+#[cfg(test)]
+mod plain;
+#[cfg(test)]
+mod powers;
+#[cfg(test)]
 mod row_tests;
+#[cfg(test)]
+mod steps;
 #[cfg(test)]
 mod tail_tests;
 #[cfg(test)]

@@ -4,10 +4,10 @@ ghost use Rattle.desk_model.specs.MeasureText.{IsMeasure};
 use crate::answers::{Answers, ask};
 use crate::tests::{HALF, O, R, U, WHOLE};
 use desk_model::{Mark, MeasureName};
-use fractions::Span;
 use std::alloc::Global;
 use std::process::Abort;
 use std::test::Fail;
+use topic_counts::Span;
 
 const QUARTER: i128 = 250_000_000_000_000_000;
 
@@ -113,7 +113,7 @@ fn expect(rt: &impl Abort, alloc: Global, name: MeasureName, row: &Row) -> Resul
     let runs = (row.first.as_slice(), row.second.as_slice());
     let answers = ask(rt, alloc, name, runs, row.marks, row.first[0])?;
     let holds = has_numbers(&answers, row) && has_cases(&answers, row);
-    assert!(rt; holds, "{name:?}");
+    assert!(rt; holds);
     Ok(())
 }
 

@@ -6,11 +6,11 @@ use crate::answers::ask;
 use crate::plain::{difference, is_in};
 use crate::tests::{MARKS, O, R, RANKINGS, U};
 use desk_model::{Mark, MeasureName};
-use fractions::Span;
 use measure_core::Cell;
 use std::alloc::Global;
 use std::process::Abort;
 use std::test::Fail;
+use topic_counts::Span;
 
 const HALF: MeasureName = MeasureName::Biased { top: 5, bottom: 10 };
 
@@ -150,7 +150,7 @@ fn compare(
 {
     let answers = ask(rt, alloc, name, runs, marks, 0)?;
     let hold = hold_all(answers.cell, answers.bounds, persistence, runs, marks);
-    assert!(rt; hold, "{runs:?} under {marks:?}");
+    assert!(rt; hold, "{runs:?}");
     Ok(())
 }
 

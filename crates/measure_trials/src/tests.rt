@@ -6,10 +6,10 @@ use crate::answers::{Answers, ask, ranking};
 use crate::plain::judged;
 use desk_model::{Mark, MeasureName};
 use every_completion::{Ends, EndsFault, extremes};
-use fractions::Span;
 use std::alloc::Global;
 use std::process::Abort;
 use std::test::Fail;
+use topic_counts::Span;
 
 pub const R: Mark = Mark::Relevant;
 
@@ -180,7 +180,7 @@ fn expect_pairs(
             (pair.first, pair.second),
             pair.marks,
         )?;
-        assert!(rt; found == ends(pair.least, pair.most), "{found:?}");
+        assert!(rt; found == ends(pair.least, pair.most));
     }
     Ok(())
 }
@@ -279,7 +279,7 @@ fn compare_all(rt: &impl Abort, alloc: Global, name: MeasureName, unit: u64) -> 
             for second in &RANKINGS {
                 let runs = (*first, *second);
                 let agrees = agrees(rt, alloc, name, unit, runs, marks)?;
-                assert!(rt; agrees, "{name:?} of {runs:?}");
+                assert!(rt; agrees, "{runs:?}");
             }
         }
     }

@@ -10,7 +10,7 @@ use desk_model::{Desk, Marks, Verdict};
 use measure_core::Measure;
 
 /// A document that is proposed for judging.
-#[derive(Clone, Copy, Debug, PartialEq, Eq)]
+#[derive(Clone, Copy, PartialEq, Eq)]
 pub struct Proposal {
     /// The number of the topic, from 0.
     pub topic: u32,

@@ -7,7 +7,7 @@ use memchr::memchr;
 use std::marker::Model;
 
 /// Why a part of a text was not read.
-#[derive(Clone, Copy, Debug)]
+#[derive(Clone, Copy)]
 pub enum LineFault {
     /// The line that was taken last is not as the form wants it at its place, or is not there.
     Bad,

@@ -11,14 +11,15 @@ ghost use Rattle.order_certificate.specs.declared.certificate.TopicBound.{TopicB
 
 use crate::certificate::TopicBound;
 use crate::lines::{LineFault, Lines, after, cut};
-use desk_model::{MeasureName, Name, NameFault, measure_of_text_is_unique, read_measure};
+use desk_model::{
+    MeasureName, Name, NameFault, measure_of_text_is_unique, push_measure, read_measure,
+};
 use desk_text::plain;
-use number_texts::push_measure;
 use std::alloc::{AllocError, Global};
 use std::cmp::Ordering;
 
 /// What a certificate claims.
-#[derive(Clone, Copy, Debug)]
+#[derive(Clone, Copy)]
 pub enum Claim {
     Above,
     Equal,

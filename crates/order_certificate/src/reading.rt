@@ -18,7 +18,7 @@ use desk_model::{Name, measure_of_text_is_unique};
 use std::alloc::Global;
 
 /// Why a text was not read as a certificate.
-#[derive(Clone, Copy, PartialEq, Eq, Debug)]
+#[derive(Clone, Copy, PartialEq, Eq)]
 pub enum CertFault {
     /// The text is of no certificate: the first line, counted from 1, that is not as the form wants it at
     /// its place. Where the text ends too early it is the one after the last whole line, and a last line

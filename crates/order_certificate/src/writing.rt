@@ -8,9 +8,8 @@ ghost use Rattle.order_certificate.specs.Places.{IsText};
 ghost use Rattle.order_certificate.specs.declared.certificate.TopicBound.{TopicBound};
 
 use crate::certificate::{Certificate, Evidence, TopicBound, TopicWitness};
-use desk_model::{MeasureName, Memory, Name};
+use desk_model::{MeasureName, Memory, Name, push_measure};
 use itoa::Buffer;
-use number_texts::push_measure;
 use std::alloc::{AllocError, Global};
 
 fn push_number(out: &mut Vec<u8>, number: usize) -> Result<(), AllocError>

@@ -1,3 +1,16 @@
+pub mod Whole
+pub mod Lows
+pub mod Smallest
+pub mod Choices
+pub mod Ceilings
+pub mod OwnSteps
+pub mod Numbers
+pub mod Walks
+pub mod FirstPlaces
+pub mod Shares
+pub mod Named
+pub mod OwnWalk
+pub mod Prefixes
 pub mod Topics
 pub mod Unjudged
 pub mod OnLists

@@ -17,7 +17,7 @@ use Rattle.desk_model.proofs.DeskTopics.{topic_of, topic_there, length-marks, le
 use Rattle.desk_model.proofs.PairPlace.{there}
 use Rattle.desk_model.proofs.Nested.{zipped_at, get_or-there}
 use Rattle.measure_laws.specs.Ends.{HasEnds, IsUpperEnd}
-use Rattle.topic_ends.specs.Least.{AreRankings}
+use Rattle.order_verifier.specs.Least.{AreRankings}
 use Rattle.order_certificate.specs.Claim.{NamedTopic, named_topics}
 use Rattle.order_certificate.specs.Evidence.{AreUnjudged, listed_truth}
 use Rattle.order_verifier.specs.Checks.{AreListed, IsComparison, NamesOnTopic, OfTopic, unranked}

@@ -8,11 +8,11 @@ ghost use Rattle.order_certificate.specs.Evidence.{AreUnjudged, listed_truth};
 ghost use Rattle.order_verifier.specs.Checks.{IsComparison as IsOne, OfTopic};
 ghost use Rattle.order_verifier.specs.Refusal.{OfEnds, topics_in};
 
+use crate::TopicEnds;
 use crate::listed::Listed;
 use crate::names::RunPair;
 use desk_model::{Desk, Mark, Marks, Name};
 use std::marker::Model;
-use topic_ends::TopicEnds;
 
 /// Two runs of a desk under its marks, and what their ends are computed by.
 #[derive(Drop)]

@@ -1,15 +1,31 @@
-//! Checks certificates: whether one is evidence for what it claims of a desk under its marks.
+//! A checker of certificates: it accepts one, or tells the first reason against it. The ends of a topic that the
+//! evidence speaks of are computed anew here, by counts, on no crate of a measure.
 #![tactic(auto)]
 
+pub mod biased;
 mod bounds;
 mod comparison;
+pub mod counts;
+pub mod difference;
+pub mod ends;
+pub mod kind;
 pub mod laws;
 mod listed;
 mod names;
+pub mod own;
+pub mod precision;
+pub mod ranks;
+pub mod recall;
+pub mod reciprocal;
 pub mod rejected;
+pub mod relevance;
+pub mod rprecision;
 pub mod verifier;
+pub mod walk;
 mod witnesses;
 
+pub use ends::TopicEnds;
 pub use laws::{answers_are_one, numbers_are_of_lines, rejected_certificates_are_no_evidence};
 pub use rejected::Rejected;
+pub use relevance::Relevance;
 pub use verifier::Verifier;

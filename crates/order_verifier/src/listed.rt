@@ -7,9 +7,9 @@ ghost use Rattle.measure_laws.specs.Classes.{judged_count};
 ghost use Rattle.order_certificate.specs.Evidence.{listed_truth};
 ghost use Rattle.order_verifier.specs.Checks.{AreListed, unranked};
 
+use crate::Relevance;
 use desk_model::{Mark, Name, TopicBook};
 use std::marker::Model;
-use topic_ends::Relevance;
 
 /// A topic's documents, and a list of unjudged ones: those that are judged relevant and those on the list are
 /// relevant.

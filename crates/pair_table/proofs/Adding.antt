@@ -3,7 +3,7 @@ use Rattle.std.proofs.Common.{◌≡◌, ℕ, ◌+◌, ◌≤◌, ℤ, ◌+ℤ�
 use Rattle.std.proofs.lemmas.Int.{ints}
 use Rattle.desk_model.specs.declared.types.Totals.{Totals}
 use Rattle.measure_laws.specs.Shares.{IsModest}
-use Rattle.fractions.specs.Ends.{IsNear}
+use Rattle.topic_counts.specs.Ends.{IsNear}
 use Rattle.pair_table.specs.Kept.{IsAtMostInSize}
 
 pub within_step : (n : ℕ) (z w : ℤ) → IsAtMostInSize n z → IsModest w → IsAtMostInSize (n + 1) (z +ℤ w)

@@ -19,7 +19,7 @@ use Rattle.desk_model.specs.declared.types.Verdict.{Verdict}
 use Rattle.desk_model.specs.declared.types.Verdict.TheVariants.{Above, Below, Equal, Open, Close}
 use Rattle.desk_model.proofs.DeskTopics.{length-topics_under}
 use Rattle.desk_model.proofs.Nested.{length-zipped as length-side, get_or-there}
-use Rattle.fractions.specs.declared.span.Span.{Span}
+use Rattle.topic_counts.specs.declared.span.Span.{Span}
 use Rattle.measure_laws.specs.Cases.{least_truth}
 use Rattle.measure_laws.specs.Shares.{IsModest}
 use Rattle.measure_core.specs.Laws.{AreMet, MeetsLaws}

@@ -10,7 +10,7 @@ use Rattle.desk_model.specs.Desk.{Desk, AreMarksOf, topics_under}
 use Rattle.desk_model.specs.Order.{Topic}
 use Rattle.desk_model.specs.declared.types.Mark.{Mark}
 use Rattle.desk_model.specs.declared.types.Totals.{Totals}
-use Rattle.fractions.specs.declared.span.Span.{Span}
+use Rattle.topic_counts.specs.declared.span.Span.{Span}
 use Rattle.measure_core.specs.declared.cell.Cell.{Cell}
 use Rattle.pair_table.specs.Kept.{Kept, TopicNumbers, StandsFor, StandsElsewhere, all_numbers, numbers_on, topic_at, kept_totals, kept_bounds}
 use Rattle.pair_table.proofs.DeskTopics.{topic_at_there}

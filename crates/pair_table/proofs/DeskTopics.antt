@@ -9,7 +9,7 @@ use Rattle.desk_model.proofs.Nested.{get_or-there}
 use Rattle.desk_model.specs.Desk.{Desk, IsDesk, AreMarksOf, ranking_of, topics_under}
 use Rattle.desk_model.specs.Order.{Topic}
 use Rattle.desk_model.specs.declared.types.Mark.{Mark}
-use Rattle.fractions.specs.declared.span.Span.{Span}
+use Rattle.topic_counts.specs.declared.span.Span.{Span}
 use Rattle.measure_core.specs.Laws.{AreMet, IsMet}
 use Rattle.measure_core.specs.Pairs.{AreAllMet}
 use Rattle.pair_table.specs.Kept.{topic_at}

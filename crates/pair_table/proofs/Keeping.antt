@@ -17,9 +17,9 @@ use Rattle.desk_model.specs.Verdict.{totals_of, verdict}
 use Rattle.desk_model.specs.declared.types.Mark.{Mark}
 use Rattle.desk_model.specs.declared.types.Totals.{Totals}
 use Rattle.desk_model.specs.declared.types.Verdict.{Verdict}
-use Rattle.fractions.specs.Ends.{IsShort}
-use Rattle.fractions.specs.declared.span.Span.{Span}
-use Rattle.fractions.proofs.Spans.{span_same}
+use Rattle.topic_counts.specs.Ends.{IsShort}
+use Rattle.topic_counts.specs.declared.span.Span.{Span}
+use Rattle.topic_counts.proofs.Spans.{span_same}
 use Rattle.measure_laws.specs.Shares.{IsModest}
 use Rattle.measure_core.specs.Laws.{CellIsModest, SpanIsModest}
 use Rattle.measure_core.specs.declared.cell.Cell.{Cell}

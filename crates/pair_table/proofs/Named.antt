@@ -12,8 +12,8 @@ use Rattle.desk_model.specs.declared.types.MeasureName.{MeasureName}
 use Rattle.desk_model.specs.declared.types.MeasureName.TheVariants.{Precision, Recall, RPrecision, Reciprocal, Biased}
 use Rattle.desk_model.specs.declared.types.Totals.{Totals}
 use Rattle.measure_laws.proofs.Unique.{named_ends_unique}
-use Rattle.fractions.specs.declared.span.Span.{Span}
-use Rattle.fractions.proofs.Spans.{span_same}
+use Rattle.topic_counts.specs.declared.span.Span.{Span}
+use Rattle.topic_counts.proofs.Spans.{span_same}
 use Rattle.measure_core.specs.Laws.{IsMet}
 use Rattle.measure_core.specs.Made.{ends_of, HasEnds, HasBounds, AreNumbersOfName}
 use Rattle.measure_core.specs.declared.cell.Cell.{Cell}

@@ -22,7 +22,7 @@ use Rattle.desk_model.specs.MeasureText.{IsMeasure}
 use Rattle.measure_laws.specs.Measures.{IsExactMeasure, unit_of}
 use Rattle.measure_laws.proofs.Persistence.{least_encloses, most_encloses, run_low_encloses, run_high_encloses}
 use Rattle.measure_laws.proofs.Weights.{unit-size}
-use Rattle.fractions.specs.declared.span.Span.{Span}
+use Rattle.topic_counts.specs.declared.span.Span.{Span}
 use Rattle.measure_core.specs.Laws.{AreMet, IsMet, MeetsLaws}
 use Rattle.measure_core.specs.Made.{ends_of, HasEnds, HasBounds, AreNarrow, width_of}
 use Rattle.measure_core.specs.declared.cell.Cell.{Cell}

@@ -13,7 +13,7 @@ use Rattle.desk_model.specs.declared.types.MeasureName.{MeasureName}
 use Rattle.desk_model.specs.declared.types.MeasureName.TheVariants.{Precision, Recall, RPrecision, Reciprocal, Biased}
 use Rattle.desk_model.specs.declared.types.Totals.{Totals}
 use Rattle.desk_model.specs.declared.types.Verdict.TheVariants.{Above, Below, Equal}
-use Rattle.fractions.specs.declared.span.Span.{Span}
+use Rattle.topic_counts.specs.declared.span.Span.{Span}
 use Rattle.measure_core.specs.Made.{HasEnds, HasBounds}
 use Rattle.measure_laws.specs.Measures.{unit_of}
 use Rattle.measure_laws.specs.Refinement.{AreRefinedBy, IsRefinedBy, AreTopicsRefinedBy}

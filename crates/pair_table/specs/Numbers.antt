@@ -9,7 +9,7 @@ use Rattle.desk_model.specs.Verdict.{totals_of}
 use Rattle.desk_model.specs.declared.types.Mark.{Mark}
 use Rattle.desk_model.specs.declared.types.MeasureName.{MeasureName}
 use Rattle.desk_model.specs.declared.types.Totals.{Totals}
-use Rattle.fractions.specs.declared.span.Span.{Span}
+use Rattle.topic_counts.specs.declared.span.Span.{Span}
 use Rattle.measure_core.specs.Made.{ends_of, HasEnds, HasBounds}
 use Rattle.measure_core.specs.declared.cell.Cell.{Cell}
 use Rattle.pair_table.specs.Sums.{run_numbers, span_sum}

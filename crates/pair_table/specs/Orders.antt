@@ -12,7 +12,7 @@ use Rattle.desk_model.specs.declared.types.Mark.{Mark}
 use Rattle.desk_model.specs.declared.types.MeasureName.{MeasureName}
 use Rattle.desk_model.specs.declared.types.Totals.{Totals}
 use Rattle.desk_model.specs.declared.types.Verdict.TheVariants.{Above, Below, Equal}
-use Rattle.fractions.specs.declared.span.Span.{Span}
+use Rattle.topic_counts.specs.declared.span.Span.{Span}
 use Rattle.desk_model.specs.MeasureText.{IsMeasure}
 use Rattle.measure_laws.specs.Measures.{unit_of}
 use Rattle.measure_core.specs.Made.{width_of}

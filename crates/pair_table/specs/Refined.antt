@@ -6,7 +6,7 @@ use Rattle.desk_model.specs.MeasureText.{IsMeasure}
 use Rattle.desk_model.specs.declared.types.Mark.{Mark}
 use Rattle.desk_model.specs.declared.types.MeasureName.{MeasureName}
 use Rattle.desk_model.specs.declared.types.Totals.{Totals}
-use Rattle.fractions.specs.declared.span.Span.{Span}
+use Rattle.topic_counts.specs.declared.span.Span.{Span}
 use Rattle.measure_laws.specs.Refinement.{AreRefinedBy}
 use Rattle.pair_table.specs.Numbers.{ArePairNumbers, AreRunNumbers}
 

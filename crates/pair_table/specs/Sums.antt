@@ -6,7 +6,7 @@ use Rattle.desk_model.specs.Pairs.{pairs_of}
 use Rattle.desk_model.specs.Verdict.{whole_sum, totals_of}
 use Rattle.desk_model.specs.declared.types.Mark.{Mark}
 use Rattle.desk_model.specs.declared.types.Totals.{Totals}
-use Rattle.fractions.specs.declared.span.Span.{Span}
+use Rattle.topic_counts.specs.declared.span.Span.{Span}
 use Rattle.measure_core.specs.Made.{ends_of}
 pub use Rattle.measure_core.specs.Pairs.{run_numbers}
 use Rattle.measure_core.specs.declared.cell.Cell.{Cell}

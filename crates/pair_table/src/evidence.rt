@@ -24,7 +24,7 @@ use order_certificate::{
 use std::alloc::Global;
 
 /// Why two runs have no certificate.
-#[derive(Clone, Copy, PartialEq, Eq, Debug)]
+#[derive(Clone, Copy, PartialEq, Eq)]
 pub enum EvidenceFault {
     /// The verdict is close: the four sums.
     Close(Totals),

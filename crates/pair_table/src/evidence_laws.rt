@@ -4,7 +4,7 @@ ghost use Rattle.desk_model.specs.Desk.{Desk, IsDesk, AreMarksOf};
 ghost use Rattle.desk_model.specs.MeasureText.{IsMeasure};
 ghost use Rattle.desk_model.specs.declared.types.Mark.{Mark};
 ghost use Rattle.desk_model.specs.declared.types.MeasureName.{MeasureName};
-ghost use Rattle.fractions.specs.declared.span.Span.{Span};
+ghost use Rattle.topic_counts.specs.declared.span.Span.{Span};
 ghost use Rattle.measure_core.specs.Made.{HasEnds, AreNumbersOfName};
 ghost use Rattle.measure_core.specs.declared.cell.Cell.{Cell};
 ghost use Rattle.order_certificate.specs.Claim.{ClaimHolds};

@@ -3,7 +3,7 @@ ghost use Rattle.std.specs.Prelude.{◌≡◌, ◌+◌, ◌<◌, All, length, sl
 ghost use Rattle.desk_model.specs.Desk.{AreMarksOf};
 ghost use Rattle.desk_model.specs.MeasureText.{IsMeasure};
 ghost use Rattle.desk_model.specs.Pairs.{pairs_of};
-ghost use Rattle.fractions.specs.Ends.{IsShort};
+ghost use Rattle.topic_counts.specs.Ends.{IsShort};
 ghost use Rattle.measure_core.specs.Laws.{SpanIsModest};
 ghost use Rattle.pair_table.specs.Sums.{run_numbers};
 ghost use Rattle.pair_table.specs.Kept.{numbers_on, topic_at, AreTopicNumbers, each_with, with_cell, without_cell, with_span, without_span, TotalsCanGrow, BoundsCanGrow};
@@ -11,11 +11,11 @@ ghost use Rattle.pair_table.specs.Kept.{numbers_on, topic_at, AreTopicNumbers, e
 use crate::numbers::{evaluate_bounds, evaluate_cells};
 use crate::sums::{add_bounds, add_cells, take_bounds_back, take_cells_back};
 use desk_model::{Desk, Marks, Totals};
-use fractions::Span;
 use measure_core::{Cell, CellRoom, KeptCell, Measure, Steps};
 use std::alloc::{AllocError, Global};
 use std::marker::Model;
 use std::sync::ledger::Ledger;
+use topic_counts::Span;
 
 /// The cell of each pair of runs on a topic, in pair order, and the bounds of each run.
 #[derive(Drop)]

@@ -8,9 +8,9 @@ ghost use Rattle.pair_table.specs.Sums.{run_numbers};
 ghost use Rattle.pair_table.specs.Kept.{numbers_on, topic_at};
 
 use desk_model::{Desk, Marks};
-use fractions::Span;
 use measure_core::{CellRoom, KeptCell, Measure, Steps, TopicRankings};
 use std::sync::ledger::Ledger;
+use topic_counts::Span;
 
 // The bounds of a run on a topic, by their numbers.
 fn bounds_at<M: Measure>(measure: &M, desk: &Desk, marks: &Marks, run: u32, topic: u32) -> Span

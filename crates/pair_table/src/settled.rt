@@ -8,7 +8,7 @@ ghost use Rattle.desk_model.specs.Verdict.{verdict};
 ghost use Rattle.desk_model.specs.declared.types.Mark.{Mark};
 ghost use Rattle.desk_model.specs.declared.types.MeasureName.{MeasureName};
 ghost use Rattle.desk_model.specs.declared.types.Verdict.TheVariants.{Above, Below, Equal};
-ghost use Rattle.fractions.specs.declared.span.Span.{Span};
+ghost use Rattle.topic_counts.specs.declared.span.Span.{Span};
 ghost use Rattle.measure_laws.specs.Refinement.{AreRefinedBy};
 ghost use Rattle.measure_core.specs.Made.{HasBounds};
 ghost use Rattle.pair_table.specs.Refined.{AreAllRefinedBy, ForRefinedPairs, ForRefinedRuns};

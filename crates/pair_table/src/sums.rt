@@ -1,13 +1,13 @@
 // The sums over topics of cells and bounds, a topic more and a topic less.
 ghost use Rattle.std.specs.Prelude.{◌≡◌, ◌+◌, All, length};
 ghost use Rattle.desk_model.specs.Limits.{TOPIC_LIMIT};
-ghost use Rattle.fractions.specs.Ends.{IsShort};
+ghost use Rattle.topic_counts.specs.Ends.{IsShort};
 ghost use Rattle.measure_core.specs.Laws.{SpanIsModest};
 ghost use Rattle.pair_table.specs.Kept.{AreWithin, SpanIsWithin, each_with, with_cell, without_cell, with_span, without_span, TotalsCanGrow, BoundsCanGrow};
 
 use desk_model::Totals;
-use fractions::Span;
 use measure_core::{Cell, KeptCell};
+use topic_counts::Span;
 
 fn plus(totals: &Totals, cell: Cell) -> Totals
     requires totals { AreWithin (TOPIC_LIMIT + 1) totals.now }

@@ -6,18 +6,18 @@ ghost use Rattle.desk_model.specs.Pairs.{pairs_of};
 ghost use Rattle.desk_model.specs.Verdict.{totals_of, verdict};
 ghost use Rattle.desk_model.specs.declared.types.Totals.{Totals as Sums};
 ghost use Rattle.desk_model.specs.MeasureText.{IsMeasure};
-ghost use Rattle.fractions.specs.Ends.{IsShort};
+ghost use Rattle.topic_counts.specs.Ends.{IsShort};
 ghost use Rattle.pair_table.specs.Sums.{run_numbers, all_pair_sums, all_run_sums, swapped_totals};
 ghost use Rattle.measure_core.specs.Laws.{swapped_cell};
 ghost use Rattle.pair_table.specs.Kept.{numbers_on, topic_at, all_numbers, AreTopicNumbers, IsCellOf, no_totals, no_bounds, kept_totals, kept_bounds, StandsFor, StandsElsewhere, AreSumsOf, AreModestTotals};
 
 use crate::kept::KeptTopic;
 use desk_model::{Desk, Marks, Memory, Totals, Verdict, verdict_of};
-use fractions::Span;
 use measure_core::{Cell, CellRoom, Measure, Steps};
 use std::alloc::{AllocError, Global};
 use std::marker::Model;
 use std::sync::ledger::Ledger;
+use topic_counts::Span;
 
 /// The cells of all pairs of runs of a desk on each topic and the bounds of all runs, with their sums over
 /// all topics, in units of a measure. A change of marks in one topic costs the cells of that topic.

@@ -7,8 +7,8 @@ use Rattle.desk_model.specs.Classes.{only_count, prefix_count, precision_least, 
 use Rattle.desk_model.specs.declared.types.Mark.{Mark}
 use Rattle.desk_model.specs.declared.types.MeasureName.TheVariants.{Precision}
 use Rattle.desk_model.proofs.PrecisionEnds.{precision_extremes, precision_bounds}
-use Rattle.fractions.specs.declared.span.Span.{Span}
-use Rattle.fractions.proofs.Spans.{span, span_same}
+use Rattle.topic_counts.specs.declared.span.Span.{Span}
+use Rattle.topic_counts.proofs.Spans.{span, span_same}
 use Rattle.measure_core.specs.Laws.{AreMet, IsMet}
 use Rattle.measure_core.specs.Numbers.{exact_cell, exact_bounds}
 use Rattle.measure_core.proofs.Cells.{cell, cell_same}

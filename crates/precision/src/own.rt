@@ -9,9 +9,8 @@ ghost use Rattle.measure_core.specs.Numbers.{exact_cell};
 ghost use Rattle.topic_counts.specs.Own.{AreOwn};
 
 use crate::precision::Precision;
-use fractions::Span;
-use measure_core::Cell;
-use own_cells::OwnMeasure;
+use measure_core::{Cell, OwnMeasure};
+use topic_counts::Span;
 use topic_counts::counts::{Counts, OwnCounts};
 
 /// One number as both ends.

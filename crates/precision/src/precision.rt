@@ -11,18 +11,18 @@ ghost use Rattle.measure_core.specs.Made.{IsMadeFor};
 
 use crate::own::cell_between;
 use desk_model::{Mark, MeasureName, Memory, Ranking};
-use fractions::Span;
-use measure_core::{Cell, CellRoom, KeptCell, Measure, Shift, Steps, TopicRankings};
-use own_cells::own_cells;
+use measure_core::{
+    Cell, CellRoom, KeptCell, Measure, Shift, Steps, TopicRankings, own_cells, shift_one_side,
+};
 use std::alloc::Global;
 use std::marker::Model;
 use std::sync::ledger::Ledger;
+use topic_counts::Span;
 use topic_counts::counts::{is_among_first, own_counts, prefix_documents};
-use weight_walks::shift_one_side;
 
 /// The measure `P_k`, for a k from 1 to 10,000. Its unit is k: what it answers are numbers of
 /// documents.
-#[derive(Debug, Drop)]
+#[derive(Drop)]
 pub struct Precision {
     pub(crate) k: u32,
 }

@@ -11,7 +11,7 @@ use Rattle.desk_model.specs.Desk.{Desk, IsDesk, AreRankingsOver, pair_count, ran
 use Rattle.file_rows.specs.Grouped.{TopicRows, rows_in}
 use Rattle.file_rows.proofs.Mapped.{map-map}
 use Rattle.run_reader.specs.Run.{Run}
-use Rattle.trec_order.specs.Order.{IsTrecOrder}
+use Rattle.topic_universe.specs.Order.{IsTrecOrder}
 use Rattle.topics_pool.specs.Rows.{IsDeskOf, topic_names}
 use Rattle.topics_pool.proofs.OneDesk.{one_desk}
 use Rattle.qrels_round_trip.specs.RoundTrip.{said_by}

@@ -4,6 +4,3 @@
 mod laws;
 
 pub use laws::{judgements_are_kept, limits_alone_refuse, runs_are_kept, text_says_judgements};
-
-#[cfg(test)]
-mod tests;

@@ -17,7 +17,7 @@ use Rattle.measure_laws.proofs.BiasedSizes.{weights_order}
 use Rattle.rbp.specs.Added.{IsAdded, IsUpTo, added, least_low, least_high, most_low, most_high}
 use Rattle.rbp.specs.Walk.{share_of, is_in_least, is_in_most, correction, number_of}
 use Rattle.rbp.specs.declared.by_ranks.Added.{Added}
-use Rattle.weight_walks.specs.Worths.{rank_or_none}
+use Rattle.measure_core.specs.Worths.{rank_or_none}
 use Rattle.rbp.proofs.Walk.{AreAlone, ends, alone_in_least_low, alone_in_least_high, alone_in_most_low, alone_in_most_high, IsCommon}
 
 -- ---- weights rounded up fall from rank to rank
@@ -203,16 +203,6 @@ module _ (top bottom : ℕ) (x : Option ℕ) (y : ℕ) (below : top < bottom) wh
         most_hi = four ∙ upper ∙ by_weights (high_share top bottom) is_in_most true false (high_weight top bottom) (low_weight top bottom) Relevant x (Some y) (alone_in_most_high top bottom);
         small = relevant_small s first p q u v m n;
       }
-
-both_hold : (s t : Bool) → s ≡ true → t ≡ true → (s && t) ≡ false → ⊥
-both_hold s t e f h = let bad : (true && true) ≡ false = rw (e, f) at h in absurd (cc)
-
--- a document that is not counted adds nothing
-pub uncounted_adds : (share : Option ℕ → Option ℕ → ℤ) (picked : Option ℕ → Option ℕ → Bool) (x y : ℕ) (mark : Mark) → IsCommon (correction share picked) → (nat_lt 0 x && nat_lt (number_of mark) 2) ≡ false → pos 0 ≡ correction share picked mark (rank_or_none x) (Some y)
-uncounted_adds share picked zero y mark h e = sym (h.first mark (Some y))
-uncounted_adds share picked (suc x) y Unjudged h e = absurd (both_hold (nat_lt 0 (suc x)) (nat_lt 0 2) (lt-ltb 0 (suc x) (omega arith)) (lt-ltb 0 2 (omega arith)) e)
-uncounted_adds share picked (suc x) y Relevant h e = absurd (both_hold (nat_lt 0 (suc x)) (nat_lt 1 2) (lt-ltb 0 (suc x) (omega arith)) (lt-ltb 1 2 (omega arith)) e)
-uncounted_adds share picked (suc x) y Other h e = refl
 
 -- ---- sums of several
 pub up_to_more : (n m k : ℕ) (s t : Added) → k ≡ n + m → IsUpTo n s → IsUpTo m t → IsUpTo k (added s t)

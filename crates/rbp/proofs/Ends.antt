@@ -6,8 +6,8 @@ use Rattle.desk_model.specs.Score.{gained}
 use Rattle.measure_laws.specs.Powers.{low_weight, high_weight, high_power}
 use Rattle.measure_laws.specs.Shares.{biased_least_lo, biased_least_hi}
 use Rattle.desk_model.specs.declared.types.Mark.{Mark}
-use Rattle.fractions.specs.declared.span.Span.{Span}
-use Rattle.fractions.proofs.Spans.{span, span_same}
+use Rattle.topic_counts.specs.declared.span.Span.{Span}
+use Rattle.topic_counts.proofs.Spans.{span, span_same}
 use Rattle.measure_core.proofs.Cells.{cell}
 use Rattle.rbp.specs.Numbers.{biased_least, biased_cell, biased_bounds}
 

@@ -7,9 +7,9 @@ use Rattle.small_lemmas.proofs.Tests.{positive, not_positive, negative, not_nega
 use Rattle.measure_laws.specs.Powers.{low_weight, high_weight}
 use Rattle.measure_laws.specs.Shares.{low_share, high_share}
 use Rattle.measure_laws.proofs.BiasedSizes.{weights_order}
-use Rattle.rbp.specs.Walk.{correction, is_in_least}
+use Rattle.rbp.specs.Walk.{correction, share_of}
 use Rattle.desk_model.specs.declared.types.Mark.{Mark}
-use Rattle.desk_model.specs.declared.types.Mark.TheVariants.{Unjudged, Relevant}
+use Rattle.desk_model.specs.declared.types.Mark.TheVariants.{Unjudged, Relevant, Other}
 
 raised : (b : Bool) (l h : ℕ) (z : ℤ) → int_lt z (pos 0) ≡ b → z ≡ pos l -ℤ pos h → (if b then pos 0 else z) ≡ pos (l - h)
 raised true l h z t e = let below = negative z t in omega (arith, ints, below, e)
@@ -69,9 +69,12 @@ relevant_more share picked mark x y s a z m es ea ez =
     let here : z ≡ share x y -ℤ (share x None +ℤ share None y) = omega (arith, ints, es, ea, ez) in
     subst (λ (k : Mark). z ≡ correction share picked k x y) (sym m) here
 
-pub unjudged_more_least : (share : Option ℕ → Option ℕ → ℤ) (mark : Mark) (x y : ℕ) (s p n z : ℤ) → mark ≡ Unjudged →
-    s ≡ share (Some x) (Some y) → p ≡ (if nat_lt y x then s else pos 0) → n ≡ share None (Some y) → z ≡ p -ℤ n → z ≡ correction share is_in_least mark (Some x) (Some y)
-unjudged_more_least share mark x y s p n z m es ep en ez =
-    let counted : p ≡ (if nat_lt y x then share (Some x) (Some y) else pos 0) = ep ∙ ap (λ t. if nat_lt y x then t else pos 0) es in
-    let here : z ≡ (if nat_lt y x then share (Some x) (Some y) else pos 0) -ℤ (pos 0 +ℤ share None (Some y)) = omega (arith, ints, counted, en, ez) in
-    subst (λ (k : Mark). z ≡ correction share is_in_least k (Some x) (Some y)) (sym m) here
+pub unjudged_more : (share : Option ℕ → Option ℕ → ℤ) (picked : Option ℕ → Option ℕ → Bool) (mark : Mark) (x y : Option ℕ) (s p n z : ℤ) → mark ≡ Unjudged →
+    s ≡ share x y → p ≡ (if picked x y then s else pos 0) → n ≡ share_of share picked Unjudged x None +ℤ share_of share picked Unjudged None y → z ≡ p -ℤ n → z ≡ correction share picked mark x y
+unjudged_more share picked mark x y s p n z m es ep en ez =
+    let counted : p ≡ share_of share picked Unjudged x y = ep ∙ ap (λ t. if picked x y then t else pos 0) es in
+    let here : z ≡ correction share picked Unjudged x y = ez ∙ ap (λ t. t -ℤ n) counted ∙ ap (λ t. share_of share picked Unjudged x y -ℤ t) en in
+    subst (λ (k : Mark). z ≡ correction share picked k x y) (sym m) here
+
+pub other_more : (share : Option ℕ → Option ℕ → ℤ) (picked : Option ℕ → Option ℕ → Bool) (mark : Mark) (x y : Option ℕ) → mark ≡ Other → pos 0 ≡ correction share picked mark x y
+other_more share picked mark x y m = subst (λ (k : Mark). pos 0 ≡ correction share picked k x y) (sym m) refl

@@ -5,8 +5,8 @@ use Rattle.desk_model.specs.MeasureText.{IsPersistence}
 use Rattle.desk_model.specs.declared.types.Mark.{Mark}
 use Rattle.desk_model.specs.declared.types.MeasureName.TheVariants.{Biased}
 use Rattle.measure_laws.proofs.Persistence as persistence
-use Rattle.fractions.specs.declared.span.Span.{Span}
-use Rattle.fractions.specs.Numbers.{negated}
+use Rattle.topic_counts.specs.declared.span.Span.{Span}
+use Rattle.topic_counts.specs.Numbers.{negated}
 use Rattle.measure_core.specs.Laws.{IsMet, swapped_cell, SpanIsModest, MeetsLaws, OwesLaws}
 use Rattle.measure_core.specs.Made.{AreNumbersOfName}
 use Rattle.measure_core.specs.declared.cell.Cell.{Cell}

@@ -2,8 +2,8 @@
 use Rattle.std.specs.Prelude.{ℕ, true, false, List, pos}
 use Rattle.measure_laws.specs.Shares.{biased_least_lo, biased_least_hi, biased_bound_lo, biased_bound_hi, low_worth, high_worth}
 use Rattle.desk_model.specs.declared.types.Mark.{Mark}
-use Rattle.fractions.specs.declared.span.Span.{Span}
-use Rattle.fractions.specs.Numbers.{negated}
+use Rattle.topic_counts.specs.declared.span.Span.{Span}
+use Rattle.topic_counts.specs.Numbers.{negated}
 use Rattle.measure_core.specs.declared.cell.Cell.{Cell}
 use Rattle.measure_core.specs.declared.room.RunWeights.{RunWeights}
 

@@ -2,10 +2,10 @@
 use Rattle.std.specs.Prelude.{◌≡◌, ℕ, ◌<◌, ◌^◌, List, pos, neg_ℤ, ◌≤ℤ◌}
 use Rattle.desk_model.specs.Limits.{RANK_LIMIT}
 use Rattle.desk_model.specs.MeasureText.{IsPersistence}
-use Rattle.fractions.specs.Places.{Known}
+use Rattle.topic_counts.specs.Places.{Known}
 use Rattle.measure_laws.specs.Powers.{low_weight, high_weight}
-use Rattle.weight_walks.specs.Worths.{AreWorths}
-use Rattle.fractions.specs.declared.span.Span.{Span}
+use Rattle.measure_core.specs.Worths.{AreWorths}
+use Rattle.topic_counts.specs.declared.span.Span.{Span}
 
 -- top over bottom
 pub record Persistence : Type 0 where

@@ -1,27 +1,24 @@
 // The corrections of the documents of two runs, by the ranks of the first run's and one pass over the
 // second's.
-ghost use Rattle.std.specs.Prelude.{◌≡◌, ◌*◌, ◌≤◌, ◌&&◌, nat_lt, if◌then◌else◌, Some};
+ghost use Rattle.std.specs.Prelude.{◌≡◌, ◌*◌, ◌≤◌, if◌then◌else◌, Some};
 ghost use Rattle.desk_model.specs.Limits.{PARTS_OF_ONE, RANK_LIMIT};
 ghost use Rattle.desk_model.specs.declared.types.Mark.TheVariants.{Unjudged, Relevant};
 ghost use Rattle.measure_core.specs.Laws.{AreMet};
 ghost use Rattle.measure_laws.specs.Powers.{low_weight, high_weight};
 ghost use Rattle.measure_laws.specs.Ranks.{IsRankWithin, comes_before};
-ghost use Rattle.ranked_cells.specs.Ranks.{AreRanksIn};
+ghost use Rattle.measure_core.specs.Bits.{AreBitsIn};
+ghost use Rattle.measure_core.specs.Ranks.{AreRanksIn};
 ghost use Rattle.rbp.specs.Added.{IsAdded, IsUpTo, AreSumsOf, added};
-ghost use Rattle.rbp.specs.Walk.{AreCorrections, number_of};
-ghost use Rattle.weight_walks.specs.Worths.{rank_or_none};
+ghost use Rattle.rbp.specs.Walk.{AreCorrections};
+ghost use Rattle.measure_core.specs.Worths.{rank_or_none};
 
 use crate::corrections::Shares;
 use crate::rbp::Rbp;
-use crate::weights::{Parts, number_of};
+use crate::weights::Parts;
 use desk_model::{Mark, Ranking};
-use fractions::Span;
-use measure_core::{Cell, RunSums, RunWeights};
-use ranked_cells::{KeptPair, RankedMeasure};
+use measure_core::{Cell, FirstRun, KeptPair, RankedMeasure, RunSums, RunWeights, has_bit};
+use topic_counts::Span;
 use topic_counts::counts::Counts;
-
-/// The greatest rank of a run.
-const MOST_RANKS: usize = 10_000;
 
 /// What documents of both runs add to the sums of shares beyond what their ranks alone add, in parts of
 /// 10^18.
@@ -110,16 +107,6 @@ fn is_after(y: u32, x: u32) -> bool
     (x > 0) & (x < y)
 }
 
-/// Whether the first run has a document, and it may be relevant. Of most runs' documents few are both, so
-/// this is one comparison of numbers, and not a jump for each condition.
-#[inline]
-fn is_counted(x: u32, mark: Mark) -> bool
-    requires { x ≤ RANK_LIMIT }
-    ensures { result ≡ (nat_lt 0 x && nat_lt (number_of mark) 2) }
-{
-    x as usize > number_of(mark) / 2 * MOST_RANKS
-}
-
 impl Rbp {
     /// The weight of a rank, and none of the rank 0.
     #[inline]
@@ -195,26 +182,26 @@ impl Rbp {
     }
 
     /// The sums of the corrections of the documents of both runs, by one pass over the second's by the
-    /// ranks of the first's.
+    /// bits and the ranks of the first's. Few documents of two runs are of both and may be relevant.
     pub fn corrections_by_ranks(
         &self,
         a: &Ranking,
         b: &Ranking,
         marks: &[Mark],
-        ranks: &[u32],
+        first: FirstRun<'_>,
     ) -> Shares
         requires met { AreMet marks.now a.now b.now }
-        requires ranks { AreRanksIn marks.now a.now ranks.now }
+        requires bits { AreBitsIn a.now marks.now first.bits.now }
+        requires ranks { AreRanksIn marks.now a.now first.ranks.now }
         ensures { AreCorrections self.now.top self.now.bottom marks.now a.now b.now result }
     {
         // What is kept of the persistence bounds the sums.
         let _ = &self.top;
-        let _ = a;
         let mut sums = Added::NONE;
         for (place, doc) in b.docs().iter().enumerate() {
-            let rank = ranks[*doc as usize];
-            let mark = marks[*doc as usize];
-            if is_counted(rank, mark) {
+            if has_bit(first.bits, *doc) {
+                let mark = marks[*doc as usize];
+                let rank = first.ranks[*doc as usize];
                 sums = sums.with(self.adds(rank, place as u32 + 1, mark));
             }
         }
@@ -245,7 +232,7 @@ impl RankedMeasure for Rbp {
         a: &Ranking,
         b: &Ranking,
         marks: &[Mark],
-        ranks: &[u32],
+        first: FirstRun<'_>,
         kept: KeptPair<'_>,
         _all: Counts,
     ) -> Cell {
@@ -256,7 +243,7 @@ impl RankedMeasure for Rbp {
             b,
             marks,
             kept.weights,
-            self.corrections_by_ranks(a, b, marks, ranks),
+            self.corrections_by_ranks(a, b, marks, first),
         )
     }
 }

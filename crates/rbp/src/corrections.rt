@@ -2,7 +2,7 @@
 ghost use Rattle.std.specs.Prelude.{◌≡◌, ◌<◌, ◌+ℤ◌, ◌-ℤ◌, if◌then◌else◌, nat_eq, nat_lt, ◌&&◌, pos, Some};
 ghost use Rattle.measure_laws.specs.Ranks.{IsRankWithin};
 ghost use Rattle.measure_laws.specs.Shares.{low_share, high_share};
-ghost use Rattle.fractions.specs.Ends.{IsShort};
+ghost use Rattle.topic_counts.specs.Ends.{IsShort};
 ghost use Rattle.rbp.specs.Persistence.{IsLoose};
 ghost use Rattle.rbp.specs.Walk.{number_of, correction, is_in_least, is_in_most, AreCorrections};
 ghost use Rattle.measure_core.specs.Laws.{AreMet};
@@ -11,7 +11,7 @@ ghost use Rattle.desk_model.specs.Limits.{RANK_LIMIT};
 use crate::rbp::Rbp;
 use crate::weights::number_of;
 use desk_model::{Mark, Placed, Ranking};
-use fractions::Span;
+use topic_counts::Span;
 use topic_counts::pairs::passed;
 
 /// No weight.

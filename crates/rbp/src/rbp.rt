@@ -2,7 +2,7 @@ ghost use Rattle.std.specs.Prelude.{◌≡◌, ◌-◌, ◌≤◌, ◌-ℤ◌, p
 ghost use Rattle.measure_laws.specs.Ranks.{comes_before};
 ghost use Rattle.measure_laws.specs.Powers.{low_power, high_power};
 ghost use Rattle.measure_laws.specs.Shares.{low_share, high_share, biased_truth, share_sum};
-ghost use Rattle.fractions.specs.Ends.{IsShort};
+ghost use Rattle.topic_counts.specs.Ends.{IsShort};
 ghost use Rattle.rbp.specs.Persistence.{IsLoose};
 ghost use Rattle.measure_core.specs.Laws.{AreMet, AreValues};
 ghost use Rattle.rbp.specs.Numbers.{biased_cell, run_weights};
@@ -15,15 +15,16 @@ ghost use Rattle.desk_model.specs.declared.types.MeasureName.TheVariants.{Biased
 use crate::corrections::{Shares, alone};
 use crate::weights::{Weights, high_weights, low_weights};
 use desk_model::{Mark, MeasureName, Memory, Ranking};
-use fractions::{Powers, Span};
-use measure_core::{Cell, CellRoom, KeptCell, Measure, Shift, Steps, TopicRankings};
-use ranked_cells::{KeptWeights, ranked_cells};
+use measure_core::{
+    Cell, CellRoom, KeptCell, KeptWeights, Measure, Shift, Steps, TopicRankings, ranked_cells,
+    shift_by_ranks,
+};
 use std::alloc::Global;
 use std::marker::Model;
 use std::sync::ledger::Ledger;
 use topic_counts::ranks::rank_in;
 use topic_counts::topic::is_true;
-use weight_walks::shift_by_ranks;
+use topic_counts::{Powers, Span};
 
 /// How many units make a score of 1.
 const UNIT: i128 = 1_000_000_000_000_000_000;

@@ -4,17 +4,16 @@ ghost use Rattle.measure_laws.specs.Ranks.{IsRankWithin};
 ghost use Rattle.measure_laws.specs.Powers.{low_weight, high_weight, low_power, high_power};
 ghost use Rattle.measure_laws.specs.Shares.{low_worth, high_worth};
 ghost use Rattle.rbp.specs.Persistence.{IsLoose};
-ghost use Rattle.weight_walks.specs.Worths.{AreWorths};
+ghost use Rattle.measure_core.specs.Worths.{AreWorths};
 ghost use Rattle.rbp.specs.Walk.{number_of};
 ghost use Rattle.rbp.specs.Numbers.{run_weights};
 ghost use Rattle.desk_model.specs.Limits.{PARTS_OF_ONE, RANK_LIMIT};
 
 use crate::rbp::Rbp;
 use desk_model::{Mark, Memory};
-use fractions::{Powers, Span};
-use measure_core::RunWeights;
+use measure_core::{RankWorth, RunWeights, rank_or_none, worths_of};
 use std::alloc::Global;
-use weight_walks::{RankWorth, rank_or_none, worths_of};
+use topic_counts::{Powers, Span};
 
 /// The sums of the weights of a run's relevant documents, and of its relevant and unjudged ones.
 #[derive(Clone, Copy)]

@@ -1,4 +1,4 @@
-//! The readers of judgements and runs, and the order of a run's rows, by examples: tests alone. They stand above those
+//! Lines and fields, the readers of judgements and runs, and the order of a run's rows, by examples: tests alone. They stand above those
 //! crates, so that each of them is proved once.
 #![tactic(auto)]
 
@@ -10,3 +10,5 @@ mod order;
 mod qrels;
 #[cfg(test)]
 mod runs;
+#[cfg(test)]
+mod texts;

@@ -2,7 +2,7 @@
 use qrels_reader::{FileFault, read_qrels};
 use run_reader::{RunRows, Used, read_run};
 use std::alloc::Global;
-use trec_order::{RankedNames, ranking};
+use topic_universe::{RankedNames, ranking};
 
 // Two rows on each of three topics. Those of the second have scores that differ in the twentieth place alone.
 fn tied(alloc: Global) -> Result<RunRows, FileFault> {

@@ -16,10 +16,10 @@ use Rattle.measure_laws.specs.Cases.{recall_pick}
 use Rattle.measure_laws.specs.Prefixes.{only_second}
 use Rattle.measure_laws.proofs.LeastDifferences.{chosen_is, leads_is, one_more}
 use Rattle.measure_laws.proofs.RecallEnds.{every, over-max, true_count_classes, count_le_universe}
-use Rattle.fractions.specs.Ends.{IsFloor, IsCeiling, IsShort}
-use Rattle.fractions.specs.Numbers.{difference_span}
-use Rattle.fractions.specs.declared.span.Span.{Span}
-use Rattle.fractions.proofs.Spans.{span, span_same}
+use Rattle.topic_counts.specs.Ends.{IsFloor, IsCeiling, IsShort}
+use Rattle.topic_counts.specs.Numbers.{difference_span}
+use Rattle.topic_counts.specs.declared.span.Span.{Span}
+use Rattle.topic_counts.proofs.Spans.{span, span_same}
 use Rattle.measure_core.specs.Laws.{AreMet}
 use Rattle.measure_core.specs.Numbers.{exact_least, exact_cell, exact_bounds}
 use Rattle.measure_core.proofs.Exact.{exact_laws, modest_short, IsRanking-empty}
@@ -28,7 +28,7 @@ use Rattle.measure_core.proofs.Cells.{cell}
 use Rattle.topic_counts.specs.Own.{AreCountsOf}
 use Rattle.recall.specs.LeastCase.{AreCounts, least_relevant}
 use Rattle.measure_laws.proofs.Ratios.{out_of}
-use Rattle.fractions.proofs.Ratio.{ratio_read}
+use Rattle.topic_counts.proofs.Ratio.{ratio_read}
 
 -- ---- the ends
 pub least_is : (k : ℕ) (marks : List Mark) (a b : List ℕ) (first second all : Counts) (num den : ℤ) (s : Span) → AreCounts k marks a b first second all →

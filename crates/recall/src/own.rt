@@ -1,7 +1,6 @@
 // Recall by the documents that each of two runs alone has among its first k.
 use crate::recall::{Recall, least_span};
-use measure_core::Cell;
-use own_cells::OwnMeasure;
+use measure_core::{Cell, OwnMeasure};
 use topic_counts::counts::{Counts, OwnCounts};
 
 impl OwnMeasure for Recall {

@@ -12,21 +12,22 @@ ghost use Rattle.measure_core.specs.Numbers.{exact_least};
 ghost use Rattle.recall.specs.LeastCase.{AreCounts, least_relevant};
 
 use desk_model::{Mark, MeasureName, Memory, Ranking};
-use fractions::{Span, span_of};
-use measure_core::{Cell, CellRoom, KeptCell, Measure, Shift, Steps, TopicRankings};
-use own_cells::{OwnMeasure, own_cells};
+use measure_core::{
+    Cell, CellRoom, KeptCell, Measure, OwnMeasure, Shift, Steps, TopicRankings, own_cells,
+    shift_one_side,
+};
 use std::alloc::Global;
 use std::marker::Model;
 use std::sync::ledger::Ledger;
 use topic_counts::counts::{Counts, is_among_first, own_counts, prefix_documents};
 use topic_counts::topic::all_documents;
-use weight_walks::shift_one_side;
+use topic_counts::{Span, span_of};
 
 /// How many units make a score of 1.
 const UNIT: i128 = 1_000_000_000_000_000_000;
 
 /// The measure `recall_k`, for a k from 1 to 10,000. Its unit is 10^18.
-#[derive(Debug, Drop)]
+#[derive(Drop)]
 pub struct Recall {
     pub(crate) k: u32,
 }

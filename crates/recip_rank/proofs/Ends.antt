@@ -12,9 +12,9 @@ use Rattle.desk_model.proofs.Completions.{with_picked-Completes, allowed_least, 
 use Rattle.desk_model.proofs.PrecisionEnds.{weaker}
 use Rattle.measure_laws.specs.ReciprocalCase.{with_choice, reciprocal_choice}
 use Rattle.measure_laws.proofs.ReciprocalEnds.{more_true}
-use Rattle.fractions.specs.declared.span.Span.{Span}
-use Rattle.fractions.specs.Numbers.{difference_span}
-use Rattle.fractions.proofs.Spans.{span, span_same}
+use Rattle.topic_counts.specs.declared.span.Span.{Span}
+use Rattle.topic_counts.specs.Numbers.{difference_span}
+use Rattle.topic_counts.proofs.Spans.{span, span_same}
 use Rattle.measure_core.specs.Numbers.{exact_least, exact_bounds}
 use Rattle.measure_core.proofs.Exact.{bounds_are}
 use Rattle.measure_core.proofs.RunBounds.{run_bounds, score_bounds}

@@ -5,25 +5,25 @@ ghost use Rattle.measure_laws.specs.Ranks.{IsRankWithin, earlier};
 ghost use Rattle.measure_laws.specs.Differences.{is_smaller};
 ghost use Rattle.measure_laws.specs.ReciprocalCase.{reciprocal_choice};
 ghost use Rattle.desk_model.specs.Score.{first_true, reciprocal};
-ghost use Rattle.fractions.specs.Ends.{IsShort};
-ghost use Rattle.fractions.specs.Numbers.{difference_span};
+ghost use Rattle.topic_counts.specs.Ends.{IsShort};
+ghost use Rattle.topic_counts.specs.Numbers.{difference_span};
 ghost use Rattle.measure_core.specs.Laws.{AreMet};
 ghost use Rattle.recip_rank.specs.Firsts.{scores_at, AreFirsts};
 
 use desk_model::{Mark, Ranking};
-use fractions::{Span, span_of};
 use topic_counts::ranks::rank_in;
 use topic_counts::topic::is_true;
+use topic_counts::{Span, span_of};
 
 /// The ranks, from 1, at which two runs show their first relevant document.
-#[derive(Clone, Copy, PartialEq, Eq, Debug)]
+#[derive(Clone, Copy, PartialEq, Eq)]
 pub struct Firsts {
     pub first: Option<u32>,
     pub second: Option<u32>,
 }
 
 /// Which unjudged document is made relevant, and what that gives.
-#[derive(Clone, Copy, PartialEq, Eq, Debug)]
+#[derive(Clone, Copy, PartialEq, Eq)]
 pub struct Candidate {
     pub choice: Option<u32>,
     pub firsts: Firsts,

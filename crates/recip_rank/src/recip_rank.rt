@@ -4,21 +4,22 @@ ghost use Rattle.desk_model.specs.declared.types.MeasureName.TheVariants.{Recipr
 ghost use Rattle.measure_laws.specs.Ranks.{IsRankWithin};
 ghost use Rattle.measure_laws.specs.ReciprocalCase.{is_choice, with_choice};
 ghost use Rattle.measure_laws.specs.Weights.{reciprocal_weight};
-ghost use Rattle.fractions.specs.Ends.{IsShort};
+ghost use Rattle.topic_counts.specs.Ends.{IsShort};
 ghost use Rattle.measure_core.specs.Laws.{AreMet, AreValues};
 ghost use Rattle.measure_core.specs.Made.{IsMadeFor};
 ghost use Rattle.measure_core.specs.Numbers.{exact_least};
 
 use crate::firsts::{Firsts, first_rank, least, span};
 use desk_model::{Mark, MeasureName, Memory, Ranking};
-use fractions::Span;
-use measure_core::{Cell, Measure, Shift, Steps};
+use measure_core::{
+    Cell, Measure, RankWorth, Shift, Steps, rank_or_none, shift_by_ranks, worths_of,
+};
 use std::alloc::Global;
 use std::marker::Model;
 use std::sync::ledger::Ledger;
+use topic_counts::Span;
 use topic_counts::ranks::rank_in;
 use topic_counts::topic::is_true;
-use weight_walks::{RankWorth, rank_or_none, shift_by_ranks, worths_of};
 
 /// How many units make a score of 1.
 const UNIT: u64 = 1_000_000_000_000_000_000;
@@ -33,7 +34,7 @@ pub struct RecipRank {
 impl Model for RecipRank {
     ghost use Rattle.std.specs.Prelude.{Bool, is_some, IfSome};
     ghost use Rattle.measure_laws.specs.Weights.{reciprocal_weight};
-    ghost use Rattle.weight_walks.specs.Worths.{AreWorths};
+    ghost use Rattle.measure_core.specs.Worths.{AreWorths};
 
     ghost Value = { Bool };
 

@@ -12,15 +12,15 @@ use Rattle.measure_laws.specs.Classes.{open_in, size_of, judged_count}
 use Rattle.measure_laws.specs.RprecCase.{greedy_truth, rprec_truth, rprec_count}
 use Rattle.measure_laws.proofs.RecallEnds.{over-max}
 use Rattle.measure_laws.proofs.RprecEnds.{greedy_is}
-use Rattle.fractions.specs.Ends.{IsFloor, IsCeiling, IsShort}
-use Rattle.fractions.specs.Numbers.{difference_span}
-use Rattle.fractions.specs.declared.span.Span.{Span}
+use Rattle.topic_counts.specs.Ends.{IsFloor, IsCeiling, IsShort}
+use Rattle.topic_counts.specs.Numbers.{difference_span}
+use Rattle.topic_counts.specs.declared.span.Span.{Span}
 use Rattle.measure_core.specs.Laws.{AreMet}
 use Rattle.measure_core.specs.Numbers.{exact_least}
 use Rattle.measure_core.proofs.Exact.{exact_laws, modest_short}
 use Rattle.topic_counts.specs.declared.counts.Counts.{Counts}
 use Rattle.measure_laws.proofs.Ratios.{out_of}
-use Rattle.fractions.proofs.Ratio.{ratio_read}
+use Rattle.topic_counts.proofs.Ratio.{ratio_read}
 use Rattle.rprec.specs.declared.greedy.Candidate.{Candidate}
 use Rattle.rprec.specs.Greedy.{AreTopic, IsLeast}
 use Rattle.measure_laws.proofs.LeastDifferences.{among_few}

@@ -10,8 +10,8 @@ use Rattle.desk_model.specs.Mark.{is_unjudged, mark_at}
 use Rattle.desk_model.specs.Ranking.{is_in, rank}
 use Rattle.desk_model.specs.declared.types.Mark.{Mark}
 use Rattle.topic_counts.proofs.Prefixes.{is_by, rank_by}
-use Rattle.weight_walks.specs.Worths.{rank_or_none}
-use Rattle.ranked_cells.specs.Ranks.{AreRanksIn}
+use Rattle.measure_core.specs.Worths.{rank_or_none}
+use Rattle.measure_core.specs.Ranks.{AreRanksIn}
 use Rattle.rprec.specs.Shared.{AreShared, counted, met}
 use Rattle.rprec.proofs.Counted.{counted_one, one_where}
 use Rattle.rprec.proofs.Flags.{rank_at, rank_place}

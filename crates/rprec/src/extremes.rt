@@ -17,7 +17,7 @@ use topic_counts::counts::Counts;
 
 /// The least candidate of two runs, and that of the swapped runs, whose difference is the greatest
 /// one negated.
-#[derive(Clone, Copy, PartialEq, Eq, Debug)]
+#[derive(Clone, Copy, PartialEq, Eq)]
 pub struct Extremes {
     pub least: Candidate,
     pub most: Candidate,

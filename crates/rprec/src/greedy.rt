@@ -6,7 +6,7 @@ use topic_counts::counts::Counts;
 
 /// A number of relevant documents, and how many of them each run has among as many first documents,
 /// where the difference is the least. Documents that both have there may be left out of both counts.
-#[derive(Clone, Copy, PartialEq, Eq, Debug)]
+#[derive(Clone, Copy, PartialEq, Eq)]
 pub struct Candidate {
     pub count: u32,
     pub first: u32,

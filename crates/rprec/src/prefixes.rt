@@ -8,14 +8,14 @@ use topic_counts::counts::Counts;
 
 /// The counts of two runs' first documents: of all relevant ones of each, and of the unjudged ones
 /// that it alone has there.
-#[derive(Clone, Copy, PartialEq, Eq, Debug)]
+#[derive(Clone, Copy, PartialEq, Eq)]
 pub struct Prefixes {
     pub first: Counts,
     pub second: Counts,
 }
 
 /// The counts of two runs' first documents, where one number holds both counts of a run.
-#[derive(Clone, Copy, PartialEq, Eq, Debug)]
+#[derive(Clone, Copy, PartialEq, Eq)]
 pub struct Packed {
     pub first: u32,
     pub second: u32,

@@ -16,22 +16,21 @@ use crate::shared::Shared;
 use crate::sums::sums_of_run;
 use crate::values::{values, wanted_for};
 use desk_model::{Mark, MeasureName, Memory, Ranking};
-use fractions::{Span, span_of};
 use measure_core::{
-    Cell, CellRoom, KeptCell, Measure, RunSums, RunWeights, Shift, Steps, TopicRankings,
+    Cell, CellRoom, FirstRun, KeptCell, KeptPair, Measure, RankedMeasure, RunSums, RunWeights,
+    Shift, Steps, TopicRankings, ranked_cells, shift_one_side,
 };
-use ranked_cells::{KeptPair, RankedMeasure, ranked_cells};
 use std::alloc::Global;
 use std::sync::ledger::Ledger;
 use topic_counts::counts::{Counts, is_among_first};
 use topic_counts::topic::all_documents;
-use weight_walks::shift_one_side;
+use topic_counts::{Span, span_of};
 
 /// How many units make a score of 1.
 const UNIT: i128 = 1_000_000_000_000_000_000;
 
 /// The measure `Rprec`. Its unit is 10^18.
-#[derive(Debug, Drop)]
+#[derive(Drop)]
 pub struct Rprec;
 
 impl Rprec {
@@ -140,11 +139,11 @@ impl RankedMeasure for Rprec {
         a: &Ranking,
         b: &Ranking,
         marks: &[Mark],
-        ranks: &[u32],
+        first: FirstRun<'_>,
         kept: KeptPair<'_>,
         all: Counts,
     ) -> Cell {
-        let shared = Shared::by_ranks(a, b, ranks, marks);
+        let shared = Shared::by_ranks(a, b, first.ranks, marks);
         let KeptPair { weights: _, sums } = kept;
         cell_of(
             a.docs(),

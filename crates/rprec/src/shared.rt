@@ -2,7 +2,7 @@ ghost use Rattle.std.specs.Prelude.{◌≡◌, ℕ, ◌+◌, ◌<◌, ◌≤◌,
 ghost use Rattle.desk_model.specs.Limits.{RANK_LIMIT};
 ghost use Rattle.desk_model.specs.Placed.{lookup, IsAscending};
 ghost use Rattle.desk_model.specs.Ranking.{IsRanking};
-ghost use Rattle.ranked_cells.specs.Ranks.{AreRanksIn};
+ghost use Rattle.measure_core.specs.Ranks.{AreRanksIn};
 ghost use Rattle.rprec.specs.Shared.{AreShared, counted, entered};
 ghost use Rattle.rprec.specs.Walk.{IsCountedWalk, IsWalked};
 

@@ -14,7 +14,7 @@ use topic_counts::counts::{Counts, is_among_first, own_documents};
 
 /// How many unjudged documents of each class are to be made relevant: of those that the second run
 /// alone has among its first ones, of those that both or neither have, and of the first run's own.
-#[derive(Clone, Copy, PartialEq, Eq, Debug)]
+#[derive(Clone, Copy, PartialEq, Eq)]
 pub struct Wanted {
     pub second: u32,
     pub both: u32,
@@ -22,7 +22,7 @@ pub struct Wanted {
 }
 
 /// Whether a document is relevant, and what is left to be made relevant after it.
-#[derive(Clone, Copy, PartialEq, Eq, Debug)]
+#[derive(Clone, Copy, PartialEq, Eq)]
 struct Choice {
     value: bool,
     left: Wanted,

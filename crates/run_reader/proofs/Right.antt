@@ -9,8 +9,8 @@ use Rattle.std.proofs.lemmas.List.{append-nil, length-map}
 use Rattle.std.proofs.lemmas.List.Elements.{All-push}
 use Rattle.desk_text.specs.Lines.{is_blank, fields_of}
 use Rattle.desk_model.specs.Name.{is_name}
-use Rattle.decimal_score.specs.Reading.{score_of}
-use Rattle.decimal_score.specs.declared.score.ScoreFault.{ScoreFault}
+use Rattle.desk_text.specs.Reading.{score_of}
+use Rattle.desk_text.specs.declared.score.ScoreFault.{ScoreFault}
 use Rattle.file_rows.specs.declared.fault.FileFault.TheVariants.{Line}
 use Rattle.file_rows.specs.declared.fault.FileFault.{FileFault}
 use Rattle.file_rows.specs.Reading.{unless, checked, field, is_long, and_then, read_line, rows_from, with_row}

@@ -4,9 +4,9 @@ use Rattle.std.specs.List.{list_any}
 use Rattle.std.specs.Result.{result_map_both}
 use Rattle.desk_text.specs.Lines.{is_bad, fields_of}
 use Rattle.desk_text.specs.declared.line.TheConstants.{LONGEST_LINE}
-use Rattle.decimal_score.specs.Reading.{score_of}
-use Rattle.decimal_score.specs.declared.score.ScoreFault.{ScoreFault}
-use Rattle.decimal_score.specs.declared.score.ScoreFault.TheVariants.{BadScore, ScoreTooLong, ScoreExponent}
+use Rattle.desk_text.specs.Reading.{score_of}
+use Rattle.desk_text.specs.declared.score.ScoreFault.{ScoreFault}
+use Rattle.desk_text.specs.declared.score.ScoreFault.TheVariants.{BadScore, ScoreTooLong, ScoreExponent}
 use Rattle.file_rows.specs.Reading.{field, is_long, and_then, unless, checked}
 use Rattle.file_rows.specs.Rows.{Row, rows_on, has_document, name_bytes_of}
 use Rattle.file_rows.specs.Grouped.{TopicRows, is_topic}

@@ -6,7 +6,7 @@ ghost use Rattle.file_rows.specs.Grouped.{is_topic, with_row_on, rows_in, place_
 ghost use Rattle.run_reader.specs.Reader.{row_said, IsTracked, IsNoted};
 
 use crate::line::RowText;
-use decimal_score::Score;
+use desk_text::Score;
 use file_rows::{GroupedRows, SeenNames};
 use std::alloc::{AllocError, Global};
 

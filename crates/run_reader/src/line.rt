@@ -5,9 +5,8 @@ ghost use Rattle.file_rows.specs.Reading.{is_long};
 ghost use Rattle.run_reader.specs.Rows.{formed, tag_of, line_fault};
 ghost use Rattle.run_reader.specs.Reader.{row_said};
 
-use decimal_score::{Score, ScoreFault, read_score};
 use desk_model::Name;
-use desk_text::{LONGEST_LINE, fields};
+use desk_text::{LONGEST_LINE, Score, ScoreFault, fields, read_score};
 use file_rows::LineFault;
 
 /// What a line says.

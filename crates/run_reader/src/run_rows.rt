@@ -8,7 +8,7 @@ ghost use Rattle.run_reader.specs.Run.{IsRun, IsWithinLimits, rows_on_topic};
 
 use crate::limits::MOST_RANKS;
 use crate::used::Used;
-use decimal_score::Score;
+use desk_text::Score;
 use file_rows::{GroupedRows, ValuedRows};
 use std::alloc::Global;
 use std::marker::Model;

@@ -1,7 +1,7 @@
 // What files used.
 
 /// What the files read so far used of the limits on all of them.
-#[derive(Clone, Copy, Debug, PartialEq, Eq)]
+#[derive(Clone, Copy, PartialEq, Eq)]
 pub struct Used {
     /// How many rows of runs were kept.
     pub rows: u32,

@@ -15,10 +15,10 @@ use Rattle.desk_model.specs.Named.{book_at}
 use Rattle.desk_report.specs.Table.{ended}
 use Rattle.desk_report.specs.Judging.{changed_line}
 use Rattle.measure_core.specs.Made.{IsMadeFor}
-use Rattle.pair_reports.specs.Reports.{IsTableOn, subject}
+use Rattle.desk_report.specs.Reports.{IsTableOn, subject}
 use Rattle.pair_table.specs.Kept.{Kept, StandsFor, StandsElsewhere}
 use Rattle.pair_table.proofs.Changing.{numbers_elsewhere}
-use Rattle.session_lines.specs.Request.{Heard}
+use Rattle.judge_session.specs.Request.{Heard}
 use Rattle.session_replies.specs.Replies.{Setting, marks_after, changes_after, change_reply, IsReply}
 use Rattle.session_replies.specs.State.{Numbers, Answers, TakesOver, AreWeightsFor}
 use Rattle.session_replies.specs.declared.state.Judging.{Judging}

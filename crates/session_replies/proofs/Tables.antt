@@ -3,7 +3,7 @@ use Rattle.std.proofs.Common.{◌≡◌, List, Option, Some, refl, subst}
 use Rattle.std.specs.Prelude.{IfSome}
 use Rattle.desk_model.specs.Desk.{IsDesk}
 use Rattle.judge_session.specs.declared.change.Change.{Change}
-use Rattle.pair_reports.specs.Reports.{IsTableOn, IsSubjectOf}
+use Rattle.desk_report.specs.Reports.{IsTableOn, IsSubjectOf}
 use Rattle.pair_table.specs.Kept.{Kept}
 use Rattle.session_replies.specs.Replies.{Setting, subject_after}
 use Rattle.session_replies.specs.State.{Numbers, IsReady}

@@ -10,7 +10,7 @@ use Rattle.measure_laws.specs.Measures.{unit_of}
 use Rattle.desk_report.specs.Table.{table_text, pair_line, ended}
 use Rattle.desk_report.specs.Close.{close_line}
 use Rattle.desk_report.specs.Judging.{pool_line, next_line}
-use Rattle.judgement_pool.specs.declared.pool.PoolCount.{PoolCount}
+use Rattle.desk_model.specs.declared.pool.PoolCount.{PoolCount}
 use Rattle.judge_session.specs.declared.change.Change.{Change}
 use Rattle.next_document.specs.Laws.{NextIsOne}
 use Rattle.next_document.specs.Proposal.{IsNext}
@@ -23,8 +23,8 @@ use Rattle.pair_table.specs.Sums.{run_numbers}
 use Rattle.pair_table.proofs.Answered.{one_answer}
 use Rattle.pair_table.proofs.Named.{pair_unique, table_determined}
 use Rattle.pair_table.proofs.Zips.{zip_unique}
-use Rattle.pair_reports.specs.Reports.{Subject, IsTableText, IsPairText, IsNextText, standing_of, run_name}
-use Rattle.session_lines.specs.Request.{Heard, Judge, Undo, Redo, Table, Pair, Certify, Pool, Next, Qrels, Quit, Blank, TooLong, Bad, Asked}
+use Rattle.desk_report.specs.Reports.{Subject, IsTableText, IsPairText, IsNextText, standing_of, run_name}
+use Rattle.judge_session.specs.Request.{Heard, Judge, Undo, Redo, Table, Pair, Certify, Pool, Next, Qrels, Quit, Blank, TooLong, Bad, Asked}
 use Rattle.session_replies.specs.Replies.{Setting, subject_after, OnNumbers, IsCertified, IsPoolReply, IsReply, refusal}
 use Rattle.session_replies.proofs.Marks.{marks_of_desk}
 

@@ -10,14 +10,14 @@ use Rattle.desk_model.specs.Verdict.{verdict}
 use Rattle.desk_model.specs.declared.types.Mark.{Mark}
 use Rattle.desk_model.specs.declared.types.MeasureName.{MeasureName}
 use Rattle.desk_model.specs.declared.types.Verdict.{Verdict}
-use Rattle.fractions.specs.declared.span.Span.{Span}
+use Rattle.topic_counts.specs.declared.span.Span.{Span}
 use Rattle.measure_core.specs.declared.cell.Cell.{Cell}
 use Rattle.measure_laws.specs.Weights.{weight_of}
 use Rattle.next_document.specs.Kept.{Kept as Weights, AreKeptFor, AreKeptBut}
 use Rattle.next_document.specs.Proposal.{total_weight, unsettled_pairs}
 use Rattle.next_document.specs.Total.{standing}
-use Rattle.pair_reports.specs.Reports.{Subject, IsSubjectOf, AreWeightsOf}
-use Rattle.pair_reports.proofs.Reporting.{table_numbers}
+use Rattle.desk_report.specs.Reports.{Subject, IsSubjectOf, AreWeightsOf}
+use Rattle.desk_report.proofs.Reporting.{table_numbers}
 use Rattle.pair_table.specs.Kept.{Kept, StandsFor}
 use Rattle.pair_table.specs.Sums.{pair_sums, run_numbers}
 use Rattle.pair_table.proofs.PairNumbers.{length-pairs_of}

@@ -7,7 +7,7 @@ use Rattle.judge_session.specs.Session.{judged, undone, redone, last_that, first
 use Rattle.judge_session.specs.InForce.{IsOnDesk, grade_in_force}
 use Rattle.desk_model.specs.Named.{book_at}
 use Rattle.judge_session.specs.declared.change.Change.{Change}
-use Rattle.session_lines.specs.Request.{Heard}
+use Rattle.judge_session.specs.Request.{Heard}
 use Rattle.session_replies.specs.Replies.{Setting, marks_after, IsReply}
 
 -- marks, with that of one document by the judgements in force after changes

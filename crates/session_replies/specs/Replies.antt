@@ -7,8 +7,8 @@ use Rattle.desk_model.specs.Mark.{mark_of}
 use Rattle.desk_model.specs.Name.{number_of}
 use Rattle.desk_model.specs.declared.types.Mark.{Mark}
 use Rattle.desk_model.specs.declared.types.MeasureName.{MeasureName}
-use Rattle.judgement_pool.specs.Pool.{pool_of, IsCountOf}
-use Rattle.judgement_pool.specs.declared.pool.PoolCount.{PoolCount}
+use Rattle.desk_model.specs.Pool.{pool_of, IsCountOf}
+use Rattle.desk_model.specs.declared.pool.PoolCount.{PoolCount}
 use Rattle.judge_session.specs.Session.{judged, undone, redone, last_that, first_that, is_live_by, is_undone_by}
 use Rattle.judge_session.specs.InForce.{judgeable, grade_in_force, grades_in_force}
 use Rattle.desk_model.specs.Named.{book_at}
@@ -17,8 +17,8 @@ use Rattle.judge_session.specs.declared.answers.JudgeFault.{JudgeFault}
 use Rattle.judge_session.specs.declared.answers.JudgeFault.TheVariants.{UnknownTopic, UnknownDocument, HistoryFull, Memory}
 use Rattle.desk_report.specs.Table.{ended}
 use Rattle.desk_report.specs.Judging.{changed_line, pool_line, qrels_text}
-use Rattle.pair_reports.specs.Reports.{Subject, subject, IsTableText, IsPairText, IsCertificateText, IsCloseText, IsNextText}
-use Rattle.session_lines.specs.Request.{Judge, Undo, Redo, Table, Pair, Certify, Pool, Next, Qrels, Quit, Heard, Blank, TooLong, Bad, Asked}
+use Rattle.desk_report.specs.Reports.{Subject, subject, IsTableText, IsPairText, IsCertificateText, IsCloseText, IsNextText}
+use Rattle.judge_session.specs.Request.{Judge, Undo, Redo, Table, Pair, Certify, Pool, Next, Qrels, Quit, Heard, Blank, TooLong, Bad, Asked}
 
 -- what a session is over: a measure, a level and a desk
 pub record Setting : Type 0 where

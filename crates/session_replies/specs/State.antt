@@ -1,5 +1,5 @@
 -- What a session keeps between its lines.
-pub use Rattle.pair_reports.specs.Reports.{cells_of}
+pub use Rattle.desk_report.specs.Reports.{cells_of}
 use Rattle.std.specs.Prelude.{◌≡◌, ℕ, ◌*◌, ◌+◌, ◌≤◌, List, length, map, codes, Option, None, Some, IfSome, IsSome}
 use Rattle.desk_model.specs.Desk.{Desk, pair_count}
 use Rattle.desk_model.specs.MeasureText.{IsMeasure}
@@ -7,16 +7,16 @@ use Rattle.desk_model.specs.Pairs.{pairs_of}
 use Rattle.desk_model.specs.Verdict.{verdict}
 use Rattle.desk_model.specs.declared.types.Mark.{Mark}
 use Rattle.desk_model.specs.declared.types.MeasureName.{MeasureName}
-use Rattle.fractions.specs.declared.span.Span.{Span}
+use Rattle.topic_counts.specs.declared.span.Span.{Span}
 use Rattle.measure_core.specs.declared.cell.Cell.{Cell}
 use Rattle.next_document.specs.Kept.{Kept as Weights, AreKeptFor, AreKeptBut}
 use Rattle.order_certificate.specs.Certificate.{IsLevel}
 use Rattle.judge_session.specs.InForce.{IsSessionOf}
-use Rattle.pair_reports.specs.Reports.{Subject, AreRuns, IsTableOn, IsTableText, IsPairText}
-use Rattle.pair_reports.specs.declared.reports.Certified.{Certified}
-use Rattle.pair_reports.specs.declared.reports.Certified.TheVariants as certified
+use Rattle.desk_report.specs.Reports.{Subject, AreRuns, IsTableOn, IsTableText, IsPairText}
+use Rattle.desk_report.specs.declared.reports.Certified.{Certified}
+use Rattle.desk_report.specs.declared.reports.Certified.TheVariants as certified
 use Rattle.pair_table.specs.Kept.{Kept, StandsFor}
-use Rattle.session_lines.specs.Request.{Heard, Asked, Quit}
+use Rattle.judge_session.specs.Request.{Heard, Asked, Quit}
 use Rattle.session_replies.specs.Replies.{Setting, marks_after, subject_after, changes_after, accepted, IsCertified, IsReply}
 use Rattle.session_replies.specs.declared.state.Judging.{Judging}
 use Rattle.session_replies.specs.declared.state.Given.{Given}

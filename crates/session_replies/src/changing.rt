@@ -8,7 +8,7 @@ ghost use Rattle.desk_model.specs.Named.{book_at};
 ghost use Rattle.desk_report.specs.Judging.{changed_line};
 ghost use Rattle.desk_report.specs.Table.{ended};
 ghost use Rattle.pair_table.specs.Kept.{StandsFor, StandsElsewhere};
-ghost use Rattle.session_lines.specs.Request as lines;
+ghost use Rattle.judge_session.specs.Request as lines;
 ghost use Rattle.session_replies.specs.Replies.{refusal, fault_word};
 ghost use Rattle.session_replies.specs.State.{setting_of, IsReady, Answers, CountsLine, Keeps, TakesOver, AreWeightsFor, AreWeightsElsewhere, owed, pairs_in};
 

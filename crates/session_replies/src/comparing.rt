@@ -3,7 +3,7 @@ ghost use Rattle.std.specs.Prelude.{◌≡◌, ◌+◌, ◌≤◌, Some, IfOk, I
 ghost use Rattle.desk_model.specs.Desk.{AreMarksOf};
 ghost use Rattle.desk_model.specs.Name.{number_of};
 ghost use Rattle.order_certificate.specs.Certificate.{IsLevel};
-ghost use Rattle.pair_reports.specs.Reports.{Subject, IsSubjectOf, IsNextText, AreRuns};
+ghost use Rattle.desk_report.specs.Reports.{Subject, IsSubjectOf, IsNextText, AreRuns};
 ghost use Rattle.pair_table.specs.Kept.{StandsFor};
 ghost use Rattle.session_replies.specs.Replies.{refusal, subject_after, IsRunRefusal};
 ghost use Rattle.session_replies.specs.State.{setting_of, IsSetting, IsReady, Keeps, IsReported, AreRunsOf, AreWeightsFor, owed, word_of, shown_text};
@@ -11,11 +11,11 @@ ghost use Rattle.session_replies.specs.State.{setting_of, IsSetting, IsReady, Ke
 use crate::state::{Given, Judging};
 use crate::telling::refused;
 use desk_model::{Desk, Marks, Memory};
-use measure_core::{Maker, Measure, Steps};
-use next_document::Weights;
-use pair_reports::{
+use desk_report::{
     Certified, certified_report, kept_next_report, pair_report, table_on, table_report,
 };
+use measure_core::{Maker, Measure, Steps};
+use next_document::Weights;
 use pair_table::Table;
 use std::alloc::Global;
 use std::sync::ledger::Ledger;

@@ -1,17 +1,17 @@
 // The reply of a session to a line.
 ghost use Rattle.std.specs.Prelude.{◌≤◌, ◌+◌, IfOk, OnErr};
-ghost use Rattle.session_lines.specs.Forms.{IsWithin};
-ghost use Rattle.session_lines.specs.Request as lines;
-ghost use Rattle.session_lines.specs.Request.{heard_of};
-ghost use Rattle.session_lines.specs.Said.{request_said};
+ghost use Rattle.judge_session.specs.Forms.{IsWithin};
+ghost use Rattle.judge_session.specs.Request as lines;
+ghost use Rattle.judge_session.specs.Request.{heard_of};
+ghost use Rattle.judge_session.specs.Said.{request_said};
 ghost use Rattle.session_replies.specs.State.{setting_of, IsSetting, IsReady, Answers, IsAnswered, CountsLine, Keeps, owed};
 
 use crate::comparing::{Report, find_runs, make_next, make_report, refused_runs};
 use crate::state::{Given, Judging};
 use crate::telling::{pool, qrels, refused};
 use desk_model::Memory;
+use judge_session::{Heard, Request, hear};
 use measure_core::{Maker, Steps};
-use session_lines::{Heard, Request, hear};
 use std::alloc::Global;
 use std::sync::ledger::Ledger;
 

@@ -10,10 +10,9 @@ ghost use Rattle.session_replies.specs.Replies.{refusal, all_in_force, marks_aft
 ghost use Rattle.session_replies.specs.State.{setting_of};
 
 use crate::state::Given;
-use desk_model::{Desk, Marks, Memory};
+use desk_model::{Desk, Marks, Memory, pool_count};
 use desk_report::{pool_line, qrels_text};
 use judge_session::Session;
-use judgement_pool::pool_count;
 use std::alloc::{AllocError, Global};
 
 fn push_refusal(out: &mut Vec<u8>, reason: &[u8]) -> Result<(), AllocError>

@@ -6,7 +6,7 @@ use Rattle.desk_outside.specs.Outside.{AppendsPrefix}
 use Rattle.desk_outside.proofs.Told.{whole_after, prefix_after}
 use Rattle.desk_model.specs.Desk.{Desk}
 use Rattle.judge_session.specs.declared.change.Change.{Change}
-use Rattle.session_lines.specs.Request.{Heard, Blank, TooLong, Bad, Asked, Request, Judge, Undo, Redo, Table, Pair, Certify, Pool, Qrels, Quit, heard_of}
+use Rattle.judge_session.specs.Request.{Heard, Blank, TooLong, Bad, Asked, Request, Judge, Undo, Redo, Table, Pair, Certify, Pool, Qrels, Quit, heard_of}
 use Rattle.session_replies.specs.Replies.{Setting, IsReply, changes_after, accepted}
 use Rattle.session_replies.specs.State.{pairs_in}
 use Rattle.desk_text.specs.Lines.{whole_lines, unended, HasNoLineFeed}
@@ -52,7 +52,7 @@ quit_accepts desk (Asked Table) c quit = refl
 quit_accepts desk (Asked (Pair first second)) c quit = refl
 quit_accepts desk (Asked (Certify first second)) c quit = refl
 quit_accepts desk (Asked (Pool topic depth)) c quit = refl
-quit_accepts desk (Asked Rattle.session_lines.specs.Request.Next) c quit = refl
+quit_accepts desk (Asked Rattle.judge_session.specs.Request.Next) c quit = refl
 quit_accepts desk (Asked Qrels) c quit = refl
 
 module _ (s : Setting) (had has : Option (List ℕ)) (first total : ℕ) (taken line : List ℕ) (c : List Change) (in_line : HasNoLineFeed line) (t : Talks s had has first total taken c) where

@@ -9,7 +9,7 @@ use Rattle.desk_outside.proofs.Told.{whole_after, prefix_after}
 use Rattle.desk_text.specs.Lines.{lines}
 use Rattle.judge_session.specs.declared.change.Change.{Change}
 use Rattle.pair_table.specs.Kept.{Kept}
-use Rattle.session_lines.specs.Request.{heard_of}
+use Rattle.judge_session.specs.Request.{heard_of}
 use Rattle.session_replies.specs.State.{owed, cells_of, pairs_in}
 use Rattle.session_replies.specs.Replies.{Setting, IsReply, accepted}
 use Rattle.desk_text.specs.Lines.{whole_lines, unended}

@@ -2,7 +2,7 @@
 use Rattle.std.proofs.Common.{◌≡◌, ℕ, ◌+◌, List, [], ◌∷◌, ◌++◌, refl, ap, sym, ◌∙◌, arith, append_assoc, append-nil}
 use Rattle.desk_model.specs.Desk.{Desk}
 use Rattle.judge_session.specs.declared.change.Change.{Change}
-use Rattle.session_lines.specs.Request.{heard_of}
+use Rattle.judge_session.specs.Request.{heard_of}
 use Rattle.session_replies.specs.Replies.{Setting, IsReply, changes_after}
 use Rattle.session_stream.specs.Text.{changes_over, accepted_in, AreReplies, joined}
 

@@ -2,7 +2,7 @@
 use Rattle.std.specs.Prelude.{ℕ, nat_lt, Bool, true, false, List, [], ◌∷◌, length, take, if◌then◌else◌}
 use Rattle.desk_text.specs.Lines.{lines, whole_lines}
 use Rattle.desk_outside.specs.Inputs.{Input, Whole, Cut, bytes_in}
-use Rattle.session_lines.specs.Request.{Heard, Asked, Quit, heard_of}
+use Rattle.judge_session.specs.Request.{Heard, Asked, Quit, heard_of}
 use Rattle.session_stream.specs.declared.stream.TheConstants.{LONGEST_INPUT}
 
 -- how a session ends: its input was heard to its end or to `quit`; it was too long; it failed

@@ -5,7 +5,7 @@ use Rattle.desk_outside.specs.Outside.{Rose, AppendsPrefix}
 use Rattle.desk_outside.specs.Seen.{Sink, ReceivedNothing, ReceivedAll, ReceivedPrefix}
 use Rattle.desk_text.specs.Lines.{whole_lines, kept_line, unended}
 use Rattle.judge_session.specs.declared.change.Change.{Change}
-use Rattle.session_lines.specs.Request.{heard_of}
+use Rattle.judge_session.specs.Request.{heard_of}
 use Rattle.desk_model.specs.Desk.{Desk}
 use Rattle.pair_table.specs.Kept.{Kept}
 use Rattle.session_replies.specs.State.{owed, pairs_in}

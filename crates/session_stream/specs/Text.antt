@@ -5,7 +5,7 @@ use Rattle.desk_outside.specs.Outside.{Rose}
 use Rattle.desk_outside.specs.Seen.{Source, Sink, ReceivedAll, ReceivedPrefix}
 use Rattle.desk_model.specs.Desk.{Desk}
 use Rattle.judge_session.specs.declared.change.Change.{Change}
-use Rattle.session_lines.specs.Request.{heard_of}
+use Rattle.judge_session.specs.Request.{heard_of}
 use Rattle.session_replies.specs.Replies.{Setting, IsReply, changes_after, accepted}
 use Rattle.session_replies.specs.State.{cells_of, pairs_in}
 use Rattle.session_stream.specs.Hearing.{End, Failed, hearing_of}

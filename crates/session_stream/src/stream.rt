@@ -21,7 +21,7 @@ const ROOM: usize = 65_536;
 const TOO_LONG: &[u8] = b"no LineTooLong\n";
 
 /// How the input of a session ended.
-#[derive(Clone, Copy, Debug, PartialEq, Eq)]
+#[derive(Clone, Copy, PartialEq, Eq)]
 pub enum Ended {
     /// It was read to its end, or to the line `quit`.
     Done,
@@ -30,7 +30,7 @@ pub enum Ended {
 }
 
 /// Why a session stopped.
-#[derive(Clone, Copy, Debug, PartialEq, Eq)]
+#[derive(Clone, Copy, PartialEq, Eq)]
 pub enum Fault {
     /// The input failed.
     Input,
@@ -41,7 +41,7 @@ pub enum Fault {
 }
 
 /// What follows a line.
-#[derive(Clone, Copy, Debug, PartialEq, Eq)]
+#[derive(Clone, Copy, PartialEq, Eq)]
 pub enum Next {
     /// More lines.
     More,

@@ -1,3 +1,7 @@
+pub mod PlacesMore
+pub mod Spans
+pub mod Enclosures
+pub mod Ratio
 pub mod Merge
 pub mod Places
 pub mod Prefixes

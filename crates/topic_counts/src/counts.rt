@@ -9,7 +9,7 @@ use crate::shared::shared_documents;
 use desk_model::{Mark, Ranking};
 
 /// How many of some documents are relevant, and how many unjudged.
-#[derive(Clone, Copy, PartialEq, Eq, Debug)]
+#[derive(Clone, Copy, PartialEq, Eq)]
 pub struct Counts {
     pub relevant: u32,
     pub unjudged: u32,
@@ -72,7 +72,7 @@ impl Counts {
 }
 
 /// The counts of the documents that each of two rankings has among its first k, and the other not.
-#[derive(Clone, Copy, PartialEq, Eq, Debug)]
+#[derive(Clone, Copy, PartialEq, Eq)]
 pub struct OwnCounts {
     pub first: Counts,
     pub second: Counts,

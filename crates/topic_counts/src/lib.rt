@@ -1,10 +1,15 @@
-//! What several measures count or walk: the marks of a topic, the first k documents of a ranking, the
-//! documents that two rankings share, and the documents of two rankings side by side.
+//! What several measures count and walk on a topic, and whole numbers that enclose fractions: floors, ceilings, and
+//! powers rounded outward.
 #![tactic(auto)]
 
 pub mod counts;
 pub mod marked;
 pub mod pairs;
+pub mod powers;
 pub mod ranks;
 pub mod shared;
+pub mod span;
 pub mod topic;
+
+pub use powers::Powers;
+pub use span::{Span, span_of};

@@ -1,3 +1,5 @@
+pub mod Ranks
+pub mod Unique
 pub mod Sets
 pub mod Sorting
 pub mod Placing

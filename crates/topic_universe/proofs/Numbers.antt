@@ -4,7 +4,7 @@ use Rattle.std.specs.List.Sorted.{IsPermutation}
 use Rattle.std.proofs.lemmas.List.Elements.{All-weaker}
 use Rattle.std.proofs.lemmas.List.Sorted.{IsPermutation-map}
 use Rattle.file_rows.specs.Grouped.{Valued}
-use Rattle.trec_order.specs.Order.{IsTrecOrder}
+use Rattle.topic_universe.specs.Order.{IsTrecOrder}
 use Rattle.topic_universe.specs.Names.{Gathers}
 use Rattle.topic_universe.specs.Universe.{AreRankedNumbers}
 use Rattle.topic_universe.proofs.Sets.{renamed}

@@ -1,3 +1,5 @@
+pub mod Order
+pub mod Entry
 pub mod Names
 pub mod Sorted
 pub mod Universe

@@ -3,7 +3,7 @@ use Rattle.std.specs.Prelude.{◌<◌, ℕ, map, flat_map, All, List, length}
 use Rattle.std.specs.List.{AllZip}
 use Rattle.file_rows.specs.Grouped.{Valued, TopicRows, rows_at}
 use Rattle.run_reader.specs.Run.{Run, rows_on_topic}
-use Rattle.trec_order.specs.Order.{IsTrecOrder}
+use Rattle.topic_universe.specs.Order.{IsTrecOrder}
 use Rattle.topic_universe.specs.Names.{numbered_names, Gathers}
 use Rattle.topic_universe.specs.Sorted.{Numbered, AreSorted}
 

@@ -3,7 +3,7 @@ use desk_model::Memory;
 use std::alloc::{AllocError, AllocFailed};
 
 /// Memory runs out, in whatever form a call says so.
-#[derive(Clone, Copy, Debug, PartialEq, Eq)]
+#[derive(Clone, Copy, PartialEq, Eq, Debug)]
 pub struct OutOfMemory;
 
 impl From<AllocError> for OutOfMemory {

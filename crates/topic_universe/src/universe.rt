@@ -9,11 +9,11 @@ ghost use Rattle.topic_universe.specs.Universe.{listed, retrieved, AreRankedNumb
 use crate::memory::OutOfMemory;
 use crate::names::sorted;
 use crate::numbered::Numbered;
+use crate::{RankedNames, ranking};
 use file_rows::NameIndex;
 use qrels_reader::Qrels;
 use run_reader::RunRows;
 use std::alloc::{AllocError, Global};
-use trec_order::{RankedNames, ranking};
 
 /// The documents of a topic. A document's number is the place, from 0, at which it was first found: among the qrels' rows, and then
 /// among each run's.

@@ -10,7 +10,7 @@ use Rattle.std.proofs.lemmas.Map.Keys.{apart_from_distinct}
 use Rattle.desk_model.specs.Book.{Book}
 use Rattle.file_rows.specs.Grouped.{TopicRows, Valued, rows_in, row_count}
 use Rattle.run_reader.specs.Run.{Run, rows_on_topic}
-use Rattle.trec_order.specs.Order.{IsTrecOrder}
+use Rattle.topic_universe.specs.Order.{IsTrecOrder}
 use Rattle.topic_universe.specs.Universe.{listed, retrieved}
 use Rattle.topic_universe.proofs.Zips.{zip-weaker}
 use Rattle.topics_pool.specs.Rows.{IsBookOf, doc_names, total_rows}

@@ -18,7 +18,7 @@ use Rattle.desk_model.proofs.Nested.{length-rankings, ranking_over}
 use Rattle.file_rows.specs.Grouped.{TopicRows, rows_in}
 use Rattle.file_rows.proofs.Seen.{laws}
 use Rattle.run_reader.specs.Run.{Run, rows_on_topic}
-use Rattle.trec_order.proofs.Unique.{one_order}
+use Rattle.topic_universe.proofs.Unique.{one_order}
 use Rattle.topic_universe.specs.Names.{HaveSameNames}
 use Rattle.topics_pool.specs.Rows.{IsDeskOf, IsBookOf, doc_names, topic_names, names_on, grade_in}
 

@@ -14,7 +14,7 @@ use Rattle.file_rows.proofs.Seen.{laws}
 use Rattle.run_reader.specs.Run.{Run, rows_on_topic}
 use Rattle.file_rows.specs.Grouped.{Valued}
 use Rattle.run_reader.specs.declared.limits.TheConstants.{MOST_RANKS}
-use Rattle.trec_order.specs.Order.{IsTrecOrder}
+use Rattle.topic_universe.specs.Order.{IsTrecOrder}
 use Rattle.topic_universe.specs.Universe.{retrieved}
 use Rattle.topic_universe.proofs.Numbers.{ranked_documents}
 use Rattle.topic_universe.proofs.Zips.{AllZip-end}

@@ -1,4 +1,4 @@
 pub mod Rows
 pub mod Made
 pub use Rattle.topic_universe.specs.Names
-pub use Rattle.judgement_pool.specs.Pool
+pub use Rattle.desk_model.specs.Pool

@@ -7,7 +7,7 @@ use Rattle.desk_model.specs.Name.{AreAscending}
 use Rattle.desk_model.specs.Ranking.{IsRanking}
 use Rattle.file_rows.specs.Grouped.{TopicRows, Valued, names_of, rows_at, row_count}
 use Rattle.run_reader.specs.Run.{Run, rows_on_topic}
-use Rattle.trec_order.specs.Order.{IsTrecOrder}
+use Rattle.topic_universe.specs.Order.{IsTrecOrder}
 use Rattle.topic_universe.specs.Names.{HaveSameNames}
 use Rattle.topic_universe.specs.Universe.{listed}
 use Rattle.topics_pool.specs.Rows.{IsBookOf, doc_names, grade_in, topic_names}

@@ -6,7 +6,7 @@ use Rattle.desk_model.specs.Book.{Book, file_grade_of}
 use Rattle.desk_model.specs.Desk.{Desk, IsDesk, ranking_of, pair_count}
 use Rattle.file_rows.specs.Grouped.{TopicRows, Valued, names_of, rows_in, row_count}
 use Rattle.run_reader.specs.Run.{Run, rows_on_topic}
-use Rattle.trec_order.specs.Order.{IsTrecOrder}
+use Rattle.topic_universe.specs.Order.{IsTrecOrder}
 use Rattle.topic_universe.specs.Names.{HaveSameNames}
 use Rattle.topic_universe.specs.Universe.{listed, retrieved}
 use Rattle.topics_pool.specs.declared.fault.DeskFault.{DeskFault}

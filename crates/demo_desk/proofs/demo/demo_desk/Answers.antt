@@ -1,6 +1,6 @@
 use Rattle.std.proofs.Common.{ap, sym, ◌∙◌}
 use Rattle.qrels_reader.specs.Grouped.{qrels_of}
-use Rattle.demo_texts.specs.Texts.{qrels_after}
+use Rattle.demo_desk.specs.Texts.{qrels_after}
 use Rattle.demo_desk.proofs.Said.{seed_said}
 use Rattle.demo_desk.proofs.demo.demo_desk.Goals as goal
 

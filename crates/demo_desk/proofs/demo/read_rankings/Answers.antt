@@ -1,9 +1,9 @@
 use Rattle.std.proofs.Common.{ap, refl, sym, ◌∙◌, arith}
 use Rattle.std.specs.Prelude.{None}
 use Rattle.run_reader.specs.Run.{run_of}
-use Rattle.demo_texts.specs.Draws.{state_after}
-use Rattle.demo_texts.specs.Texts.{run_after}
-use Rattle.demo_texts.proofs.Lines.{state_after-none, state_after-times}
+use Rattle.demo_desk.specs.Draws.{state_after}
+use Rattle.demo_desk.specs.Texts.{run_after}
+use Rattle.demo_desk.proofs.TextLines.{state_after-none, state_after-times}
 use Rattle.demo_desk.proofs.Said.{none_said, said_more, next_ok}
 use Rattle.demo_desk.proofs.demo.read_rankings.Goals as goal
 

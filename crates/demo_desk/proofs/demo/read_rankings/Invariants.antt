@@ -1,6 +1,6 @@
 use Rattle.std.proofs.Common.{◌≡◌, ◌*◌}
 use Rattle.run_reader.specs.Run.{IsWithinLimits}
-use Rattle.demo_texts.specs.Draws.{state_after}
+use Rattle.demo_desk.specs.Draws.{state_after}
 use Rattle.demo_desk.proofs.Said.{AreSaid}
 use Rattle.demo_desk.proofs.demo.read_rankings.Given as goal
 

@@ -1,5 +1,5 @@
 use Rattle.std.proofs.Common.{arith, get_or, pos}
-use Rattle.fractions.specs.declared.span.Span.{Span}
+use Rattle.topic_counts.specs.declared.span.Span.{Span}
 use Rattle.desk_report.specs.Table.{run_line}
 use Rattle.desk_report.proofs.Joins.{one_more, all_lines, get_or-there}
 use Rattle.desk_report.proofs.table.push_runs.Goals as goal

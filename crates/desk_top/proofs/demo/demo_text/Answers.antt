@@ -1,7 +1,7 @@
 use Rattle.std.proofs.Common.{subst}
 use Rattle.std.proofs.lemmas.Result.{IfOk-weaker}
 use Rattle.desk_model.specs.declared.types.MeasureName.TheVariants.{Precision}
-use Rattle.pair_reports.specs.Reports.{IsTableOn, subject}
+use Rattle.desk_report.specs.Reports.{IsTableOn, subject}
 use Rattle.desk_top.proofs.Marking.{marks_known}
 use Rattle.desk_top.proofs.demo.demo_text.Goals as goal
 

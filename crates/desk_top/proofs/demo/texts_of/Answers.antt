@@ -1,9 +1,9 @@
 use Rattle.std.proofs.Common.{refl, sym, subst, ap, ◌∙◌, ◌++◌, map}
 use Rattle.desk_model.specs.Desk.{AreMarksOf}
 use Rattle.desk_model.specs.Verdict.{verdict}
-use Rattle.demo_report.specs.Summary.{summary_lines, summary_text}
-use Rattle.pair_reports.specs.Reports.{IsSubjectOf}
-use Rattle.pair_reports.proofs.Reporting.{table_numbers}
+use Rattle.demo_desk.specs.Summary.{summary_lines, summary_text}
+use Rattle.desk_report.specs.Reports.{IsSubjectOf}
+use Rattle.desk_report.proofs.Reporting.{table_numbers}
 use Rattle.desk_top.specs.Showing.{demo_subject}
 use Rattle.desk_top.proofs.Marking.{marks_known}
 use Rattle.desk_top.proofs.demo.texts_of.Goals as goal

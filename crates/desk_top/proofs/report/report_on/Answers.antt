@@ -1,9 +1,9 @@
 use Rattle.std.proofs.Common.{ℕ, List, refl, sym, subst, inl, inr}
 use Rattle.desk_words.specs.declared.command.Job.{Job}
 use Rattle.desk_model.specs.Desk.{Desk}
-use Rattle.pair_reports.specs.Reports.{IsTableOn, IsCertificateText, IsCloseText, IsCertifiedAs, subject}
-use Rattle.pair_reports.specs.declared.reports.Certified.{Certified}
-use Rattle.pair_reports.specs.declared.reports.Certified.TheVariants as certified
+use Rattle.desk_report.specs.Reports.{IsTableOn, IsCertificateText, IsCloseText, IsCertifiedAs, subject}
+use Rattle.desk_report.specs.declared.reports.Certified.{Certified}
+use Rattle.desk_report.specs.declared.reports.Certified.TheVariants as certified
 use Rattle.desk_top.specs.declared.report.Report.TheVariants.{Certificate}
 use Rattle.desk_top.specs.Report.{IsPrintedAs, IsReportOf, subject_of}
 use Rattle.desk_top.proofs.Marking.{marks_known}

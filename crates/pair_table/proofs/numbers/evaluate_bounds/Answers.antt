@@ -1,5 +1,5 @@
 use Rattle.std.proofs.Common.{ℕ, length, arith}
-use Rattle.fractions.specs.declared.span.Span.{Span}
+use Rattle.topic_counts.specs.declared.span.Span.{Span}
 use Rattle.measure_core.specs.Laws.{SpanIsModest}
 use Rattle.pair_table.specs.Kept.{topic_at}
 use Rattle.pair_table.specs.Sums.{run_numbers}

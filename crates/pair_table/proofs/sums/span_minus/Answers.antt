@@ -1,6 +1,6 @@
 use Rattle.std.proofs.Common.{arith}
 use Rattle.std.proofs.lemmas.Int.{ints}
-use Rattle.fractions.proofs.Spans.{span_same}
+use Rattle.topic_counts.proofs.Spans.{span_same}
 use Rattle.pair_table.proofs.sums.span_minus.Goals as goal
 
 pub returns : goal.returns

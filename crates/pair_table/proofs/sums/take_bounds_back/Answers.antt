@@ -4,7 +4,7 @@ use Rattle.std.proofs.lemmas.Option.{slice_get-get_or}
 use Rattle.small_lemmas.proofs.Lists.{slice_get-zip}
 use Rattle.desk_model.proofs.Nested.{length-zip}
 use Rattle.desk_model.specs.Limits.{TOPIC_LIMIT}
-use Rattle.fractions.specs.declared.span.Span.{Span}
+use Rattle.topic_counts.specs.declared.span.Span.{Span}
 use Rattle.pair_table.specs.Kept.{without_span, SpanIsWithin}
 use Rattle.measure_core.proofs.Filling.{refilled_none, refilled_here, refilled_more, filled_whole}
 use Rattle.pair_table.proofs.sums.take_bounds_back.Goals as goal

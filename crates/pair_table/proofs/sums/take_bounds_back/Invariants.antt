@@ -1,5 +1,5 @@
 use Rattle.std.specs.List.{zip}
-use Rattle.fractions.specs.declared.span.Span.{Span}
+use Rattle.topic_counts.specs.declared.span.Span.{Span}
 use Rattle.pair_table.specs.Kept.{without_span}
 use Rattle.measure_core.proofs.Filling.{IsRefilled}
 use Rattle.pair_table.proofs.sums.take_bounds_back.Given as goal

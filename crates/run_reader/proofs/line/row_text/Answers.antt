@@ -4,7 +4,7 @@ use Rattle.std.specs.Result.{result_map_both}
 use Rattle.std.proofs.lemmas.Bool.{le-ltb, eq-eqb, ne_eqb}
 use Rattle.desk_text.specs.Lines.{is_bad, fields_of}
 use Rattle.desk_text.specs.declared.line.TheConstants.{LONGEST_LINE}
-use Rattle.decimal_score.specs.Reading.{score_of}
+use Rattle.desk_text.specs.Reading.{score_of}
 use Rattle.file_rows.specs.Reading.{field, is_long}
 use Rattle.file_rows.proofs.Places.{is_some-position}
 use Rattle.file_rows.proofs.Chains.{is_some-from, is_none-from}

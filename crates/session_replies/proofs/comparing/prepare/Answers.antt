@@ -1,6 +1,6 @@
 use Rattle.std.proofs.Common.{ap, not, sym, subst, ◌∙◌}
 use Rattle.desk_model.specs.Desk.{AreMarksOf}
-use Rattle.pair_reports.specs.Reports.{IsTableOn, subject}
+use Rattle.desk_report.specs.Reports.{IsTableOn, subject}
 use Rattle.session_replies.specs.State.{setting_of}
 use Rattle.session_replies.proofs.Marks.{marks_of_desk}
 use Rattle.session_replies.proofs.Weighing.{weights_where_none}

@@ -3,7 +3,7 @@ use Rattle.std.proofs.lemmas.List.{length-map}
 use Rattle.std.proofs.lemmas.Option.{slice_get_within}
 use Rattle.std.proofs.lemmas.Result.{IfOk-weaker}
 use Rattle.desk_model.specs.Book.{Book}
-use Rattle.judgement_pool.specs.Pool.{pool_of, IsCountOf}
+use Rattle.desk_model.specs.Pool.{pool_of, IsCountOf}
 use Rattle.pair_table.proofs.Listing.{there_number}
 use Rattle.session_replies.specs.Replies.{IsPoolReply}
 use Rattle.session_replies.specs.State.{setting_of}

@@ -4,7 +4,7 @@ use Rattle.std.proofs.lemmas.List.Elements.{All-map}
 use Rattle.desk_model.specs.Name.{is_name}
 use Rattle.file_rows.specs.Grouped.{Valued}
 use Rattle.run_reader.specs.Run.{rows_on_topic}
-use Rattle.trec_order.specs.Order.{IsTrecOrder}
+use Rattle.topic_universe.specs.Order.{IsTrecOrder}
 use Rattle.topic_universe.specs.Universe.{retrieved}
 use Rattle.topic_universe.proofs.Sets.{Gathers-moved}
 use Rattle.topic_universe.proofs.Numbers.{ranked_documents}

@@ -5,7 +5,7 @@ use Rattle.std.specs.Str.{bytes_eq}
 use Rattle.desk_model.specs.Ranking.{IsRanking}
 use Rattle.run_reader.specs.Run.{rows_on_topic}
 use Rattle.run_reader.specs.declared.limits.TheConstants.{MOST_RANKS}
-use Rattle.trec_order.specs.Order.{IsTrecOrder}
+use Rattle.topic_universe.specs.Order.{IsTrecOrder}
 use Rattle.topic_universe.specs.Universe.{retrieved}
 use Rattle.topics_pool.specs.Rows.{doc_names}
 use Rattle.topics_pool.proofs.Ranked.{is_ranking}

@@ -1,7 +1,7 @@
 use Rattle.std.proofs.Common.{◌≡◌, length, subst, sym, arith, to_z, of_z}
 use Rattle.std.specs.Int.{w128}
 use Rattle.std.proofs.lemmas.Int.{ints}
-use Rattle.topic_ends.specs.Least.{AreRankings}
+use Rattle.order_verifier.specs.Least.{AreRankings}
 use Rattle.order_verifier.specs.Checks.{NamesOnTopic}
 use Rattle.order_verifier.proofs.Topics.{topic_within, marks_within, rankings_met, names_met, upper_on}
 use Rattle.order_verifier.proofs.comparison.Comparison.upper_end.Goals as goal

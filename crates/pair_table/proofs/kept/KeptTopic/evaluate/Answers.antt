@@ -1,16 +1,33 @@
-use Rattle.std.proofs.Common.{◌≡◌, List, length, ap, ◌∙◌, arith}
+use Rattle.std.proofs.Common.{◌≡◌, ℕ, ◌+◌, List, All, length, ap, sym, subst, ◌∙◌, arith}
 use Rattle.std.proofs.lemmas.List.{with_items_is}
-use Rattle.fractions.specs.declared.span.Span.{Span}
+use Rattle.desk_model.specs.Pairs.{pairs_of}
+use Rattle.topic_counts.specs.declared.span.Span.{Span}
+use Rattle.measure_core.specs.Laws.{CellIsModest, SpanIsModest}
 use Rattle.measure_core.specs.declared.cell.Cell.{Cell}
 use Rattle.pair_table.specs.Kept.{TopicNumbers}
+use Rattle.pair_table.specs.Sums.{run_numbers}
 use Rattle.pair_table.proofs.kept.KeptTopic.evaluate.Goals as goal
 
 same_numbers : (cells others : List Cell) (bounds ends : List Span) → cells ≡ others → bounds ≡ ends → ◌≡◌ {A = TopicNumbers} (record { cells = cells; bounds = bounds }) (record { cells = others; bounds = ends })
 same_numbers cells others bounds ends e f = ap (λ z. record { cells = z; bounds = bounds }) e ∙ ap (λ z. record { cells = others; bounds = z }) f
 
-pub returns-clause-numbers : goal.returns-clause-numbers
-returns-clause-numbers g c =
+pub returns : goal.returns
+returns g c =
     let kept = c.self.inside in
-    let cells_is = with_items_is kept.cells c.evaluate_cells.new.cells (omega (arith, c.evaluate_cells.auto.cells, ap length c.deref_mut.ensures.value, kept.cells.ok.0)) in
-    let bounds_is = with_items_is kept.bounds c.evaluate_bounds.new.bounds (omega (arith, c.evaluate_bounds.auto.bounds, ap length c.deref_mut-2.ensures.value, kept.bounds.ok.0)) in
-    same_numbers _ _ _ _ (cells_is ∙ c.evaluate_cells.ensures.cells) (bounds_is ∙ c.evaluate_bounds.ensures.bounds)
+    let runs = length c.args.desk.now.runs in
+    let cells = c.evaluate_cells in
+    let bounds = c.evaluate_bounds in
+    let pairs : length c.deref_mut.result.now ≡ length (pairs_of (run_numbers runs)) = ap length (c.deref_mut.ensures.value ∙ ap (λ (t : TopicNumbers). t.cells) c.self.view_is) ∙ c.requires.cells in
+    let ranges : length c.deref_mut-2.result.now ≡ runs = ap length (c.deref_mut-2.ensures.value ∙ ap (λ (t : TopicNumbers). t.bounds) c.self.view_is) ∙ c.requires.bounds in
+    let cells_is = with_items_is kept.cells cells.new.cells (omega (arith, cells.auto.cells, ap length c.deref_mut.ensures.value, kept.cells.ok.0)) in
+    let bounds_is = with_items_is kept.bounds bounds.new.bounds (omega (arith, bounds.auto.bounds, ap length c.deref_mut-2.ensures.value, kept.bounds.ok.0)) in
+    record {
+      numbers = same_numbers _ _ _ _ (cells_is ∙ cells.ensures.cells) (bounds_is ∙ bounds.ensures.bounds);
+      sizes = record {
+        each_pair = ap length cells_is ∙ cells.auto.cells ∙ pairs;
+        each_run = ap length bounds_is ∙ bounds.auto.bounds ∙ ranges;
+        cells = subst (All CellIsModest) (sym cells_is) cells.ensures.modest;
+        bounds = subst (All SpanIsModest) (sym bounds_is) bounds.ensures.modest;
+      };
+      steps = cells.ensures.steps ∙ ap (λ (n : ℕ). c.args.steps.now + n) pairs;
+    }

@@ -5,7 +5,7 @@ use Rattle.std.proofs.lemmas.List.{with_items_is}
 use Rattle.desk_model.specs.Verdict.{verdict}
 use Rattle.desk_model.specs.declared.types.Totals.{Totals}
 use Rattle.desk_model.specs.declared.types.Verdict.{Verdict}
-use Rattle.fractions.specs.declared.span.Span.{Span}
+use Rattle.topic_counts.specs.declared.span.Span.{Span}
 use Rattle.pair_table.specs.Kept.{Kept, TopicNumbers, AreTopicNumbers, IsKeptTable, numbers_on, topic_at, kept_totals, kept_bounds}
 use Rattle.pair_table.proofs.Changing.{changed_stands}
 use Rattle.pair_table.proofs.Keeping.{kept_again, kept_along}

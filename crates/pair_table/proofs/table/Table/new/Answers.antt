@@ -6,7 +6,7 @@ use Rattle.desk_model.specs.Pairs.{pairs_of}
 use Rattle.desk_model.specs.Verdict.{totals_of, verdict}
 use Rattle.desk_model.specs.declared.types.Totals.{Totals}
 use Rattle.desk_model.specs.declared.types.Verdict.{Verdict}
-use Rattle.fractions.specs.declared.span.Span.{Span}
+use Rattle.topic_counts.specs.declared.span.Span.{Span}
 use Rattle.pair_table.specs.Kept.{TopicNumbers, AreTopicNumbers, kept_totals, kept_bounds}
 use Rattle.pair_table.specs.Sums.{run_numbers, pair_sums}
 use Rattle.pair_table.proofs.Changing.{made_stands}

@@ -1,7 +1,7 @@
 use Rattle.std.proofs.Common.{◌≡◌, ◌<◌, Some, ap, sym, subst, ◌∙◌}
 use Rattle.std.specs.Prelude.{slice_get}
 use Rattle.std.proofs.lemmas.Option.{slice_get-get_or}
-use Rattle.fractions.specs.Ends.{IsShort}
+use Rattle.topic_counts.specs.Ends.{IsShort}
 use Rattle.pair_table.specs.Kept.{Kept}
 use Rattle.pair_table.proofs.table.Table.run_bounds.Goals as goal
 

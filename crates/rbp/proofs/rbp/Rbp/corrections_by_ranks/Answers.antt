@@ -1,5 +1,4 @@
-use Rattle.std.proofs.Common.{◌≡◌, ◌+◌, ◌*◌, ◌^◌, ◌<◌, ◌≤◌, ℕ, ℤ, pos, ◌+ℤ◌, Bool, List, Option, Some, true, false, map, take, length, get_or, slice_index_or, subst, sym, ◌∙◌, arith, ap}
-use Rattle.std.specs.Prelude.{◌&&◌, nat_lt}
+use Rattle.std.proofs.Common.{◌≡◌, ◌+◌, ◌*◌, ◌^◌, ◌<◌, ◌≤◌, ℕ, ℤ, pos, ◌+ℤ◌, Bool, List, Option, Some, true, map, take, length, get_or, slice_index_or, subst, sym, ◌∙◌, arith, ap}
 use Rattle.std.proofs.lemmas.Int.{ints}
 use Rattle.std.proofs.lemmas.List.{length-take}
 use Rattle.desk_model.specs.Score.{gained}
@@ -11,29 +10,13 @@ use Rattle.desk_model.specs.Ranking.{rank}
 use Rattle.rbp.specs.Added.{IsAdded, IsUpTo, least_low, least_high, most_low, most_high, added}
 use Rattle.rbp.specs.declared.by_ranks.Added.{Added}
 use Rattle.rbp.specs.Persistence.{Persistence}
-use Rattle.rbp.specs.Walk.{is_in_least, is_in_most, correction, number_of}
-use Rattle.rbp.proofs.Added.{up_to_more, up_to_wider, least_low_added, least_high_added, most_low_added, most_high_added, uncounted_adds}
-use Rattle.rbp.proofs.Passed.{place_step, places_end, kept_rank_small}
+use Rattle.rbp.specs.Walk.{is_in_least, is_in_most, correction}
+use Rattle.rbp.proofs.Added.{up_to_more, up_to_wider, least_low_added, least_high_added, most_low_added, most_high_added}
+use Rattle.rbp.proofs.Passed.{place_step, places_end, kept_rank_small, uncounted_adds}
 use Rattle.rbp.proofs.Sums.{gained_more, high_sum_small}
 use Rattle.rbp.proofs.Walk.{IsCommon, all_common}
 use Rattle.rbp.proofs.rbp.Rbp.corrections_by_ranks.Goals as goal
-use Rattle.rbp.proofs.rbp.Rbp.corrections_by_ranks.Goals.{then-is_counted, else-is_counted}
-
-pub is_counted-requires : goal.is_counted-requires
-is_counted-requires c =
-    let r = c.args.self.now in
-    let l = c.loop-place in
-    let i = l.place in
-    let marks = c.args.marks.now in
-    let a = c.args.a.now in
-    let b = c.args.b.now in
-    let docs = c.docs-doc-items in
-    let d = slice_index_or docs.result.now i 0 in
-    let lt : i < length b = omega (arith, c.loop-place-test.true, ap (λ (xs : List ℕ). length xs) docs.ensures.docs) in
-    let is : d ≡ get_or b i 0 = ap (λ (xs : List ℕ). get_or xs i 0) docs.ensures.docs in
-    let within : d < length marks = omega (arith, is, c.requires.met.second.within i 0 lt) in
-    let ranked = c.requires.ranks.each d within in
-    kept_rank_small a d (slice_index_or c.args.ranks.now d 0) c.requires.met.first.short ranked
+use Rattle.rbp.proofs.rbp.Rbp.corrections_by_ranks.Goals.{then-has_bit, else-has_bit}
 
 pub adds-requires-clause-first : goal.adds-requires-clause-first
 adds-requires-clause-first c =
@@ -49,7 +32,7 @@ adds-requires-clause-first c =
     let is : d ≡ get_or b i 0 = ap (λ (xs : List ℕ). get_or xs i 0) docs.ensures.docs in
     let within : d < length marks = omega (arith, is, c.requires.met.second.within i 0 lt) in
     let ranked = c.requires.ranks.each d within in
-    kept_rank_small a d (slice_index_or c.args.ranks.now d 0) c.requires.met.first.short ranked
+    kept_rank_small a d (slice_index_or c.args.first.ranks.now d 0) c.requires.met.first.short ranked
 
 pub with-sums-requires-clause-sums : goal.with-sums-requires-clause-sums
 with-sums-requires-clause-sums c =
@@ -85,12 +68,13 @@ loop-place-preserved c =
     let below : r.top < r.bottom = omega (arith, c.self.invariant.below, ap (λ (p : Persistence). p.top) c.self.view_is, ap (λ (p : Persistence). p.bottom) c.self.view_is) in
     let high = λ (rank : ℕ). high_weight r.top r.bottom (Some rank) in
     let s = l.sums in
+    let bit = c.requires.bits.each d within in
     let common = all_common r.top r.bottom below in
-    elim c.if-is_counted.branch [
-      | then-is_counted w ↦
+    elim c.if-has_bit.branch [
+      | then-has_bit w ↦
           let t = w.adds.result in
           let value : IsAdded r.top r.bottom (mark_at marks d) (rank a d) (Some (i + 1)) t = subst (λ (o : Option ℕ). IsAdded r.top r.bottom (mark_at marks d) o (Some (i + 1)) t) ranked w.adds.ensures in
-          let sums : c.if-is_counted.sums ≡ added s t = w.sums-is ∙ w.with-sums.ensures in
+          let sums : c.if-has_bit.sums ≡ added s t = w.sums-is ∙ w.with-sums.ensures in
           record {
             least_lo = place_step _ marks a b i d (least_low t) (least_low s) _ _ common.least_lo c.requires.met.second lt is value.least_lo (ap (λ (x : Added). least_low x) sums ∙ least_low_added s t) l.invariant.least_lo;
             least_hi = place_step _ marks a b i d (least_high t) (least_high s) _ _ common.least_hi c.requires.met.second lt is value.least_hi (ap (λ (x : Added). least_high x) sums ∙ least_high_added s t) l.invariant.least_hi;
@@ -99,9 +83,8 @@ loop-place-preserved c =
             small = subst (λ (x : Added). IsUpTo (gained high 1 (map (λ _. true) (take (i + 1) b))) x) (sym sums)
                 (up_to_more (gained high 1 (map (λ _. true) (take i b))) (high (i + 1)) _ s t (gained_more high (λ _. true) i d b lt is) l.invariant.small value.small);
           }
-      | else-is_counted w ↦
-          let off : (nat_lt 0 (slice_index_or c.args.ranks.now d 0) && nat_lt (number_of (mark_at marks d)) 2) ≡ false = sym c.is_counted.ensures ∙ w.if-is_counted.false in
-          let nothing = λ (share : Option ℕ → Option ℕ → ℤ) (picked : Option ℕ → Option ℕ → Bool) (h : IsCommon (correction share picked)). subst (λ (o : Option ℕ). pos 0 ≡ correction share picked (mark_at marks d) o (Some (i + 1))) ranked (uncounted_adds share picked (slice_index_or c.args.ranks.now d 0) (i + 1) (mark_at marks d) h off) in
+      | else-has_bit w ↦
+          let nothing = λ (share : Option ℕ → Option ℕ → ℤ) (picked : Option ℕ → Option ℕ → Bool) (h : IsCommon (correction share picked)). uncounted_adds share picked marks a d (i + 1) h (sym bit ∙ sym c.has_bit.ensures ∙ w.if-has_bit.false) in
           let same = λ (f : Added → ℤ). ap f w.sums-is ∙ add_none (f s) in
           record {
             least_lo = place_step _ marks a b i d (pos 0) (least_low s) _ _ common.least_lo c.requires.met.second lt is (nothing (low_share r.top r.bottom) is_in_least common.least_lo) (same least_low) l.invariant.least_lo;

@@ -1,7 +1,7 @@
 use Rattle.std.proofs.Common.{◌≡◌, ◌-◌, ◌<◌, Some, arith, refl, ap, ◌∙◌}
 use Rattle.measure_laws.specs.Powers.{low_weight, high_weight}
-use Rattle.weight_walks.specs.Worths.{rank_or_none}
-use Rattle.weight_walks.proofs.Walking.{rank_some}
+use Rattle.measure_core.specs.Worths.{rank_or_none}
+use Rattle.measure_core.proofs.Walking.{rank_some}
 use Rattle.rbp.specs.Persistence.{Persistence}
 use Rattle.rbp.proofs.Added.{chosen, relevant_is}
 use Rattle.rbp.proofs.rbp.Rbp.relevant_adds.Goals as goal

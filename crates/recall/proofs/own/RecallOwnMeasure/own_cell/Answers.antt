@@ -6,7 +6,7 @@ use Rattle.measure_core.specs.Numbers.{exact_cell}
 use Rattle.measure_core.proofs.Exact.{exact_laws}
 use Rattle.topic_counts.specs.declared.counts.Counts.{Counts}
 use Rattle.topic_counts.specs.declared.counts.OwnCounts.{OwnCounts}
-use Rattle.own_cells.specs.Told.{AreTold}
+use Rattle.measure_core.specs.Told.{AreTold}
 use Rattle.recall.specs.LeastCase.{AreCounts}
 use Rattle.recall.proofs.Ends.{counts_swapped, own_few, least_short, cell_is}
 use Rattle.recall.proofs.own.RecallOwnMeasure.own_cell.Goals as goal

@@ -1,5 +1,5 @@
 use Rattle.std.proofs.Common.{◌≡◌, arith}
-use Rattle.own_cells.specs.Told.{AreTold}
+use Rattle.measure_core.specs.Told.{AreTold}
 use Rattle.recall.proofs.recall.RecallMeasure.cell.Goals as goal
 
 pub own_cell-requires : goal.own_cell-requires

@@ -3,7 +3,7 @@ use Rattle.std.proofs.lemmas.Int.{to_z-of_z}
 use Rattle.judge_session.specs.Session.{judged}
 use Rattle.std.specs.Prelude.{codes}
 use Rattle.judge_session.specs.InForce.{grade_after}
-use Rattle.session_lines.specs.Request.{Asked, Judge}
+use Rattle.judge_session.specs.Request.{Asked, Judge}
 use Rattle.session_replies.specs.Replies.{marks_after, one_if_ok, after_judging, changes_after, change_reply, judge_reply}
 use Rattle.session_replies.specs.State.{setting_of, pairs_in}
 use Rattle.session_replies.proofs.Marks.{marks_of_desk}

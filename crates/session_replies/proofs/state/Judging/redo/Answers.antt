@@ -3,7 +3,7 @@ use Rattle.std.specs.Prelude.{codes}
 use Rattle.judge_session.specs.Session.{first_that, is_undone_by, redone}
 use Rattle.judge_session.specs.InForce.{grade_after, told_of, grade_in_force}
 use Rattle.judge_session.specs.declared.answers.Changed.{Changed}
-use Rattle.session_lines.specs.Request.{Asked, Redo}
+use Rattle.judge_session.specs.Request.{Asked, Redo}
 use Rattle.session_replies.specs.Replies.{marks_after, one_if_some, change_reply, redo_reply}
 use Rattle.session_replies.specs.State.{setting_of, pairs_in}
 use Rattle.session_replies.proofs.Marks.{marks_of_desk}

@@ -1,6 +1,0 @@
-use Rattle.desk_files.proofs.Checking.{one_check}
-use Rattle.answer_laws.proofs.Statuses.{refusal_told}
-use Rattle.answer_laws.proofs.laws.refusal_is_told.Goals as goal
-
-pub returns : goal.returns
-returns c = refusal_told c.command_is_unique.ensures (one_check c.text_and_certificate_are_one.ensures.certificate c.first_bad_line_is_unique.ensures.unique c.first_bad_line_is_unique.ensures.none)

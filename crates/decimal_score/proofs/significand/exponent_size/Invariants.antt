@@ -1,7 +1,0 @@
-use Rattle.std.proofs.Common.{◌≡◌, min, take}
-use Rattle.std.specs.Str.Parse.{digits_value}
-use Rattle.decimal_score.specs.declared.significand.TheConstants.{FAR}
-use Rattle.decimal_score.proofs.significand.exponent_size.Given as goal
-
-abbrev pub invariant-loop-digit : goal.invariant-loop-digit
-invariant-loop-digit l = l.size ≡ min (digits_value 10 (take l.digit-index l.digits)) FAR

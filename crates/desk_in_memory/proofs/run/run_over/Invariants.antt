@@ -1,4 +1,0 @@
-use Rattle.desk_in_memory.proofs.run.run_over.Given as goal
-
-abbrev pub ghosts-status_of : goal.ghosts-status_of
-ghosts-status_of a = record { name = a.blank.name; parts = a.blank.parts }

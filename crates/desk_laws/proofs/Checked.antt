@@ -1,0 +1,90 @@
+-- Evidence for a desk is evidence for that desk again.
+use Rattle.std.proofs.Common.{◌≡◌, ℕ, List, [], ◌∷◌, map, Option, Result, Ok, Err, ℤ, refl, ap, ap₂, sym, subst, ◌∙◌}
+use Rattle.std.specs.List.{zip}
+use Rattle.desk_model.specs.Book.{Book}
+use Rattle.desk_model.specs.Desk.{Desk, topics_under, file_marks}
+use Rattle.desk_model.specs.Name.{number_of}
+use Rattle.desk_model.specs.Order.{Topic}
+use Rattle.desk_model.specs.declared.types.Mark.{Mark}
+use Rattle.desk_model.specs.declared.types.Verdict.{Verdict}
+use Rattle.desk_model.specs.declared.types.Verdict.TheVariants.{Above, Below, Equal, Open, Close}
+use Rattle.order_certificate.specs.Claim.{NamedTopic, named_topics}
+use Rattle.order_certificate.specs.Evidence.{IsEvidence, Shows}
+use Rattle.order_certificate.specs.Places.{IsText}
+use Rattle.order_certificate.specs.declared.certificate.Certificate.{Certificate}
+use Rattle.order_certificate.proofs.Whole.{has_text}
+use Rattle.measure_core.specs.Made.{HasEnds}
+use Rattle.pair_table.specs.Evidence.{Says}
+use Rattle.pair_table.proofs.Evident.{answered_evidence}
+use Rattle.judge_session.specs.declared.change.Change.{Change}
+use Rattle.order_verifier.specs.Verified.{IsVerified}
+use Rattle.order_verifier.specs.declared.rejected.Rejected.{Rejected}
+use Rattle.order_verifier.proofs.Answers.{rejected_no_evidence}
+use Rattle.session_replies.specs.Replies.{Setting, all_in_force, marks_after}
+use Rattle.session_replies.proofs.Marks.{marks_of_desk}
+use Rattle.desk_files.specs.Load.{sources}
+use Rattle.desk_laws.specs.Replaced.{IsJudgedDesk, IsDeskAgain, AreFilesWith, ComesAgain, marks_by}
+use Rattle.desk_laws.specs.Accepted.{CertificatesAreAccepted}
+use Rattle.session_stream.specs.Text.{changes_over}
+use Rattle.desk_laws.proofs.Again.{come_again}
+use Rattle.desk_laws.proofs.Grading.{grades_of_session}
+
+-- ---- the topics with their names
+abbrev named : Book × Topic → NamedTopic
+named p = record { docs = p.0.docs; topic = p.1 }
+
+same_named : (books others : List Book) (topics : List Topic) → map (λ (book : Book). book.docs) others ≡ map (λ (book : Book). book.docs) books → map named (zip others topics) ≡ map named (zip books topics)
+same_named [] [] topics e = refl
+same_named [] (o ∷ others) topics e = absurd (cc)
+same_named (b ∷ books) [] topics e = absurd (cc)
+same_named (b ∷ books) (o ∷ others) [] e = refl
+same_named (b ∷ books) (o ∷ others) (t ∷ topics) e =
+    let first : o.docs ≡ b.docs = cc in
+    let later : map (λ (book : Book). book.docs) others ≡ map (λ (book : Book). book.docs) books = cc in
+    ap₂ (λ docs ts. (record { docs = docs; topic = t }) ∷ ts) first (same_named books others topics later)
+
+same_topics : (desk again : Desk) (marks : List (List Mark)) → again.rankings ≡ desk.rankings → topics_under again marks ≡ topics_under desk marks
+same_topics desk again marks e =
+    ap (λ rankings. topics_under (record { topics = desk.topics; runs = desk.runs; rankings = rankings }) marks) e
+
+evidence_again : (c : Certificate) (desk again : Desk) (grades : List (List (Option ℤ))) (level : ℕ) → IsDeskAgain desk grades again → IsEvidence c desk (marks_by level grades) → IsEvidence c again (map (file_marks level) again.topics)
+evidence_again c desk again grades level is h =
+    let marks = marks_by level grades in
+    let topics : named_topics again marks ≡ named_topics desk marks =
+    same_named desk.topics again.topics (topics_under again marks) is.same.universes ∙ ap (λ ts. map named (zip desk.topics ts)) (same_topics desk again marks is.same.rankings) in
+    subst (IsEvidence c again) (sym (is.marks level)) (record {
+      first = h.first;
+      second = h.second;
+      runs = (ap (λ runs. number_of runs c.first) is.same.runs ∙ h.runs.0, ap (λ runs. number_of runs c.second) is.same.runs ∙ h.runs.1);
+      two_runs = h.two_runs;
+      topics = h.topics ∙ sym is.same.topics;
+      shows = subst (λ ts. Shows c.measure ts h.first h.second c.evidence) (sym topics) h.shows;
+    })
+
+-- ---- the level of a certificate
+level_said : (s : Setting) (changes : List Change) (a b : ℕ) (c : Certificate) (v : Verdict) → Says (HasEnds s.measure) s.measure s.desk (marks_after s changes) s.level a b c v → c.level ≡ s.level
+level_said s changes a b c Above h = h.compares.at_level
+level_said s changes a b c Below h = h.compares.at_level
+level_said s changes a b c Equal h = h.compares.at_level
+level_said s changes a b c Open h = h.compares.at_level
+level_said s changes a b c Close h = absurd h
+
+-- what is evidence is accepted
+accepted : (c : Certificate) (desk : Desk) (marks : List (List Mark)) (answer : Result (Unit {0}) Rejected) → IsEvidence c desk marks → IsVerified c desk marks answer → answer ≡ Ok tt
+accepted c desk marks (Ok done) h is = refl
+accepted c desk marks (Err why) h is = absurd (rejected_no_evidence c desk marks why is h)
+
+-- ---- the law
+pub all_accepted : ((bytes : List ℕ) (c d : Certificate) → IsText bytes c → IsText bytes d → c ≡ d) → CertificatesAreAccepted
+all_accepted one s lines files again from path desk a b text c answer setting taken h of_text verified =
+    let changes = changes_over s.desk lines [] in
+    let grades = all_in_force s.desk changes in
+    let judged : IsJudgedDesk files from taken.rows s.desk grades = record { loads = taken.loads; of_rows = taken.of_rows; in_force = grades_of_session files from taken.rows s.desk lines taken.loads taken.of_rows } in
+    let own : c ≡ h.certificate = one text c h.certificate of_text (subst (λ t. IsText t h.certificate) (sym h.is) (has_text h.certificate h.within)) in
+    let comes = come_again files again from path taken.rows s.desk grades judged (subst (λ t. AreFilesWith files again path t from.runs) taken.replied taken.with_text) in
+    let is : IsDeskAgain s.desk grades desk = subst (ComesAgain (sources path from.runs) _ s.desk grades) taken.loads_again comes desk taken.of_later in
+    let evidence = answered_evidence s.measure s.desk (marks_after s changes) s.level a b h.certificate setting.measure h.valid (marks_of_desk s changes h.valid) h.runs.different h.runs.first h.runs.second h.of_pair in
+    let level : c.level ≡ s.level = ap (λ (d : Certificate). d.level) own ∙ level_said s changes a b h.certificate _ h.of_pair.says in
+    accepted c desk (map (file_marks c.level) desk.topics) answer
+    (subst (λ l. IsEvidence c desk (map (file_marks l) desk.topics)) (sym level) (evidence_again c s.desk desk grades s.level is (subst (λ d. IsEvidence d s.desk (marks_after s changes)) (sym own) evidence)))
+    verified

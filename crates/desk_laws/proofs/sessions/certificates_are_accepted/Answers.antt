@@ -1,0 +1,5 @@
+use Rattle.desk_laws.proofs.Checked.{all_accepted}
+use Rattle.desk_laws.proofs.sessions.certificates_are_accepted.Goals as goal
+
+pub returns : goal.returns
+returns c = all_accepted c.text_and_certificate_are_one.ensures.certificate

@@ -1,0 +1,35 @@
+-- A certificate of a session, checked with the judgements in force of the same moment.
+use Rattle.std.specs.Prelude.{◌≡◌, ℕ, List, [], map, Result, Ok}
+use Rattle.desk_outside.specs.Outside.{Files}
+use Rattle.desk_model.specs.Desk.{Desk, file_marks}
+use Rattle.order_certificate.specs.Places.{IsText}
+use Rattle.order_certificate.specs.declared.certificate.Certificate.{Certificate}
+use Rattle.desk_report.specs.Reports.{IsCertificateText}
+use Rattle.topics_pool.specs.Rows.{IsDeskOf}
+use Rattle.judge_session.specs.Request.{Qrels, Asked}
+use Rattle.session_replies.specs.Replies.{Setting, subject_after, IsReply}
+use Rattle.session_replies.specs.State.{IsSetting}
+use Rattle.session_stream.specs.Text.{changes_over}
+use Rattle.order_verifier.specs.Verified.{IsVerified}
+use Rattle.order_verifier.specs.declared.rejected.Rejected.{Rejected}
+use Rattle.desk_files.specs.Load.{Sources, sources, Loaded, loaded}
+use Rattle.desk_laws.specs.Replaced.{AreFilesWith}
+
+-- a session over the desk of files, after its first lines: its reply to `qrels`, the files again with that text as their judgements file, and their desk
+pub record IsTakenUp (s : Setting) (lines : List (List ℕ)) (files again : Files) (from : Sources) (path : List ℕ) (desk : Desk) : Type 0 where
+  pub rows : Loaded
+  pub loads : loaded files from ≡ Ok rows
+  pub of_rows : IsDeskOf rows.qrels rows.runs s.desk
+  pub text : List ℕ
+  pub replied : IsReply s (changes_over s.desk lines []) (Asked Qrels) text
+  pub with_text : AreFilesWith files again path text from.runs
+  pub later : Loaded
+  pub loads_again : loaded again (sources path from.runs) ≡ Ok later
+  pub of_later : IsDeskOf later.qrels later.runs desk
+
+-- the certificate of two runs that the session replies at the same moment is accepted over that desk
+abbrev pub CertificatesAreAccepted : Type 0
+CertificatesAreAccepted =
+    (s : Setting) (lines : List (List ℕ)) (files again : Files) (from : Sources) (path : List ℕ) (desk : Desk) (a b : ℕ) (text : List ℕ) (c : Certificate) (answer : Result (Unit {0}) Rejected) →
+    IsSetting s → IsTakenUp s lines files again from path desk → IsCertificateText (subject_after s (changes_over s.desk lines [])) a b text → IsText text c →
+    IsVerified c desk (map (file_marks c.level) desk.topics) answer → answer ≡ Ok tt

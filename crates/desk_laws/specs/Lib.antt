@@ -1,0 +1,5 @@
+pub mod Laws
+pub mod Settled
+pub mod Replaced
+pub mod Accepted
+pub mod Example

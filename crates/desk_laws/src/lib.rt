@@ -1,0 +1,17 @@
+//! Laws over definitions: what follows for every call that meets what its words mean, what a session said, seen
+//! from later, and the definitions tried on small cases that were worked out by hand, from the page of definitions
+//! and from trec_eval's rules. Those of proofs/ go through all definitions, by subject; those that most rests on
+//! are clauses.
+#![tactic(auto)]
+
+pub mod answers;
+pub mod cases;
+pub mod sessions;
+
+pub use answers::{
+    good_files_are_answered, missing_file_is_outside, other_words_are_usage, refusal_is_told,
+    statuses_are_few,
+};
+pub use sessions::{
+    certificates_are_accepted, files_come_again, grades_are_in_force, settled_words_stay,
+};

@@ -1,0 +1,34 @@
+//! Laws of sessions, each the contract of a function that does nothing.
+ghost use Rattle.desk_laws.specs.Settled.{SettledWordsStay, SwappedWordsFollow};
+ghost use Rattle.desk_laws.specs.Replaced.{FilesComeAgain, GradesAreInForce};
+ghost use Rattle.desk_laws.specs.Accepted.{CertificatesAreAccepted};
+
+use order_certificate::text_and_certificate_are_one;
+
+/// Where a session replied to `pair FIRST SECOND` with the word `above`, `below` or `equal`, it replies to each later
+/// such line with the same word, and to `pair SECOND FIRST` with the swapped one, as long as each change between that
+/// was accepted is a judgement of a document whose mark was unjudged.
+pub fn settled_words_stay()
+    ensures same { SettledWordsStay }
+    ensures swapped { SwappedWordsFollow }
+{}
+
+/// The grades in force of a session over the desk of files are grades of a judgements file: one, from 0 to 1,000, or
+/// none for each document.
+pub fn grades_are_in_force()
+    ensures { GradesAreInForce }
+{}
+
+/// The files of a desk, with the judgements in force as a text in the place of the judgements file, come to rows whose
+/// desk has the same topics, universes, runs and rankings, and whose marks at each level are those in force. Else a
+/// limit is passed: the bytes of a file, the rows of a judgements file, or the bytes of document names.
+pub fn files_come_again()
+    ensures { FilesComeAgain }
+{}
+
+/// A certificate that a session replies is accepted over the same files with the session's judgements of that moment.
+pub fn certificates_are_accepted()
+    ensures { CertificatesAreAccepted }
+{
+    text_and_certificate_are_one();
+}

@@ -1,0 +1,183 @@
+-- What was received of a printed text is true.
+use Rattle.std.proofs.Common.{◌≡◌, ℕ, zero, suc, List, [], ◌∷◌, ◌++◌, take, drop, get_or, refl, ap, sym, subst, ◌∙◌, arith, ◌*◌, length, append-nil, append_assoc, Some, None, inl, inr, rules, ℤ, pos}
+use Rattle.std.specs.Prelude.{All, codes, decimal, flat_map, slice_index_or}
+use Rattle.std.specs.List.{AllByRecursion}
+use Rattle.std.proofs.lemmas.List.{take-append-drop}
+use Rattle.desk_model.specs.Desk.{Desk}
+use Rattle.desk_model.specs.Verdict.{verdict, IsExactVerdict}
+use Rattle.desk_model.specs.declared.types.Mark.{Mark}
+use Rattle.desk_model.specs.declared.types.MeasureName.{MeasureName}
+use Rattle.desk_model.specs.declared.types.MeasureName.TheVariants.{Precision}
+use Rattle.desk_model.specs.declared.types.Totals.{Totals}
+use Rattle.desk_model.specs.Named.{book_at, name_at}
+use Rattle.desk_report.specs.Close.{close_line}
+use Rattle.desk_report.specs.Judging.{next_line}
+use Rattle.desk_report.specs.Table.{pair_line, table_text, table_lines, ended}
+use Rattle.order_certificate.specs.Certificate.{IsCertificate, certificate_lines, certificate_text}
+use Rattle.order_certificate.specs.Claim.{ClaimHolds}
+use Rattle.order_certificate.specs.Evidence.{ForEvidence}
+use Rattle.order_certificate.specs.Places.{IsText}
+use Rattle.order_certificate.specs.declared.certificate.Certificate.{Certificate}
+use Rattle.topic_counts.specs.declared.span.Span.{Span}
+use Rattle.measure_laws.specs.Measures.{unit_of}
+use Rattle.pair_table.specs.Orders.{HoldsOfPair, HoldsOfRun, ForEachPair, ForTwoRuns, ForEachRun}
+use Rattle.desk_text.specs.Lines.{whole_lines, fields_of}
+use Rattle.desk_model.proofs.Words.{name_word, fields_word}
+use Rattle.desk_report.specs.Claims.{IsTrueLine, IsTrueText, TablesAreTrue, PairLinesAreTrue, CertificatesAreTrue, CloseLinesAreTrue, IsAnswerWord, AnswerLinesAreTrue, IsInLine, IsOtherWord, OtherLinesAreTrue, NextLinesAreTrue, QrelsTextsAreTrue, NoTextIsTrue}
+use Rattle.desk_report.proofs.Spelling.{AreInLine, in_line-spaced, whole_lines-ended}
+use Rattle.desk_report.proofs.Pairing.{all_weaker}
+use Rattle.desk_report.proofs.Lines.{IsSound, field, two_runs_sound, printed_lines, prefix_all, prefix_true}
+use Rattle.desk_report.proofs.Proposed.{next_is_other, next_rest, rest_in_line, proposal_true}
+use Rattle.desk_report.proofs.Others.{in_line_back, certificate_sound, close_sound, answer_sound, named_sound}
+use Rattle.desk_report.proofs.QrelsTexts.{HasFourFields, qrels_lines, text_of_lines, IsQrelsLine, qrels_sound}
+
+-- a text is written as its certificate is
+abbrev AreWritten : Type 0
+AreWritten = (bytes : List ℕ) (c : Certificate) → IsText bytes c → bytes ≡ certificate_text c
+
+certificate_begins : (c : Certificate) → get_or (certificate_text c) 0 0 ≡ 100
+unfolding certificate_text
+certificate_begins c = refl
+
+-- a text that begins with another byte is no certificate, nor is a prefix of it
+no_certificate : AreWritten → (text : List ℕ) (n : ℕ) (c : Certificate) → (get_or text 0 0 ≡ 100 → ⊥) → IsText (take n text) c → ⊥
+no_certificate written [] zero c other t = other (ap (λ xs. get_or xs 0 0) (written [] c t) ∙ certificate_begins c)
+no_certificate written [] (suc n) c other t = other (ap (λ xs. get_or xs 0 0) (written [] c t) ∙ certificate_begins c)
+no_certificate written (b ∷ bs) zero c other t = let e : 0 ≡ 100 = ap (λ xs. get_or xs 0 0) (written [] c t) ∙ certificate_begins c in absurd (omega (arith, e))
+no_certificate written (b ∷ bs) (suc n) c other t = other (ap (λ xs. get_or xs 0 0) (written (b ∷ take n bs) c t) ∙ certificate_begins c)
+
+table_begins : (desk : Desk) (name : MeasureName) (level : ℕ) (unit : ℤ) (bounds : List Span) (totals : List Totals) → get_or (table_text desk name level unit bounds totals) 0 0 ≡ 109
+unfolding table_text table_lines
+table_begins desk name level unit bounds totals = refl
+
+pub tables_true : ForEachPair HoldsOfPair → ForEachRun HoldsOfRun → ForEachPair (λ name topics a b t. (k : ℕ) → name ≡ Precision k → IsExactVerdict name topics a b (verdict t)) → AreWritten → TablesAreTrue
+tables_true pairs runs exact written name desk marks level received bounds totals measure valid marked numbers =
+    let text = table_text desk name level (pos (unit_of name)) bounds totals in
+    record {
+      lines = printed_lines pairs runs exact name desk marks level received bounds totals measure valid marked numbers;
+      claim = λ c t. absurd (no_certificate written text received c (λ e. let two : 109 ≡ 100 = sym (table_begins desk name level (pos (unit_of name)) bounds totals) ∙ e in omega (arith, two)) t);
+    }
+
+pub certificates_true : AreWritten → ((c : Certificate) → IsCertificate c → IsText (certificate_text c) c) → ForEvidence (λ c desk marks. ClaimHolds c desk marks) →
+    ((bytes more : List ℕ) (c d : Certificate) → IsText bytes c → IsText (bytes ++ more) d → (more ≡ []) × (c ≡ d)) → CertificatesAreTrue
+unfolding certificate_text
+certificates_true written texts holds alone c desk marks received is valid marked evidence = record { lines = lines; claim = claim }
+  where
+    lines : All (IsTrueLine c.measure desk marks) (whole_lines (take received (certificate_text c)))
+    lines = prefix_true c.measure desk marks (certificate_lines c) received (certificate_sound c.measure desk marks c is)
+
+    claim : (d : Certificate) → IsText (take received (certificate_text c)) d → (d.measure ≡ c.measure) × ClaimHolds d desk marks
+    claim d t =
+        let joined : IsText (take received (certificate_text c) ++ drop received (certificate_text c)) c = subst (λ z. IsText z c) (sym (take-append-drop received (certificate_text c))) (texts c is) in
+        let same : d ≡ c = (alone (take received (certificate_text c)) (drop received (certificate_text c)) d c t joined).1 in
+        (ap (λ (z : Certificate). z.measure) same, subst (λ z. ClaimHolds z desk marks) (sym same) (holds c desk marks is.measure valid marked evidence))
+
+-- the whole lines of a prefix of one line
+sound_lines : (name : MeasureName) (desk : Desk) (marks : List (List Mark)) (line : List ℕ) (received : ℕ) → IsSound name desk marks line → All (IsTrueLine name desk marks) (whole_lines (take received (ended line)))
+sound_lines name desk marks line received sound =
+    subst (λ text. All (IsTrueLine name desk marks) (whole_lines (take received text))) (append-nil (ended line)) (prefix_true name desk marks (line ∷ []) received (sound, tt))
+
+-- a line of its own that begins with another byte than a certificate
+module _ (written : AreWritten) (name : MeasureName) (desk : Desk) (marks : List (List Mark)) where
+  line_true : (line : List ℕ) (received : ℕ) → IsSound name desk marks line → (get_or (ended line) 0 0 ≡ 100 → ⊥) → IsTrueText name desk marks (take received (ended line))
+  line_true line received sound other = record {
+    lines = sound_lines name desk marks line received sound;
+    claim = λ c t. absurd (no_certificate written (ended line) received c other t);
+  }
+
+pub pairs_true : ForTwoRuns HoldsOfPair → ForTwoRuns (λ name topics a b t. (k : ℕ) → name ≡ Precision k → IsExactVerdict name topics a b (verdict t)) → AreWritten → PairLinesAreTrue
+pairs_true sums exact written name desk marks a b totals received measure valid marked in_a in_b apart numbers =
+    line_true written name desk marks (pair_line (unit_of name * length desk.topics) (slice_index_or desk.runs a []) (slice_index_or desk.runs b []) totals) received
+    (two_runs_sound name desk marks a b totals measure valid marked in_a in_b
+    (sums name desk marks a b totals measure valid marked in_a in_b apart numbers, exact name desk marks a b totals measure valid marked in_a in_b apart numbers))
+    (λ e. let two : 112 ≡ 100 = e in omega (arith, two))
+
+pub close_true : AreWritten → CloseLinesAreTrue
+close_true written name desk marks first second totals received f s =
+    line_true written name desk marks (close_line first second totals) received (close_sound name desk marks first second totals f s) (λ e. let two : 99 ≡ 100 = e in omega (arith, two))
+
+-- the lines of an answer begin with another byte than a certificate
+answer_begins : (word rest : List ℕ) → IsAnswerWord word → get_or (ended (word ++ rest)) 0 0 ≡ 100 → ⊥
+answer_begins word rest (inl is) e = let first : 97 ≡ 100 = ap (λ w. get_or (ended (w ++ rest)) 0 0) (sym is) ∙ e in omega (arith, first)
+answer_begins word rest (inr is) e = let first : 114 ≡ 100 = ap (λ w. get_or (ended (w ++ rest)) 0 0) (sym is) ∙ e in omega (arith, first)
+
+pub answer_true : AreWritten → AnswerLinesAreTrue
+answer_true written name desk marks word rest received is line = line_true written name desk marks (word ++ rest) received (answer_sound name desk marks word rest is line) (answer_begins word rest is)
+
+-- ---- the judgements in force
+-- the first line of a certificate, which has two fields
+certificate_first : (c : Certificate) → (more : List (List ℕ)) × (whole_lines (certificate_text c) ≡ codes "desk-certificate 1" ∷ more)
+unfolding certificate_text
+certificate_first c =
+    let rest : List ℕ = flat_map ended (drop 1 (certificate_lines c)) in
+    (whole_lines rest, whole_lines-ended (codes "desk-certificate 1") rest (search rules))
+
+-- no prefix of lines of four fields is a certificate
+no_certificate_of_four : AreWritten → (lines : List (List ℕ)) (n : ℕ) (c : Certificate) → AllByRecursion AreInLine lines → AllByRecursion HasFourFields lines → IsText (take n (flat_map ended lines)) c → ⊥
+no_certificate_of_four written lines n c in_line four t =
+    let first = certificate_first c in
+    let own : whole_lines (take n (flat_map ended lines)) ≡ codes "desk-certificate 1" ∷ first.0 = ap whole_lines (written (take n (flat_map ended lines)) c t) ∙ first.1 in
+    let all : AllByRecursion HasFourFields (codes "desk-certificate 1" ∷ first.0) = subst (AllByRecursion HasFourFields) own (prefix_all HasFourFields lines n in_line four) in
+    let two : 2 ≡ 4 = all.0 in
+    omega (arith, two)
+
+-- no prefix of a line of another word is a certificate
+no_certificate_of_other : AreWritten → (word rest : List ℕ) (n : ℕ) (c : Certificate) → IsOtherWord word → IsInLine rest → AreInLine (word ++ 32 ∷ rest) → IsText (take n (ended (word ++ 32 ∷ rest))) c → ⊥
+no_certificate_of_other written word rest n c is line in_line t =
+    let own : List ℕ = word ++ 32 ∷ rest in
+    let first = certificate_first c in
+    let cut : whole_lines (take n (ended own ++ [])) ≡ codes "desk-certificate 1" ∷ first.0 =
+    ap (λ z. whole_lines (take n z)) (append-nil (ended own)) ∙ ap whole_lines (written (take n (ended own)) c t) ∙ first.1 in
+    let all : AllByRecursion (λ l. l ≡ own) (codes "desk-certificate 1" ∷ first.0) = subst (AllByRecursion (λ l. l ≡ own)) cut (prefix_all (λ l. l ≡ own) (own ∷ []) n (in_line, tt) (refl, tt)) in
+    is.no_certificate (sym (ap (field 0) (ap fields_of all.0 ∙ fields_word word rest (name_word word is.is))))
+
+pub other_true : AreWritten → OtherLinesAreTrue
+other_true written name desk marks word rest received is line =
+    let sound = named_sound name desk marks word rest is line in
+    record {
+      lines = sound_lines name desk marks (word ++ 32 ∷ rest) received sound;
+      claim = λ c t. absurd (no_certificate_of_other written word rest received c is line sound.0 t);
+    }
+
+-- the whole lines of a prefix of one line are that line
+only_line : (line : List ℕ) (n : ℕ) (other : List ℕ) → AreInLine line → whole_lines (take n (ended line)) ≡ other ∷ [] → other ≡ line
+only_line line n other in_line e =
+    let all : AllByRecursion (λ l. l ≡ line) (whole_lines (take n (ended line ++ []))) = prefix_all (λ l. l ≡ line) (line ∷ []) n (in_line, tt) (refl, tt) in
+    let one : AllByRecursion (λ l. l ≡ line) (other ∷ []) = subst (AllByRecursion (λ l. l ≡ line)) (ap (λ z. whole_lines (take n z)) (append-nil (ended line)) ∙ e) all in
+    one.0
+
+pub next_true : AreWritten → NextLinesAreTrue
+next_true written name desk marks totals None received valid known numbers next = (
+  other_true written name desk marks (codes "next") (codes "none") received next_is_other (search rules),
+  proposal_true name desk marks totals valid known numbers None (take received (ended (codes "next none"))) next (λ line one. only_line (codes "next none") received line (search rules) one),
+)
+next_true written name desk marks totals (Some p) received valid known numbers next =
+    let rest = next_rest desk (Some p) in
+    let in_line = rest_in_line name desk marks totals valid known (Some p) next in
+    let same : next_line desk (Some p) ≡ codes "next" ++ 32 ∷ rest = regroup (book_at desk p.topic).name (name_at desk p.topic p.doc) (decimal p.weight) in
+    let whole : AreInLine (codes "next" ++ 32 ∷ rest) = in_line-spaced (codes "next") rest (search rules) in_line in (
+      subst (λ line. IsTrueText name desk marks (take received (ended line))) (sym same) (other_true written name desk marks (codes "next") rest received next_is_other (in_line_back rest in_line)),
+      proposal_true name desk marks totals valid known numbers (Some p) (take received (ended (next_line desk (Some p)))) next
+          (λ line one. only_line (next_line desk (Some p)) received line (subst AreInLine (sym same) whole) one),
+    )
+  where
+    regroup : (x y z : List ℕ) → (codes "next " ++ x ++ 32 ∷ y ++ 32 ∷ z) ≡ codes "next" ++ 32 ∷ (x ++ 32 ∷ y ++ 32 ∷ z)
+    regroup x y z = simp append_assoc
+
+pub qrels_true : AreWritten → QrelsTextsAreTrue
+qrels_true written name desk marks grades received valid =
+    let lines = qrels_lines desk grades in
+    let all = qrels_sound name desk marks grades valid in
+    let sound = all_weaker (IsQrelsLine name desk marks) (IsSound name desk marks) lines (λ line s. s.0) all in
+    let in_line = all_weaker (IsQrelsLine name desk marks) AreInLine lines (λ line s. s.0.0) all in
+    let four = all_weaker (IsQrelsLine name desk marks) HasFourFields lines (λ line s. s.1) all in
+    subst (λ text. IsTrueText name desk marks (take received text)) (sym (text_of_lines desk grades)) (record {
+      lines = prefix_true name desk marks lines received sound;
+      claim = λ c t. absurd (no_certificate_of_four written lines received c in_line four t);
+    })
+
+pub nothing_true : AreWritten → NoTextIsTrue
+nothing_true written name desk marks received = record {
+  lines = prefix_true name desk marks [] received tt;
+  claim = λ c t. absurd (no_certificate written [] received c (λ e. let two : 0 ≡ 100 = e in omega (arith, two)) t);
+}

@@ -1,0 +1,5 @@
+use Rattle.desk_report.proofs.Truths.{nothing_true}
+use Rattle.desk_report.proofs.claims.no_text_is_true.Goals as goal
+
+pub returns : goal.returns
+returns c = nothing_true c.certificates_have_texts.ensures.written

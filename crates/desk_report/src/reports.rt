@@ -1,0 +1,201 @@
+// A table of pairs by the name of a measure, and its texts.
+ghost use Rattle.std.specs.Prelude.{◌≡◌, ◌+◌, ℕ, length, IfOk, OnOk, OnErr};
+ghost use Rattle.desk_model.specs.Desk.{AreMarksOf};
+ghost use Rattle.desk_model.specs.MeasureText.{IsMeasure};
+ghost use Rattle.desk_model.specs.declared.types.MeasureName.{MeasureName as Measured};
+ghost use Rattle.next_document.specs.Kept.{AreKeptFor};
+ghost use Rattle.order_certificate.specs.Certificate.{IsLevel};
+ghost use Rattle.pair_table.specs.Kept.{StandsFor};
+ghost use Rattle.desk_report.specs.Reports.{Subject, subject, IsTableOn, IsSubjectOf, IsTableText, IsPairText, IsCertifiedAs, IsNextText, AreWeightsOf, AreRuns, cells_of};
+
+use crate::{close_line, next_line_text, pair_line, table_text};
+use desk_model::{Desk, Marks, MeasureName, Memory};
+use measure_core::{Maker, Measure, Steps};
+use next_document::{Weights, next};
+use order_certificate::write_certificate;
+use pair_table::{EvidenceFault, Table};
+use std::alloc::Global;
+use std::sync::ledger::Ledger;
+
+/// What is printed of two runs to show their order.
+#[derive(Drop)]
+pub enum Certified {
+    /// The text of their certificate.
+    Certificate(Vec<u8>),
+    /// Their close line, exactly where their verdict is close.
+    Close(Vec<u8>),
+}
+
+/// The table of the measure of a name over a desk under marks. It is one step for each pair and topic, and none where
+/// memory runs out.
+///
+/// # Errors
+/// `Memory`: out of memory.
+pub fn table_on<P: Maker, L: Ledger>(
+    alloc: Global,
+    desk: &Desk,
+    marks: &Marks,
+    name: MeasureName,
+    maker: &P,
+    steps: &mut Steps<L>,
+) -> Result<Table<P::Made>, Memory>
+    requires measure { IsMeasure name }
+    requires marks { AreMarksOf desk.now marks.now }
+    ensures table { IfOk result (λ table. (level : ℕ) →
+        IsTableOn (P.Made.measured table.measure) (P.Made.cell_of table.measure) (P.Made.bounds_of table.measure) (subject name level desk.now marks.now) table) }
+    ensures steps { OnOk result (steps.new ≡ steps.old + cells_of desk.now) }
+    ensures no_steps { OnErr result (steps.new ≡ steps.old) }
+{
+    let measure = maker.make(alloc, name)?;
+    let table = Table::new(alloc, desk, marks, measure, steps)?;
+    Ok(table)
+}
+
+/// The text of a table over a desk: its head with the measure, the level, and how many topics and runs there are, a
+/// line for each run and a line for each pair. It speaks of the marks for which the table stands.
+///
+/// # Errors
+/// `Memory`: out of memory.
+pub fn table_report<M: Measure>(
+    alloc: Global,
+    desk: &Desk,
+    level: u32,
+    table: &Table<M>,
+) -> Result<Vec<u8>, Memory>
+    requires { table.now.runs ≡ length desk.now.runs }
+    ensures { IfOk result (λ text. (s : Subject) → s.level ≡ level →
+        IsSubjectOf (M.measured table.now.measure) (M.cell_of table.now.measure) (M.bounds_of table.now.measure) desk.now table.now s →
+        IsTableText s text.items) }
+{
+    // A report speaks of a valid desk, which every desk is.
+    let _runs = desk.run_count();
+    let measure = table.measure();
+    let name = measure.name();
+    let text = table_text(
+        alloc,
+        desk,
+        &name,
+        level,
+        measure.unit(),
+        table.all_bounds(),
+        table.all_totals(),
+    )?;
+    Ok(text)
+}
+
+/// The pair line of two different runs of a desk, numbered from 0, with its line feed: the first run stands first,
+/// whichever comes first in the desk. It speaks of the marks for which the table stands.
+///
+/// # Errors
+/// `Memory`: out of memory.
+pub fn pair_report<M: Measure>(
+    alloc: Global,
+    desk: &Desk,
+    table: &Table<M>,
+    first: u32,
+    second: u32,
+) -> Result<Vec<u8>, Memory>
+    requires runs { AreRuns desk.now first second }
+    requires table { table.now.runs ≡ length desk.now.runs }
+    ensures { IfOk result (λ text. (s : Subject) →
+        IsSubjectOf (M.measured table.now.measure) (M.cell_of table.now.measure) (M.bounds_of table.now.measure) desk.now table.now s →
+        IsPairText s first second text.items) }
+{
+    let measure = table.measure();
+    // The laws speak of measures that have a name, and of sums that are not large.
+    let (_name, _sums) = (measure.name(), table.all_totals());
+    let topics = desk.topic_count();
+    let totals = table.totals(first, second);
+    let text = pair_line(
+        alloc,
+        desk.run_name(first),
+        desk.run_name(second),
+        measure.unit(),
+        topics,
+        &totals,
+    )?;
+    Ok(text)
+}
+
+/// What shows the order of two different runs of a desk under marks, numbered from 0: their certificate at a level
+/// from 1 to 1,000, or their close line.
+///
+/// # Errors
+/// `Memory`: out of memory.
+pub fn certified_report<M: Measure>(
+    alloc: Global,
+    desk: &Desk,
+    marks: &Marks,
+    level: u32,
+    table: &Table<M>,
+    first: u32,
+    second: u32,
+) -> Result<Certified, Memory>
+    requires runs { AreRuns desk.now first second }
+    requires level { IsLevel level }
+    requires marks { AreMarksOf desk.now marks.now }
+    requires table { StandsFor (M.cell_of table.now.measure) (M.bounds_of table.now.measure) desk.now marks.now table.now }
+    ensures { IfOk result (λ answer. (s : Subject) → s.level ≡ level → s.marks ≡ marks.now →
+        IsSubjectOf (M.measured table.now.measure) (M.cell_of table.now.measure) (M.bounds_of table.now.measure) desk.now table.now s →
+        IsCertifiedAs s first second answer) }
+{
+    // A report speaks of a valid desk, which every desk is.
+    let _runs = desk.run_count();
+    match table.evidence(alloc, desk, marks, level, first, second) {
+        Ok(certificate) => {
+            let text = write_certificate(alloc, &certificate)?;
+            Ok(Certified::Certificate(text))
+        }
+        Err(EvidenceFault::Close(totals)) => {
+            let text = close_line(alloc, desk.run_name(first), desk.run_name(second), &totals)?;
+            Ok(Certified::Close(text))
+        }
+        Err(EvidenceFault::Memory) => Err(Memory),
+    }
+}
+
+/// The line of the document to judge next on a desk under marks, with its line feed: its names and its total weight over
+/// the pairs that are not settled, or `next none`.
+///
+/// # Errors
+/// `Memory`: out of memory.
+pub fn next_report<M: Measure>(
+    alloc: Global,
+    desk: &Desk,
+    marks: &Marks,
+    table: &Table<M>,
+) -> Result<Vec<u8>, Memory>
+    requires marks { AreMarksOf desk.now marks.now }
+    requires table { table.now.runs ≡ length desk.now.runs }
+    ensures { IfOk result (λ text. (s : Subject) → s.marks ≡ marks.now →
+        IsSubjectOf (M.measured table.now.measure) (M.cell_of table.now.measure) (M.bounds_of table.now.measure) desk.now table.now s →
+        IsNextText s text.items) }
+{
+    // A report speaks of a valid desk, which every desk is, and a table has sums for each pair.
+    let (_runs, _sums) = (desk.run_count(), table.all_totals());
+    let proposal = next(table.measure(), desk, marks, table.verdicts());
+    let text = next_line_text(alloc, desk, proposal.as_ref())?;
+    Ok(text)
+}
+
+/// The line of the document to judge next on a desk under marks, as `next_report` makes it, by totals that are kept for
+/// the desk and these marks. It looks at each document once.
+///
+/// # Errors
+/// `Memory`: out of memory.
+pub fn kept_next_report(
+    alloc: Global,
+    desk: &Desk,
+    marks: &Marks,
+    weights: &Weights,
+) -> Result<Vec<u8>, Memory>
+    requires marks { AreMarksOf desk.now marks.now }
+    requires kept { (measure : Measured) × AreKeptFor measure desk.now marks.now weights.now }
+    ensures { IfOk result (λ text. (s : Subject) → s.desk ≡ desk.now → s.marks ≡ marks.now → AreWeightsOf s weights.now → IsNextText s text.items) }
+{
+    // A report speaks of a valid desk, which every desk is.
+    let _runs = desk.run_count();
+    let proposal = weights.next(marks);
+    let text = next_line_text(alloc, desk, proposal.as_ref())?;
+    Ok(text)
+}

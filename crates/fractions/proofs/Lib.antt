@@ -1,4 +1,0 @@
-pub mod PlacesMore
-pub mod Spans
-pub mod Enclosures
-pub mod Ratio

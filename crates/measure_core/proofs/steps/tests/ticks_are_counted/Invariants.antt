@@ -1,4 +1,0 @@
-use Rattle.measure_core.proofs.steps.tests.ticks_are_counted.Given as goal
-
-abbrev pub ghosts-steps_of_two_ticks : goal.ghosts-steps_of_two_ticks
-ghosts-steps_of_two_ticks a = record { name = a.blank.name; parts = a.blank.parts }

@@ -1,0 +1,30 @@
+// A bit for each document, 64 in each number.
+ghost use Rattle.std.specs.Prelude.{◌≡◌, ◌*◌, ◌<◌, ◌≤◌, length};
+ghost use Rattle.desk_model.specs.Ranking.{IsRanking};
+ghost use Rattle.measure_core.specs.Bits.{AreBitsIn, has_bit};
+
+use desk_model::{Mark, Ranking};
+
+/// Whether the bit of a document is set.
+#[inline]
+pub fn has_bit(bits: &[u64], doc: u32) -> bool
+    requires { doc < 64 * length bits.now }
+    ensures { result ≡ has_bit bits.now doc }
+{
+    (bits[doc as usize / 64] >> (doc % 64)) & 1 == 1
+}
+
+/// Makes `bits` the bits of a ranking's documents that may be relevant, and clears all others.
+pub(crate) fn set_bits(ranking: &Ranking, marks: &[Mark], bits: &mut [u64])
+    requires ranking { IsRanking (length marks.now) ranking.now }
+    requires room { length marks.now ≤ 64 * length bits.old }
+    ensures bits { AreBitsIn ranking.now marks.now bits.new }
+    ensures count { length bits.new ≡ length bits.old }
+{
+    bits.fill(0);
+    for doc in ranking.docs() {
+        if marks[*doc as usize] != Mark::Other {
+            bits[*doc as usize / 64] |= 1 << (*doc % 64);
+        }
+    }
+}

@@ -1,0 +1,30 @@
+-- What a measure's ends are computed from.
+use Rattle.std.specs.Prelude.{◌≡◌}
+use Rattle.desk_model.specs.Limits.{RANK_LIMIT}
+use Rattle.desk_model.specs.MeasureText.{IsDepth, IsPersistence}
+use Rattle.desk_model.specs.declared.types.MeasureName.{MeasureName}
+use Rattle.desk_model.specs.declared.types.MeasureName.TheVariants as name
+use Rattle.topic_counts.specs.Places.{Known}
+use Rattle.order_verifier.specs.declared.kind.Kind.{Kind}
+use Rattle.order_verifier.specs.declared.kind.Kind.TheVariants.{Precision, Recall, RPrecision, Reciprocal, Biased}
+
+-- the name of the measure
+abbrev pub name_of : Kind → MeasureName
+name_of (Precision k) = name.Precision k
+name_of (Recall k) = name.Recall k
+name_of RPrecision = name.RPrecision
+name_of Reciprocal = name.Reciprocal
+name_of (Biased powers) = name.Biased powers.top powers.bottom
+
+-- the powers of a persistence, as many as a ranking has ranks
+pub record ArePowers (powers : Known) : Type 0 where
+  pub persistence : IsPersistence powers.top powers.bottom
+  pub last : powers.last ≡ RANK_LIMIT
+
+-- the numbers are those of a measure that has a text
+abbrev pub IsKind : Kind → Type 0
+IsKind (Precision k) = IsDepth k
+IsKind (Recall k) = IsDepth k
+IsKind RPrecision = Unit {0}
+IsKind Reciprocal = Unit {0}
+IsKind (Biased powers) = ArePowers powers

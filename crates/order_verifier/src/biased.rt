@@ -1,0 +1,158 @@
+ghost use Rattle.std.specs.Prelude.{◌≡◌, ◌-◌, ◌<◌, ◌-ℤ◌, ◌≤ℤ◌, pos, neg_ℤ, length, if◌then◌else◌};
+ghost use Rattle.desk_model.specs.Completion.{picked_value};
+ghost use Rattle.desk_model.specs.Limits.{PARTS_OF_ONE, RANK_LIMIT};
+ghost use Rattle.desk_model.specs.declared.types.MeasureName.TheVariants.{Biased as B};
+ghost use Rattle.measure_laws.specs.Ends.{IsUpperEnd};
+ghost use Rattle.measure_laws.specs.Powers.{low_power, high_power, low_weight, high_weight};
+ghost use Rattle.measure_laws.specs.Ranks.{IsRankWithin, comes_before};
+ghost use Rattle.measure_laws.specs.Shares.{low_share, high_share};
+ghost use Rattle.order_verifier.specs.Kinds.{ArePowers};
+ghost use Rattle.order_verifier.specs.Least.{AreRankings, IsLeastLow};
+
+use crate::ranks::is_before;
+use crate::relevance::Relevance;
+use crate::walk::{after, next_rank};
+use desk_model::{Mark, Ranking};
+use topic_counts::{Powers, Span};
+
+/// The weight of a rank in parts of 10^18, and none of an absent one.
+fn weight_of(powers: &Powers, rank: Option<u32>) -> Span
+    requires powers { ArePowers powers.now }
+    requires rank { IsRankWithin RANK_LIMIT rank }
+    ensures lo { result.lo ≡ pos (low_weight powers.now.top powers.now.bottom rank) }
+    ensures hi { result.hi ≡ pos (high_weight powers.now.top powers.now.bottom rank) }
+    ensures lo_small { result.lo ≤ℤ pos PARTS_OF_ONE }
+    ensures hi_small { result.hi ≤ℤ pos PARTS_OF_ONE }
+{
+    match rank {
+        None => Span { lo: 0, hi: 0 },
+        Some(rank) => powers.weight(rank),
+    }
+}
+
+/// What a relevant document at these two ranks adds at least to the difference.
+fn least_share(powers: &Powers, x: Option<u32>, y: Option<u32>) -> i128
+    requires powers { ArePowers powers.now }
+    requires first { IsRankWithin RANK_LIMIT x }
+    requires second { IsRankWithin RANK_LIMIT y }
+    ensures share { result ≡ low_share powers.now.top powers.now.bottom x y }
+    ensures low { neg_ℤ (pos PARTS_OF_ONE) ≤ℤ result }
+    ensures high { result ≤ℤ pos PARTS_OF_ONE }
+{
+    let lead = weight_of(powers, x).lo - weight_of(powers, y).hi;
+    if is_before(x, y) {
+        if lead > 0 { lead } else { 0 }
+    } else if is_before(y, x) {
+        lead
+    } else {
+        0
+    }
+}
+
+/// What a document with this mark at these two ranks adds at least in the least case: an unjudged one
+/// is relevant there where the second ranking has it first.
+fn least_gain(powers: &Powers, x: Option<u32>, y: Option<u32>, mark: Mark) -> i128
+    requires powers { ArePowers powers.now }
+    requires first { IsRankWithin RANK_LIMIT x }
+    requires second { IsRankWithin RANK_LIMIT y }
+    ensures gain { result ≡ (if picked_value (comes_before y x) mark then low_share powers.now.top powers.now.bottom x y else pos 0) }
+    ensures low { neg_ℤ (pos PARTS_OF_ONE) ≤ℤ result }
+    ensures high { result ≤ℤ pos PARTS_OF_ONE }
+{
+    let is_relevant = match mark {
+        Mark::Unjudged => is_before(y, x),
+        Mark::Relevant => true,
+        Mark::Other => false,
+    };
+    if is_relevant {
+        least_share(powers, x, y)
+    } else {
+        0
+    }
+}
+
+/// What a document at these two ranks adds at most in one completion.
+fn greatest_gain<T: Relevance>(
+    powers: &Powers,
+    x: Option<u32>,
+    y: Option<u32>,
+    relevant: &T,
+    doc: u32,
+) -> i128
+    requires powers { ArePowers powers.now }
+    requires first { IsRankWithin RANK_LIMIT x }
+    requires second { IsRankWithin RANK_LIMIT y }
+    requires doc { doc < T.universe relevant.now }
+    ensures gain { result ≡ (if T.truth relevant.now doc then high_share powers.now.top powers.now.bottom x y else pos 0) }
+    ensures low { neg_ℤ (pos PARTS_OF_ONE) ≤ℤ result }
+    ensures high { result ≤ℤ pos PARTS_OF_ONE }
+{
+    let is_ranked = x.is_some() || y.is_some();
+    if is_ranked && relevant.is_relevant(doc) {
+        -least_share(powers, y, x)
+    } else {
+        0
+    }
+}
+
+/// What a tail of a ranking adds at most.
+fn tail_most(powers: &Powers, ranking: &Ranking) -> i128
+    requires { ArePowers powers.now }
+    ensures value { result ≡ pos (high_power powers.now.top powers.now.bottom (length ranking.now)) }
+    ensures small { result ≤ℤ pos PARTS_OF_ONE }
+{
+    powers.high(ranking.docs().len() as u32)
+}
+
+/// What a tail of 10^24 relevant places adds at least.
+fn tail_least(powers: &Powers, ranking: &Ranking) -> i128
+    requires { ArePowers powers.now }
+    ensures value { result ≡ pos (low_power powers.now.top powers.now.bottom (length ranking.now) - 1) }
+    ensures small { result ≤ℤ pos PARTS_OF_ONE }
+{
+    let whole = powers.low(ranking.docs().len() as u32);
+    if whole > 0 { whole - 1 } else { 0 }
+}
+
+/// The lower end of the least difference under rank-biased precision: the lower shares of the
+/// documents that are relevant, or unjudged and ranked by b before a or alone, less what b's tail may
+/// hold.
+pub fn least_low(powers: &Powers, a: &Ranking, b: &Ranking, marks: &[Mark]) -> i128
+    requires powers { ArePowers powers.now }
+    requires rankings { AreRankings (length marks.now) a.now b.now }
+    ensures { IsLeastLow (B powers.now.top powers.now.bottom) marks.now a.now b.now result }
+{
+    let mut first = a.by_doc();
+    let mut second = b.by_doc();
+    let mut sum = 0;
+    for (place, mark) in marks.iter().enumerate() {
+        let doc = place as u32;
+        let x = next_rank(first, doc);
+        let y = next_rank(second, doc);
+        sum += least_gain(powers, x, y, *mark);
+        first = after(first, doc);
+        second = after(second, doc);
+    }
+    sum - tail_most(powers, b)
+}
+
+/// The upper end of the difference under rank-biased precision in one completion, where b has a tail
+/// of 10^24 relevant places: the upper shares of the relevant documents, less what that tail adds at
+/// least.
+pub fn upper_end<T: Relevance>(powers: &Powers, a: &Ranking, b: &Ranking, relevant: &T) -> i128
+    requires powers { ArePowers powers.now }
+    requires rankings { AreRankings (T.universe relevant.now) a.now b.now }
+    ensures { IsUpperEnd (B powers.now.top powers.now.bottom) (T.universe relevant.now) (T.truth relevant.now) a.now b.now result }
+{
+    let mut first = a.by_doc();
+    let mut second = b.by_doc();
+    let mut sum = 0;
+    for doc in 0..relevant.document_count() {
+        let x = next_rank(first, doc);
+        let y = next_rank(second, doc);
+        sum += greatest_gain(powers, x, y, relevant, doc);
+        first = after(first, doc);
+        second = after(second, doc);
+    }
+    sum - tail_least(powers, b)
+}

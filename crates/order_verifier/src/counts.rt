@@ -1,0 +1,105 @@
+ghost use Rattle.std.specs.Prelude.{◌≡◌, ◌+◌, ◌-◌, ◌≤◌, ◌<◌, length, take, true, false, if◌then◌else◌};
+ghost use Rattle.desk_model.specs.Limits.{DOCUMENT_LIMIT, RANK_LIMIT};
+ghost use Rattle.desk_model.specs.Completion.{picked_value};
+ghost use Rattle.desk_model.specs.Ranking.{IsRanking, is_in};
+ghost use Rattle.desk_model.specs.Score.{true_among};
+ghost use Rattle.measure_laws.specs.Classes.{judged_count};
+ghost use Rattle.measure_laws.specs.LeastDifference.{possible_count};
+
+use crate::ranks::is_within;
+use crate::relevance::Relevance;
+use desk_model::{Mark, Ranking};
+
+/// How many of some documents are judged relevant, and how many can be relevant: those and the
+/// unjudged ones.
+#[derive(Clone, Copy, PartialEq, Eq)]
+pub struct Counts {
+    pub relevant: u32,
+    pub possible: u32,
+}
+
+impl Counts {
+    /// The counts of no documents.
+    pub const NONE: Counts = Counts {
+        relevant: 0,
+        possible: 0,
+    };
+
+    /// With one more document of this mark.
+    pub fn with(self, mark: Mark) -> Counts
+        requires order { self.relevant ≤ self.possible }
+        requires few { self.possible < DOCUMENT_LIMIT }
+        ensures relevant { result.relevant ≡ self.relevant + (if picked_value false mark then 1 else 0) }
+        ensures possible { result.possible ≡ self.possible + (if picked_value true mark then 1 else 0) }
+    {
+        Counts {
+            relevant: self.relevant + u32::from(mark == Mark::Relevant),
+            possible: self.possible + u32::from(mark != Mark::Other),
+        }
+    }
+
+    /// Without one document of this mark.
+    pub fn without(self, mark: Mark) -> Counts
+        requires relevant { (if picked_value false mark then 1 else 0) ≤ self.relevant }
+        requires possible { (if picked_value true mark then 1 else 0) ≤ self.possible }
+        ensures relevant { result.relevant + (if picked_value false mark then 1 else 0) ≡ self.relevant }
+        ensures possible { result.possible + (if picked_value true mark then 1 else 0) ≡ self.possible }
+    {
+        Counts {
+            relevant: self.relevant - u32::from(mark == Mark::Relevant),
+            possible: self.possible - u32::from(mark != Mark::Other),
+        }
+    }
+
+    /// How many are unjudged.
+    pub fn unjudged(self) -> u32
+        requires { self.relevant ≤ self.possible }
+        ensures { result ≡ self.possible - self.relevant }
+    {
+        self.possible - self.relevant
+    }
+}
+
+/// The first k documents, or all where there are fewer.
+pub fn prefix(docs: &[u32], k: u32) -> &[u32]
+    ensures { result.now ≡ take k docs.now }
+{
+    &docs[..docs.len().min(k as usize)]
+}
+
+/// Whether a document is among the first k of a ranking.
+pub fn is_among_first(k: u32, ranking: &Ranking, doc: u32) -> bool
+    ensures { result ≡ is_in (take k ranking.now) doc }
+{
+    is_within(k, ranking.rank_of(doc))
+}
+
+/// The counts of all documents of a topic.
+pub fn all_documents(marks: &[Mark]) -> Counts
+    requires { length marks.now ≤ DOCUMENT_LIMIT }
+    ensures relevant { result.relevant ≡ judged_count marks.now }
+    ensures possible { result.possible ≡ possible_count marks.now }
+    ensures order { result.relevant ≤ result.possible }
+    ensures few { result.possible ≤ DOCUMENT_LIMIT }
+{
+    let mut counts = Counts::NONE;
+    for mark in marks {
+        counts = counts.with(*mark);
+    }
+    counts
+}
+
+/// How many of a ranking's first k documents are relevant in one completion.
+pub fn relevant_among<T: Relevance>(k: u32, ranking: &Ranking, relevant: &T) -> u32
+    requires { IsRanking (T.universe relevant.now) ranking.now }
+    ensures count { result ≡ true_among (T.truth relevant.now) k ranking.now }
+    ensures few { result ≤ RANK_LIMIT }
+{
+    let mut count = 0;
+    for doc in prefix(ranking.docs(), k) {
+        if relevant.is_relevant(*doc) {
+            count += 1;
+        }
+    }
+    count
+}

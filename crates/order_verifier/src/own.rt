@@ -1,0 +1,135 @@
+ghost use Rattle.std.specs.Prelude.{◌≡◌, ◌+◌, ◌^◌, ◌≤◌, ◌<◌, ◌&&◌, not, true, false, length, take, if◌then◌else◌};
+ghost use Rattle.desk_model.specs.Completion.{picked_value};
+ghost use Rattle.desk_model.specs.Limits.{DOCUMENT_LIMIT};
+ghost use Rattle.desk_model.specs.Ranking.{IsRanking};
+ghost use Rattle.order_verifier.specs.Least.{AreRankings};
+ghost use Rattle.order_verifier.specs.Own.{AreOwn, IsOrdered};
+
+use crate::counts::{Counts, is_among_first};
+use crate::ranks::is_within;
+use crate::walk::{after, next_rank};
+use desk_model::{Mark, Ranking};
+
+/// The counts of the documents that each of two rankings has among its first ones, and the other not.
+#[derive(Clone, Copy, PartialEq, Eq)]
+pub struct Own {
+    pub first: Counts,
+    pub second: Counts,
+}
+
+impl Own {
+    /// The counts of the swapped rankings.
+    fn swapped(self) -> Own
+        ensures first { result.first ≡ self.second }
+        ensures second { result.second ≡ self.first }
+    {
+        Own {
+            first: self.second,
+            second: self.first,
+        }
+    }
+
+    /// With one document more, which each of the two rankings has or has not among its first ones.
+    fn with_either(self, in_first: bool, in_second: bool, mark: Mark) -> Own
+        requires first { self.first.relevant ≤ self.first.possible }
+        requires second { self.second.relevant ≤ self.second.possible }
+        requires first_few { self.first.possible < DOCUMENT_LIMIT }
+        requires second_few { self.second.possible < DOCUMENT_LIMIT }
+        ensures first_relevant { result.first.relevant ≡ self.first.relevant + (if picked_value false mark && (in_first && not in_second) then 1 else 0) }
+        ensures first_possible { result.first.possible ≡ self.first.possible + (if picked_value true mark && (in_first && not in_second) then 1 else 0) }
+        ensures second_relevant { result.second.relevant ≡ self.second.relevant + (if picked_value false mark && (in_second && not in_first) then 1 else 0) }
+        ensures second_possible { result.second.possible ≡ self.second.possible + (if picked_value true mark && (in_second && not in_first) then 1 else 0) }
+    {
+        match (in_first, in_second) {
+            (true, false) => Own {
+                first: self.first.with(mark),
+                second: self.second,
+            },
+            (false, true) => Own {
+                first: self.first,
+                second: self.second.with(mark),
+            },
+            _ => self,
+        }
+    }
+
+    /// The counts of the first k documents, by one walk over all documents.
+    pub fn of_first(k: u32, a: &Ranking, b: &Ranking, marks: &[Mark]) -> Own
+        requires { AreRankings (length marks.now) a.now b.now }
+        ensures own { AreOwn marks.now (take k a.now) (take k b.now) result }
+        ensures ordered { IsOrdered result }
+    {
+        let mut first = a.by_doc();
+        let mut second = b.by_doc();
+        let mut own = Own {
+            first: Counts::NONE,
+            second: Counts::NONE,
+        };
+        for (place, mark) in marks.iter().enumerate() {
+            let doc = place as u32;
+            let in_first = is_within(k, next_rank(first, doc));
+            let in_second = is_within(k, next_rank(second, doc));
+            own = own.with_either(in_first, in_second, *mark);
+            first = after(first, doc);
+            second = after(second, doc);
+        }
+        own
+    }
+
+    /// With one document more of the first ranking: it is no longer the second's own where that has it
+    /// among its first ones, and else it is the first's own.
+    fn with_next(self, mark: Mark, is_shared: bool) -> Own
+        requires ordered { IsOrdered self }
+        requires relevant { (if picked_value false mark && is_shared then 1 else 0) ≤ self.second.relevant }
+        requires possible { (if picked_value true mark && is_shared then 1 else 0) ≤ self.second.possible }
+        ensures first_relevant { result.first.relevant ≡ self.first.relevant + (if picked_value false mark && not is_shared then 1 else 0) }
+        ensures first_possible { result.first.possible ≡ self.first.possible + (if picked_value true mark && not is_shared then 1 else 0) }
+        ensures second_relevant { result.second.relevant + (if picked_value false mark && is_shared then 1 else 0) ≡ self.second.relevant }
+        ensures second_possible { result.second.possible + (if picked_value true mark && is_shared then 1 else 0) ≡ self.second.possible }
+    {
+        if is_shared {
+            Own {
+                first: self.first,
+                second: self.second.without(mark),
+            }
+        } else {
+            Own {
+                first: self.first.with(mark),
+                second: self.second,
+            }
+        }
+    }
+
+    /// With the document of the first ranking after so many, where there is one. Of the second so many
+    /// are seen.
+    fn with_document(
+        self,
+        depth: u32,
+        ranking: &Ranking,
+        seen: u32,
+        other: &Ranking,
+        marks: &[Mark],
+    ) -> Own
+        requires first { IsRanking (length marks.now) ranking.now }
+        requires second { IsRanking (length marks.now) other.now }
+        requires own { AreOwn marks.now (take depth ranking.now) (take seen other.now) self }
+        ensures { AreOwn marks.now (take (depth + 1) ranking.now) (take seen other.now) result }
+    {
+        match ranking.docs().get(depth as usize) {
+            Some(doc) => self.with_next(marks[*doc as usize], is_among_first(seen, other, *doc)),
+            None => self,
+        }
+    }
+
+    /// The counts one document deeper in both rankings.
+    pub fn deepened(self, depth: u32, a: &Ranking, b: &Ranking, marks: &[Mark]) -> Own
+        requires first { IsRanking (length marks.now) a.now }
+        requires second { IsRanking (length marks.now) b.now }
+        requires depth { depth + 1 < 2 ^ 32 }
+        requires own { AreOwn marks.now (take depth a.now) (take depth b.now) self }
+        ensures { AreOwn marks.now (take (depth + 1) a.now) (take (depth + 1) b.now) result }
+    {
+        let first = self.with_document(depth, a, depth, b, marks).swapped();
+        first.with_document(depth, b, depth + 1, a, marks).swapped()
+    }
+}

@@ -1,0 +1,64 @@
+ghost use Rattle.std.specs.Prelude.{◌≡◌, ◌+◌, ◌-◌, ◌≤◌, ◌<◌, ◌&&◌, not, min, max, true, false, pos, ◌-ℤ◌, length, take, if◌then◌else◌};
+ghost use Rattle.desk_model.specs.Completion.{picked_value};
+ghost use Rattle.desk_model.specs.Limits.{DOCUMENT_LIMIT, RANK_LIMIT};
+ghost use Rattle.desk_model.specs.Ranking.{IsRanking};
+ghost use Rattle.desk_model.specs.declared.types.MeasureName.TheVariants.{RPrecision as R};
+ghost use Rattle.measure_laws.specs.Ends.{IsUpperEnd};
+ghost use Rattle.order_verifier.specs.Differences.{IsSmall, lead_of, whole_of};
+ghost use Rattle.order_verifier.specs.Least.{AreRankings, IsLeastLow};
+ghost use Rattle.order_verifier.specs.Own.{AreOwn, IsOrdered};
+
+use crate::counts::{Counts, all_documents, relevant_among};
+use crate::difference::Difference;
+use crate::own::Own;
+use crate::relevance::Relevance;
+use desk_model::{Mark, Ranking};
+
+/// The difference where so many unjudged documents are relevant: b's own ones are chosen first, and
+/// a's own ones last.
+fn difference(own: Own, all: Counts, chosen: u32) -> Difference
+    requires own { IsOrdered own }
+    requires all { all.relevant ≤ all.possible }
+    requires few { all.possible ≤ DOCUMENT_LIMIT }
+    requires chosen { all.relevant + chosen ≤ all.possible }
+    ensures small { IsSmall result }
+    ensures lead { lead_of result ≡ pos (own.first.relevant + (chosen - (all.possible - all.relevant - (own.first.possible - own.first.relevant)))) -ℤ pos (own.second.relevant + min chosen (own.second.possible - own.second.relevant)) }
+    ensures whole { whole_of result ≡ max 1 (all.relevant + chosen) }
+{
+    let others = all.unjudged().saturating_sub(own.first.unjudged());
+    Difference {
+        first: own.first.relevant + chosen.saturating_sub(others),
+        second: own.second.relevant + chosen.min(own.second.unjudged()),
+        whole: all.relevant + chosen,
+    }
+}
+
+/// The lower end of the least difference under R-precision: the smallest over each number of relevant
+/// documents that the topic can have, from the judged ones to those and all unjudged ones.
+pub fn least_low(a: &Ranking, b: &Ranking, marks: &[Mark]) -> i128
+    requires { AreRankings (length marks.now) a.now b.now }
+    ensures { IsLeastLow R marks.now a.now b.now result }
+{
+    let all = all_documents(marks);
+    let mut own = Own::of_first(all.relevant, a, b, marks);
+    let mut low = difference(own, all, 0).floor();
+    for chosen in 0..all.unjudged() {
+        own = own.deepened(all.relevant + chosen, a, b, marks);
+        low = difference(own, all, chosen + 1).lowered(low);
+    }
+    low
+}
+
+/// The upper end of the difference under R-precision in one completion.
+pub fn upper_end<T: Relevance>(a: &Ranking, b: &Ranking, relevant: &T) -> i128
+    requires { AreRankings (T.universe relevant.now) a.now b.now }
+    ensures { IsUpperEnd R (T.universe relevant.now) (T.truth relevant.now) a.now b.now result }
+{
+    let depth = relevant.relevant_count();
+    Difference {
+        first: relevant_among(depth, a, relevant),
+        second: relevant_among(depth, b, relevant),
+        whole: depth,
+    }
+    .ceiling()
+}

@@ -1,2 +1,0 @@
-pub mod NextPair
-pub mod Telling

@@ -1,8 +1,0 @@
-use Rattle.std.proofs.Common.{ℕ, ◌<◌, get_or}
-use Rattle.measure_core.specs.Pairs.{ranking_on}
-use Rattle.topic_counts.specs.Seen.{ArePrefix}
-use Rattle.topic_counts.specs.declared.counts.Counts.{Counts}
-use Rattle.own_cells.proofs.rows.count_runs.Given as goal
-
-abbrev pub invariant-loop-run : goal.invariant-loop-run
-invariant-loop-run l = (run : ℕ) (none : Counts) → run < l.run → ArePrefix l.k l.marks (ranking_on l.rankings run) (get_or l.counts run none)

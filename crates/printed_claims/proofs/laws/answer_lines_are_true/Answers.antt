@@ -1,5 +1,0 @@
-use Rattle.printed_claims.proofs.Truths.{answer_true}
-use Rattle.printed_claims.proofs.laws.answer_lines_are_true.Goals as goal
-
-pub returns : goal.returns
-returns c = answer_true c.certificates_have_texts.ensures.written

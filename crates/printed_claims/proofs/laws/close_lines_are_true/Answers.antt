@@ -1,5 +1,0 @@
-use Rattle.printed_claims.proofs.Truths.{close_true}
-use Rattle.printed_claims.proofs.laws.close_lines_are_true.Goals as goal
-
-pub returns : goal.returns
-returns c = close_true c.certificates_have_texts.ensures.written

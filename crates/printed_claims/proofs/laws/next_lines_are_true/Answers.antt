@@ -1,5 +1,0 @@
-use Rattle.printed_claims.proofs.Truths.{next_true}
-use Rattle.printed_claims.proofs.laws.next_lines_are_true.Goals as goal
-
-pub returns : goal.returns
-returns c = next_true c.certificates_have_texts.ensures.written

@@ -1,5 +1,0 @@
-use Rattle.printed_claims.proofs.Truths.{nothing_true}
-use Rattle.printed_claims.proofs.laws.no_text_is_true.Goals as goal
-
-pub returns : goal.returns
-returns c = nothing_true c.certificates_have_texts.ensures.written

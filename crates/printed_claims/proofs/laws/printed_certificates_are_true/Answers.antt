@@ -1,5 +1,0 @@
-use Rattle.printed_claims.proofs.Truths.{certificates_true}
-use Rattle.printed_claims.proofs.laws.printed_certificates_are_true.Goals as goal
-
-pub returns : goal.returns
-returns c = certificates_true c.certificates_have_texts.ensures.written c.certificates_have_texts.ensures.text c.evidence_implies_claim.ensures c.no_text_begins_another.ensures

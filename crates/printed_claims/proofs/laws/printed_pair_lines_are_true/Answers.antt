@@ -1,5 +1,0 @@
-use Rattle.printed_claims.proofs.Truths.{pairs_true}
-use Rattle.printed_claims.proofs.laws.printed_pair_lines_are_true.Goals as goal
-
-pub returns : goal.returns
-returns c = pairs_true c.numbers_of_two_runs_hold.ensures.sums c.numbers_of_two_runs_hold.ensures.exact c.certificates_have_texts.ensures.written

@@ -1,5 +1,0 @@
-use Rattle.ranked_cells.proofs.Placing.{ArePlacedTo}
-use Rattle.ranked_cells.proofs.rows.place_ranks.Given as goal
-
-abbrev pub invariant-loop-place : goal.invariant-loop-place
-invariant-loop-place l = ArePlacedTo l.ranking l.place-items l.ranks l.place-index

@@ -1,9 +1,0 @@
-pub mod Beside
-pub mod Unjudged
-pub mod PairTexts
-pub mod Swaps
-pub mod Staying
-pub mod Loading
-pub mod Again
-pub mod Grading
-pub mod Checked

@@ -1,8 +1,0 @@
-use Rattle.session_laws.proofs.Staying.{words_stay, swapped_words}
-use Rattle.session_laws.proofs.laws.settled_words_stay.Goals as goal
-
-pub returns-clause-same : goal.returns-clause-same
-returns-clause-same c = words_stay
-
-pub returns-clause-swapped : goal.returns-clause-swapped
-returns-clause-swapped c = swapped_words

@@ -1,5 +1,0 @@
-use Rattle.session_lines.proofs.Lines.{long_from, long_to}
-use Rattle.session_lines.proofs.laws.long_lines_are_too_long.Goals as goal
-
-pub returns : goal.returns
-returns c = λ line. (long_from line, long_to line)

@@ -1,5 +1,0 @@
-pub mod Differences
-pub mod Least
-pub mod Own
-pub mod Walk
-pub mod Kinds

@@ -1,7 +1,0 @@
-//! The rankings of a run.
-#![tactic(auto)]
-
-mod entry;
-mod ranked;
-
-pub use ranked::{RankedNames, order_is_one, ranking};

@@ -1,4 +1,0 @@
-pub mod Walking
-pub mod Sides
-pub mod Alone
-pub mod Apart
