@@ -14,5 +14,4 @@ pub mod Apart
 pub mod NextPair
 pub mod Telling
 pub mod Placing
-pub mod Unplaced
-pub mod MoreBits
+pub mod SetBits

@@ -125,6 +125,15 @@ stands (Some x) (Some y) = elim (cases_lt x y) [
     not_less : (m n : ℕ) → n ≤ m → nat_lt m n ≡ false
     not_less m n h = grind (arith, nat_tests)
 
+-- of two ranks only one comes first
+pub one_first : (x y : Option ℕ) → comes_before x y ≡ true → comes_before y x ≡ false
+one_first x y h = at (stands x y)
+  where
+    at : Standing x y → comes_before y x ≡ false
+    at (ahead e f) = f
+    at (behind e f) = let bad : true ≡ false = sym h ∙ e in absurd (cc)
+    at (level e f g) = f
+
 pub before_worth : (a c m n : ℕ) (x y : Option ℕ) → IsRankWithin m x → IsRankWithin n y → comes_before x y ≡ true → worth_of a (a + c) n y * (a + c) ^ m ≤ worth_of a (a + c) m x * (a + c) ^ n
 before_worth a c m n None y h k e = absurd (cc)
 before_worth a c m n (Some x) None h k e = omega arith

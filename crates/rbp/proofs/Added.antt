@@ -1,24 +1,22 @@
 -- What a document of two runs adds to the sums of shares beyond what its ranks alone add.
 use Rattle.std.proofs.Common.{◌≡◌, ℕ, zero, suc, ◌+◌, ◌-◌, ◌*◌, ◌/◌, ◌<◌, ◌≤◌, Bool, true, false, min, Option, Some, None, ℤ, pos, neg_ℤ, ◌+ℤ◌, ◌-ℤ◌, arith, refl, ap, ◌∙◌, sym}
-use Rattle.std.specs.Prelude.{if◌then◌else◌, ◌&&◌, nat_lt}
+use Rattle.std.specs.Prelude.{if◌then◌else◌}
 use Rattle.std.proofs.Math.Nat.{mul-le-mul_left, mul-le-mul_right}
-use Rattle.std.proofs.lemmas.Bool.{lt-ltb}
 use Rattle.std.proofs.lemmas.Bool.Decides.{nat_tests}
 use Rattle.std.proofs.lemmas.Int.{ints}
 use Rattle.std.proofs.lemmas.Nat.{div_below}
 use Rattle.desk_model.specs.Completion.{picked_value}
 use Rattle.desk_model.specs.declared.types.Mark.{Mark}
-use Rattle.desk_model.specs.declared.types.Mark.TheVariants.{Unjudged, Relevant, Other}
+use Rattle.desk_model.specs.declared.types.Mark.TheVariants.{Unjudged, Relevant}
 use Rattle.measure_laws.specs.Powers.{ceil_div, high_power, low_weight, high_weight}
 use Rattle.measure_laws.specs.Ranks.{comes_before}
 use Rattle.measure_laws.specs.Shares.{low_share, high_share}
-use Rattle.measure_laws.proofs.BiasedEnds.{Standing, stands, ahead, behind, level}
+use Rattle.measure_laws.proofs.BiasedEnds.{Standing, stands, ahead, behind, level, one_first}
 use Rattle.measure_laws.proofs.BiasedSizes.{weights_order}
 use Rattle.rbp.specs.Added.{IsAdded, IsUpTo, added, least_low, least_high, most_low, most_high}
-use Rattle.rbp.specs.Walk.{share_of, is_in_least, is_in_most, correction, number_of}
+use Rattle.rbp.specs.Walk.{share_of, is_in_least, is_in_most, correction}
 use Rattle.rbp.specs.declared.by_ranks.Added.{Added}
-use Rattle.measure_core.specs.Worths.{rank_or_none}
-use Rattle.rbp.proofs.Walk.{AreAlone, ends, alone_in_least_low, alone_in_least_high, alone_in_most_low, alone_in_most_high, IsCommon}
+use Rattle.rbp.proofs.Walk.{AreAlone, ends, alone_in_least_low, alone_in_least_high, alone_in_most_low, alone_in_most_high}
 
 -- ---- weights rounded up fall from rank to rank
 ceil_rises : (m n b : ℕ) → m ≤ n → 0 < b → ceil_div m b ≤ ceil_div n b
@@ -95,14 +93,6 @@ pub chosen : (t u : Bool) (m n i j r : ℕ) → r ≡ (if t then m else n) → t
 chosen t u m n i j r e f g h = e ∙ ap (λ b. if b then m else n) f ∙ ap (λ k. if u then k else n) g ∙ ap (λ k. if u then i else k) h
 
 -- ---- which rank comes first
-in_order : (x y : Option ℕ) → IsOrder (comes_before x y) (comes_before y x)
-in_order x y = at (stands x y)
-  where
-    at : Standing x y → IsOrder (comes_before x y) (comes_before y x)
-    at (ahead e f) h = f
-    at (behind e f) h = let bad : true ≡ false = sym h ∙ e in absurd (cc)
-    at (level e f g) h = f
-
 even : (x y : Option ℕ) → comes_before x y ≡ false → comes_before y x ≡ false → x ≡ y
 even x y h k = at (stands x y)
   where
@@ -148,7 +138,7 @@ module _ (top bottom : ℕ) (x : Option ℕ) (y : ℕ) (below : top < bottom) wh
       let lows = weights_order top bottom (Some y) (omega (arith, below)) in
       let lows_x = weights_order top bottom x (omega (arith, below)) in
       let highs : b ≡ false → hx ≤ hy = not_ahead top bottom x y (omega (arith, below)) (omega (arith, below)) first in
-      let not_first : c ≡ true → b ≡ false = in_order (Some y) x in
+      let not_first : c ≡ true → b ≡ false = one_first (Some y) x in
       record {
         least_lo = omega (arith, p, choice_most c lx hy hy (λ e. omega (arith, highs (not_first e), lows_x)) (λ e. omega arith));
         least_hi = omega (arith, q, choice_most c (min hx ly) ly hy (λ e. omega (arith, lows)) (λ e. omega (arith, lows)));
@@ -178,8 +168,8 @@ module _ (top bottom : ℕ) (x : Option ℕ) (y : ℕ) (below : top < bottom) wh
       let three : most_low s ≡ neg_ℤ (pos (if b then min lx hy else lx)) = omega (arith, ints, m, ap (λ k. neg_ℤ (pos k)) u) in
       let four : most_high s ≡ neg_ℤ (pos (if b then ly else hx)) = ap (λ k. neg_ℤ (pos k)) (omega (arith, v, n)) in
       record {
-        least_lo = one ∙ least_lo_is lx hx ly hy b c (in_order x (Some y)) ∙ by_weights (low_share top bottom) is_in_least false true (low_weight top bottom) (high_weight top bottom) Unjudged x (Some y) (alone_in_least_low top bottom);
-        least_hi = two ∙ least_hi_is lx hx ly hy b c (in_order x (Some y)) ∙ by_weights (high_share top bottom) is_in_least false true (high_weight top bottom) (low_weight top bottom) Unjudged x (Some y) (alone_in_least_high top bottom);
+        least_lo = one ∙ least_lo_is lx hx ly hy b c (one_first x (Some y)) ∙ by_weights (low_share top bottom) is_in_least false true (low_weight top bottom) (high_weight top bottom) Unjudged x (Some y) (alone_in_least_low top bottom);
+        least_hi = two ∙ least_hi_is lx hx ly hy b c (one_first x (Some y)) ∙ by_weights (high_share top bottom) is_in_least false true (high_weight top bottom) (low_weight top bottom) Unjudged x (Some y) (alone_in_least_high top bottom);
         most_lo = three ∙ most_lo_is lx hx ly hy b c ∙ by_weights (low_share top bottom) is_in_most true false (low_weight top bottom) (high_weight top bottom) Unjudged x (Some y) (alone_in_most_low top bottom);
         most_hi = four ∙ most_hi_is lx hx ly hy b c ∙ by_weights (high_share top bottom) is_in_most true false (high_weight top bottom) (low_weight top bottom) Unjudged x (Some y) (alone_in_most_high top bottom);
         small = unjudged_small s first p q u v m n;
@@ -190,8 +180,8 @@ module _ (top bottom : ℕ) (x : Option ℕ) (y : ℕ) (below : top < bottom) wh
   relevant_is s first p q u v m n =
       let low_level : b ≡ false → c ≡ false → lx ≤ hy = λ e f. omega (arith, weights_order top bottom x (omega (arith, below)), ap (high_weight top bottom) (even x (Some y) e f)) in
       let high_level : b ≡ false → c ≡ false → ly ≤ hx = λ e f. omega (arith, weights_order top bottom (Some y) (omega (arith, below)), ap (high_weight top bottom) (even x (Some y) e f)) in
-      let lower = relevant_lo_is lx hx ly hy b c (in_order x (Some y)) low_level in
-      let upper = relevant_hi_is lx hx ly hy b c (in_order x (Some y)) high_level in
+      let lower = relevant_lo_is lx hx ly hy b c (one_first x (Some y)) low_level in
+      let upper = relevant_hi_is lx hx ly hy b c (one_first x (Some y)) high_level in
       let one : least_low s ≡ pos (if c then 0 else hy - lx) = ap pos (omega (arith, p, m)) in
       let two : least_high s ≡ neg_ℤ (pos (if b then 0 else hx - ly)) = omega (arith, ints, q, ap (λ k. neg_ℤ (pos k)) n) in
       let three : most_low s ≡ pos (if c then 0 else hy - lx) = omega (arith, ints, u, ap pos m) in

@@ -1,6 +1,6 @@
 -- One pass over the documents of a run, by their places.
 use Rattle.std.proofs.Common.{◌≡◌, ◌≢◌, ℕ, zero, suc, ◌+◌, ◌<◌, ◌≤◌, Bool, true, false, cond, nat_eq, List, [], ◌∷◌, map, drop, length, get_or, Option, Some, None, ℤ, pos, ◌+ℤ◌, arith, refl, ap, ◌∙◌, sym, subst}
-use Rattle.std.specs.Prelude.{◌&&◌}
+use Rattle.std.specs.Prelude.{◌&&◌, ◌||◌}
 use Rattle.std.specs.List.{IsDistinct, position_from, range_with_len}
 use Rattle.std.proofs.Math.Seq.{drop-cons}
 use Rattle.std.proofs.lemmas.Bool.{eq-eqb}
@@ -16,10 +16,18 @@ use Rattle.desk_model.proofs.Counts.{nat_eq-true, not_in}
 use Rattle.measure_laws.specs.Ranks.{IsRankWithin}
 use Rattle.measure_laws.proofs.Ranks.{rank_within}
 use Rattle.measure_core.specs.Bits.{may_be_relevant}
-use Rattle.measure_core.proofs.Unplaced.{unplaced}
 use Rattle.rbp.specs.Walk.{correction}
 use Rattle.rbp.proofs.Walk.{IsCommon, apart_once, nothing_from}
 use Rattle.measure_core.specs.Worths.{rank_or_none}
+
+-- a document that a list lacks has no place in it
+unplaced : (docs : List ℕ) (doc s : ℕ) → is_in docs doc ≡ false → position_from (λ each. nat_eq each doc) s docs ≡ None
+unplaced [] doc s h = refl
+unplaced (d ∷ docs) doc s h = at (nat_eq d doc) refl (unplaced docs doc (s + 1))
+  where
+    at : (b : Bool) → nat_eq d doc ≡ b → (is_in docs doc ≡ false → position_from (λ each. nat_eq each doc) (s + 1) docs ≡ None) → cond (nat_eq d doc) (Some s) (position_from (λ each. nat_eq each doc) (s + 1) docs) ≡ None
+    at true e later = let bad : (true || is_in docs doc) ≡ false = rw e at h in absurd (cc)
+    at false e later = rw e (later (rw e at h))
 
 -- what the documents of a list add, the first of them at a rank
 abbrev pub from_rank : (Mark → Option ℕ → Option ℕ → ℤ) → List Mark → List ℕ → ℕ → List ℕ → ℤ

@@ -1,7 +1,7 @@
 use Rattle.std.proofs.Common.{ℕ, ◌+◌, ◌<◌, List, length, take, get_or, refl, ◌∙◌, sym, subst}
 use Rattle.desk_model.specs.Mark.{mark_at}
 use Rattle.measure_core.specs.Bits.{AreBitsIn}
-use Rattle.measure_core.proofs.MoreBits.{bit_left, bit_set, is_not_other}
+use Rattle.measure_core.proofs.SetBits.{bit_left, bit_set, is_not_other}
 use Rattle.measure_core.proofs.bits.set_bits.Goals as goal
 use Rattle.measure_core.proofs.bits.set_bits.Goals.{then-ne, else-ne}
 

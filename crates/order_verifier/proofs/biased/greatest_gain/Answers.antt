@@ -6,18 +6,9 @@ use Rattle.std.proofs.lemmas.Int.{ints}
 use Rattle.measure_laws.specs.Powers.{low_weight, high_weight}
 use Rattle.measure_laws.specs.Ranks.{comes_before}
 use Rattle.measure_laws.specs.Shares.{low_share, high_share}
-use Rattle.measure_laws.proofs.BiasedEnds.{Standing, stands, ahead, behind, level}
+use Rattle.measure_laws.proofs.BiasedEnds.{one_first}
 use Rattle.order_verifier.proofs.biased.greatest_gain.Goals.{then-is_some, else-is_some, else-is_ranked-via-then-is_ranked+else-is_relevant, else-is_ranked-via-else-is_ranked}
 use Rattle.order_verifier.proofs.biased.greatest_gain.Goals as goal
-
--- of two ranks only one comes first
-one_first : (x y : Option ℕ) → comes_before x y ≡ true → comes_before y x ≡ false
-one_first x y h = at (stands x y)
-  where
-    at : Standing x y → comes_before y x ≡ false
-    at (ahead e f) = f
-    at (behind e f) = let bad : true ≡ false = sym h ∙ e in absurd (cc)
-    at (level e f g) = f
 
 -- the same by which rank comes first
 flipped : (first second : Bool) (l h : ℕ) → (first ≡ true → second ≡ false) →
