@@ -1,3 +1,4 @@
 pub mod Agreement
 pub mod Splitting
 pub mod Listed
+pub mod Wide

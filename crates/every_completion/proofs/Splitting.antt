@@ -111,13 +111,6 @@ max_one x y = swapped (one_of (int_lt y x) x y)
 max_least : (x y : ℤ) → (x ≤ℤ int_max x y) × (y ≤ℤ int_max x y)
 max_least x y = (omega (arith, ints, int_max_is x y), omega (arith, ints, int_max_is x y))
 
--- the same numbers, as the code reads them
-pub min_read : (x y r x' y' r' : ℤ) → x' ≡ x → y' ≡ y → r' ≡ r → r ≡ int_min x' y' → r' ≡ int_min x y
-min_read x y r x' y' r' e f g h = g ∙ h ∙ ap (λ z. int_min z y') e ∙ ap (int_min x) f
-
-pub max_read : (x y r x' y' r' : ℤ) → x' ≡ x → y' ≡ y → r' ≡ r → r ≡ int_max x' y' → r' ≡ int_max x y
-max_read x y r x' y' r' e f g h = g ∙ h ∙ ap (λ z. int_max z y') e ∙ ap (int_max x) f
-
 min_greatest : (w x y : ℤ) → w ≤ℤ x → w ≤ℤ y → w ≤ℤ int_min x y
 min_greatest w x y h k = elim (min_one x y) [ inl e ↦ subst (λ z. w ≤ℤ z) (sym e) h | inr e ↦ subst (λ z. w ≤ℤ z) (sym e) k ]
 

@@ -9,3 +9,5 @@ pub mod Walk
 pub mod Own
 pub mod MarkCounts
 pub mod Seen
+pub mod Scan
+pub mod Products

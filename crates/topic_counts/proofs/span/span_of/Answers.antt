@@ -1,27 +1,29 @@
-use Rattle.std.proofs.Common.{◌≡◌, to_z, of_z, arith}
-use Rattle.std.specs.Int.{w128}
-use Rattle.std.proofs.lemmas.Int.{ints}
-use Rattle.desk_model.proofs.Floors.{product_within, product_read, floor_read, ceiling_read}
+use Rattle.topic_counts.proofs.Products.{positive_read, product_fits, product_low, product_high, product_floor, product_ceiling}
 use Rattle.topic_counts.proofs.span.span_of.Goals as goal
 
+pub overflow_mul-n : goal.overflow_mul-n
+overflow_mul-n c = product_fits c.args.unit c.args.num c.requires.unit c.requires.unit_small c.requires.num_low c.requires.num_high c.ranges.unit c.ranges.num
+
+pub floor-requires-clause-positive : goal.floor-requires-clause-positive
+floor-requires-clause-positive c = positive_read c.args.den c.ranges.den c.requires.den
+
+pub floor-requires-clause-low : goal.floor-requires-clause-low
+floor-requires-clause-low c = product_low c.args.unit c.args.num c.requires.unit c.requires.unit_small c.requires.num_low c.requires.num_high
+
+pub floor-requires-clause-high : goal.floor-requires-clause-high
+floor-requires-clause-high c = product_high c.args.unit c.args.num c.requires.unit c.requires.unit_small c.requires.num_low c.requires.num_high
+
+pub ceiling-requires-clause-positive : goal.ceiling-requires-clause-positive
+ceiling-requires-clause-positive c = positive_read c.args.den c.ranges.den c.requires.den
+
 pub ceiling-requires-clause-low : goal.ceiling-requires-clause-low
-ceiling-requires-clause-low c =
-    rw (product_read c.args.unit c.args.num c.requires.unit c.requires.unit_small c.requires.num_low c.requires.num_high)
-    ((product_within c.args.unit c.args.num c.requires.unit c.requires.unit_small c.requires.num_low c.requires.num_high).0)
+ceiling-requires-clause-low c = product_low c.args.unit c.args.num c.requires.unit c.requires.unit_small c.requires.num_low c.requires.num_high
 
 pub ceiling-requires-clause-high : goal.ceiling-requires-clause-high
-ceiling-requires-clause-high c =
-    rw (product_read c.args.unit c.args.num c.requires.unit c.requires.unit_small c.requires.num_low c.requires.num_high)
-    ((product_within c.args.unit c.args.num c.requires.unit c.requires.unit_small c.requires.num_low c.requires.num_high).1)
+ceiling-requires-clause-high c = product_high c.args.unit c.args.num c.requires.unit c.requires.unit_small c.requires.num_low c.requires.num_high
 
 pub returns-clause-floor : goal.returns-clause-floor
-returns-clause-floor c =
-    let d : to_z w128 (of_z w128 c.args.den) ≡ c.args.den = omega (arith, ints) in
-    let r : to_z w128 (of_z w128 c.floor.result) ≡ c.floor.result = omega (arith, ints) in
-    rw r (floor_read _ _ _ _ c.floor.result (product_read c.args.unit c.args.num c.requires.unit c.requires.unit_small c.requires.num_low c.requires.num_high) d c.floor.ensures.floor)
+returns-clause-floor c = product_floor c.args.unit c.args.num c.requires.unit c.requires.unit_small c.requires.num_low c.requires.num_high c.args.den c.floor.result c.ranges.den (record { sfits = c.floor.type_inv }) c.floor.ensures.floor
 
 pub returns-clause-ceiling : goal.returns-clause-ceiling
-returns-clause-ceiling c =
-    let d : to_z w128 (of_z w128 c.args.den) ≡ c.args.den = omega (arith, ints) in
-    let r : to_z w128 (of_z w128 c.ceiling.result) ≡ c.ceiling.result = omega (arith, ints) in
-    rw r (ceiling_read _ _ _ _ c.ceiling.result (product_read c.args.unit c.args.num c.requires.unit c.requires.unit_small c.requires.num_low c.requires.num_high) d c.ceiling.ensures)
+returns-clause-ceiling c = product_ceiling c.args.unit c.args.num c.requires.unit c.requires.unit_small c.requires.num_low c.requires.num_high c.args.den c.ceiling.result c.ranges.den (record { sfits = c.ceiling.type_inv }) c.ceiling.ensures
