@@ -1,7 +1,7 @@
-use Rattle.std.proofs.Common.{◌≡◌, ◌⊎◌, inl, inr, [], List, Some, get_or, ap, sym, ◌∙◌}
+use Rattle.std.proofs.Common.{[], List, Some, get_or, ap, sym, ◌∙◌}
 use Rattle.std.proofs.lemmas.Option.{get_or_from_slice_get, slice_get-get_or}
 use Rattle.desk_model.specs.declared.types.Mark.{Mark}
-use Rattle.desk_model.specs.declared.types.Mark.TheVariants.{Unjudged, Relevant, Other}
+use Rattle.desk_model.specs.declared.types.Mark.TheVariants.{Unjudged}
 use Rattle.next_document.specs.Proposal.{IsUnjudged}
 use Rattle.next_document.specs.Total.{standing}
 use Rattle.next_document.proofs.Choosing.{judged, best_stays, best_of_two}

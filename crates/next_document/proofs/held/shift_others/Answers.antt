@@ -22,9 +22,18 @@ lists vecs = map (λ (each : Vec ℕ Global). each.items) vecs
 as_many : (desk : Desk) (marks : List (List Mark)) (totals : List (Vec ℕ Global)) → AreMarksOf desk marks → AreOver marks (lists totals) → length totals ≡ length desk.topics
 as_many desk marks totals known over = sym (length-map totals (λ (each : Vec ℕ Global). each.items)) ∙ over.topics ∙ length-marks desk marks known
 
+in_totals : (desk : Desk) (marks : List (List Mark)) (old now : List (Vec ℕ Global)) (topic end : ℕ) → topic < end → end ≡ length desk.topics → AreMarksOf desk marks → AreOver marks (lists old) → length now ≡ length old → topic < length now
+in_totals desk marks old now topic end lt count known over long = omega (arith, as_many desk marks old known over)
+
+in_lists : (old now : List (Vec ℕ Global)) (topic : ℕ) → topic < length now → length now ≡ length old → topic < length (lists old)
+in_lists old now topic lt long = omega (arith, length-map old (λ (each : Vec ℕ Global). each.items))
+
+in_marks : (desk : Desk) (marks : List (List Mark)) (topic end : ℕ) → topic < end → end ≡ length desk.topics → AreMarksOf desk marks → topic < length marks
+in_marks desk marks topic end lt count known = omega (arith, length-marks desk marks known)
+
 pub bounds-totals-topic : goal.bounds-totals-topic
 bounds-totals-topic g c =
-    omega (arith, c.loop-topic-test.true, c.topic_count-topic-end.ensures.count, as_many c.args.desk.now c.args.marks.now c.args.totals.now c.requires.marks c.requires.over, c.loop-topic.auto.totals)
+    in_totals c.args.desk.now c.args.marks.now c.args.totals.now c.loop-topic.totals c.loop-topic.topic c.topic_count-topic-end.result c.loop-topic-test.true c.topic_count-topic-end.ensures.count c.requires.marks c.requires.over c.loop-topic.auto.totals
 
 -- what the vector of a topic holds is what it held at first
 held_at : (shift : Shift) (weights : ℕ → ℕ → ℕ) (changed topic : ℕ) (old now : List (Vec ℕ Global)) (v : Vec ℕ Global) (items : List ℕ) → AreShiftedBelow shift weights changed topic (lists old) (lists now) → topic < length now → v ≡ get_or now topic v →
@@ -34,21 +43,20 @@ held_at shift weights changed topic old now v items h lt is value =
 
 pub shift_pair-requires-clause-count : goal.shift_pair-requires-clause-count
 shift_pair-requires-clause-count g c =
+    let weights = pair_weights (g.M.Measure.measured c.args.measure.now) c.args.desk.now c.args.marks.now c.args.pair in
     let topic = c.loop-topic.topic in
-    let many = as_many c.args.desk.now c.args.marks.now c.args.totals.now c.requires.marks c.requires.over in
-    let within : topic < length c.loop-topic.totals = omega (arith, c.loop-topic-test.true, c.topic_count-topic-end.ensures.count, many, c.loop-topic.auto.totals) in
-    let held = held_at c.args.shift _ c.args.changed topic c.args.totals.now c.loop-topic.totals c.index-totals-topic.result c.deref_mut.result.now c.loop-topic.invariant within c.index-totals-topic.is c.deref_mut.ensures.value in
-    ap length held.1 ∙ c.requires.over.docs topic (omega (arith, length-marks c.args.desk.now c.args.marks.now c.requires.marks, c.loop-topic-test.true, c.topic_count-topic-end.ensures.count))
+    let within : topic < length c.loop-topic.totals = in_totals c.args.desk.now c.args.marks.now c.args.totals.now c.loop-topic.totals topic c.topic_count-topic-end.result c.loop-topic-test.true c.topic_count-topic-end.ensures.count c.requires.marks c.requires.over c.loop-topic.auto.totals in
+    let held = held_at c.args.shift weights c.args.changed topic c.args.totals.now c.loop-topic.totals c.index-totals-topic.result c.deref_mut.result.now c.loop-topic.invariant within c.index-totals-topic.is c.deref_mut.ensures.value in
+    ap length held.1 ∙ c.requires.over.docs topic (in_marks c.args.desk.now c.args.marks.now topic c.topic_count-topic-end.result c.loop-topic-test.true c.topic_count-topic-end.ensures.count c.requires.marks)
 
 pub shift_pair-requires-clause-room : goal.shift_pair-requires-clause-room
 shift_pair-requires-clause-room g c =
     let topic = c.loop-topic.topic in
     let weights = pair_weights (g.M.Measure.measured c.args.measure.now) c.args.desk.now c.args.marks.now c.args.pair in
-    let many = as_many c.args.desk.now c.args.marks.now c.args.totals.now c.requires.marks c.requires.over in
-    let within : topic < length c.loop-topic.totals = omega (arith, c.loop-topic-test.true, c.topic_count-topic-end.ensures.count, many, c.loop-topic.auto.totals) in
+    let within : topic < length c.loop-topic.totals = in_totals c.args.desk.now c.args.marks.now c.args.totals.now c.loop-topic.totals topic c.topic_count-topic-end.result c.loop-topic-test.true c.topic_count-topic-end.ensures.count c.requires.marks c.requires.over c.loop-topic.auto.totals in
     let held = held_at c.args.shift weights c.args.changed topic c.args.totals.now c.loop-topic.totals c.index-totals-topic.result c.deref_mut.result.now c.loop-topic.invariant within c.index-totals-topic.is c.deref_mut.ensures.value in
     subst (λ (xs : List ℕ). HaveRoom c.args.shift (weights topic) xs) (sym held.1)
-    (c.requires.room topic (omega (arith, length-marks c.args.desk.now c.args.marks.now c.requires.marks, c.loop-topic-test.true, c.topic_count-topic-end.ensures.count)) c.if-topic-changed.true)
+    (c.requires.room topic (in_marks c.args.desk.now c.args.marks.now topic c.topic_count-topic-end.result c.loop-topic-test.true c.topic_count-topic-end.ensures.count c.requires.marks) c.if-topic-changed.true)
 
 pub loop-topic-preserved : goal.loop-topic-preserved
 loop-topic-preserved g c =
@@ -57,9 +65,8 @@ loop-topic-preserved g c =
     let changed = c.args.changed in
     let old = lists c.args.totals.now in
     let weights = pair_weights (g.M.Measure.measured c.args.measure.now) c.args.desk.now c.args.marks.now c.args.pair in
-    let many = as_many c.args.desk.now c.args.marks.now c.args.totals.now c.requires.marks c.requires.over in
-    let within : topic < length c.loop-topic.totals = omega (arith, c.loop-topic-test.true, c.topic_count-topic-end.ensures.count, many, c.loop-topic.auto.totals) in
-    let inside : topic < length old = omega (arith, within, c.loop-topic.auto.totals, length-map c.args.totals.now (λ (each : Vec ℕ Global). each.items)) in
+    let within : topic < length c.loop-topic.totals = in_totals c.args.desk.now c.args.marks.now c.args.totals.now c.loop-topic.totals topic c.topic_count-topic-end.result c.loop-topic-test.true c.topic_count-topic-end.ensures.count c.requires.marks c.requires.over c.loop-topic.auto.totals in
+    let inside : topic < length old = in_lists c.args.totals.now c.loop-topic.totals topic within c.loop-topic.auto.totals in
     elim c.if-topic-changed.branch [
       | then-topic-changed w ↦
           let now = w.shift_pair.new.totals in
