@@ -14,7 +14,7 @@ use Rattle.topic_universe.specs.Order.{IsTrecOrder}
 use Rattle.topic_universe.specs.Universe.{listed, retrieved}
 use Rattle.topic_universe.proofs.Zips.{zip-weaker}
 use Rattle.topics_pool.specs.Rows.{IsBookOf, doc_names, total_rows}
-use Rattle.topics_pool.specs.Made.{Forgets, HasRowsFrom, IsOneMore, HaveOneMore, IsRankingOf}
+use Rattle.topics_pool.specs.Made.{Forgets, HasRowsFrom, HaveOneMore}
 
 -- ---- lists side by side
 pub zip-itself : {A : Type 0} (R : A → A → Type 0) → ((x : A) → R x x) → (xs : List A) → AllZip R xs xs

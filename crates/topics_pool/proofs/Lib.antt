@@ -6,3 +6,4 @@ pub mod Desks
 pub mod AddedUp
 pub mod OneDesk
 pub mod Forgetting
+pub mod Pushing

@@ -1,5 +1,5 @@
 // The desk of rows.
-ghost use Rattle.std.specs.Prelude.{◌≡◌, ◌<◌, ◌≤◌, IfOk, IfErr, vec_len, length};
+ghost use Rattle.std.specs.Prelude.{◌≡◌, ◌<◌, ◌≤◌, IfOk, IfErr, OnOk, vec_len, length};
 ghost use Rattle.run_reader.specs.declared.limits.TheConstants.{MOST_RUN_ROWS};
 ghost use Rattle.topics_pool.specs.Rows.{IsDeskOf, IsNoFault, IsFaultOf, total_rows};
 
@@ -30,11 +30,28 @@ fn desk_of(alloc: Global, qrels: &Qrels, runs: &mut [RunRows]) -> Result<Desk, O
     Ok(Desk::new(books, names, rankings))
 }
 
+// Looks for the first fault of rows.
+fn check_rows(qrels: &Qrels, runs: &[RunRows]) -> Result<(), DeskFault>
+    requires some { 0 < length runs.now }
+    requires few { length runs.now ≤ 256 }
+    ensures right { OnOk result (IsNoFault qrels.now runs.now) }
+    ensures fault { IfErr result (IsFaultOf qrels.now runs.now) }
+{
+    if let Some(run) = repeated_run(runs) {
+        return Err(DeskFault::SameName { run: run as u32 });
+    }
+    let cells = cell_count(qrels, runs);
+    if cells > MOST_CELLS {
+        return Err(DeskFault::TooManyCells { cells });
+    }
+    Ok(())
+}
+
 /// The desk of these rows: its topics are those of the qrels, its runs stand in the order in which they are given.
 ///
 /// `SameName` comes exactly where a run has the name of an earlier one, and tells the first; else `TooManyCells` exactly
 /// where pairs times topics exceed the limit.
-pub fn build_desk(alloc: Global, qrels: Qrels, runs: Vec<RunRows>) -> Result<Desk, DeskFault>
+pub fn build_desk(alloc: Global, qrels: Qrels, mut runs: Vec<RunRows>) -> Result<Desk, DeskFault>
     requires some { 0 < vec_len runs }
     requires few { vec_len runs ≤ 256 }
     requires rows { total_rows runs.items ≤ MOST_RUN_ROWS }
@@ -42,13 +59,6 @@ pub fn build_desk(alloc: Global, qrels: Qrels, runs: Vec<RunRows>) -> Result<Des
     ensures right { IfOk result (λ _. IsNoFault qrels runs.items) }
     ensures fault { IfErr result (IsFaultOf qrels runs.items) }
 {
-    if let Some(run) = repeated_run(&runs) {
-        return Err(DeskFault::SameName { run: run as u32 });
-    }
-    let cells = cell_count(&qrels, &runs);
-    if cells > MOST_CELLS {
-        return Err(DeskFault::TooManyCells { cells });
-    }
-    let mut runs = runs;
+    check_rows(&qrels, &runs)?;
     Ok(desk_of(alloc, &qrels, &mut runs)?)
 }

@@ -1,4 +1,4 @@
-use Rattle.std.proofs.Common.{◌≡◌, ◌≤◌, List, ℕ, length, true, false, true≢false, map, refl, sym, ap, ap₂, ◌∙◌, ◌++◌, ◌∷◌, [], subst, get_or, arith}
+use Rattle.std.proofs.Common.{◌≡◌, List, ℕ, length, true, false, true≢false, map, refl, sym, ap, ap₂, ◌∙◌, ◌++◌, ◌∷◌, [], subst, get_or, arith}
 use Rattle.std.specs.Prelude.{All, Vec, is_some}
 use Rattle.std.specs.declared.alloc.Global.{Global}
 use Rattle.std.specs.List.{AllZip, list_any}

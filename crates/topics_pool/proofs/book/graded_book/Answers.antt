@@ -1,4 +1,4 @@
-use Rattle.std.proofs.Common.{◌≡◌, ℕ, List, map, ap, refl, sym, ◌∙◌, subst}
+use Rattle.std.proofs.Common.{◌≡◌, ℕ, List, map, refl, sym, ◌∙◌, subst}
 use Rattle.desk_model.specs.Book.{Book, IsBook}
 use Rattle.file_rows.specs.Grouped.{TopicRows, rows_at}
 use Rattle.file_rows.proofs.Mapped.{map-map}

@@ -1,4 +1,4 @@
-use Rattle.std.proofs.Common.{◌≡◌, ◌≤◌, ◌<◌, Some, length, get_or, [], ap, subst, sym, ◌∙◌, w32, FitsSigned, rules, arith}
+use Rattle.std.proofs.Common.{◌≡◌, ◌<◌, Some, length, get_or, [], ap, ◌∙◌, w32, FitsSigned, rules, arith}
 use Rattle.std.proofs.lemmas.Int.{to_z-of_z}
 use Rattle.file_rows.specs.Grouped.{rows_at}
 use Rattle.topic_universe.specs.Universe.{listed}

@@ -11,9 +11,10 @@ use Rattle.topic_universe.specs.Sorted.{IsPlaceOf}
 use Rattle.topic_universe.specs.Universe.{AreRankedNumbers}
 use Rattle.topic_universe.proofs.Placing.{name_of, number_of, same_count, sorted_are_named}
 use Rattle.topic_universe.proofs.Zips.{zip-weaker}
+use Rattle.std.proofs.lemmas.Result.{IfOk-from_err}
 use Rattle.topics_pool.specs.Rows.{IsBookOf}
 use Rattle.topics_pool.specs.Made.{AreDocsOf, IsNumberedAfter, book_over}
-use Rattle.topics_pool.proofs.Books.{is_book, is_book_of, few_documents, numbered_after}
+use Rattle.topics_pool.proofs.Books.{at_number, is_book, is_book_of, few_documents, numbered_after}
 use Rattle.topics_pool.proofs.Docs.{are_docs}
 use Rattle.topics_pool.proofs.book.topic_book.Goals as goal
 
@@ -69,3 +70,72 @@ returns-clause-of_rows c =
     subst (IsBookOf c.args.qrels.now c.args.runs.now)
     (ap (λ each. book_over c.args.qrels.now c.args.t c.args.name.now (map name_of each)) (sym c.deref.ensures.value) ∙ sym c.in_ok-book.ensures)
     (is_book_of c.args.qrels.now c.args.runs.now c.args.name.now c.args.t c.in_ok-universe.universe.pairs.items _ c.in_ok-universe.ensures c.requires.place)
+
+pub returns-in_err-universe-clause-name : goal.returns-in_err-universe-clause-name
+returns-in_err-universe-clause-name c = IfOk-from_err c.from_residual.result _ c.from_residual.ensures.0
+
+pub returns-in_err-universe-clause-book : goal.returns-in_err-universe-clause-book
+returns-in_err-universe-clause-book c = IfOk-from_err c.from_residual.result _ c.from_residual.ensures.0
+
+pub returns-in_err-universe-clause-of_rows : goal.returns-in_err-universe-clause-of_rows
+returns-in_err-universe-clause-of_rows c = IfOk-from_err c.from_residual.result _ c.from_residual.ensures.0
+
+pub returns-in_err-universe-clause-ranked : goal.returns-in_err-universe-clause-ranked
+returns-in_err-universe-clause-ranked c = IfOk-from_err c.from_residual.result _ c.from_residual.ensures.0
+
+pub returns-in_err-book-clause-name : goal.returns-in_err-book-clause-name
+returns-in_err-book-clause-name c = IfOk-from_err c.from_residual-in_err-book.result _ c.from_residual-in_err-book.ensures.0
+
+pub returns-in_err-book-clause-book : goal.returns-in_err-book-clause-book
+returns-in_err-book-clause-book c = IfOk-from_err c.from_residual-in_err-book.result _ c.from_residual-in_err-book.ensures.0
+
+pub returns-in_err-book-clause-of_rows : goal.returns-in_err-book-clause-of_rows
+returns-in_err-book-clause-of_rows c = IfOk-from_err c.from_residual-in_err-book.result _ c.from_residual-in_err-book.ensures.0
+
+pub returns-in_err-book-clause-ranked : goal.returns-in_err-book-clause-ranked
+returns-in_err-book-clause-ranked c = IfOk-from_err c.from_residual-in_err-book.result _ c.from_residual-in_err-book.ensures.0
+
+pub returns-in_err-places-clause-name : goal.returns-in_err-places-clause-name
+returns-in_err-places-clause-name c = IfOk-from_err c.from_residual-in_err-places.result _ c.from_residual-in_err-places.ensures.0
+
+pub returns-in_err-places-clause-book : goal.returns-in_err-places-clause-book
+returns-in_err-places-clause-book c = IfOk-from_err c.from_residual-in_err-places.result _ c.from_residual-in_err-places.ensures.0
+
+pub returns-in_err-places-clause-of_rows : goal.returns-in_err-places-clause-of_rows
+returns-in_err-places-clause-of_rows c = IfOk-from_err c.from_residual-in_err-places.result _ c.from_residual-in_err-places.ensures.0
+
+pub returns-in_err-places-clause-ranked : goal.returns-in_err-places-clause-ranked
+returns-in_err-places-clause-ranked c = IfOk-from_err c.from_residual-in_err-places.result _ c.from_residual-in_err-places.ensures.0
+
+pub returns-in_err-rank_topic-clause-name : goal.returns-in_err-rank_topic-clause-name
+returns-in_err-rank_topic-clause-name c = IfOk-from_err c.from_residual-in_err-rank_topic.result _ c.from_residual-in_err-rank_topic.ensures.0
+
+pub returns-in_err-rank_topic-clause-book : goal.returns-in_err-rank_topic-clause-book
+returns-in_err-rank_topic-clause-book c = IfOk-from_err c.from_residual-in_err-rank_topic.result _ c.from_residual-in_err-rank_topic.ensures.0
+
+pub returns-in_err-rank_topic-clause-of_rows : goal.returns-in_err-rank_topic-clause-of_rows
+returns-in_err-rank_topic-clause-of_rows c = IfOk-from_err c.from_residual-in_err-rank_topic.result _ c.from_residual-in_err-rank_topic.ensures.0
+
+pub returns-in_err-rank_topic-clause-ranked : goal.returns-in_err-rank_topic-clause-ranked
+returns-in_err-rank_topic-clause-ranked c = IfOk-from_err c.from_residual-in_err-rank_topic.result _ c.from_residual-in_err-rank_topic.ensures.0
+
+pub graded_book-requires-clause-topic : goal.graded_book-requires-clause-topic
+graded_book-requires-clause-topic c = (at_number c.args.qrels.now c.args.name.now c.args.t c.requires.place).0
+
+pub rank_topic-requires-clause-each : goal.rank_topic-requires-clause-each
+rank_topic-requires-clause-each c = c.requires.each
+
+pub returns-clause-name : goal.returns-clause-name
+returns-clause-name c = ap (λ (b : Book). b.name) c.in_ok-book.ensures
+
+pub returns-clause-ranked : goal.returns-clause-ranked
+returns-clause-ranked c = c.in_ok-rank_topic.ensures
+
+pub universe_of-requires : goal.universe_of-requires
+universe_of-requires c = (at_number c.args.qrels.now c.args.name.now c.args.t c.requires.place).0
+
+pub returns-clause-book : goal.returns-clause-book
+returns-clause-book c =
+    let rows = subst (λ n. n ≤ MOST_QRELS_ROWS) c.rows.ensures.count c.rows.ensures.most in
+    subst IsBook (ap (λ each. book_over c.args.qrels.now c.args.t c.args.name.now (map name_of each)) (sym c.deref.ensures.value) ∙ sym c.in_ok-book.ensures)
+    (is_book c.args.qrels.now c.args.runs.now c.args.name.now c.args.t c.in_ok-universe.universe.pairs.items _ c.in_ok-universe.ensures c.requires.named rows c.requires.rows)
