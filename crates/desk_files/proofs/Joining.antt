@@ -1,14 +1,15 @@
 -- The rows of files together.
 use Rattle.std.proofs.Common.{◌≡◌, ℕ, zero, suc, ◌+◌, ◌<◌, ◌≤◌, Bool, true, false, List, [], length, cond, slice_index_or, ap, sym, subst, ◌∙◌, arith}
 use Rattle.std.specs.List.{find, range_with_len}
-use Rattle.std.proofs.lemmas.Bool.{lt-leb}
-use Rattle.std.specs.Prelude.{Option, Some, None, Result, Ok, Err, IfSome}
+use Rattle.std.proofs.lemmas.Bool.{le-leb, lt-leb}
+use Rattle.std.specs.Prelude.{Option, Some, None, Result, Ok, Err, IfSome, IsErrAnd}
 use Rattle.desk_outside.specs.Outside.{Files}
 use Rattle.file_rows.specs.Grouped.{TopicRows}
 use Rattle.qrels_reader.specs.Grouped.{qrels_of}
 use Rattle.run_reader.specs.Run.{Run}
 use Rattle.desk_model.specs.Desk.{Desk}
-use Rattle.topics_pool.specs.Rows.{IsNoFault, run_names, first_repeated, is_repeated, cells_of}
+use Rattle.topics_pool.specs.Rows.{IsNoFault, IsFaultOf, run_names, first_repeated, is_repeated, cells_of}
+use Rattle.topics_pool.specs.declared.fault.DeskFault.TheVariants.{TooManyCells}
 use Rattle.topics_pool.specs.declared.limits.TheConstants.{MOST_CELLS}
 use Rattle.desk_files.specs.declared.stop.Stop.{Stop}
 use Rattle.desk_files.specs.declared.stop.Stop.TheVariants as stops
@@ -16,7 +17,7 @@ use Rattle.desk_files.specs.Files.{Halt, ◌>>=◌, file_as, Refused, Repeated, 
 use Rattle.desk_files.specs.Load.{Sources, Loaded, loaded, loaded_from, runs_of, used_by, within}
 use Rattle.desk_files.specs.Joined.{joined, Joins, Makes}
 use Rattle.desk_files.specs.Outcome.{Stops}
-use Rattle.desk_files.proofs.Stopping.{stops_too}
+use Rattle.desk_files.proofs.Stopping.{stops_too, handed_on}
 
 -- what is found among the numbers from a on is one of them
 found_in_range : (p : ℕ → Bool) (a n r : ℕ) → find p (range_with_len a n) ≡ Some r → r < a + n
@@ -72,3 +73,14 @@ pub makes_err : {Y : Type 0} (told : Option Files) (first before now : ℕ) (sou
 makes_err told first before now sources r stop g is le s f =
     let P : Result Desk Stop → Type 0 = λ r. Makes told first now sources r in
     subst P (sym is) (stops_too told first before now stop g (λ held. loaded held sources) le s f)
+
+-- memory ran out
+pub joins_memory : (qrels : List TopicRows) (runs : List Run) (r : Result Desk Stop) → IsErrAnd r (λ stop. stop ≡ stops.Memory) → Joins qrels runs r
+joins_memory qrels runs r is = handed_on (λ r. Joins qrels runs r) r stops.Memory is tt
+
+-- there are too many cells
+pub is_excessive : (qrels : List TopicRows) (runs : List Run) (cells : ℕ) → IsFaultOf qrels runs (TooManyCells cells) → joined qrels runs ≡ Err (Refused (Excessive cells))
+is_excessive qrels runs cells (none, is, more) =
+    let fits : Result Loaded Halt = Ok (record { qrels = qrels; runs = runs }) in
+    let refused : ℕ → Result Loaded Halt = λ n. Err (Refused (Excessive n)) in
+    ap (within qrels runs) none ∙ ap (λ b. cond b (refused (cells_of qrels runs)) fits) (le-leb (suc MOST_CELLS) (cells_of qrels runs) (omega (arith, is, more))) ∙ ap refused (sym is)

@@ -1,5 +1,6 @@
 pub mod Reading
 pub mod Stopping
+pub mod Loading
 pub mod Runs
 pub mod Opening
 pub mod Joining

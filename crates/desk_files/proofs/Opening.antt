@@ -128,3 +128,7 @@ opens_desk told sources qrels had between has e read opens = record {
   allowed = may_open_runs told sources qrels opens.names read opens.allowed;
   added = opens.added ∙ ap (λ xs. xs ++ opens.names) e ∙ append_assoc had (sources.qrels ∷ []) opens.names;
 }
+
+-- the qrels were opened, and then each of the RUN words' paths
+pub opened_desk : (path : List ℕ) (words : List RunWord) (had between has : List (List ℕ)) → between ≡ had ++ path ∷ [] → has ≡ between ++ paths_of words → has ≡ had ++ path ∷ paths_of words
+opened_desk path words had between has first all = all ∙ ap (λ xs. xs ++ paths_of words) first ∙ append_assoc had (path ∷ []) (paths_of words)

@@ -1,8 +1,9 @@
 -- A file that is read in pieces.
-use Rattle.std.proofs.Common.{◌≡◌, ℕ, ◌<◌, ◌≤◌, List, [], ◌++◌, length, cond, ap, sym, ◌∙◌, arith, append_assoc, append-nil, length-append, inl, inr}
+use Rattle.std.proofs.Common.{◌≡◌, ℕ, ◌+◌, ◌<◌, ◌≤◌, List, [], ◌++◌, length, take, cond, ap, sym, subst, ◌∙◌, arith, append_assoc, append-nil, length-append, inl, inr}
 use Rattle.std.specs.Prelude.{Option, Some, None, Ok, Err, IfSome, IsSomeAnd, ◌⊎◌}
 use Rattle.std.specs.Io.KnownBytes.{Consumes, IsAtEnd}
 use Rattle.std.proofs.lemmas.Bool.{le-leb, lt-leb}
+use Rattle.std.proofs.lemmas.List.{take-append-le}
 use Rattle.desk_outside.specs.Outside.{Files, Rose, Lacks, Opens}
 use Rattle.desk_files.specs.Files.{Missing, Refused, TooLong, whole_file}
 use Rattle.desk_files.specs.declared.limits.TheConstants.{LONGEST_FILE}
@@ -44,3 +45,15 @@ pub reads_none : (told : Option Files) (path : List ℕ) (before now : ℕ) → 
 reads_none told path before now (inl rose) = inl rose
 reads_none None path before now (inr lacks) = absurd lacks
 reads_none (Some files) path before now (inr lacks) = inr (ap (whole_file path) lacks)
+
+-- a piece was taken, which stands at the start of the room
+pub reads_piece : (told : Option Files) (path : List ℕ) (old new : Option (List ℕ)) (bytes taken room beyond : List ℕ) (n : ℕ) → n ≤ length room → taken ≡ bytes ++ take n (room ++ beyond) → Reads told path old bytes → Consumes old new (take n room) → Reads told path new taken
+reads_piece told path old new bytes taken room beyond n le is h c =
+    let same : taken ≡ bytes ++ take n room = is ∙ ap (λ piece. bytes ++ piece) (take-append-le n room beyond le) in
+    subst (λ xs. Reads told path new xs) (sym same) (reads_more told path old new bytes (take n room) h c)
+
+-- a taken piece is counted
+pub counted_piece : (bytes taken room beyond : List ℕ) (count n : ℕ) → n ≤ length room → n ≡ length (take n room) → taken ≡ bytes ++ take n (room ++ beyond) → count ≡ length bytes → count + n ≡ length taken
+counted_piece bytes taken room beyond count n le length_is is counted =
+    let longer : length taken ≡ length (bytes ++ take n room) = ap length (is ∙ ap (λ piece. bytes ++ piece) (take-append-le n room beyond le)) in
+    omega (arith, longer, length-append bytes (take n room), length_is, counted)

@@ -1,5 +1,73 @@
+use Rattle.std.proofs.Common.{◌≡◌, ◌∙◌, inl, inr, subst}
+use Rattle.std.specs.Prelude.{Option, Some, None, Ok, Err, IfSome}
+use Rattle.std.proofs.lemmas.Result.{IfOk-from_err}
+use Rattle.std.proofs.Math.Nat.{le_refl, le_trans}
+use Rattle.desk_outside.specs.Outside.{Files}
+use Rattle.desk_words.specs.declared.command.Check.{Check}
+use Rattle.order_certificate.specs.declared.certificate.Certificate.{Certificate}
+use Rattle.desk_files.specs.Outcome.{StopsAt}
+use Rattle.desk_files.specs.Load.{Loaded, Reads, loaded}
+use Rattle.desk_files.specs.Certificates.{CertificateComes}
+use Rattle.desk_files.specs.Checks.{sources_of, CheckComes, MakesCheck}
+use Rattle.desk_files.proofs.Stopping.{if_some_at, stops_at_too, handed_on}
 use Rattle.desk_files.proofs.Checking.{opens_for_desk, opens_all_and_certificate}
 use Rattle.desk_files.proofs.check.load_check.Goals as goal
+
+-- the files come to the rows and the certificate
+comes_to_both : (known : Option Files) (check : Check) (rows : Loaded) (c : Certificate) → Reads known (sources_of check) rows → IfSome known (λ files. CertificateComes files check.cert (Ok c)) → IfSome known (λ files. CheckComes files check (Ok (rows, c)))
+comes_to_both None check rows c read text = tt
+comes_to_both (Some files) check rows c read text = (read, text)
+
+pub returns-in_err-desk-clause-makes : goal.returns-in_err-desk-clause-makes
+returns-in_err-desk-clause-makes g c =
+    let known = g.F.Shelf.files c.args.files.now in
+    let before = g.F.Shelf.faults c.args.files.now in
+    let now = g.F.Shelf.faults c.load_desk.new.files in
+    let check = c.args.check.now in
+    let stop = c.in_err-desk.field-0.0 in
+    handed_on (λ r. MakesCheck known before now check r) c.from_residual.result stop c.from_residual.ensures.1
+    (stops_at_too known before before now stop (λ files halt. loaded files (sources_of check) ≡ Err halt) (λ files halt. CheckComes files check (Err halt)) (le_refl before) c.in_err-desk.ensures.makes (λ files halt told halts. inl halts))
+
+pub returns-in_err-certificate-clause-makes : goal.returns-in_err-certificate-clause-makes
+returns-in_err-certificate-clause-makes g c =
+    let known = g.F.Shelf.files c.args.files.now in
+    let before = g.F.Shelf.faults c.args.files.now in
+    let between = g.F.Shelf.faults c.load_desk.new.files in
+    let now = g.F.Shelf.faults c.load_certificate.new.files in
+    let check = c.args.check.now in
+    let stop = c.in_err-certificate.field-0.0 in
+    let made = c.in_ok-desk.ensures.makes in
+    let stopped : StopsAt known between now stop (λ files halt. CertificateComes files check.cert (Err halt)) = subst (λ k. StopsAt k between now stop (λ files halt. CertificateComes files check.cert (Err halt))) c.load_desk.ensures.files c.in_err-certificate.ensures.reads in
+    handed_on (λ r. MakesCheck known before now check r) c.from_residual-in_err-certificate.result stop c.from_residual-in_err-certificate.ensures.1
+    (stops_at_too known before between now stop (λ files halt. CertificateComes files check.cert (Err halt)) (λ files halt. CheckComes files check (Err halt)) c.load_desk.ensures.later stopped
+    (λ files halt told halts. inr (made.0, if_some_at known (λ files. loaded files (sources_of check) ≡ Ok made.0) files made.1 told, halts)))
+
+pub returns-clause-makes : goal.returns-clause-makes
+returns-clause-makes g c =
+    let known = g.F.Shelf.files c.args.files.now in
+    let check = c.args.check.now in
+    let made = c.in_ok-desk.ensures.makes in
+    let certificate = c.in_ok-certificate.certificate in
+    let text : IfSome known (λ files. CertificateComes files check.cert (Ok certificate)) = subst (λ k. IfSome k (λ files. CertificateComes files check.cert (Ok certificate))) c.load_desk.ensures.files c.in_ok-certificate.ensures.reads in
+    (made.0, comes_to_both known check made.0 certificate made.1 text, made.2)
+
+pub returns-in_err-desk-clause-certificate : goal.returns-in_err-desk-clause-certificate
+returns-in_err-desk-clause-certificate g c = IfOk-from_err c.from_residual.result _ c.from_residual.ensures.0
+
+pub returns-in_err-certificate-clause-certificate : goal.returns-in_err-certificate-clause-certificate
+returns-in_err-certificate-clause-certificate g c = IfOk-from_err c.from_residual-in_err-certificate.result _ c.from_residual-in_err-certificate.ensures.0
+
+pub returns-in_err-certificate-clause-files : goal.returns-in_err-certificate-clause-files
+returns-in_err-certificate-clause-files g c = c.load_certificate.ensures.files ∙ c.load_desk.ensures.files
+
+pub returns-in_err-certificate-clause-later : goal.returns-in_err-certificate-clause-later
+returns-in_err-certificate-clause-later g c = le_trans c.load_desk.ensures.later c.load_certificate.ensures.later
+
+pub returns-clause-files : goal.returns-clause-files
+returns-clause-files g c = c.load_certificate.ensures.files ∙ c.load_desk.ensures.files
+
+pub returns-clause-later : goal.returns-clause-later
+returns-clause-later g c = le_trans c.load_desk.ensures.later c.load_certificate.ensures.later
 
 pub returns-in_err-desk-clause-opened : goal.returns-in_err-desk-clause-opened
 returns-in_err-desk-clause-opened g c = opens_for_desk (g.F.Shelf.files c.args.files.now) c.args.check.now _ _ c.load_desk.ensures.opened
@@ -13,3 +81,12 @@ pub returns-clause-opened : goal.returns-clause-opened
 returns-clause-opened g c =
     let made = c.in_ok-desk.ensures.makes in
     opens_all_and_certificate (g.F.Shelf.files c.args.files.now) c.args.check.now made.0 _ _ _ made.1 c.in_ok-desk.ensures.all c.load_certificate.ensures.opened
+
+pub returns-in_err-desk-clause-files : goal.returns-in_err-desk-clause-files
+returns-in_err-desk-clause-files g c = c.load_desk.ensures.files
+
+pub returns-in_err-desk-clause-later : goal.returns-in_err-desk-clause-later
+returns-in_err-desk-clause-later g c = c.load_desk.ensures.later
+
+pub returns-clause-certificate : goal.returns-clause-certificate
+returns-clause-certificate g c = c.in_ok-certificate.ensures.certificate

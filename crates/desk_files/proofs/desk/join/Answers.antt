@@ -1,8 +1,10 @@
 use Rattle.std.proofs.Common.{◌≡◌, ℕ, List, [], map, length, ap, sym, ◌∙◌, arith, Vec, Global, slice_index_or}
 use Rattle.std.proofs.lemmas.List.{length-map, get_or-map}
 use Rattle.std.specs.Prelude.{Some}
+use Rattle.std.proofs.lemmas.Result.{IfOk-from_err}
+use Rattle.run_reader.specs.Run.{Run}
 use Rattle.topics_pool.specs.Rows.{run_names, first_repeated}
-use Rattle.desk_files.proofs.Joining.{repeated_in, is_repeated_at}
+use Rattle.desk_files.proofs.Joining.{repeated_in, is_repeated_at, joins_memory, is_within, is_excessive}
 use Rattle.desk_files.proofs.desk.join.Goals as goal
 
 pub swap_remove-name-requires : goal.swap_remove-name-requires
@@ -22,3 +24,39 @@ returns-in-Err-SameName-clause-joins c =
     let within = repeated_in (run_names c.args.runs.items) r fault in
     let name = ap items c.swap_remove-name.ensures.value ∙ sym (get_or-map items names.items r c.swap_remove-name.result [] (omega (arith, within, sym (length-map names.items items) ∙ ap length is))) ∙ ap (λ ns. slice_index_or ns r []) is in
     is_repeated_at c.args.qrels c.args.runs.items r c.swap_remove-name.result.items fault name
+
+pub returns-in_err-names-clause-joins : goal.returns-in_err-names-clause-joins
+returns-in_err-names-clause-joins c = joins_memory c.args.qrels c.args.runs.items c.from_residual.result c.from_residual.ensures.1
+
+pub returns-in_err-names-clause-runs : goal.returns-in_err-names-clause-runs
+returns-in_err-names-clause-runs c = IfOk-from_err c.from_residual.result _ c.from_residual.ensures.0
+
+pub returns-in-Ok-clause-joins : goal.returns-in-Ok-clause-joins
+returns-in-Ok-clause-joins c = (is_within c.args.qrels c.args.runs.items c.in-Ok.ensures.right, c.in-Ok.ensures.desk)
+
+pub returns-in-Ok-clause-runs : goal.returns-in-Ok-clause-runs
+returns-in-Ok-clause-runs c = omega (arith, ap length c.in-Ok.ensures.desk.run_names, length-map c.args.runs.items (λ (r : Run). r.name), c.args.runs.ok)
+
+pub returns-in-Err-TooManyCells-clause-joins : goal.returns-in-Err-TooManyCells-clause-joins
+returns-in-Err-TooManyCells-clause-joins c = is_excessive c.args.qrels c.args.runs.items c.in-Err-TooManyCells.cells (rw c.in-Err-TooManyCells.field-0-is at c.in-Err-TooManyCells.ensures.fault)
+
+pub build_desk-requires-clause-some : goal.build_desk-requires-clause-some
+build_desk-requires-clause-some c = c.requires.some
+
+pub build_desk-requires-clause-few : goal.build_desk-requires-clause-few
+build_desk-requires-clause-few c = c.requires.few
+
+pub build_desk-requires-clause-rows : goal.build_desk-requires-clause-rows
+build_desk-requires-clause-rows c = c.requires.rows
+
+pub returns-in-Err-SameName-clause-runs : goal.returns-in-Err-SameName-clause-runs
+returns-in-Err-SameName-clause-runs c = tt
+
+pub returns-in-Err-TooManyCells-clause-runs : goal.returns-in-Err-TooManyCells-clause-runs
+returns-in-Err-TooManyCells-clause-runs c = tt
+
+pub returns-clause-joins : goal.returns-clause-joins
+returns-clause-joins c = tt
+
+pub returns-clause-runs : goal.returns-clause-runs
+returns-clause-runs c = tt

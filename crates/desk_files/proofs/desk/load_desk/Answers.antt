@@ -1,13 +1,21 @@
-use Rattle.std.proofs.Common.{◌≡◌, arith, ap, ◌∙◌}
-use Rattle.std.specs.Prelude.{Ok, Err, IfSome}
-use Rattle.std.proofs.lemmas.Result.{err_from_is_err_and}
+use Rattle.std.proofs.Common.{◌≡◌, ◌<◌, ◌≤◌, [], ◌∷◌, ◌++◌, arith, ap, sym, subst, ◌∙◌, length, vec_len}
+use Rattle.std.specs.Prelude.{Result, Ok, Err, IfSome, OnOk}
+use Rattle.std.proofs.lemmas.Result.{err_from_is_err_and, IfOk-from_err, IfOk-weaker}
+use Rattle.std.proofs.Math.Nat.{le_trans}
 use Rattle.qrels_reader.specs.Grouped.{qrels_of}
+use Rattle.desk_model.specs.Desk.{Desk}
+use Rattle.desk_files.specs.declared.stop.Stop.{Stop}
 use Rattle.desk_files.specs.Files.{file_as}
-use Rattle.desk_files.specs.Load.{runs_of, used_by, sources}
+use Rattle.desk_files.specs.Load.{runs_of, used_by, sources, paths_of}
 use Rattle.desk_files.proofs.Stopping.{if_some_at}
 use Rattle.desk_files.proofs.Joining.{makes_joined, makes_err, stops_at_qrels, stops_at_runs}
-use Rattle.desk_files.proofs.Opening.{opens_qrels, opens_desk}
+use Rattle.desk_files.proofs.Opening.{opens_qrels, opens_desk, opened_desk}
 use Rattle.desk_files.proofs.desk.load_desk.Goals as goal
+
+-- what holds anyway, holds where there is a desk
+if_loaded : (r : Result Desk Stop) (P : Type 0) → P → OnOk r P
+if_loaded (Ok desk) P h = h
+if_loaded (Err stop) P h = tt
 
 pub returns-in_err-judged-clause-makes : goal.returns-in_err-judged-clause-makes
 returns-in_err-judged-clause-makes g c =
@@ -55,3 +63,56 @@ returns-clause-opened g c =
     let qrels = c.in_ok-judged.judged in
     let read : IfSome told (λ held. file_as qrels_of held c.args.qrels.now ≡ Ok qrels) = rw c.as_str.ensures at c.in_ok-judged.ensures.gives in
     opens_desk told from qrels _ _ _ (rw c.as_str.ensures at c.load_qrels.ensures.opened) read (rw (c.load_qrels.ensures.files, c.as_slice.ensures.runs) at c.load_runs.ensures.opened)
+
+pub returns-in_err-judged-clause-runs : goal.returns-in_err-judged-clause-runs
+returns-in_err-judged-clause-runs g c = IfOk-from_err c.from_residual.result _ c.from_residual.ensures.0
+
+pub returns-in_err-judged-clause-all : goal.returns-in_err-judged-clause-all
+returns-in_err-judged-clause-all g c = IfOk-from_err c.from_residual.result _ c.from_residual.ensures.0
+
+pub returns-in_err-ranked-clause-runs : goal.returns-in_err-ranked-clause-runs
+returns-in_err-ranked-clause-runs g c = IfOk-from_err c.from_residual-in_err-ranked.result _ c.from_residual-in_err-ranked.ensures.0
+
+pub returns-in_err-ranked-clause-all : goal.returns-in_err-ranked-clause-all
+returns-in_err-ranked-clause-all g c = IfOk-from_err c.from_residual-in_err-ranked.result _ c.from_residual-in_err-ranked.ensures.0
+
+pub returns-in_err-ranked-clause-files : goal.returns-in_err-ranked-clause-files
+returns-in_err-ranked-clause-files g c = c.load_runs.ensures.files ∙ c.load_qrels.ensures.files
+
+pub returns-in_err-ranked-clause-later : goal.returns-in_err-ranked-clause-later
+returns-in_err-ranked-clause-later g c = le_trans c.load_qrels.ensures.later c.load_runs.ensures.later
+
+pub returns-clause-runs : goal.returns-clause-runs
+returns-clause-runs g c =
+    IfOk-weaker c.join.result (λ desk. length desk.runs ≡ vec_len c.in_ok-ranked.ranked) (λ desk. length desk.runs ≡ length c.args.runs.now) (λ desk is. is ∙ c.in_ok-ranked.ensures.count ∙ ap length c.as_slice.ensures.runs) c.join.ensures.runs
+
+pub returns-clause-files : goal.returns-clause-files
+returns-clause-files g c = c.load_runs.ensures.files ∙ c.load_qrels.ensures.files
+
+pub returns-clause-all : goal.returns-clause-all
+returns-clause-all g c =
+    let before = g.F.Shelf.opened c.args.files.now in
+    let between = g.F.Shelf.opened c.load_qrels.new.files in
+    let now = g.F.Shelf.opened c.load_runs.new.files in
+    let path = c.args.qrels.now in
+    let first : between ≡ before ++ path ∷ [] = rw c.as_str.ensures at c.load_qrels.ensures.opened in
+    let all : now ≡ between ++ paths_of c.args.runs.now = rw c.as_slice.ensures.runs at c.in_ok-ranked.ensures.all in
+    if_loaded c.join.result (now ≡ before ++ path ∷ paths_of c.args.runs.now) (opened_desk path c.args.runs.now before between now first all)
+
+pub returns-clause-later : goal.returns-clause-later
+returns-clause-later g c = le_trans c.load_qrels.ensures.later c.load_runs.ensures.later
+
+pub join-requires-clause-some : goal.join-requires-clause-some
+join-requires-clause-some g c = subst (λ n. 0 < n) (sym (c.in_ok-ranked.ensures.count ∙ ap length c.as_slice.ensures.runs)) c.as_slice.ensures.some
+
+pub join-requires-clause-few : goal.join-requires-clause-few
+join-requires-clause-few g c = subst (λ n. n ≤ 256) (sym (c.in_ok-ranked.ensures.count ∙ ap length c.as_slice.ensures.runs)) c.as_slice.ensures.few
+
+pub returns-in_err-judged-clause-files : goal.returns-in_err-judged-clause-files
+returns-in_err-judged-clause-files g c = c.load_qrels.ensures.files
+
+pub returns-in_err-judged-clause-later : goal.returns-in_err-judged-clause-later
+returns-in_err-judged-clause-later g c = c.load_qrels.ensures.later
+
+pub join-requires-clause-rows : goal.join-requires-clause-rows
+join-requires-clause-rows g c = c.in_ok-ranked.ensures.rows

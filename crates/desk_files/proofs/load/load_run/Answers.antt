@@ -1,8 +1,23 @@
-use Rattle.std.proofs.Common.{◌≡◌, ap}
+use Rattle.std.proofs.Common.{◌≡◌, ℕ, List, [], refl, ap, sym, subst, ◌∙◌, arith}
+use Rattle.std.specs.Prelude.{Option, Ok, Err}
+use Rattle.std.proofs.Math.Nat.{le_trans}
+use Rattle.std.proofs.lemmas.Result.{IfOk-from_err}
+use Rattle.desk_outside.specs.Outside.{Opens}
+use Rattle.file_rows.specs.Grouped.{TopicRows}
+use Rattle.file_rows.specs.Reading.{IsUnlessMemory}
 use Rattle.run_reader.specs.Fed.{FedRun}
 use Rattle.run_reader.specs.Run.{run_of}
+use Rattle.run_reader.specs.declared.used.Used.{Used}
 use Rattle.topics_pool.proofs.AddedUp.{added_up, answered}
+use Rattle.desk_files.specs.Files.{file_as}
+use Rattle.desk_files.proofs.Stopping.{gives_memory}
+use Rattle.desk_files.proofs.Loading.{IsFedWhole, stops_file, reads_file, file_is_faulty}
 use Rattle.desk_files.proofs.load.load_run.Goals as goal
+
+-- the reader that was fed reads as the word says
+reads_as_given : (fed reader : FedRun) (given name : Option (List ℕ)) (used : Used) (qrels : List TopicRows) → record fed { fed = [] } ≡ record reader { fed = [] } → reader ≡ record { fed = []; given = given; used = used; qrels = qrels } → given ≡ name →
+    run_of fed.given fed.qrels fed.used ≡ run_of name qrels used
+reads_as_given fed reader given name used qrels kept new is = ap (λ (r : FedRun). run_of r.given r.qrels r.used) (kept ∙ ap (λ (r : FedRun). record r { fed = [] }) new) ∙ ap (λ n. run_of n qrels used) is
 
 pub returns-in-Ok-clause-rows : goal.returns-in-Ok-clause-rows
 returns-in-Ok-clause-rows g c =
@@ -11,3 +26,119 @@ returns-in-Ok-clause-rows g c =
     let kept : fed.used ≡ c.in_ok-reader.reader.used = ap (λ (r : FedRun). r.used) c.feed_file.ensures.beside in
     let used : fed.used ≡ c.args.used = rw c.in_ok-reader.ensures at kept in
     rw used at (added_up fed.given fed.qrels fed.used fed.fed run (answered run (run_of fed.given fed.qrels fed.used fed.fed) c.in-Ok.ensures.run))
+
+pub returns-in_err-open_file-clause-gives : goal.returns-in_err-open_file-clause-gives
+returns-in_err-open_file-clause-gives g c =
+    let told = g.F.Shelf.files c.args.files.now in
+    let faults = g.F.Shelf.faults c.args.files.now in
+    let word = c.args.word.now in
+    stops_file (run_of word.name c.args.qrels.now c.args.used) word.path told told faults faults (g.F.Shelf.faults c.open_file.new.files) (λ run. run) c.from_residual.result c.in_err-open_file.field-0.0
+    refl c.from_residual.ensures.1 (omega arith) (rw c.as_str-path.ensures at c.in_err-open_file.ensures.stops)
+
+pub returns-in_err-reader-clause-gives : goal.returns-in_err-reader-clause-gives
+returns-in_err-reader-clause-gives g c =
+    let word = c.args.word.now in
+    gives_memory (g.F.Shelf.files c.args.files.now) (g.F.Shelf.faults c.args.files.now) (g.F.Shelf.faults c.open_file.new.files) (λ run. run) c.from_residual-in_err-reader.result
+    (λ held. file_as (run_of word.name c.args.qrels.now c.args.used) held word.path) c.from_residual-in_err-reader.ensures.1
+
+pub returns-in_err-feed_file-clause-gives : goal.returns-in_err-feed_file-clause-gives
+returns-in_err-feed_file-clause-gives g c =
+    let told = g.F.Shelf.files c.args.files.now in
+    let faults = g.F.Shelf.faults c.args.files.now in
+    let opened = c.open_file.new.files in
+    let word = c.args.word.now in
+    stops_file (run_of word.name c.args.qrels.now c.args.used) word.path told (g.F.Shelf.files opened) faults (g.F.Shelf.faults opened) (g.F.Shelf.faults c.feed_file.new.files) (λ run. run) c.from_residual-in_err-feed_file.result c.in_err-feed_file.field-0.0
+    c.open_file.ensures.files c.from_residual-in_err-feed_file.ensures.1 c.open_file.ensures.later (rw c.as_str-path.ensures at c.in_err-feed_file.ensures.gives)
+
+pub returns-in-Ok-clause-gives : goal.returns-in-Ok-clause-gives
+returns-in-Ok-clause-gives g c =
+    let word = c.args.word.now in
+    let fed = c.feed_file.new.taker in
+    let opened = g.F.Shelf.files c.open_file.new.files in
+    let whole : IsFedWhole opened word.path fed.fed = rw c.as_str-path.ensures at c.in_ok-feed_file.ensures.gives in
+    let same = reads_as_given fed c.in_ok-reader.reader _ word.name c.args.used c.args.qrels.now c.feed_file.ensures.beside c.in_ok-reader.ensures c.given_name.ensures.name in
+    reads_file (run_of word.name c.args.qrels.now c.args.used) word.path (g.F.Shelf.files c.args.files.now) opened fed.fed c.in-Ok.run' c.open_file.ensures.files whole
+    (subst (λ read. IsUnlessMemory (Ok c.in-Ok.run') (read fed.fed)) same c.in-Ok.ensures.run)
+
+pub returns-in-Err-clause-gives : goal.returns-in-Err-clause-gives
+returns-in-Err-clause-gives g c =
+    let word = c.args.word.now in
+    let fed = c.feed_file.new.taker in
+    let opened = g.F.Shelf.files c.open_file.new.files in
+    let whole : IsFedWhole opened word.path fed.fed = rw c.as_str-path.ensures at c.in_ok-feed_file.ensures.gives in
+    let same = reads_as_given fed c.in_ok-reader.reader _ word.name c.args.used c.args.qrels.now c.feed_file.ensures.beside c.in_ok-reader.ensures c.given_name.ensures.name in
+    file_is_faulty (run_of word.name c.args.qrels.now c.args.used) word.path (g.F.Shelf.files c.args.files.now) opened (g.F.Shelf.faults c.args.files.now) (g.F.Shelf.faults c.feed_file.new.files) fed.fed c.in-Err.fault c.stop_of.result
+    c.open_file.ensures.files whole (subst (λ read. IsUnlessMemory (Err c.in-Err.fault) (read fed.fed)) same c.in-Err.ensures.run) (rw c.as_str-path.ensures at c.stop_of.ensures)
+
+pub feed_file-requires-clause-content : goal.feed_file-requires-clause-content
+feed_file-requires-clause-content g c =
+    subst (λ told. Opens told c.as_str-path.result.now (g.F.Shelf.rest c.open_file.new.files)) (sym c.open_file.ensures.files) c.in_ok-open_file.ensures.content
+
+pub feed_file-requires-clause-none : goal.feed_file-requires-clause-none
+feed_file-requires-clause-none g c = ap (λ (r : FedRun). r.fed) c.in_ok-reader.ensures
+
+pub returns-in_err-open_file-clause-opened : goal.returns-in_err-open_file-clause-opened
+returns-in_err-open_file-clause-opened g c = rw c.as_str-path.ensures at c.open_file.ensures.opened
+
+pub returns-in_err-reader-clause-opened : goal.returns-in_err-reader-clause-opened
+returns-in_err-reader-clause-opened g c = rw c.as_str-path.ensures at c.open_file.ensures.opened
+
+pub returns-in_err-open_file-clause-rows : goal.returns-in_err-open_file-clause-rows
+returns-in_err-open_file-clause-rows g c = IfOk-from_err c.from_residual.result _ c.from_residual.ensures.0
+
+pub returns-in_err-reader-clause-rows : goal.returns-in_err-reader-clause-rows
+returns-in_err-reader-clause-rows g c = IfOk-from_err c.from_residual-in_err-reader.result _ c.from_residual-in_err-reader.ensures.0
+
+pub returns-in_err-feed_file-clause-rows : goal.returns-in_err-feed_file-clause-rows
+returns-in_err-feed_file-clause-rows g c = IfOk-from_err c.from_residual-in_err-feed_file.result _ c.from_residual-in_err-feed_file.ensures.0
+
+pub returns-in_err-feed_file-clause-files : goal.returns-in_err-feed_file-clause-files
+returns-in_err-feed_file-clause-files g c = c.feed_file.ensures.files ∙ c.open_file.ensures.files
+
+pub returns-in_err-feed_file-clause-opened : goal.returns-in_err-feed_file-clause-opened
+returns-in_err-feed_file-clause-opened g c = c.feed_file.ensures.opened ∙ (rw c.as_str-path.ensures at c.open_file.ensures.opened)
+
+pub returns-in_err-feed_file-clause-later : goal.returns-in_err-feed_file-clause-later
+returns-in_err-feed_file-clause-later g c = le_trans c.open_file.ensures.later c.feed_file.ensures.later
+
+pub returns-in-Ok-clause-files : goal.returns-in-Ok-clause-files
+returns-in-Ok-clause-files g c = c.feed_file.ensures.files ∙ c.open_file.ensures.files
+
+pub returns-in-Ok-clause-opened : goal.returns-in-Ok-clause-opened
+returns-in-Ok-clause-opened g c = c.feed_file.ensures.opened ∙ (rw c.as_str-path.ensures at c.open_file.ensures.opened)
+
+pub returns-in-Ok-clause-later : goal.returns-in-Ok-clause-later
+returns-in-Ok-clause-later g c = le_trans c.open_file.ensures.later c.feed_file.ensures.later
+
+pub returns-in-Err-clause-files : goal.returns-in-Err-clause-files
+returns-in-Err-clause-files g c = c.feed_file.ensures.files ∙ c.open_file.ensures.files
+
+pub returns-in-Err-clause-opened : goal.returns-in-Err-clause-opened
+returns-in-Err-clause-opened g c = c.feed_file.ensures.opened ∙ (rw c.as_str-path.ensures at c.open_file.ensures.opened)
+
+pub returns-in-Err-clause-later : goal.returns-in-Err-clause-later
+returns-in-Err-clause-later g c = le_trans c.open_file.ensures.later c.feed_file.ensures.later
+
+pub returns-in_err-open_file-clause-files : goal.returns-in_err-open_file-clause-files
+returns-in_err-open_file-clause-files g c = c.open_file.ensures.files
+
+pub returns-in_err-open_file-clause-later : goal.returns-in_err-open_file-clause-later
+returns-in_err-open_file-clause-later g c = c.open_file.ensures.later
+
+pub returns-in_err-reader-clause-files : goal.returns-in_err-reader-clause-files
+returns-in_err-reader-clause-files g c = c.open_file.ensures.files
+
+pub returns-in_err-reader-clause-later : goal.returns-in_err-reader-clause-later
+returns-in_err-reader-clause-later g c = c.open_file.ensures.later
+
+pub feed_file-requires-clause-open : goal.feed_file-requires-clause-open
+feed_file-requires-clause-open g c = c.in_ok-open_file.ensures.open
+
+pub new-requires-clause-name : goal.new-requires-clause-name
+new-requires-clause-name g c = c.given_name.ensures.is_name
+
+pub new-requires-clause-within : goal.new-requires-clause-within
+new-requires-clause-within g c = c.requires
+
+pub returns-in-Err-clause-rows : goal.returns-in-Err-clause-rows
+returns-in-Err-clause-rows g c = tt

@@ -1,10 +1,17 @@
-use Rattle.std.proofs.Common.{◌≡◌, ◌+◌, [], ◌∷◌, length, drop, ap, sym, ◌∙◌, arith, length-append}
+use Rattle.std.proofs.Common.{◌≡◌, ◌+◌, ◌≤◌, [], ◌∷◌, length, drop, refl, ap, sym, subst, ◌∙◌, arith, length-append}
 use Rattle.std.proofs.lemmas.List.{drop_more, drop_all}
+use Rattle.std.proofs.Math.Nat.{le_refl, le_trans}
+use Rattle.std.proofs.lemmas.Result.{IfOk-from_err}
 use Rattle.file_rows.specs.Grouped.{row_count}
 use Rattle.run_reader.specs.declared.used.Used.{Used}
-use Rattle.desk_files.specs.Load.{used_by}
-use Rattle.desk_files.proofs.Runs.{reaches_more, total_rows-push}
-use Rattle.desk_files.proofs.Opening.{opens_more, opens_last, opens_all, opened_all}
+use Rattle.run_reader.specs.declared.limits.TheConstants.{MOST_RUN_ROWS}
+use Rattle.run_reader.specs.Run.{run_of}
+use Rattle.topics_pool.specs.Rows.{total_rows}
+use Rattle.desk_files.specs.Files.{file_as}
+use Rattle.desk_files.specs.Load.{used_by, runs_of}
+use Rattle.desk_files.proofs.Stopping.{gives_handed_on, gives_memory, if_some_at}
+use Rattle.desk_files.proofs.Runs.{Reaches, with_rest, reaches_first, reaches_more, reaches_all, stops_all, total_rows-push}
+use Rattle.desk_files.proofs.Opening.{OpensSoFar, opens_none, opens_more, opens_last, opens_all, opened_all}
 use Rattle.desk_files.proofs.load.load_runs.Goals as goal
 
 pub loop-word-preserved : goal.loop-word-preserved
@@ -54,3 +61,96 @@ pub returns-clause-all : goal.returns-clause-all
 returns-clause-all g c =
     let words = c.args.words.now in
     opened_all (g.F.Shelf.files c.args.files.now) c.args.qrels.now (used_by c.args.qrels.now) words c.loop-word.used _ _ (rw (drop_all c.loop-word.word-index words (omega arith)) at c.loop-word.invariant.opened)
+
+pub returns-in_err-run-clause-gives : goal.returns-in_err-run-clause-gives
+returns-in_err-run-clause-gives g c =
+    let words = c.args.words.now in
+    let qrels = c.args.qrels.now in
+    let i = c.loop-word.word-index in
+    let word = c.word-item.result in
+    let kept = c.loop-word.invariant in
+    let told = g.F.Shelf.files c.args.files.now in
+    let used = c.loop-word.used in
+    let done = c.loop-word.runs.items in
+    let before = c.loop-word.files in
+    let split : drop i words ≡ word ∷ drop (i + 1) words = drop_more words i word (omega arith) ∙ ap (λ w. w ∷ drop (i + 1) words) (sym c.word-item.is) in
+    let left : Reaches told qrels (used_by qrels) words used done (word ∷ drop (i + 1) words) = rw split at kept.left in
+    gives_handed_on told (g.F.Shelf.files before) (g.F.Shelf.faults c.args.files.now) (g.F.Shelf.faults before) (g.F.Shelf.faults c.load_run.new.files) (λ runs. runs.items) c.from_residual.result c.in_err-run.field-0.0
+    (λ held. file_as (run_of word.name qrels used) held word.path) (λ held. runs_of held qrels (used_by qrels) words) kept.files c.from_residual.ensures.1 kept.later c.in_err-run.ensures.gives
+    (λ held halt is stop. stops_all qrels (used_by qrels) words used done word (drop (i + 1) words) held halt
+    (if_some_at told (λ held. runs_of held qrels (used_by qrels) words ≡ with_rest held qrels used done (word ∷ drop (i + 1) words)) held left is) stop)
+
+pub returns-in_err-push_run-clause-gives : goal.returns-in_err-push_run-clause-gives
+returns-in_err-push_run-clause-gives g c =
+    let qrels = c.args.qrels.now in
+    gives_memory (g.F.Shelf.files c.args.files.now) (g.F.Shelf.faults c.args.files.now) (g.F.Shelf.faults c.load_run.new.files) (λ runs. runs.items) c.from_residual-in_err-push_run.result (λ held. runs_of held qrels (used_by qrels) c.args.words.now) c.from_residual-in_err-push_run.ensures.1
+
+pub returns-clause-gives : goal.returns-clause-gives
+returns-clause-gives g c =
+    let words = c.args.words.now in
+    let qrels = c.args.qrels.now in
+    reaches_all (g.F.Shelf.files c.args.files.now) qrels (used_by qrels) words c.loop-word.used c.loop-word.runs.items (rw (drop_all c.loop-word.word-index words (omega arith)) at c.loop-word.invariant.left)
+
+pub returns-in_err-run-clause-count : goal.returns-in_err-run-clause-count
+returns-in_err-run-clause-count g c = IfOk-from_err c.from_residual.result _ c.from_residual.ensures.0
+
+pub returns-in_err-run-clause-rows : goal.returns-in_err-run-clause-rows
+returns-in_err-run-clause-rows g c = IfOk-from_err c.from_residual.result _ c.from_residual.ensures.0
+
+pub returns-in_err-run-clause-all : goal.returns-in_err-run-clause-all
+returns-in_err-run-clause-all g c = IfOk-from_err c.from_residual.result _ c.from_residual.ensures.0
+
+pub returns-in_err-run-clause-files : goal.returns-in_err-run-clause-files
+returns-in_err-run-clause-files g c = c.load_run.ensures.files ∙ c.loop-word.invariant.files
+
+pub returns-in_err-run-clause-later : goal.returns-in_err-run-clause-later
+returns-in_err-run-clause-later g c = le_trans c.loop-word.invariant.later c.load_run.ensures.later
+
+pub returns-in_err-push_run-clause-count : goal.returns-in_err-push_run-clause-count
+returns-in_err-push_run-clause-count g c = IfOk-from_err c.from_residual-in_err-push_run.result _ c.from_residual-in_err-push_run.ensures.0
+
+pub returns-in_err-push_run-clause-rows : goal.returns-in_err-push_run-clause-rows
+returns-in_err-push_run-clause-rows g c = IfOk-from_err c.from_residual-in_err-push_run.result _ c.from_residual-in_err-push_run.ensures.0
+
+pub returns-in_err-push_run-clause-all : goal.returns-in_err-push_run-clause-all
+returns-in_err-push_run-clause-all g c = IfOk-from_err c.from_residual-in_err-push_run.result _ c.from_residual-in_err-push_run.ensures.0
+
+pub returns-in_err-push_run-clause-files : goal.returns-in_err-push_run-clause-files
+returns-in_err-push_run-clause-files g c = c.load_run.ensures.files ∙ c.loop-word.invariant.files
+
+pub returns-in_err-push_run-clause-later : goal.returns-in_err-push_run-clause-later
+returns-in_err-push_run-clause-later g c = le_trans c.loop-word.invariant.later c.load_run.ensures.later
+
+pub returns-clause-files : goal.returns-clause-files
+returns-clause-files g c = c.loop-word.invariant.files
+
+pub returns-clause-later : goal.returns-clause-later
+returns-clause-later g c = c.loop-word.invariant.later
+
+pub returns-clause-rows : goal.returns-clause-rows
+returns-clause-rows g c = subst (λ n. n ≤ MOST_RUN_ROWS) c.loop-word.invariant.rows c.loop-word.invariant.within.rows
+
+pub returns-clause-count : goal.returns-clause-count
+returns-clause-count g c = omega (arith, c.loop-word-test.false, c.loop-word.invariant.count, c.loop-word.auto.word-index-end)
+
+pub load_run-requires : goal.load_run-requires
+load_run-requires g c = c.loop-word.invariant.within
+
+pub loop-word-init : goal.loop-word-init
+loop-word-init g c =
+    let told = g.F.Shelf.files c.args.files.now in
+    let had = g.F.Shelf.opened c.args.files.now in
+    let words = c.args.words.now in
+    let qrels = c.args.qrels.now in
+    let used : Used = record { rows = 0; name_bytes = c.name_bytes.result } in
+    let same : used ≡ used_by qrels = ap (λ n. record { rows = 0; name_bytes = n }) c.name_bytes.ensures.count in
+    let left = subst (λ u. Reaches told qrels (used_by qrels) words u [] words) (sym same) (reaches_first told qrels (used_by qrels) words) in
+    record {
+      files = refl;
+      later = le_refl (g.F.Shelf.faults c.args.files.now);
+      within = record { rows = omega arith; name_bytes = c.name_bytes.ensures.most };
+      count = c.new-runs.ensures.len;
+      rows = sym (ap total_rows c.new-runs.ensures.items);
+      opened = subst (λ u. OpensSoFar told qrels (used_by qrels) words u words had had) (sym same) (opens_none told qrels (used_by qrels) words had);
+      left = subst (λ runs. Reaches told qrels (used_by qrels) words used runs words) (sym c.new-runs.ensures.items) left;
+    }

@@ -1,0 +1,62 @@
+use Rattle.std.proofs.Common.{◌∙◌, refl, sym, arith, subst}
+use Rattle.std.proofs.Math.Nat.{le_trans}
+use Rattle.desk_outside.specs.Outside.{Opens}
+use Rattle.desk_files.specs.Files.{whole_file}
+use Rattle.desk_files.proofs.Stopping.{gives_handed_on}
+use Rattle.desk_files.proofs.Loading.{IsFedWhole}
+use Rattle.desk_files.proofs.files.read_file.Goals as goal
+
+pub returns-in_err-open_file-clause-gives : goal.returns-in_err-open_file-clause-gives
+returns-in_err-open_file-clause-gives g c =
+    let told = g.F.Shelf.files c.args.files.now in
+    let faults = g.F.Shelf.faults c.args.files.now in
+    let path = c.args.path.now in
+    gives_handed_on told told faults faults (g.F.Shelf.faults c.open_file.new.files) (λ v. v.items) c.from_residual.result c.in_err-open_file.field-0.0 (λ held. whole_file path (held path)) (λ held. whole_file path (held path))
+    refl c.from_residual.ensures.1 (omega arith) c.in_err-open_file.ensures.stops (λ files halt t stop. stop)
+
+pub returns-in_err-feed_file-clause-gives : goal.returns-in_err-feed_file-clause-gives
+returns-in_err-feed_file-clause-gives g c =
+    let opened = c.open_file.new.files in
+    let path = c.args.path.now in
+    gives_handed_on (g.F.Shelf.files c.args.files.now) (g.F.Shelf.files opened) (g.F.Shelf.faults c.args.files.now) (g.F.Shelf.faults opened) (g.F.Shelf.faults c.feed_file.new.files) (λ v. v.items) c.from_residual-in_err-feed_file.result c.in_err-feed_file.field-0.0
+    (λ held. whole_file path (held path)) (λ held. whole_file path (held path)) c.open_file.ensures.files c.from_residual-in_err-feed_file.ensures.1 c.open_file.ensures.later c.in_err-feed_file.ensures.gives (λ files halt t stop. stop)
+
+pub returns-clause-gives : goal.returns-clause-gives
+returns-clause-gives g c = subst (λ told. IsFedWhole told c.args.path.now c.feed_file.new.taker.items) c.open_file.ensures.files c.in_ok-feed_file.ensures.gives
+
+pub feed_file-requires-clause-content : goal.feed_file-requires-clause-content
+feed_file-requires-clause-content g c =
+    subst (λ told. Opens told c.args.path.now (g.F.Shelf.rest c.open_file.new.files)) (sym c.open_file.ensures.files) c.in_ok-open_file.ensures.content
+
+pub returns-in_err-feed_file-clause-files : goal.returns-in_err-feed_file-clause-files
+returns-in_err-feed_file-clause-files g c = c.feed_file.ensures.files ∙ c.open_file.ensures.files
+
+pub returns-in_err-feed_file-clause-opened : goal.returns-in_err-feed_file-clause-opened
+returns-in_err-feed_file-clause-opened g c = c.feed_file.ensures.opened ∙ c.open_file.ensures.opened
+
+pub returns-in_err-feed_file-clause-later : goal.returns-in_err-feed_file-clause-later
+returns-in_err-feed_file-clause-later g c = le_trans c.open_file.ensures.later c.feed_file.ensures.later
+
+pub returns-clause-files : goal.returns-clause-files
+returns-clause-files g c = c.feed_file.ensures.files ∙ c.open_file.ensures.files
+
+pub returns-clause-opened : goal.returns-clause-opened
+returns-clause-opened g c = c.feed_file.ensures.opened ∙ c.open_file.ensures.opened
+
+pub returns-clause-later : goal.returns-clause-later
+returns-clause-later g c = le_trans c.open_file.ensures.later c.feed_file.ensures.later
+
+pub returns-in_err-open_file-clause-files : goal.returns-in_err-open_file-clause-files
+returns-in_err-open_file-clause-files g c = c.open_file.ensures.files
+
+pub returns-in_err-open_file-clause-opened : goal.returns-in_err-open_file-clause-opened
+returns-in_err-open_file-clause-opened g c = c.open_file.ensures.opened
+
+pub returns-in_err-open_file-clause-later : goal.returns-in_err-open_file-clause-later
+returns-in_err-open_file-clause-later g c = c.open_file.ensures.later
+
+pub feed_file-requires-clause-open : goal.feed_file-requires-clause-open
+feed_file-requires-clause-open g c = c.in_ok-open_file.ensures.open
+
+pub feed_file-requires-clause-none : goal.feed_file-requires-clause-none
+feed_file-requires-clause-none g c = c.new-bytes.ensures.items
