@@ -1,4 +1,5 @@
 pub mod TextLines
+pub mod Feeding
 pub mod NameWords
 pub mod Names
 pub mod Nested

@@ -1,4 +1,4 @@
-use Rattle.std.proofs.Common.{ap, ◌∙◌, arith, take, get_or, not, ◌≡◌, length, ℕ, ◌<◌, ◌≤◌, [], List}
+use Rattle.std.proofs.Common.{ap, ◌∙◌, arith, get_or, not, ◌≡◌, length, ℕ, ◌<◌, ◌≤◌, [], List}
 use Rattle.std.specs.Prelude.{sum_by}
 use Rattle.std.specs.List.{count_by}
 use Rattle.std.proofs.lemmas.List.{take_all}

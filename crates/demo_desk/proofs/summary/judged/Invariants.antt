@@ -1,4 +1,4 @@
-use Rattle.std.proofs.Common.{◌≡◌, ◌≤◌, ◌*◌, ℕ, List, take, not}
+use Rattle.std.proofs.Common.{◌≡◌, ◌≤◌, ◌*◌, take, not}
 use Rattle.std.specs.Prelude.{sum_by}
 use Rattle.std.specs.List.{count_by}
 use Rattle.desk_model.specs.Limits.{DOCUMENT_LIMIT}
