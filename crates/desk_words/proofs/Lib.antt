@@ -1,4 +1,5 @@
 pub mod Values
+pub mod Commands
 pub mod Walks
 pub mod Arrivals
 pub mod Readers

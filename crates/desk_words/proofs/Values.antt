@@ -1,17 +1,19 @@
 -- The values of entries.
-use Rattle.std.proofs.Common.{◌≡◌, ℕ, zero, suc, ◌+◌, ◌<◌, ◌^◌, true, false, Bool, List, [], ◌∷◌, length, get_or, map, refl, ap, sym, subst, ◌∙◌, arith, rules, decimal, cond}
+use Rattle.std.proofs.Common.{◌≡◌, ℕ, zero, suc, ◌+◌, ◌<◌, ◌^◌, true, false, Bool, List, [], ◌∷◌, length, get_or, map, refl, ap, sym, subst, ◌∙◌, arith, rules, decimal, cond, inl, inr}
 use Rattle.std.specs.Prelude.{Option, Some, None, option_map, unwrap_or, not, Result, Ok, Err, IfOk, IfSome, IfNone, IsErrAnd, codes}
 use Rattle.std.specs.Borrow.{Bor}
 use Rattle.std.specs.Result.{result_ok}
 use Rattle.std.specs.List.{list_any, position_or_len}
-use Rattle.clap.specs.Words.{App, Text, all_of, matched_of, fault_of, matches_of, raw_values, rows_of}
+use Rattle.clap.specs.Words.{App, Text, Kinds, HasKind, kind_of, all_of, matched_of, fault_of, matches_of, raw_values, rows_of}
+use Rattle.clap.specs.declared.error.Error.{Error}
+use Rattle.clap.specs.declared.error.kind.ErrorKind.TheVariants.{OutOfMemory}
 use Rattle.clap.specs.declared.parser.matches.Found.{Found}
 use Rattle.clap.proofs.WalkLemmas.{raw_values-rows}
 use Rattle.desk_words.specs.Parser.{given, seed_app}
 use Rattle.desk_words.specs.Words.{run_word_of, is_equals, IsSeedOf}
 use Rattle.desk_words.specs.declared.command.RunWord.{RunWord}
 use Rattle.desk_words.specs.declared.command.WordsFault.{WordsFault}
-use Rattle.desk_words.specs.declared.command.WordsFault.TheVariants.{Usage}
+use Rattle.desk_words.specs.declared.command.WordsFault.TheVariants.{Usage, Memory}
 
 -- where no byte passes, none is one that does
 pub none_passes : (p : ℕ → Bool) (xs : List ℕ) → position_or_len p xs ≡ length xs → list_any p xs ≡ false
@@ -66,3 +68,16 @@ no_seed r q P e f h = of_none r P (e ∙ ap result_ok f) h
 pub handed_on : {A B : Type 0} (r : Result B WordsFault) (x : WordsFault) → IsErrAnd r (λ y. y ≡ x) → r ≡ Err Usage → ◌≡◌ {A = Result A WordsFault} (Err x) (Err Usage)
 handed_on (Ok v) x h e = cc
 handed_on (Err y) x h e = let same : y ≡ Usage = cc in ap Err (sym h ∙ same)
+
+-- an answer is no fault, and running out of memory is not usage
+pub ok_no_fault : {A : Type 0} (x : A) → ◌≡◌ {A = Result A WordsFault} (Ok x) (Err Usage) → ⊥
+ok_no_fault x e = cc
+
+pub memory_no_usage : {A : Type 0} → ◌≡◌ {A = Result A WordsFault} (Err Memory) (Err Usage) → ⊥
+memory_no_usage e = cc
+
+-- where clap fails for usage, it has a fault of the words
+pub usage_refused : {A : Type 0} (kinds : Kinds) (error : Error) (fault : WordsFault) → HasKind kinds error → (fault ≡ Usage → kind_of error ≡ OutOfMemory → ⊥) → ◌≡◌ {A = Result A WordsFault} (Err fault) (Err Usage) → kinds ≡ [] → ⊥
+usage_refused kinds error fault (inl memory) usage e none = let is : fault ≡ Usage = cc in usage is memory
+usage_refused [] error fault (inr among) usage e none = absurd among
+usage_refused (k ∷ ks) error fault (inr among) usage e none = absurd (cc)
