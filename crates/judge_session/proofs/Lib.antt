@@ -1,3 +1,4 @@
+pub mod Asking
 pub mod LineNumbers
 pub mod Forms
 pub mod Lines
