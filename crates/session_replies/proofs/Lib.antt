@@ -5,3 +5,4 @@ pub mod Tables
 pub mod Weighing
 pub mod Judgements
 pub mod Unique
+pub mod Answering

@@ -11,8 +11,8 @@ use Rattle.desk_outside.proofs.Told.{append_known-nil, prepend_known-nil, prepen
 use Rattle.judge_session.specs.declared.change.Change.{Change}
 use Rattle.session_replies.specs.Replies.{Setting}
 use Rattle.session_replies.specs.State.{cells_of, pairs_in}
-use Rattle.desk_text.specs.Lines.{whole_lines, unended}
-use Rattle.session_stream.specs.Hearing.{End, Done, TooLong, Failed, has_quit, before_quit, heard_to_end, hearing_of}
+use Rattle.desk_text.specs.Lines.{whole_lines}
+use Rattle.session_stream.specs.Hearing.{End, Done, TooLong, Failed, has_quit, before_quit, hearing_of}
 use Rattle.session_stream.specs.Text.{AreReplies, accepted_in, joined, HasReplies, EndsSession, EvaluatesWithin}
 use Rattle.session_stream.specs.Held.{Talks, Quits, StopsIn, IsBroken, IsHeld, AnswersPiece}
 use Rattle.session_stream.specs.declared.stream.Fault.{Fault}

@@ -6,3 +6,4 @@ pub mod Pieces
 pub mod Ending
 pub mod Reading
 pub mod LastLine
+pub mod OneLine
