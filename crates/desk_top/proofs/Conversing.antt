@@ -24,9 +24,9 @@ use Rattle.session_stream.specs.declared.stream.Ended.TheVariants as ended
 use Rattle.session_stream.specs.declared.stream.Fault.{Fault}
 use Rattle.session_stream.specs.declared.stream.Fault.TheVariants as faults
 use Rattle.desk_top.specs.Answer.{Answer, Saying, text_of, halted}
-use Rattle.desk_top.specs.Conversation.{setting_on, sayings, status_at, told_at, AnswersSession, IsSessionOn, IsSessionAnswer}
+use Rattle.desk_top.specs.Conversation.{setting_on, sayings, status_at, told_at, AnswersSession}
 use Rattle.desk_top.specs.Meaning.{Meaning, session_meaning}
-use Rattle.desk_top.specs.Meets.{HasAnswer, IsGiven, Gives, OutputFailed, FilesFailed, OpensWithin, Meets}
+use Rattle.desk_top.specs.Meets.{HasAnswer, IsGiven, Gives, OutputFailed, FilesFailed, Meets}
 use Rattle.desk_top.specs.Report.{sources_of}
 use Rattle.desk_top.specs.Told.{TellsStop, Writes, status_line, refusal_line}
 use Rattle.desk_top.proofs.Meeting.{no_text, given, meets_given, meets_outside, meets_memory}
