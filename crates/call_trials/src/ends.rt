@@ -1,12 +1,11 @@
 // The ends of each measure for two runs of one document each, by hand.
-ghost use Rattle.std.specs.Prelude.{ℕ, ◌<◌, IfOk};
+ghost use Rattle.std.specs.Prelude.{ℕ, ◌<◌, ◌≤◌, length, IfOk};
 ghost use Rattle.desk_model.specs.MeasureText.{IsMeasure};
 ghost use Rattle.desk_model.specs.Ranking.{IsRanking};
 
 use desk_model::{Mark, MeasureName, Ranking};
 use order_verifier::{Relevance, TopicEnds};
 use std::alloc::Global;
-use std::process::Abort;
 use std::test::Fail;
 
 const R: Mark = Mark::Relevant;
@@ -65,19 +64,22 @@ struct Row<'r> {
     upper: i128,
 }
 
-fn expect(rt: &impl Abort, alloc: Global, row: &Row<'_>) -> Result<(), Fail>
-    requires { IsMeasure row.now.measure }
+// Whether a row holds.
+fn is_met(alloc: Global, row: &Row<'_>) -> Result<bool, Fail>
+    requires measure { IsMeasure row.now.measure }
+    requires some { 1 < length row.now.marks.now }
+    requires few { length row.now.marks.now ≤ 100 }
 {
-    assert!(rt; row.marks.len() >= 2 && row.marks.len() <= 100);
     let documents = row.marks.len() as u32;
     let a = run_of(alloc, 0, documents)?;
     let b = run_of(alloc, 1, documents)?;
     let ends = TopicEnds::new(alloc, &row.measure)?;
-    assert!(rt; ends.least_low(&a, &b, row.marks) == row.low);
-    assert!(rt; ends.least_low(&b, &a, row.marks) == row.swapped);
     let relevant = OneRelevant { documents, doc: 0 };
-    assert!(rt; ends.upper_end(&a, &b, &relevant) == row.upper);
-    Ok(())
+    Ok(
+        ends.least_low(&a, &b, row.marks) == row.low
+            && ends.least_low(&b, &a, row.marks) == row.swapped
+            && ends.upper_end(&a, &b, &relevant) == row.upper,
+    )
 }
 
 #[test]
@@ -90,7 +92,7 @@ fn ends_by_hand(rt: HostRuntime) -> Result<(), Fail> {
         swapped: -1,
         upper: 1,
     };
-    expect(&rt, alloc, &precision)?;
+    assert!(rt; is_met(alloc, &precision)?);
     let recall = Row {
         measure: MeasureName::Recall(1),
         marks: &[R, O, U],
@@ -98,7 +100,7 @@ fn ends_by_hand(rt: HostRuntime) -> Result<(), Fail> {
         swapped: -WHOLE,
         upper: WHOLE,
     };
-    expect(&rt, alloc, &recall)?;
+    assert!(rt; is_met(alloc, &recall)?);
     let r_precision = Row {
         measure: MeasureName::RPrecision,
         marks: &[U, U, O],
@@ -106,7 +108,7 @@ fn ends_by_hand(rt: HostRuntime) -> Result<(), Fail> {
         swapped: -WHOLE,
         upper: WHOLE,
     };
-    expect(&rt, alloc, &r_precision)?;
+    assert!(rt; is_met(alloc, &r_precision)?);
     let reciprocal = Row {
         measure: MeasureName::Reciprocal,
         marks: &[R, U],
@@ -114,7 +116,7 @@ fn ends_by_hand(rt: HostRuntime) -> Result<(), Fail> {
         swapped: -WHOLE,
         upper: WHOLE,
     };
-    expect(&rt, alloc, &reciprocal)?;
+    assert!(rt; is_met(alloc, &reciprocal)?);
     let biased = Row {
         measure: MeasureName::Biased { top: 5, bottom: 10 },
         marks: &[R, U],
@@ -122,5 +124,6 @@ fn ends_by_hand(rt: HostRuntime) -> Result<(), Fail> {
         swapped: -WHOLE,
         upper: 1,
     };
-    expect(&rt, alloc, &biased)
+    assert!(rt; is_met(alloc, &biased)?);
+    Ok(())
 }
