@@ -24,7 +24,7 @@ use Rattle.desk_outside.specs.Seen.{Shelf, Source, Sink, ReceivedNothing}
 use Rattle.desk_top.specs.Answer.{Answer, text_of, usage, halted}
 use Rattle.desk_top.specs.Printing.{Printing}
 use Rattle.desk_outside.specs.Inputs.{Input, Whole, Cut, bytes_in, IsInput}
-use Rattle.session_stream.specs.Hearing.{End, Done, TooLong, Hearing, has_quit, before_quit, ended_lines, heard_to_end, hearing_of}
+use Rattle.session_stream.specs.Hearing.{End, Done, TooLong, has_quit, before_quit, ended_lines, heard_to_end, hearing_of}
 use Rattle.session_stream.specs.declared.stream.TheConstants.{LONGEST_INPUT}
 use Rattle.desk_top.specs.Conversation.{status_at, IsSessionOn}
 use Rattle.desk_top.specs.Meaning.{Meaning, AnswersFiles, meaning_of, report_printing, check_printing, session_meaning, words_meaning}

@@ -1,5 +1,5 @@
 -- What is counted of a pool.
-use Rattle.std.proofs.Common.{◌≡◌, ℕ, zero, suc, ◌+◌, ◌≤◌, Bool, true, false, cond, nat_eq, nat_lt, List, [], ◌∷◌, ◌++◌, length, take, Some, None, refl, ap, ap₂, sym, ◌∙◌, length-append, arith}
+use Rattle.std.proofs.Common.{◌≡◌, ℕ, zero, suc, ◌+◌, ◌≤◌, Bool, true, false, cond, nat_eq, nat_lt, List, [], ◌∷◌, ◌++◌, length, take, Some, refl, ap, ap₂, sym, ◌∙◌, length-append, arith}
 use Rattle.std.specs.Prelude.{◌||◌, nat_le, not, filter}
 use Rattle.std.specs.List.{range_with_len, position_from, count_by}
 use Rattle.std.proofs.lemmas.Bool.Decides.{nat_tests}

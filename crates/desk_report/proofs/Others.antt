@@ -20,7 +20,7 @@ use Rattle.order_certificate.specs.declared.certificate.Evidence.TheVariants.{Ab
 use Rattle.order_certificate.specs.declared.certificate.TopicBound.{TopicBound}
 use Rattle.order_certificate.specs.declared.certificate.TopicWitness.{TopicWitness}
 use Rattle.desk_report.specs.Claims.{IsAnswerWord, IsInLine, IsOtherWord}
-use Rattle.desk_model.proofs.Words.{IsWord, piece_on, kept, name_word}
+use Rattle.desk_model.proofs.Words.{piece_on, kept, name_word}
 use Rattle.desk_report.proofs.Spelling.{AreInLine, ink_in_line, in_line-append, in_line-spaced}
 use Rattle.desk_report.proofs.Texts.{decimal_ink, measure_ink}
 use Rattle.small_lemmas.proofs.Lists.{all-append}

@@ -1,8 +1,8 @@
 -- The line of what is to be judged next.
-use Rattle.std.proofs.Common.{◌≡◌, ℕ, List, [], ◌∷◌, ◌++◌, take, get_or, Option, Some, None, refl, ap, sym, ◌∙◌, arith, rules, append_assoc, pos}
+use Rattle.std.proofs.Common.{◌≡◌, ℕ, List, [], ◌∷◌, ◌++◌, get_or, Option, Some, None, refl, ap, sym, ◌∙◌, arith, rules, append_assoc, pos}
 use Rattle.std.specs.Prelude.{codes, decimal, true, slice_get, length, map}
 use Rattle.desk_text.specs.Lines.{whole_lines, fields_of}
-use Rattle.desk_model.specs.Book.{Book, IsBook}
+use Rattle.desk_model.specs.Book.{IsBook}
 use Rattle.desk_model.specs.Desk.{Desk, IsDesk, AreMarksOf}
 use Rattle.desk_model.specs.Name.{is_name}
 use Rattle.desk_model.specs.Named.{book_at, name_at}
@@ -14,15 +14,14 @@ use Rattle.desk_model.specs.declared.types.Totals.{Totals}
 use Rattle.desk_model.proofs.Words.{IsWord, name_word, fields_word, fields_last}
 use Rattle.pair_table.specs.Numbers.{AreAllPairNumbers}
 use Rattle.desk_report.specs.Judging.{next_line}
-use Rattle.desk_report.specs.Table.{ended}
 use Rattle.next_document.specs.Proposal.{Standing, IsNext}
 use Rattle.next_document.specs.declared.proposal.Proposal.{Proposal}
 use Rattle.next_document.proofs.Naming.{topic_known, doc_known}
-use Rattle.desk_report.specs.Claims.{IsInLine, IsOtherWord, IsNextLine, IsNoneLine, HoldsOfStanding, IsTrueProposal}
+use Rattle.desk_report.specs.Claims.{IsOtherWord, IsTrueProposal}
 use Rattle.desk_report.proofs.Spelling.{AreInLine, ink_in_line, in_line-spaced}
 use Rattle.desk_report.proofs.Texts.{decimal_ink, signed_word}
 use Rattle.desk_report.proofs.Lines.{field, word}
-use Rattle.desk_report.proofs.Others.{in_line_back, other_word}
+use Rattle.desk_report.proofs.Others.{other_word}
 
 next_word : IsWord (codes "next")
 next_word = word (codes "next") (omega arith) (search rules)

@@ -1,5 +1,5 @@
 -- The lines of a judgements file have four fields, of which the last is a grade, and claim nothing of runs.
-use Rattle.std.proofs.Common.{◌≡◌, ℕ, List, [], ◌∷◌, ◌++◌, length, refl, ap, sym, ◌∙◌, arith, rules, append_assoc, ℤ, negsuc}
+use Rattle.std.proofs.Common.{◌≡◌, ℕ, List, [], ◌∷◌, ◌++◌, length, ap, sym, ◌∙◌, arith, rules, append_assoc, ℤ, negsuc}
 use Rattle.std.specs.Prelude.{codes, flat_map, true, Option, None, Some}
 use Rattle.std.specs.Fmt.{signed_decimal}
 use Rattle.std.specs.List.{AllByRecursion, zip}

@@ -1,9 +1,8 @@
 -- Lines of words, and the whole lines of a text.
-use Rattle.std.proofs.Common.{◌≡◌, ℕ, zero, suc, ◌<◌, ◌≤◌, List, [], ◌∷◌, ◌++◌, length, take, cond, true, false, refl, ap, ◌∙◌, arith}
-use Rattle.std.specs.Prelude.{Bool, ◌||◌, ◌==◌, filter, flat_map}
+use Rattle.std.proofs.Common.{◌≡◌, ℕ, zero, suc, ◌≤◌, List, [], ◌∷◌, ◌++◌, take, cond, true, false, refl, ap, arith}
+use Rattle.std.specs.Prelude.{Bool, ◌==◌, flat_map}
 use Rattle.std.specs.List.{AllByRecursion}
-use Rattle.std.proofs.lemmas.Bool.{ne_eqb, lt-ltb}
-use Rattle.desk_text.specs.Lines.{onto_first, is_separator, pieces, is_filled, fields_of, onto_whole, whole_lines, HasNoLineFeed}
+use Rattle.desk_text.specs.Lines.{onto_whole, whole_lines, HasNoLineFeed}
 use Rattle.desk_text.proofs.WholeLines.{whole_lines-ended as whole_line, whole_lines-of_lines}
 use Rattle.desk_model.proofs.Words.{AreInk}
 use Rattle.desk_report.specs.Table.{ended}

@@ -1,10 +1,8 @@
 -- Printed numbers and words are words.
-use Rattle.std.proofs.Common.{◌≡◌, ℕ, zero, suc, ◌+◌, ◌/◌, ◌%◌, ◌<◌, ◌≤◌, List, [], ◌∷◌, length, drop, cond, true, false, refl, sym, subst, ◌∙◌, arith, rules, ℤ, pos, negsuc, ◌++◌, length-append}
-use Rattle.std.specs.Prelude.{Bool, ◌&&◌, ◌==◌, not, nat_lt, nat_le, nat_eq, codes, decimal}
-use Rattle.std.specs.List.{list_all, AllByRecursion}
+use Rattle.std.proofs.Common.{◌≡◌, ℕ, zero, suc, ◌+◌, ◌/◌, ◌%◌, ◌<◌, List, [], ◌∷◌, length, drop, cond, true, false, refl, sym, subst, ◌∙◌, arith, rules, ℤ, pos, negsuc, ◌++◌, length-append}
+use Rattle.std.specs.Prelude.{Bool, ◌==◌, nat_lt, codes, decimal}
+use Rattle.std.specs.List.{AllByRecursion}
 use Rattle.std.specs.Fmt.{digits, digits_onto, digit_glyph, signed_decimal}
-use Rattle.std.proofs.lemmas.Bool.{and_parts, leb-true}
-use Rattle.desk_model.specs.Name.{is_name, is_field_byte}
 use Rattle.desk_model.specs.MeasureText.{measure_text}
 use Rattle.desk_model.specs.declared.types.MeasureName.{MeasureName}
 use Rattle.desk_model.specs.declared.types.MeasureName.TheVariants.{Precision, Recall, RPrecision, Reciprocal, Biased}

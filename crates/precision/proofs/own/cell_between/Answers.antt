@@ -1,4 +1,4 @@
-use Rattle.std.proofs.Common.{◌≡◌, ◌<◌, ◌-ℤ◌, ◌+◌, pos, to_z, of_z, w64, ◌∙◌, arith}
+use Rattle.std.proofs.Common.{◌≡◌, ◌<◌, ◌-ℤ◌, ◌+◌, pos, to_z, of_z, w64, arith}
 use Rattle.std.proofs.lemmas.Int.{ints}
 use Rattle.precision.proofs.Ends.{cell_is, extremes_read}
 use Rattle.precision.proofs.own.cell_between.Goals as goal

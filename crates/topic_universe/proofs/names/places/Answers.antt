@@ -1,4 +1,4 @@
-use Rattle.std.proofs.Common.{◌≡◌, ◌+◌, ℕ, [], true, length, map, set, get_or, take, ap, sym, ◌∙◌, subst, arith, nat_eq}
+use Rattle.std.proofs.Common.{◌≡◌, ◌+◌, ℕ, true, length, map, set, get_or, take, ap, sym, ◌∙◌, subst, arith, nat_eq}
 use Rattle.std.specs.List.{list_any}
 use Rattle.std.proofs.lemmas.List.{length-map, length-set, take_all}
 use Rattle.topic_universe.specs.Sorted.{Numbered, IsPlaceOf}

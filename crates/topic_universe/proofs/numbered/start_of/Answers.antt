@@ -1,4 +1,4 @@
-use Rattle.std.proofs.Common.{◌≡◌, ◌+◌, ◌*◌, ◌-◌, ◌^◌, ◌<◌, suc, drop, get_or, add-one, sym, ap, subst, ◌∙◌, arith}
+use Rattle.std.proofs.Common.{◌≡◌, ◌+◌, ◌*◌, ◌-◌, suc, drop, get_or, add-one, sym, ap, ◌∙◌, arith}
 use Rattle.topic_universe.proofs.Starts.{spelt, spelt_is, spelt_step, start_more, start_fits}
 use Rattle.topic_universe.proofs.numbered.start_of.Goals as goal
 

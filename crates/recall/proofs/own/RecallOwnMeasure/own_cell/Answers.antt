@@ -2,7 +2,6 @@ use Rattle.std.proofs.Common.{◌≡◌, ℕ, List, sym, subst}
 use Rattle.desk_model.specs.declared.types.Mark.{Mark}
 use Rattle.desk_model.specs.declared.types.MeasureName.TheVariants.{Recall}
 use Rattle.measure_core.specs.Laws.{AreMet, CellIsModest}
-use Rattle.measure_core.specs.Numbers.{exact_cell}
 use Rattle.measure_core.proofs.Exact.{exact_laws}
 use Rattle.topic_counts.specs.declared.counts.Counts.{Counts}
 use Rattle.topic_counts.specs.declared.counts.OwnCounts.{OwnCounts}
