@@ -93,22 +93,6 @@ impl Measure for AnyMeasure {
         }
     }
 
-    fn most_case(
-        &self,
-        alloc: Global,
-        a: &Ranking,
-        b: &Ranking,
-        marks: &[Mark],
-    ) -> Result<Vec<bool>, Memory> {
-        match self {
-            AnyMeasure::Precision(m) => m.most_case(alloc, a, b, marks),
-            AnyMeasure::Recall(m) => m.most_case(alloc, a, b, marks),
-            AnyMeasure::RPrecision(m) => m.most_case(alloc, a, b, marks),
-            AnyMeasure::Reciprocal(m) => m.most_case(alloc, a, b, marks),
-            AnyMeasure::Biased(m) => m.most_case(alloc, a, b, marks),
-        }
-    }
-
     fn weight(&self, a: &Ranking, b: &Ranking, marks: &[Mark], doc: u32) -> u128 {
         match self {
             AnyMeasure::Precision(m) => m.weight(a, b, marks, doc),

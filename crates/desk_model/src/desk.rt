@@ -48,6 +48,13 @@ impl Desk {
         }
     }
 
+    /// That the desk is valid, as each is by its type. It costs nothing, and is called where a proof needs the fact.
+    pub fn valid(&self)
+        ensures { IsDesk self.now }
+    {
+        let _ = &self.runs;
+    }
+
     /// The number of topics, at least one.
     pub fn topic_count(&self) -> u32
         ensures count { result ≡ length self.now.topics }

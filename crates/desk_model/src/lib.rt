@@ -8,7 +8,6 @@ pub mod grading;
 pub mod laws;
 pub mod marks;
 pub mod measure_text;
-pub mod memory;
 pub mod name;
 pub mod number_text;
 pub mod pairs;
@@ -19,10 +18,10 @@ pub mod types;
 
 pub use book::TopicBook;
 pub use desk::Desk;
+pub use desk_memory::Memory;
 pub use grading::mark;
 pub use marks::Marks;
 pub use measure_text::{UnknownMeasure, measure_of_text_is_unique, read_measure};
-pub use memory::Memory;
 pub use name::{Name, NameFault};
 pub use number_text::{
     push_digits_after_first, push_grade, push_measure, push_number, push_signed, push_whole,

@@ -4,8 +4,8 @@ ghost use Rattle.desk_model.specs.Desk.{file_marks};
 use crate::book::TopicBook;
 use crate::desk::Desk;
 use crate::grading::mark;
-use crate::memory::Memory;
 use crate::types::Mark;
+use desk_memory::Memory;
 use std::alloc::{AllocError, Global};
 use std::marker::Model;
 
@@ -29,10 +29,8 @@ impl Marks {
     pub fn of_file(alloc: Global, desk: &Desk, level: u32) -> Result<Marks, Memory>
         ensures { IfOk result (λ marks. marks ≡ map (file_marks level) desk.now.topics) }
     {
-        match file_topics(alloc, desk, level) {
-            Ok(topics) => Ok(Marks { topics }),
-            Err(_) => Err(Memory),
-        }
+        let topics = file_topics(alloc, desk, level)?;
+        Ok(Marks { topics })
     }
 
     /// The marks of a topic's documents, by their numbers.

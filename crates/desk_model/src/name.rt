@@ -1,7 +1,9 @@
 ghost use Rattle.std.specs.Prelude.{◌≡◌, ◌↔◌, true, false, IfOk, Err};
 ghost use Rattle.std.specs.List.{list_all};
+ghost use Rattle.desk_model.specs.declared.name.NameFault.TheVariants.{Memory as NoMemory};
 ghost use Rattle.desk_model.specs.Name.{is_field_byte, is_name, is_same_name, name_cmp};
 
+use desk_memory::Memory;
 use std::alloc::Global;
 use std::cmp::Ordering;
 use std::marker::Model;
@@ -13,6 +15,14 @@ pub enum NameFault {
     BadName,
     /// Memory ran out.
     Memory,
+}
+
+impl From<Memory> for NameFault {
+    ghost from_gives = { λ _ e. e ≡ NoMemory };
+
+    fn from(_: Memory) -> NameFault {
+        NameFault::Memory
+    }
 }
 
 /// The name of a topic, a document or a run: 1 to 255 bytes, none of them a separator or a bad byte.
@@ -59,10 +69,16 @@ impl Name {
         if !is_a_name(bytes) {
             return Err(NameFault::BadName);
         }
-        match bytes.to_vec(alloc) {
-            Ok(bytes) => Ok(Name { bytes }),
-            Err(_) => Err(NameFault::Memory),
-        }
+        Ok(Name::copy_of(alloc, bytes)?)
+    }
+
+    /// The name of bytes that are one, copied in one allocation. The only error is out of memory.
+    pub fn copy_of(alloc: Global, bytes: &[u8]) -> Result<Name, Memory>
+        requires { is_name bytes.now ≡ true }
+        ensures { IfOk result (λ name. name ≡ bytes.now) }
+    {
+        let bytes = bytes.to_vec(alloc)?;
+        Ok(Name { bytes })
     }
 
     /// The bytes of the name.

@@ -5,8 +5,8 @@ ghost use Rattle.desk_model.specs.Limits.{RANK_LIMIT};
 ghost use Rattle.desk_model.specs.Ranking.{IsRanking, rank};
 ghost use Rattle.desk_model.specs.Placed.{lookup, IsAscending, placed_from};
 
-use crate::memory::Memory;
 use crate::placed::Placed;
+use desk_memory::Memory;
 use std::alloc::{AllocError, Global};
 use std::marker::Model;
 
@@ -36,10 +36,8 @@ impl Ranking {
         ensures { IfOk result (λ ranking. ranking ≡ docs.items) }
     {
         let _ = universe;
-        match by_document(alloc, &docs) {
-            Ok(by_doc) => Ok(Ranking { docs, by_doc }),
-            Err(_) => Err(Memory),
-        }
+        let by_doc = by_document(alloc, &docs)?;
+        Ok(Ranking { docs, by_doc })
     }
 
     /// The documents, the best first.

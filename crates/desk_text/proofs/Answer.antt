@@ -9,8 +9,8 @@ use Rattle.std.proofs.lemmas.Str.{digit_value_digit}
 use Rattle.std.proofs.lemmas.Str.Parse.{digit_from_value}
 use Rattle.desk_text.specs.declared.score.ScoreFault.{ScoreFault}
 use Rattle.desk_text.specs.declared.score.ScoreFault.TheVariants.{BadScore, ScoreTooLong, ScoreExponent}
-use Rattle.desk_text.specs.Text.{Parts, HasParts}
-use Rattle.desk_text.specs.Value.{number_of, IsPlace, ReadsAs, StandsFor, scaled}
+use Rattle.desk_text.specs.Text.{ScoreParts, HasParts}
+use Rattle.desk_text.specs.Value.{number_of, IsPlace, ReadsAs, StandsForDigits, scaled}
 use Rattle.desk_text.specs.Reading.{cut_parts, mantissa_of, power_of, is_score_text, zeros_of, is_place, limited, number_in, score_of}
 use Rattle.desk_text.specs.Significand.{HasLastZeros}
 use Rattle.desk_text.proofs.Spellings.{IsDigitText, spelled_from_digits, cut_from_spelled}
@@ -90,14 +90,14 @@ place_tested place e =
 place_passes : (place : ℤ) → IsPlace place → is_place place ≡ true
 place_passes place h = and_from (int_le (neg_ℤ (pos 999)) place) (int_le place (pos 999)) (grind (arith, ints)) (grind (arith, ints))
 
-limited_reads : (text : List ℕ) (is_negative : Bool) (digits : ℕ) (place : ℤ) → StandsFor text is_negative digits place → (long near : Bool) → nat_le (10 ^ 30) digits ≡ long → is_place place ≡ near →
+limited_reads : (text : List ℕ) (is_negative : Bool) (digits : ℕ) (place : ℤ) → StandsForDigits text is_negative digits place → (long near : Bool) → nat_le (10 ^ 30) digits ≡ long → is_place place ≡ near →
     ReadsAs text (if long then Err ScoreTooLong else (if near then Ok (scaled is_negative digits place) else Err ScoreExponent))
 limited_reads text is_negative digits place stands true near l n = (is_negative, (digits, (place, (stands, leb-true _ _ l))))
 limited_reads text is_negative digits place stands false true l n =
     inr record { is_negative = is_negative; digits = digits; place = place; stands = stands; short = leb-false _ _ l; near = place_tested place n; is_value = refl }
 limited_reads text is_negative digits place stands false false l n = (is_negative, (digits, (place, (stands, leb-false _ _ l, λ near. false≢true (sym n ∙ place_passes place near)))))
 
-number_reads : (text : List ℕ) (p : Parts) → HasParts text p → (nothing : Bool) → (number_of p == 0) ≡ nothing →
+number_reads : (text : List ℕ) (p : ScoreParts) → HasParts text p → (nothing : Bool) → (number_of p == 0) ≡ nothing →
     let number = number_of p in
     let zeros = zeros_of number number in
     ReadsAs text (if nothing then Ok (pos 0) else limited p.is_negative (number / 10 ^ zeros) (p.exponent +ℤ (pos zeros -ℤ pos (length p.fraction))))

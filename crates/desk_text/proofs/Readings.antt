@@ -10,8 +10,8 @@ use Rattle.std.proofs.Math.Pow.{pow-add}
 use Rattle.desk_text.specs.declared.score.ScoreFault.{ScoreFault}
 use Rattle.desk_text.specs.declared.score.ScoreFault.TheVariants.{BadScore, ScoreTooLong, ScoreExponent}
 use Rattle.desk_text.specs.declared.significand.TheConstants.{FAR}
-use Rattle.desk_text.specs.Text.{signed, Parts, HasParts, IsScoreText}
-use Rattle.desk_text.specs.Value.{number_of, StandsFor, IsZeroText, IsPlace, IsTooLong, IsTooFar, IsNumber, scaled, ReadsAs}
+use Rattle.desk_text.specs.Text.{signed, ScoreParts, HasParts, IsScoreText}
+use Rattle.desk_text.specs.Value.{number_of, StandsForDigits, IsZeroText, IsPlace, HasTooManyDigits, IsTooFar, IsNumber, scaled, ReadsAs}
 use Rattle.desk_text.specs.Significand.{HasLastZeros, IsLongNumber, IsSignificand}
 use Rattle.desk_text.proofs.Spellings.{one_spelling}
 
@@ -47,11 +47,11 @@ not_nothing number digits zeros h nothing =
     let digits_nothing : digits ≡ 0 = power_cancel digits 0 zeros (sym h.value ∙ nothing ∙ sym (zero-mul (10 ^ zeros))) in
     h.last (ap (λ x. x % 10) digits_nothing)
 
-last_zeros : (text : List ℕ) (n : Bool) (d : ℕ) (w : ℤ) → (s : StandsFor text n d w) → HasLastZeros (number_of s.parts) d s.zeros
+last_zeros : (text : List ℕ) (n : Bool) (d : ℕ) (w : ℤ) → (s : StandsForDigits text n d w) → HasLastZeros (number_of s.parts) d s.zeros
 last_zeros text n d w s = record { value = s.number; last = s.last }
 
 -- a text stands for one number
-pub stands_once : (text : List ℕ) (n n' : Bool) (d d' : ℕ) (w w' : ℤ) → StandsFor text n d w → StandsFor text n' d' w' → (n ≡ n') × (d ≡ d') × (w ≡ w')
+pub stands_once : (text : List ℕ) (n n' : Bool) (d d' : ℕ) (w w' : ℤ) → StandsForDigits text n d w → StandsForDigits text n' d' w' → (n ≡ n') × (d ≡ d') × (w ≡ w')
 stands_once text n n' d d' w w' s t =
     let same = one_spelling text s.parts t.parts s.written t.written in
     let here = subst (λ p. HasLastZeros (number_of p) d s.zeros) same (last_zeros text n d w s) in
@@ -61,7 +61,7 @@ stands_once text n n' d d' w w' s t =
     let zeros = once.1 in
     (s.sign ∙ ap (λ p. p.is_negative) same ∙ sym t.sign, once.0, omega (arith, ints, s.point, t.point))
 
-pub zero_or_stands : (text : List ℕ) (n : Bool) (d : ℕ) (w : ℤ) → IsZeroText text → StandsFor text n d w → ⊥
+pub zero_or_stands : (text : List ℕ) (n : Bool) (d : ℕ) (w : ℤ) → IsZeroText text → StandsForDigits text n d w → ⊥
 zero_or_stands text n d w nothing s =
     let same = one_spelling text s.parts nothing.0 s.written nothing.1 in
     not_nothing (number_of s.parts) d s.zeros (last_zeros text n d w s) (ap number_of same ∙ nothing.2)
@@ -82,7 +82,7 @@ zero_or_number text v u h k =
     ]
 
 -- a value leaves no room for a number of another size or place
-value_or_stands : (text : List ℕ) (v : ℤ) (n : Bool) (d : ℕ) (w : ℤ) → (IsZeroText text × (v ≡ pos 0)) ⊎ IsNumber text v → StandsFor text n d w → (d < 10 ^ 30) × IsPlace w
+value_or_stands : (text : List ℕ) (v : ℤ) (n : Bool) (d : ℕ) (w : ℤ) → (IsZeroText text × (v ≡ pos 0)) ⊎ IsNumber text v → StandsForDigits text n d w → (d < 10 ^ 30) × IsPlace w
 value_or_stands text v n d w h s =
     elim h [
       | inl nothing ↦ absurd (zero_or_stands text n d w nothing.0 s)
@@ -96,7 +96,7 @@ value_text : (text : List ℕ) (v : ℤ) → (IsZeroText text × (v ≡ pos 0)) 
 value_text text v h = elim h [ inl nothing ↦ (nothing.0.0, nothing.0.1) | inr number ↦ (number.stands.parts, number.stands.written) ]
 
 -- a number is not both too long and short
-long_or_short : (text : List ℕ) → IsTooLong text → IsTooFar text → ⊥
+long_or_short : (text : List ℕ) → HasTooManyDigits text → IsTooFar text → ⊥
 long_or_short text long far =
     let once = stands_once text _ _ _ _ _ _ long.1.1.1.0 far.1.1.1.0 in
     omega (arith, once.1, long.1.1.1.1, far.1.1.1.1)
@@ -121,7 +121,7 @@ one_reading text (Err ScoreExponent) (Err ScoreTooLong) h k = absurd (long_or_sh
 one_reading text (Err ScoreExponent) (Err ScoreExponent) h k = refl
 
 -- a text with the digits of a significand stands for its number
-pub stands_text : (text : List ℕ) (p : Parts) (digits zeros : ℕ) (place : ℤ) → HasParts text p → HasLastZeros (number_of p) digits zeros → place +ℤ pos (length p.fraction) ≡ pos zeros → StandsFor text p.is_negative digits (p.exponent +ℤ place)
+pub stands_text : (text : List ℕ) (p : ScoreParts) (digits zeros : ℕ) (place : ℤ) → HasParts text p → HasLastZeros (number_of p) digits zeros → place +ℤ pos (length p.fraction) ≡ pos zeros → StandsForDigits text p.is_negative digits (p.exponent +ℤ place)
 stands_text text p digits zeros place written h e = record {
   parts = p;
   zeros = zeros;
@@ -133,7 +133,7 @@ stands_text text p digits zeros place written h e = record {
 }
 
 -- a long number is too long at any place
-pub too_long_text : (text : List ℕ) (p : Parts) → HasParts text p → IsLongNumber (number_of p) → IsTooLong text
+pub too_long_text : (text : List ℕ) (p : ScoreParts) → HasParts text p → IsLongNumber (number_of p) → HasTooManyDigits text
 too_long_text text p written long =
     let place = pos long.1.0 -ℤ pos (length p.fraction) in
     (p.is_negative, (long.0, (p.exponent +ℤ place, (stands_text text p long.0 long.1.0 place written long.1.1.0 (omega (arith, ints)), long.1.1.1))))
@@ -149,7 +149,7 @@ pub far_place : (is_negative : Bool) (size : ℕ) (place : ℤ) → unsigned_abs
 far_place is_negative size place near far is = far (rw (cut_place is_negative size place near (inr is)) is)
 
 -- what is read of a significand whose digits are not 0
-pub significant : (text : List ℕ) (p : Parts) (digits : ℕ) (place : ℤ) → HasParts text p → IsSignificand p.whole p.fraction digits place → (digits ≡ 0 → ⊥) → StandsFor text p.is_negative digits (p.exponent +ℤ place)
+pub significant : (text : List ℕ) (p : ScoreParts) (digits : ℕ) (place : ℤ) → HasParts text p → IsSignificand p.whole p.fraction digits place → (digits ≡ 0 → ⊥) → StandsForDigits text p.is_negative digits (p.exponent +ℤ place)
 significant text p digits place written h some =
     elim h [
       | inl nothing ↦ absurd (some nothing.0)
@@ -157,7 +157,7 @@ significant text p digits place written h some =
     ]
 
 -- a significand without digits is read of zeros
-pub insignificant : (text : List ℕ) (p : Parts) (digits : ℕ) (place : ℤ) → HasParts text p → IsSignificand p.whole p.fraction digits place → digits ≡ 0 → IsZeroText text
+pub insignificant : (text : List ℕ) (p : ScoreParts) (digits : ℕ) (place : ℤ) → HasParts text p → IsSignificand p.whole p.fraction digits place → digits ≡ 0 → IsZeroText text
 insignificant text p digits place written h none =
     elim h [
       | inl nothing ↦ (p, written, nothing.1)
@@ -173,13 +173,13 @@ added a b small near =
     rw (to_z-of_z w128 a fits_a, to_z-of_z w128 b fits_b, to_z-of_z w128 (a +ℤ b) fits) refl
 
 -- a number out of range, by the place that was computed
-pub far_text : (text : List ℕ) (p : Parts) (digits size : ℕ) (negative_exponent : Bool) (place computed : ℤ) → StandsFor text p.is_negative digits (signed negative_exponent size +ℤ place) → digits < 10 ^ 30 → unsigned_abs place < 2 ^ 66 →
+pub far_text : (text : List ℕ) (p : ScoreParts) (digits size : ℕ) (negative_exponent : Bool) (place computed : ℤ) → StandsForDigits text p.is_negative digits (signed negative_exponent size +ℤ place) → digits < 10 ^ 30 → unsigned_abs place < 2 ^ 66 →
     computed ≡ signed negative_exponent (min size FAR) → ¬ (IsPlace (computed +ℤ place)) → IsTooFar text
 far_text text p digits size negative_exponent place computed stands short near is far =
     (p.is_negative, (digits, (signed negative_exponent size +ℤ place, (stands, short, far_place negative_exponent size place near (rw (← is) far)))))
 
 -- a number in range, by the place that was computed
-pub near_text : (text : List ℕ) (p : Parts) (digits size : ℕ) (negative_exponent : Bool) (place computed value : ℤ) → StandsFor text p.is_negative digits (signed negative_exponent size +ℤ place) → digits < 10 ^ 30 → unsigned_abs place < 2 ^ 66 →
+pub near_text : (text : List ℕ) (p : ScoreParts) (digits size : ℕ) (negative_exponent : Bool) (place computed value : ℤ) → StandsForDigits text p.is_negative digits (signed negative_exponent size +ℤ place) → digits < 10 ^ 30 → unsigned_abs place < 2 ^ 66 →
     computed ≡ signed negative_exponent (min size FAR) → IsPlace (computed +ℤ place) → value ≡ scaled p.is_negative digits (computed +ℤ place) → IsNumber text value
 near_text text p digits size negative_exponent place computed value stands short near is here same =
     let same_place : computed +ℤ place ≡ signed negative_exponent size +ℤ place =

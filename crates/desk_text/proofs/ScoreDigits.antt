@@ -9,7 +9,7 @@ use Rattle.std.proofs.lemmas.Bool.{cases_lt}
 use Rattle.std.proofs.lemmas.Int.{ints}
 use Rattle.std.proofs.Math.Nat.{pow-succ', mul_assoc, zero-mul, mul-le-mul_left, pow-le-pow_right}
 use Rattle.std.proofs.Math.Pow.{pow-add}
-use Rattle.desk_text.specs.Significand.{AreSignificant, EndsInDigit, AreKept, HasLastZeros, IsLongNumber, IsSignificand}
+use Rattle.desk_text.specs.Significand.{AreSignificant, EndsInDigit, AreTrimmed, HasLastZeros, IsLongNumber, IsSignificand}
 
 -- the digits that are left, at one of them
 pub digits_left : (n : ℕ) (ds : List ℕ) (i : ℕ) → AllDigits 10 ds → i < length ds → digits_value_after 10 n (drop i ds) ≡ digits_value_after 10 (n * 10 + (get_or ds i 0 - 48)) (drop (i + 1) ds)
@@ -77,7 +77,7 @@ empty [] h = refl
 empty (x ∷ xs) h = absurd (omega arith)
 
 -- what the digits that are kept make
-pub kept_number : (whole fraction kept_whole kept_fraction : List ℕ) → AreKept whole fraction kept_whole kept_fraction →
+pub kept_number : (whole fraction kept_whole kept_fraction : List ℕ) → AreTrimmed whole fraction kept_whole kept_fraction →
     digits_value 10 (whole ++ fraction) ≡ digits_value 10 (kept_whole ++ kept_fraction) * 10 ^ (length whole - length kept_whole + (length fraction - length kept_fraction))
 kept_number whole fraction kept_whole kept_fraction h =
     let k = length whole - length kept_whole in
@@ -100,7 +100,7 @@ kept_number whole fraction kept_whole kept_fraction h =
     ]
 
 -- the last digit that is kept is not 0
-pub kept_end : (whole fraction kept_whole kept_fraction : List ℕ) → AllDigits 10 whole → AllDigits 10 fraction → AreKept whole fraction kept_whole kept_fraction →
+pub kept_end : (whole fraction kept_whole kept_fraction : List ℕ) → AllDigits 10 whole → AllDigits 10 fraction → AreTrimmed whole fraction kept_whole kept_fraction →
     0 < digits_value 10 (kept_whole ++ kept_fraction) → digits_value 10 (kept_whole ++ kept_fraction) % 10 ≢ 0
 kept_end whole fraction kept_whole kept_fraction all_whole all_fraction h some e =
     let before = digits_value 10 kept_whole in
@@ -126,7 +126,7 @@ kept_read kept_whole kept_fraction n digits prefix all =
     all ∙ ap (λ v. digits_value_after 10 v kept_fraction) prefix ∙ sym (digits_value_after-append 0 kept_whole kept_fraction)
 
 -- the zeros at the end of a number whose kept digits are not all 0
-pub kept_zeros : (whole fraction kept_whole kept_fraction : List ℕ) → AllDigits 10 whole → AllDigits 10 fraction → AreKept whole fraction kept_whole kept_fraction → (digits : ℕ) → digits ≡ digits_value 10 (kept_whole ++ kept_fraction) → 0 < digits →
+pub kept_zeros : (whole fraction kept_whole kept_fraction : List ℕ) → AllDigits 10 whole → AllDigits 10 fraction → AreTrimmed whole fraction kept_whole kept_fraction → (digits : ℕ) → digits ≡ digits_value 10 (kept_whole ++ kept_fraction) → 0 < digits →
     HasLastZeros (digits_value 10 (whole ++ fraction)) digits (length whole - length kept_whole + (length fraction - length kept_fraction))
 kept_zeros whole fraction kept_whole kept_fraction all_whole all_fraction h digits is some =
     record {
@@ -135,13 +135,13 @@ kept_zeros whole fraction kept_whole kept_fraction all_whole all_fraction h digi
     }
 
 -- more than 30 kept digits
-pub kept_long : (whole fraction kept_whole kept_fraction : List ℕ) → AllDigits 10 whole → AllDigits 10 fraction → AreKept whole fraction kept_whole kept_fraction → (n : ℕ) → n ≡ digits_value_after 10 0 kept_whole → 10 ^ 30 ≤ digits_value_after 10 n kept_fraction → IsLongNumber (digits_value 10 (whole ++ fraction))
+pub kept_long : (whole fraction kept_whole kept_fraction : List ℕ) → AllDigits 10 whole → AllDigits 10 fraction → AreTrimmed whole fraction kept_whole kept_fraction → (n : ℕ) → n ≡ digits_value_after 10 0 kept_whole → 10 ^ 30 ≤ digits_value_after 10 n kept_fraction → IsLongNumber (digits_value 10 (whole ++ fraction))
 kept_long whole fraction kept_whole kept_fraction all_whole all_fraction h n prefix long =
     let digits = digits_value_after 10 n kept_fraction in
     (digits, (_, (kept_zeros whole fraction kept_whole kept_fraction all_whole all_fraction h digits (kept_read kept_whole kept_fraction n digits prefix refl) (omega arith), long)))
 
 -- the kept digits and their place
-pub kept_significand : (whole fraction kept_whole kept_fraction : List ℕ) → AllDigits 10 whole → AllDigits 10 fraction → AreKept whole fraction kept_whole kept_fraction → (n digits : ℕ) (place : ℤ) → n ≡ digits_value_after 10 0 kept_whole → digits ≡ digits_value_after 10 n kept_fraction →
+pub kept_significand : (whole fraction kept_whole kept_fraction : List ℕ) → AllDigits 10 whole → AllDigits 10 fraction → AreTrimmed whole fraction kept_whole kept_fraction → (n digits : ℕ) (place : ℤ) → n ≡ digits_value_after 10 0 kept_whole → digits ≡ digits_value_after 10 n kept_fraction →
     place ≡ pos (length whole - length kept_whole) -ℤ pos (length kept_fraction) → IsSignificand whole fraction digits place
 kept_significand whole fraction kept_whole kept_fraction all_whole all_fraction h n digits place prefix all is =
     let read = kept_read kept_whole kept_fraction n digits prefix all in

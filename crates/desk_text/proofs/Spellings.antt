@@ -11,8 +11,8 @@ use Rattle.std.proofs.lemmas.Str.{digit_value_digit}
 use Rattle.std.proofs.lemmas.Str.Parse.{digit_from_value}
 use Rattle.std.proofs.Math.Seq.{drop-append-add}
 use Rattle.std.proofs.Math.ListN.{drop_of_length-le}
-use Rattle.desk_text.specs.Text.{signed, IsSign, IsMantissa, IsExponent, Parts, HasParts}
-use Rattle.desk_text.specs.Spelling.{is_mark, AreParts}
+use Rattle.desk_text.specs.Text.{signed, IsSign, IsMantissa, IsExponent, ScoreParts, HasParts}
+use Rattle.desk_text.specs.Spelling.{is_mark, AreDigitParts}
 use Rattle.desk_text.specs.Reading.{mantissa_of, power_of, cut_parts}
 
 digits_by_recursion : (ds : List ℕ) → AllDigits 10 ds → AllByRecursion IsAsciiDigit ds
@@ -215,18 +215,18 @@ power_here exponent text is =
     ]
 
 -- parts are equal where their fields are
-same_parts : (a b : Parts) → a.is_negative ≡ b.is_negative → a.whole ≡ b.whole → a.fraction ≡ b.fraction → a.exponent ≡ b.exponent → a ≡ b
+same_parts : (a b : ScoreParts) → a.is_negative ≡ b.is_negative → a.whole ≡ b.whole → a.fraction ≡ b.fraction → a.exponent ≡ b.exponent → a ≡ b
 same_parts a b n w f e =
-    let made : Bool → List ℕ → List ℕ → ℤ → Parts = λ x y z t. record { is_negative = x; whole = y; fraction = z; exponent = t } in
+    let made : Bool → List ℕ → List ℕ → ℤ → ScoreParts = λ x y z t. record { is_negative = x; whole = y; fraction = z; exponent = t } in
     ap (λ x. made x a.whole a.fraction a.exponent) n ∙ ap (λ y. made b.is_negative y a.fraction a.exponent) w
     ∙ ap (λ z. made b.is_negative b.whole z a.exponent) f ∙ ap (λ t. made b.is_negative b.whole b.fraction t) e
 
 -- a score's text has the parts that it is cut into
-pub record IsCutInto (text : List ℕ) (parts : Parts) : Type 0 where
+pub record IsCutInto (text : List ℕ) (parts : ScoreParts) : Type 0 where
   pub same : cut_parts text ≡ parts
   pub digits : IsDigitText text
 
-pub cut_from_spelled : (text : List ℕ) (parts : Parts) → HasParts text parts → IsCutInto text parts
+pub cut_from_spelled : (text : List ℕ) (parts : ScoreParts) → HasParts text parts → IsCutInto text parts
 cut_from_spelled text parts h =
     let rest = h.mantissa ++ h.power in
     let first = mantissa_unsigned parts.whole parts.fraction h.mantissa h.power h.is_mantissa h.whole_digits h.some_digit in
@@ -253,10 +253,10 @@ cut_from_spelled text parts h =
     }
 
 -- a text has one spelling
-pub one_spelling : (text : List ℕ) (a b : Parts) → HasParts text a → HasParts text b → a ≡ b
+pub one_spelling : (text : List ℕ) (a b : ScoreParts) → HasParts text a → HasParts text b → a ≡ b
 one_spelling text a b h k = sym (cut_from_spelled text a h).same ∙ (cut_from_spelled text b k).same
 
-are_parts : (text : List ℕ) → AreParts (cut_parts text).whole (cut_parts text).fraction (without_leading_sign (power_of text)) (ltb (length (mantissa_of text)) (length (without_leading_sign text))) ↔ IsDigitText text
+are_parts : (text : List ℕ) → AreDigitParts (cut_parts text).whole (cut_parts text).fraction (without_leading_sign (power_of text)) (ltb (length (mantissa_of text)) (length (without_leading_sign text))) ↔ IsDigitText text
 are_parts text = (
   λ h. record {
     whole_digits = digits_from_all _ (recursion_from_All IsAsciiDigit _ h.0);
@@ -280,7 +280,7 @@ pub record IsCutBySteps (text unsigned mantissa power whole fraction exponent : 
   pub is_exponent : exponent ≡ without_leading_sign power
 
 pub digit_text_by_steps : (text unsigned mantissa power whole fraction exponent : List ℕ) (negative negative_exponent : Bool) → IsCutBySteps text unsigned mantissa power whole fraction exponent negative negative_exponent →
-    (AreParts whole fraction exponent (ltb (length mantissa) (length unsigned)) ↔ IsDigitText text) × (record { is_negative = negative; whole = whole; fraction = fraction; exponent = signed negative_exponent (digits_value 10 exponent) } ≡ cut_parts text)
+    (AreDigitParts whole fraction exponent (ltb (length mantissa) (length unsigned)) ↔ IsDigitText text) × (record { is_negative = negative; whole = whole; fraction = fraction; exponent = signed negative_exponent (digits_value 10 exponent) } ≡ cut_parts text)
 digit_text_by_steps text unsigned mantissa power whole fraction exponent negative negative_exponent h =
     let u = h.is_unsigned in
     let m : mantissa ≡ mantissa_of text = h.is_mantissa ∙ ap (before_first (is_mark 101 69)) u in
@@ -289,5 +289,5 @@ digit_text_by_steps text unsigned mantissa power whole fraction exponent negativ
     let f : fraction ≡ (cut_parts text).fraction = h.is_fraction ∙ ap (after_first (is_mark 46 46)) m in
     let x : exponent ≡ without_leading_sign (power_of text) = h.is_exponent ∙ ap without_leading_sign p in
     let n : negative_exponent ≡ starts_with_minus (power_of text) = h.is_negative_exponent ∙ ap starts_with_minus p in
-    let made = λ (parts : Parts). same_parts parts (cut_parts text) in
+    let made = λ (parts : ScoreParts). same_parts parts (cut_parts text) in
     (rw (u, m, w, f, x) (are_parts text), made _ h.is_negative w f (ap (λ b. signed b (digits_value 10 exponent)) n ∙ ap (λ ds. signed (starts_with_minus (power_of text)) (digits_value 10 ds)) x))

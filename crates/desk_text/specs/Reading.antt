@@ -5,7 +5,7 @@ use Rattle.std.specs.Str.{all_ascii_digits}
 use Rattle.std.specs.Str.Parse.{digits_value, starts_with_minus, without_leading_sign}
 use Rattle.desk_text.specs.declared.score.ScoreFault.{ScoreFault}
 use Rattle.desk_text.specs.declared.score.ScoreFault.TheVariants.{BadScore, ScoreTooLong, ScoreExponent}
-use Rattle.desk_text.specs.Text.{signed, Parts}
+use Rattle.desk_text.specs.Text.{signed, ScoreParts}
 use Rattle.desk_text.specs.Spelling.{is_mark}
 use Rattle.desk_text.specs.Value.{number_of, scaled}
 
@@ -18,7 +18,7 @@ abbrev pub power_of : List ℕ → List ℕ
 power_of text = after_first (is_mark 101 69) (without_leading_sign text)
 
 -- the parts of a text that is cut at its first `e` or `E`, and before it at its first point
-abbrev pub cut_parts : List ℕ → Parts
+abbrev pub cut_parts : List ℕ → ScoreParts
 cut_parts text = record {
   is_negative = starts_with_minus text;
   whole = before_first (is_mark 46 46) (mantissa_of text);
@@ -49,7 +49,7 @@ limited is_negative digits place =
     if nat_le (10 ^ 30) digits then Err ScoreTooLong else (if is_place place then Ok (scaled is_negative digits place) else Err ScoreExponent)
 
 -- the number of some parts, without the zeros at its end
-abbrev pub number_in : Parts → Result ℤ ScoreFault
+abbrev pub number_in : ScoreParts → Result ℤ ScoreFault
 number_in parts =
     let number = number_of parts in
     let zeros = zeros_of number number in

@@ -27,7 +27,7 @@ abbrev pub EndsInDigit : List ℕ → Type 0
 EndsInDigit kept = 0 < length kept → slice_index kept (length kept - 1) ≢ 48
 
 -- the parts without the zeros at the end of both
-pub record AreKept (whole fraction kept_whole kept_fraction : List ℕ) : Type 0 where
+pub record AreTrimmed (whole fraction kept_whole kept_fraction : List ℕ) : Type 0 where
   pub whole_kept : AreSignificant whole kept_whole
   pub fraction_kept : AreSignificant fraction kept_fraction
   pub whole_end : length kept_fraction ≡ 0 → EndsInDigit kept_whole

@@ -3,19 +3,19 @@ use Rattle.std.specs.Prelude.{◌≡◌, ℕ, ◌+◌, ◌<◌, Bool, true, ◌|
 use Rattle.std.specs.Char.{IsAsciiDigit}
 use Rattle.std.specs.Str.Parse.{digits_value}
 use Rattle.desk_text.specs.declared.spelling.Spelling.{Spelling}
-use Rattle.desk_text.specs.Text.{signed, Parts}
+use Rattle.desk_text.specs.Text.{signed, ScoreParts}
 
 -- a byte that is one of two marks
 abbrev pub is_mark : ℕ → ℕ → ℕ → Bool
 is_mark mark other byte = byte == mark || byte == other
 
 -- all are digits, at least one of them is before the exponent, and an exponent has one
-abbrev pub AreParts : List ℕ → List ℕ → List ℕ → Bool → Type 0
-AreParts whole fraction exponent has_power = All IsAsciiDigit whole × All IsAsciiDigit fraction × All IsAsciiDigit exponent
+abbrev pub AreDigitParts : List ℕ → List ℕ → List ℕ → Bool → Type 0
+AreDigitParts whole fraction exponent has_power = All IsAsciiDigit whole × All IsAsciiDigit fraction × All IsAsciiDigit exponent
     × (0 < length whole + length fraction) × (has_power ≡ true → 0 < length exponent)
 
 -- the parts that a spelling points to
-abbrev pub parts_of : Spelling → Parts
+abbrev pub parts_of : Spelling → ScoreParts
 parts_of s = record {
   is_negative = s.is_negative;
   whole = s.whole.now;

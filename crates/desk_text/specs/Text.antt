@@ -34,14 +34,14 @@ abbrev pub IsExponent : ℤ → List ℕ → Type 0
 IsExponent exponent text = IsPower exponent text ⊎ ((text ≡ []) × (exponent ≡ pos 0))
 
 -- what a score's text tells
-pub record Parts : Type 0 where
+pub record ScoreParts : Type 0 where
   pub is_negative : Bool
   pub whole : List ℕ
   pub fraction : List ℕ
   pub exponent : ℤ
 
 -- the text is a sign, digits with at most one point and at least one digit, and an exponent
-pub record HasParts (text : List ℕ) (parts : Parts) : Type 0 where
+pub record HasParts (text : List ℕ) (parts : ScoreParts) : Type 0 where
   pub sign : List ℕ
   pub mantissa : List ℕ
   pub power : List ℕ
@@ -55,4 +55,4 @@ pub record HasParts (text : List ℕ) (parts : Parts) : Type 0 where
 
 -- the text is a score's
 abbrev pub IsScoreText : List ℕ → Type 0
-IsScoreText text = (parts : Parts) × HasParts text parts
+IsScoreText text = (parts : ScoreParts) × HasParts text parts

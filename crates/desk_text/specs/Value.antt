@@ -4,15 +4,15 @@ use Rattle.std.specs.Int.RustNames.{unsigned_abs}
 use Rattle.std.specs.Str.Parse.{digits_value}
 use Rattle.desk_text.specs.declared.score.ScoreFault.{ScoreFault}
 use Rattle.desk_text.specs.declared.score.ScoreFault.TheVariants.{BadScore, ScoreTooLong, ScoreExponent}
-use Rattle.desk_text.specs.Text.{signed, Parts, HasParts, IsScoreText}
+use Rattle.desk_text.specs.Text.{signed, ScoreParts, HasParts, IsScoreText}
 
 -- the number that all digits of a score make, without point and exponent
-abbrev pub number_of : Parts → ℕ
+abbrev pub number_of : ScoreParts → ℕ
 number_of parts = digits_value 10 (parts.whole ++ parts.fraction)
 
 -- the text stands for digits * 10 ^ place with this sign, and the last of these digits is not 0
-pub record StandsFor (text : List ℕ) (is_negative : Bool) (digits : ℕ) (place : ℤ) : Type 0 where
-  pub parts : Parts
+pub record StandsForDigits (text : List ℕ) (is_negative : Bool) (digits : ℕ) (place : ℤ) : Type 0 where
+  pub parts : ScoreParts
   pub zeros : ℕ
   pub written : HasParts text parts
   pub sign : is_negative ≡ parts.is_negative
@@ -22,19 +22,19 @@ pub record StandsFor (text : List ℕ) (is_negative : Bool) (digits : ℕ) (plac
 
 -- the text is a score's whose digits are all 0
 abbrev pub IsZeroText : List ℕ → Type 0
-IsZeroText text = (parts : Parts) × HasParts text parts × (number_of parts ≡ 0)
+IsZeroText text = (parts : ScoreParts) × HasParts text parts × (number_of parts ≡ 0)
 
 -- the place lies from -999 to 999
 abbrev pub IsPlace : ℤ → Type 0
 IsPlace place = (neg_ℤ (pos 999) ≤ℤ place) × (place ≤ℤ pos 999)
 
 -- the text stands for a number of more than 30 digits
-abbrev pub IsTooLong : List ℕ → Type 0
-IsTooLong text = (is_negative : Bool) × ((digits : ℕ) × ((place : ℤ) × (StandsFor text is_negative digits place × (10 ^ 30 ≤ digits))))
+abbrev pub HasTooManyDigits : List ℕ → Type 0
+HasTooManyDigits text = (is_negative : Bool) × ((digits : ℕ) × ((place : ℤ) × (StandsForDigits text is_negative digits place × (10 ^ 30 ≤ digits))))
 
 -- the text stands for a number of at most 30 digits at a place outside -999 to 999
 abbrev pub IsTooFar : List ℕ → Type 0
-IsTooFar text = (is_negative : Bool) × ((digits : ℕ) × ((place : ℤ) × (StandsFor text is_negative digits place × (digits < 10 ^ 30) × ¬ (IsPlace place))))
+IsTooFar text = (is_negative : Bool) × ((digits : ℕ) × ((place : ℤ) × (StandsForDigits text is_negative digits place × (digits < 10 ^ 30) × ¬ (IsPlace place))))
 
 -- digits * 10 ^ (place + 999) with its sign
 abbrev pub scaled : Bool → ℕ → ℤ → ℤ
@@ -45,7 +45,7 @@ pub record IsNumber (text : List ℕ) (value : ℤ) : Type 0 where
   pub is_negative : Bool
   pub digits : ℕ
   pub place : ℤ
-  pub stands : StandsFor text is_negative digits place
+  pub stands : StandsForDigits text is_negative digits place
   pub short : digits < 10 ^ 30
   pub near : IsPlace place
   pub is_value : value ≡ scaled is_negative digits place
@@ -54,5 +54,5 @@ pub record IsNumber (text : List ℕ) (value : ℤ) : Type 0 where
 abbrev pub ReadsAs : List ℕ → Result ℤ ScoreFault → Type 0
 ReadsAs text (Ok value) = (IsZeroText text × (value ≡ pos 0)) ⊎ IsNumber text value
 ReadsAs text (Err BadScore) = ¬ IsScoreText text
-ReadsAs text (Err ScoreTooLong) = IsTooLong text
+ReadsAs text (Err ScoreTooLong) = HasTooManyDigits text
 ReadsAs text (Err ScoreExponent) = IsTooFar text

@@ -3,13 +3,10 @@ ghost use Rattle.std.specs.Prelude.{◌≡◌, ◌≤◌, [], length, option_map
 ghost use Rattle.desk_text.specs.Lines.{longer, IsPushed};
 
 use crate::line::{LINE_FEED, LONGEST_LINE};
+use desk_memory::Memory;
 use memchr::memchr;
 use std::alloc::Global;
 use std::marker::Model;
-
-/// Memory ran out.
-#[derive(Clone, Copy, PartialEq, Eq, Debug)]
-pub struct Memory;
 
 /// What a line took of a piece.
 #[derive(Clone, Copy, PartialEq, Eq)]
@@ -48,7 +45,7 @@ impl Lines {
     pub fn new(alloc: Global) -> Result<Lines, Memory>
         ensures { IfOk result (λ lines. lines ≡ Some []) }
     {
-        let bytes = Vec::with_capacity(alloc, LONGEST_LINE).map_err(|_| Memory)?;
+        let bytes = Vec::with_capacity(alloc, LONGEST_LINE)?;
         Ok(Lines { bytes, long: false })
     }
 

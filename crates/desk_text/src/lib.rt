@@ -14,7 +14,8 @@ mod significand;
 mod spelling;
 mod stops;
 
-pub use arriving::{Lines, Memory, Pushed};
+pub use arriving::{Lines, Pushed};
+pub use desk_memory::Memory;
 pub use field::{fields, is_blank};
 pub use laws::{
     a_line_feed_ends_a_line, bytes_of_a_line_end_none, lines_are_whole_or_last,

@@ -2,7 +2,7 @@ ghost use Rattle.std.specs.Prelude.{◌≡◌, ◌^◌, ◌<◌, ◌≤◌, ◌+
 ghost use Rattle.std.specs.Int.RustNames.{unsigned_abs};
 ghost use Rattle.std.specs.Str.Parse.{AllDigits, digits_value, digits_value_after};
 ghost use Rattle.desk_text.specs.Text.{signed};
-ghost use Rattle.desk_text.specs.Significand.{IsSignificand, IsLongNumber, AreSignificant, EndsInDigit, AreKept};
+ghost use Rattle.desk_text.specs.Significand.{IsSignificand, IsLongNumber, AreSignificant, EndsInDigit, AreTrimmed};
 
 use crate::key::{LIMIT, with_sign};
 
@@ -38,7 +38,7 @@ fn without_last_zeros(digits: &[u8]) -> &[u8]
 
 /// The parts without the zeros at the end of both.
 fn kept_parts<'a>(whole: &'a [u8], fraction: &'a [u8]) -> (&'a [u8], &'a [u8])
-    ensures { AreKept whole.now fraction.now result.0.now result.1.now }
+    ensures { AreTrimmed whole.now fraction.now result.0.now result.1.now }
 {
     let kept = without_last_zeros(fraction);
     if kept.is_empty() {

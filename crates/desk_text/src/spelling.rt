@@ -2,7 +2,7 @@ ghost use Rattle.std.specs.Prelude.{◌≡◌, ◌↔◌, IsTrue, IfSome, IfNone
 ghost use Rattle.std.specs.Str.Parse.{starts_with_minus, without_leading_sign, AllDigits};
 ghost use Rattle.std.specs.Char.{IsAsciiDigit};
 ghost use Rattle.desk_text.specs.Text.{HasParts, IsScoreText};
-ghost use Rattle.desk_text.specs.Spelling.{is_mark, AreParts, parts_of};
+ghost use Rattle.desk_text.specs.Spelling.{is_mark, AreDigitParts, parts_of};
 ghost use Rattle.std.specs.List.{before_first, after_first};
 
 /// The parts of a score's text. An exponent that is left out has no digits.
@@ -52,7 +52,7 @@ fn is_digits(text: &[u8]) -> bool
 
 /// Whether these are digits, at least one of them before the exponent, and one in an exponent.
 fn are_parts(whole: &[u8], fraction: &[u8], exponent: &[u8], has_power: bool) -> bool
-    ensures { IsTrue result ↔ AreParts whole.now fraction.now exponent.now has_power }
+    ensures { IsTrue result ↔ AreDigitParts whole.now fraction.now exponent.now has_power }
 {
     is_digits(whole)
         && is_digits(fraction)

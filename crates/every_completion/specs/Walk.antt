@@ -6,8 +6,8 @@ use Rattle.desk_model.specs.Fraction as model
 use Rattle.desk_model.specs.Extremes as extremes
 use Rattle.desk_model.specs.declared.types.MeasureName.{MeasureName}
 use Rattle.desk_model.specs.declared.types.MeasureName.TheVariants.{Precision, Recall, RPrecision, Reciprocal, Biased}
-use Rattle.every_completion.specs.declared.scores.Fraction.{Fraction}
-use Rattle.every_completion.specs.declared.ends.Ends.{Ends}
+use Rattle.every_completion.specs.declared.scores.ScoreFraction.{ScoreFraction}
+use Rattle.every_completion.specs.declared.ends.ExtremeEnds.{ExtremeEnds}
 
 -- a measure that looks at no place past a run's end, with a k from 1 to 10,000 where it has one
 abbrev pub LooksAtNoTail : MeasureName → Type 0
@@ -18,17 +18,17 @@ LooksAtNoTail Reciprocal = Unit {0}
 LooksAtNoTail (Biased top bottom) = ⊥
 
 -- a computed fraction as the fraction that it is
-abbrev pub value_of : Fraction → model.Fraction
+abbrev pub value_of : ScoreFraction → model.Fraction
 value_of x = record { num = x.num; den = x.den }
 
 -- the sizes of a score: at most 10,000 parts, and a universe of at most 25,000,000 documents
-pub record IsSmall (x : Fraction) : Type 0 where
+pub record IsSmallFraction (x : ScoreFraction) : Type 0 where
   pub num : x.num ≤ RANK_LIMIT
   pub positive : 0 < x.den
   pub den : x.den ≤ DOCUMENT_LIMIT
 
 -- computed ends as whole numbers
-abbrev pub ends_of : Ends → extremes.Ends
+abbrev pub ends_of : ExtremeEnds → extremes.Ends
 ends_of ends = record { least_lo = ends.least_lo; least_hi = ends.least_hi; most_lo = ends.most_lo; most_hi = ends.most_hi }
 
 -- the ends over the completions of two topics

@@ -8,6 +8,6 @@ pub mod rounding;
 pub mod scores;
 pub mod walk;
 
-pub use ends::{Ends, EndsFault};
+pub use ends::{EndsFault, ExtremeEnds};
 pub use rankings::is_ranking;
 pub use walk::extremes;

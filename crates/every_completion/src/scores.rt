@@ -4,25 +4,25 @@ ghost use Rattle.desk_model.specs.Completion.{picked_value, with_picked};
 ghost use Rattle.desk_model.specs.Ranking.{IsRanking};
 ghost use Rattle.desk_model.specs.Fraction.{over};
 ghost use Rattle.desk_model.specs.Score.{true_among, true_count, first_true, score};
-ghost use Rattle.every_completion.specs.Walk.{value_of, IsSmall, LooksAtNoTail};
+ghost use Rattle.every_completion.specs.Walk.{value_of, IsSmallFraction, LooksAtNoTail};
 
 use desk_model::{Mark, MeasureName};
 
 /// An exact fraction.
 #[derive(Clone, Copy, PartialEq, Eq)]
-pub struct Fraction {
+pub struct ScoreFraction {
     pub num: u64,
     pub den: u64,
 }
 
 /// n over d, and 0 where d is 0.
-fn quotient(num: u64, den: u64) -> Fraction
+fn quotient(num: u64, den: u64) -> ScoreFraction
     ensures { value_of result ≡ over num den }
 {
     if den == 0 {
-        Fraction { num: 0, den: 1 }
+        ScoreFraction { num: 0, den: 1 }
     } else {
-        Fraction { num, den }
+        ScoreFraction { num, den }
     }
 }
 
@@ -80,12 +80,12 @@ fn first_relevant(docs: &[u32], marks: &[Mark]) -> Option<u64>
 }
 
 /// What a ranking scores where its relevant documents are true and all others false.
-pub fn score_of(measure: MeasureName, docs: &[u32], marks: &[Mark]) -> Fraction
+pub fn score_of(measure: MeasureName, docs: &[u32], marks: &[Mark]) -> ScoreFraction
     requires measure { LooksAtNoTail measure }
     requires docs { IsRanking (length marks.now) docs.now }
     requires universe { length marks.now ≤ DOCUMENT_LIMIT }
     ensures value { value_of result ≡ score measure (length marks.now) (with_picked marks.now (λ _. false)) docs.now [] }
-    ensures small { IsSmall result }
+    ensures small { IsSmallFraction result }
 {
     match measure {
         MeasureName::Precision(k) => quotient(relevant_among(k as usize, docs, marks), k as u64),

@@ -4,11 +4,11 @@ ghost use Rattle.desk_model.specs.Mark.{is_unjudged, mark_at};
 ghost use Rattle.desk_model.specs.Ranking.{IsRanking};
 ghost use Rattle.desk_model.specs.Fraction.{IsAtMost, IsAtLeast};
 ghost use Rattle.desk_model.specs.Extremes.{IsGreatest, IsSmallest, AreExtremes};
-ghost use Rattle.every_completion.specs.Walk.{LooksAtNoTail, IsSmall, value_of, ends_of};
+ghost use Rattle.every_completion.specs.Walk.{LooksAtNoTail, IsSmallFraction, value_of, ends_of};
 
-use crate::ends::{Ends, EndsFault};
+use crate::ends::{EndsFault, ExtremeEnds};
 use crate::rounding::{ceiling, floor};
-use crate::scores::{Fraction, score_of};
+use crate::scores::{ScoreFraction, score_of};
 use desk_model::{Mark, MeasureName, Ranking};
 use std::alloc::Global;
 
@@ -63,10 +63,10 @@ fn scaled(unit: u64, more: u64, less: u64) -> i128
 }
 
 /// The floor and the ceiling of unit times (x minus y).
-fn rounded(unit: u64, x: Fraction, y: Fraction) -> (i128, i128)
+fn rounded(unit: u64, x: ScoreFraction, y: ScoreFraction) -> (i128, i128)
     requires unit { unit ≤ PARTS_OF_ONE }
-    requires first { IsSmall x }
-    requires second { IsSmall y }
+    requires first { IsSmallFraction x }
+    requires second { IsSmallFraction y }
     ensures low { IsGreatest (λ z. IsAtMost z unit (value_of x) (value_of y)) result.0 }
     ensures high { IsSmallest (λ z. IsAtLeast z unit (value_of x) (value_of y)) result.1 }
 {
@@ -82,7 +82,7 @@ fn judged_ends(
     first: &[u32],
     second: &[u32],
     marks: &[Mark],
-) -> Ends
+) -> ExtremeEnds
     requires measure { LooksAtNoTail measure }
     requires unit { unit ≤ PARTS_OF_ONE }
     requires first { IsRanking (length marks.now) first.now }
@@ -94,7 +94,7 @@ fn judged_ends(
     let x = score_of(measure, first, marks);
     let y = score_of(measure, second, marks);
     let (lo, hi) = rounded(unit, x, y);
-    Ends {
+    ExtremeEnds {
         least_lo: lo,
         least_hi: hi,
         most_lo: lo,
@@ -110,7 +110,7 @@ fn walk(
     second: &[u32],
     marks: &mut [Mark],
     from: usize,
-) -> Ends
+) -> ExtremeEnds
     requires measure { LooksAtNoTail measure }
     requires unit { unit ≤ PARTS_OF_ONE }
     requires first { IsRanking (length marks.old) first.now }
@@ -144,7 +144,7 @@ pub fn extremes(
     first: &Ranking,
     second: &Ranking,
     marks: &[Mark],
-) -> Result<Ends, EndsFault>
+) -> Result<ExtremeEnds, EndsFault>
     requires measure { LooksAtNoTail measure }
     requires unit { unit ≤ PARTS_OF_ONE }
     requires first { IsRanking (length marks.now) first.now }

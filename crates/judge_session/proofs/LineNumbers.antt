@@ -11,7 +11,7 @@ use Rattle.desk_text.specs.Numbers.{is_digits, read_on, after_sign, is_negative,
 use Rattle.desk_text.proofs.Digits.{plain_of-decimal}
 use Rattle.desk_model.proofs.Decimals.{plain_some}
 use Rattle.judge_session.specs.Request.{depth_of}
-use Rattle.judge_session.specs.Forms.{IsGrade, IsDepth, IsTextOfGrade}
+use Rattle.judge_session.specs.Forms.{IsGrade, IsPoolDepth, IsTextOfGrade}
 
 -- a text of a sign and digits says its value
 text_of : (t : List ℕ) → is_digits (after_sign t) ≡ true → IsTextOfGrade (signed_value t) t
@@ -78,14 +78,14 @@ depth_some : (t : List ℕ) (depth : ℕ) → bytes_eq t (codes "0") ≡ false �
 depth_some t zero z e = let yes : bytes_eq t (codes "0") ≡ true = (bytes_eq-Decides t (codes "0")).1 (e ∙ decimal_digit 0 (omega arith)) in absurd (cc)
 depth_some t (suc d) z e = omega arith
 
-pub depth_from : (t : List ℕ) (depth : ℕ) → depth_of t ≡ Some depth → (t ≡ decimal depth) × IsDepth depth
+pub depth_from : (t : List ℕ) (depth : ℕ) → depth_of t ≡ Some depth → (t ≡ decimal depth) × IsPoolDepth depth
 depth_from t depth e = by (bytes_eq t (codes "0")) refl e
   where
-    by : (zero : Bool) → bytes_eq t (codes "0") ≡ zero → cond zero None (plain_of 10000 t) ≡ Some depth → (t ≡ decimal depth) × IsDepth depth
+    by : (zero : Bool) → bytes_eq t (codes "0") ≡ zero → cond zero None (plain_of 10000 t) ≡ Some depth → (t ≡ decimal depth) × IsPoolDepth depth
     by true z e = absurd (cc)
     by false z e = let is = plain_some 10000 depth t (omega arith) e in (is.0, (depth_some t depth z is.0, is.1))
 
-pub depth_to : (t : List ℕ) (depth : ℕ) → t ≡ decimal depth → IsDepth depth → depth_of t ≡ Some depth
+pub depth_to : (t : List ℕ) (depth : ℕ) → t ≡ decimal depth → IsPoolDepth depth → depth_of t ≡ Some depth
 depth_to t depth e within = by (bytes_eq t (codes "0")) refl
   where
     by : (zero : Bool) → bytes_eq t (codes "0") ≡ zero → cond zero None (plain_of 10000 t) ≡ Some depth

@@ -7,7 +7,7 @@ use Rattle.desk_text.proofs.Pieces.{no_position}
 use Rattle.desk_text.specs.Lines.{is_blank, is_bad, is_separator, is_filled, onto_first, pieces, fields_of}
 use Rattle.desk_text.specs.declared.line.TheConstants.{LONGEST_LINE}
 use Rattle.judge_session.specs.Request.{Request, Heard, Blank, TooLong, Bad, Asked, request_of, heard_request, heard_of}
-use Rattle.judge_session.specs.Forms.{AreFieldsOf, IsFormOf, AreWithin}
+use Rattle.judge_session.specs.Forms.{AreFieldsOf, IsFormOf, IsHeardWithin}
 use Rattle.judge_session.proofs.Forms.{asked_is_formed, formed_is_asked, form_has_a_field}
 
 -- a bad byte has a place, and with no place there is none
@@ -123,10 +123,10 @@ blank_to line blank =
     let short = leb-true (length line) LONGEST_LINE (and_parts (nat_le (length line) LONGEST_LINE) (list_all is_separator line) blank).0 in
     λ i. cond (le-ltb LONGEST_LINE (length line) short i) TooLong (cond (blank i) Blank (cond (list_any is_bad line) Bad (heard_request (request_of (fields_of line)))))
 
-pub within : (line : List ℕ) → AreWithin (heard_of line)
+pub within : (line : List ℕ) → IsHeardWithin (heard_of line)
 within line = by (heard_of line) refl
   where
-    by : (heard : Heard) → heard_of line ≡ heard → AreWithin heard
+    by : (heard : Heard) → heard_of line ≡ heard → IsHeardWithin heard
     by Blank e = tt
     by TooLong e = tt
     by Bad e = tt

@@ -4,7 +4,7 @@ use Rattle.std.proofs.Math.ListN.{set}
 use Rattle.std.specs.Prelude.{not, ◌||◌, if◌then◌else◌, pos, ℤ}
 use Rattle.desk_model.specs.Name.{is_same_name}
 use Rattle.judge_session.specs.declared.change.Change.{Change}
-use Rattle.judge_session.specs.declared.counts.Counts.{Counts}
+use Rattle.judge_session.specs.declared.counts.ChangeCounts.{ChangeCounts}
 use Rattle.judge_session.specs.Session.{is_live_by, is_undone_by, with_live, without_undone, judged, undone, redone}
 use Rattle.judge_session.specs.Marking.{IsLastThat, IsFirstThat}
 use Rattle.judge_session.specs.Tally.{changed_document, last_document, count_that, counted, counts_of, is_held, Tallies}
@@ -33,22 +33,22 @@ length-redone who (x ∷ xs) = by (is_undone_by who x) (length-redone who xs)
     by true h = refl
     by false h = ap suc h
 
-same_counts : (a b : Counts) → a.live ≡ b.live → a.undone ≡ b.undone → a.last ≡ b.last → a ≡ b
+same_counts : (a b : ChangeCounts) → a.live ≡ b.live → a.undone ≡ b.undone → a.last ≡ b.last → a ≡ b
 same_counts a b e f g =
-    ap₂ (λ (l u : ℕ). let made : Counts = record { live = l; undone = u; last = a.last } in made) e f
-    ∙ ap (λ (o : Option (ℕ × ℕ)). let made : Counts = record { live = b.live; undone = b.undone; last = o } in made) g
+    ap₂ (λ (l u : ℕ). let made : ChangeCounts = record { live = l; undone = u; last = a.last } in made) e f
+    ∙ ap (λ (o : Option (ℕ × ℕ)). let made : ChangeCounts = record { live = b.live; undone = b.undone; last = o } in made) g
 
 -- a caller with changes is there
-pub held : (who : List ℕ) (es : List (List ℕ × Counts)) → 0 < (counts_of who es).live + (counts_of who es).undone → is_held who es ≡ true
+pub held : (who : List ℕ) (es : List (List ℕ × ChangeCounts)) → 0 < (counts_of who es).live + (counts_of who es).undone → is_held who es ≡ true
 held who [] h = absurd (omega arith)
 held who (e ∷ es) h = by (is_same_name who e.0) refl (held who es)
   where
     by : (b : Bool) → is_same_name who e.0 ≡ b → (0 < (counts_of who es).live + (counts_of who es).undone → is_held who es ≡ true) → (is_same_name who e.0 || is_held who es) ≡ true
     by true f rest = ap (λ b. b || is_held who es) f
-    by false f rest = ap (λ b. b || is_held who es) f ∙ rest (subst (λ (c : Counts). 0 < c.live + c.undone) (ap (λ b. if b then e.1 else counts_of who es) f) h)
+    by false f rest = ap (λ b. b || is_held who es) f ∙ rest (subst (λ (c : ChangeCounts). 0 < c.live + c.undone) (ap (λ b. if b then e.1 else counts_of who es) f) h)
 
 -- the counts of one caller changed, and so did the list
-tally_step : (who q : List ℕ) (xs ys : List Change) (es fs : List (List ℕ × Counts)) (live undone : ℕ) (last : Option (ℕ × ℕ)) → Tallies es xs →
+tally_step : (who q : List ℕ) (xs ys : List Change) (es fs : List (List ℕ × ChangeCounts)) (live undone : ℕ) (last : Option (ℕ × ℕ)) → Tallies es xs →
     counts_of q fs ≡ (if is_same_name who q then record { live = live; undone = undone; last = last } else counts_of q es) →
     (who ≡ q → (live ≡ count_that (is_live_by q) ys) × (undone ≡ count_that (is_undone_by q) ys) × (last ≡ last_document q ys)) →
     (is_same_name who q ≡ false → (count_that (is_live_by q) xs ≡ count_that (is_live_by q) ys) × (count_that (is_undone_by q) xs ≡ count_that (is_undone_by q) ys) × (last_document q xs ≡ last_document q ys)) →
@@ -63,12 +63,12 @@ tally_step who q xs ys es fs live undone last tallied now mine others = by (is_s
         let parts = others e in
         now ∙ ap (λ b. if b then record { live = live; undone = undone; last = last } else counts_of q es) e ∙ tallied q ∙ same_counts (counted q xs) (counted q ys) parts.0 parts.1 parts.2
 
-module _ (who : List ℕ) (xs : List Change) (es : List (List ℕ × Counts)) (kept : IsKept xs es) (i : ℕ) where
+module _ (who : List ℕ) (xs : List Change) (es : List (List ℕ × ChangeCounts)) (kept : IsKept xs es) (i : ℕ) where
   live_is : (counts_of who es).live ≡ count_that (is_live_by who) xs
-  live_is = ap (λ (c : Counts). c.live) (kept.tallied who)
+  live_is = ap (λ (c : ChangeCounts). c.live) (kept.tallied who)
 
   undone_is : (counts_of who es).undone ≡ count_that (is_undone_by who) xs
-  undone_is = ap (λ (c : Counts). c.undone) (kept.tallied who)
+  undone_is = ap (λ (c : ChangeCounts). c.undone) (kept.tallied who)
 
   pub few_live : (counts_of who es).live ≤ 1000000
   few_live = omega (arith, live_is, count-within (is_live_by who) xs, kept.session.small)
@@ -90,7 +90,7 @@ module _ (who : List ℕ) (xs : List Change) (es : List (List ℕ × Counts)) (k
     pub some_live : 0 < (counts_of who es).live
     some_live = omega (arith, live_is, count-some (is_live_by who) xs i no_change last.within (last.here no_change))
 
-    pub kept-undone : (fs : List (List ℕ × Counts)) (next : Option (ℕ × ℕ)) → next ≡ last_document who (undone who xs) → ((q : List ℕ) → counts_of q fs ≡ (if is_same_name who q then record { live = (counts_of who es).live - 1; undone = (counts_of who es).undone + 1; last = next } else counts_of q es)) → IsKept (undone who xs) fs
+    pub kept-undone : (fs : List (List ℕ × ChangeCounts)) (next : Option (ℕ × ℕ)) → next ≡ last_document who (undone who xs) → ((q : List ℕ) → counts_of q fs ≡ (if is_same_name who q then record { live = (counts_of who es).live - 1; undone = (counts_of who es).undone + 1; last = next } else counts_of q es)) → IsKept (undone who xs) fs
     kept-undone fs next found now = record {
       session = record { small = omega (arith, length-undone who xs, kept.session.small); in_turn = turn-undone who xs kept.session.in_turn };
       tallied = λ q.
@@ -121,7 +121,7 @@ module _ (who : List ℕ) (xs : List Change) (es : List (List ℕ × Counts)) (k
     pub some_undone : 0 < (counts_of who es).undone
     some_undone = omega (arith, undone_is, count-some (is_undone_by who) xs i no_change first.within (first.here no_change))
 
-    pub kept-redone : (fs : List (List ℕ × Counts)) → ((q : List ℕ) → counts_of q fs ≡ (if is_same_name who q then record { live = (counts_of who es).live + 1; undone = (counts_of who es).undone - 1; last = Some (changed_document (get_or xs i no_change)) } else counts_of q es)) → IsKept (redone who xs) fs
+    pub kept-redone : (fs : List (List ℕ × ChangeCounts)) → ((q : List ℕ) → counts_of q fs ≡ (if is_same_name who q then record { live = (counts_of who es).live + 1; undone = (counts_of who es).undone - 1; last = Some (changed_document (get_or xs i no_change)) } else counts_of q es)) → IsKept (redone who xs) fs
     kept-redone fs now = record {
       session = record { small = omega (arith, length-redone who xs, kept.session.small); in_turn = turn-redone who xs kept.session.in_turn };
       tallied = λ q.
@@ -156,7 +156,7 @@ without-none who (x ∷ xs) h = by (is_undone_by who x) h (without-none who xs)
     by false h rest = ap (λ ys. x ∷ ys) (rest (omega (arith, h)))
 
 -- a judgement
-pub kept-judged : (who : List ℕ) (topic doc : ℕ) (grade : ℤ) (xs : List Change) (es fs : List (List ℕ × Counts)) → IsKept xs es → length (without_undone who xs) < 1000000 →
+pub kept-judged : (who : List ℕ) (topic doc : ℕ) (grade : ℤ) (xs : List Change) (es fs : List (List ℕ × ChangeCounts)) → IsKept xs es → length (without_undone who xs) < 1000000 →
     ((q : List ℕ) → counts_of q fs ≡ (if is_same_name who q then record { live = (counts_of who es).live + 1; undone = 0; last = Some (topic, doc) } else counts_of q es)) → IsKept (judged who topic doc grade xs) fs
 kept-judged who topic doc grade xs es fs kept room now =
     let new : Change = record { who = who; topic = topic; doc = doc; grade = grade; live = true } in
@@ -173,7 +173,7 @@ kept-judged who topic doc grade xs es fs kept room now =
           count-push (is_undone_by q) (without_undone who xs) new ∙ ap (λ n. n + 0) (undone-without q who xs) in
           tally_step who q xs ys es fs ((counts_of who es).live + 1) 0 (Some (topic, doc)) kept.tallied (now q)
           (λ e.
-          let lived : (counts_of who es).live ≡ count_that (is_live_by q) xs = ap (λ (c : Counts). c.live) (kept.tallied who) ∙ ap (λ w. count_that (is_live_by w) xs) e in
+          let lived : (counts_of who es).live ≡ count_that (is_live_by q) xs = ap (λ (c : ChangeCounts). c.live) (kept.tallied who) ∙ ap (λ w. count_that (is_live_by w) xs) e in
           let me : is_same_name who q ≡ true = ap (λ w. is_same_name who w) (sym e) ∙ self_same who in
           let mine : one (is_same_name who q) ≡ 1 = ap one me in
           let gone : count_that (is_undone_by q) ys ≡ 0 = dead ∙ ap (λ b. (if b then 0 else count_that (is_undone_by q) xs) + 0) me in

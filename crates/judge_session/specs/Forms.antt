@@ -15,8 +15,8 @@ abbrev pub IsGrade : ℤ → Type 0
 IsGrade grade = (negsuc 999 ≤ℤ grade) × (grade ≤ℤ pos 1000)
 
 -- a depth is from 1 to 10,000
-abbrev pub IsDepth : ℕ → Type 0
-IsDepth depth = (1 ≤ depth) × (depth ≤ 10000)
+abbrev pub IsPoolDepth : ℕ → Type 0
+IsPoolDepth depth = (1 ≤ depth) × (depth ≤ 10000)
 
 -- digits, leading zeros allowed, with no sign, after `+` or after `-`
 abbrev pub IsTextOfGrade : ℤ → List ℕ → Type 0
@@ -46,13 +46,13 @@ IsWithin (Undo who) = IsName who
 IsWithin (Redo who) = IsName who
 IsWithin (Pair first second) = IsName first × IsName second
 IsWithin (Certify first second) = IsName first × IsName second
-IsWithin (Pool topic depth) = IsName topic × IsDepth depth
+IsWithin (Pool topic depth) = IsName topic × IsPoolDepth depth
 IsWithin request = Unit {0}
 
 -- the same of what is heard
-abbrev pub AreWithin : Heard → Type 0
-AreWithin (Asked request) = IsWithin request
-AreWithin heard = Unit {0}
+abbrev pub IsHeardWithin : Heard → Type 0
+IsHeardWithin (Asked request) = IsWithin request
+IsHeardWithin heard = Unit {0}
 
 -- a line of the form that asks this
 pub record IsFormOf (request : Request) (line : List ℕ) : Type 0 where

@@ -6,7 +6,7 @@ use Rattle.judge_session.specs.InForce.{is_live_on, grade_after}
 use Rattle.judge_session.specs.Tally.{changed_document, last_document}
 use Rattle.judge_session.specs.declared.change.Change.{Change}
 use Rattle.judge_session.specs.declared.looking.Found.{Found}
-use Rattle.judge_session.specs.declared.steps.Mark.{Mark}
+use Rattle.judge_session.specs.declared.steps.UndoneMark.{UndoneMark}
 
 -- what is found with one more change, which stands before those looked at, by whether it is a live one of the caller
 -- and of the document: the caller's last live change counts for its place alone
@@ -27,6 +27,6 @@ looked_back who topic doc place [] = record { place = None; next = None; grade =
 looked_back who topic doc place (change ∷ changes) = looked who topic doc place change (looked_back who topic doc (place + 1) changes)
 
 -- the document of the caller's last live change in the old list, and the grade of its last live change in the new one
-pub record IsMarkOf (who : List ℕ) (old new : List Change) (mark : Mark) : Type 0 where
+pub record IsMarkOf (who : List ℕ) (old new : List Change) (mark : UndoneMark) : Type 0 where
   pub document : last_document who old ≡ Some (mark.topic, mark.doc)
   pub grade : (file : Option ℤ) → grade_after file mark.topic mark.doc new ≡ option_or mark.grade file

@@ -1,6 +1,6 @@
 /// What is kept of a caller.
 #[derive(Clone, Copy, PartialEq, Eq)]
-pub struct Counts {
+pub struct ChangeCounts {
     /// How many live changes there are.
     pub live: u32,
     /// How many undone changes there are.

@@ -78,9 +78,7 @@ pub fn all_in_force(
     requires desk { IsSessionOf desk.now changes.now }
     ensures { IfOk result (λ grades. grades.items ≡ grades_in_force desk.now topic changes.now) }
 {
-    let Ok(mut grades) = all_counted(alloc, desk.topic(topic).grades()) else {
-        return Err(Memory);
-    };
+    let mut grades = all_counted(alloc, desk.topic(topic).grades())?;
     replay(&mut grades, changes, topic);
     Ok(grades)
 }

@@ -4,7 +4,7 @@ ghost use Rattle.desk_text.specs.Lines.{fields_of, AreFields};
 ghost use Rattle.desk_text.specs.Places.{count_of, places_of};
 ghost use Rattle.judge_session.specs.Request.{alone, with_caller, depth_of, with_two, judging, request_of, heard_of};
 ghost use Rattle.judge_session.specs.Said.{request_said, heard_said};
-ghost use Rattle.judge_session.specs.Forms.{AreWithin};
+ghost use Rattle.judge_session.specs.Forms.{IsHeardWithin};
 
 use crate::types::{Heard, Request};
 use desk_model::name::is_a_name;
@@ -14,7 +14,7 @@ use desk_text::{Fields, LONGEST_LINE, fields, is_blank, plain, whole};
 pub fn hear(line: &[u8]) -> Heard<'_>
     ensures heard { heard_said result ≡ heard_of line.now }
     // Names are names, grades lie from -1,000 to 1,000 and depths from 1 to 10,000.
-    ensures within { AreWithin (heard_said result) }
+    ensures within { IsHeardWithin (heard_said result) }
 {
     if line.len() > LONGEST_LINE {
         return Heard::TooLong;

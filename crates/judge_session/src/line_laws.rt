@@ -2,7 +2,7 @@
 ghost use Rattle.std.specs.Prelude.{◌≡◌, ◌↔◌, ◌<◌, ℕ, List, length, true};
 ghost use Rattle.desk_text.specs.Lines.{is_blank};
 ghost use Rattle.judge_session.specs.Request.{heard_of, Blank, TooLong};
-ghost use Rattle.judge_session.specs.Forms.{AreWithin, RequestsAreOfTheirForm, BadLinesAreOfNoForm};
+ghost use Rattle.judge_session.specs.Forms.{IsHeardWithin, RequestsAreOfTheirForm, BadLinesAreOfNoForm};
 
 /// A line is too long exactly where it has more than 4,096 bytes, also where it is of a form.
 pub fn long_lines_are_too_long()
@@ -27,5 +27,5 @@ pub fn bad_lines_are_of_no_form()
 
 /// What is heard of a line has names that are names, a grade from -1,000 to 1,000 and a depth from 1 to 10,000.
 pub fn requests_are_within_limits()
-    ensures { (line : List ℕ) → AreWithin (heard_of line) }
+    ensures { (line : List ℕ) → IsHeardWithin (heard_of line) }
 {}

@@ -10,7 +10,7 @@ ghost use Rattle.judge_session.specs.declared.change.Change.{Change};
 ghost use Rattle.judge_session.specs.Kept.{IsKept};
 
 use crate::change::Change;
-use crate::counts::Counts;
+use crate::counts::ChangeCounts;
 use crate::looking::look_back;
 use crate::marking::{drop_undone, first_undone, set_live};
 use crate::tally::Tally;
@@ -34,16 +34,10 @@ pub fn append(
     ensures err { OnErr result (changes.new.items ≡ changes.old.items) }
     ensures kept { IsKept changes.new.items tally.new }
 {
-    if changes.reserve(1).is_err() {
-        return Err(Memory);
-    }
-    let Ok(name) = Name::new(alloc, who) else {
-        return Err(Memory);
-    };
+    changes.reserve(1)?;
+    let name = Name::copy_of(alloc, who)?;
     // The last that can fail, so that no name of a refused caller stays.
-    if tally.add(alloc, who).is_err() {
-        return Err(Memory);
-    }
+    tally.add(alloc, who)?;
     let change = Change {
         who: name,
         topic,
@@ -57,7 +51,7 @@ pub fn append(
     if counts.undone > 0 {
         drop_undone(changes, who);
     }
-    let now = Counts {
+    let now = ChangeCounts {
         live: counts.live + 1,
         undone: 0,
         last: Some((topic, doc)),
@@ -68,7 +62,7 @@ pub fn append(
 
 /// The document of a change that was undone, and its grade afterwards.
 #[derive(Clone, Copy)]
-pub struct Mark {
+pub struct UndoneMark {
     /// The number of the topic in the desk, from 0.
     pub topic: u32,
     /// The number of the document in the topic's universe, from 0.
@@ -78,7 +72,7 @@ pub struct Mark {
 }
 
 /// Marks the caller's last live change as undone. It looks at each change once at most.
-pub fn undo_last(changes: &mut Vec<Change>, tally: &mut Tally, who: &[u8]) -> Option<Mark>
+pub fn undo_last(changes: &mut Vec<Change>, tally: &mut Tally, who: &[u8]) -> Option<UndoneMark>
     requires { IsKept changes.old.items tally.old }
     ensures mark { MatchOption result (list_any (is_live_by who.now) changes.old.items ≡ false)
         (IsMarkOf who.now changes.old.items changes.new.items) }
@@ -94,13 +88,13 @@ pub fn undo_last(changes: &mut Vec<Change>, tally: &mut Tally, who: &[u8]) -> Op
         return None;
     };
     set_live(changes, place, false);
-    let now = Counts {
+    let now = ChangeCounts {
         live: counts.live - 1,
         undone: counts.undone + 1,
         last: found.next,
     };
     tally.set(who, now);
-    Some(Mark {
+    Some(UndoneMark {
         topic,
         doc,
         grade: found.grade,
@@ -119,7 +113,7 @@ pub fn redo_first(changes: &mut Vec<Change>, tally: &mut Tally, who: &[u8]) -> O
     let counts = tally.counts(who);
     let last = document_at(changes, place);
     set_live(changes, place, true);
-    let now = Counts {
+    let now = ChangeCounts {
         live: counts.live + 1,
         undone: counts.undone - 1,
         last: Some(last),

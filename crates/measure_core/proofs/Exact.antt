@@ -31,7 +31,7 @@ use Rattle.desk_model.specs.declared.types.MeasureName.TheVariants.{Precision, R
 use Rattle.topic_counts.specs.declared.span.Span.{Span}
 use Rattle.measure_laws.proofs.Unique.{greatest_unique, smallest_unique, extremes_unique}
 use Rattle.measure_core.specs.declared.cell.Cell.{Cell}
-use Rattle.measure_core.specs.Laws.{IsMet, Bounds, swapped_cell, SpanIsModest, MeetsLaws}
+use Rattle.measure_core.specs.Laws.{IsMet, BoundsScore, swapped_cell, SpanIsModest, MeetsLaws}
 use Rattle.measure_laws.specs.Ends.{HasEnds}
 use Rattle.measure_core.specs.Made.{ends_of, HasBounds, AreNumbersOfName}
 use Rattle.measure_core.specs.Numbers.{exact_least, exact_cell, exact_bounds}
@@ -185,7 +185,7 @@ ranges m marks a valid exact ra =
       };
     }
 
-pub bounds_enclose : (m : MeasureName) (marks : List Mark) (a : List ℕ) → IsMeasure m → IsExactMeasure m → IsMet marks a → Bounds m marks a (exact_bounds m marks a)
+pub bounds_enclose : (m : MeasureName) (marks : List Mark) (a : List ℕ) → IsMeasure m → IsExactMeasure m → IsMet marks a → BoundsScore m marks a (exact_bounds m marks a)
 bounds_enclose m marks a valid exact met = let known = ranges m marks a valid exact met.ranking in record { low = known.low.so; high = known.high.so }
 
 -- bounds that are those of all completions are the ones above

@@ -33,7 +33,7 @@ pub record Encloses (measure : MeasureName) (marks : List Mark) (a b : List ℕ)
   pub most : InEvery measure marks a b (IsAtLeast cell.most.hi (unit_of measure))
 
 -- unit times the score lies from the lower to the upper bound, in every completion
-pub record Bounds (measure : MeasureName) (marks : List Mark) (a : List ℕ) (bounds : Span) : Type 0 where
+pub record BoundsScore (measure : MeasureName) (marks : List Mark) (a : List ℕ) (bounds : Span) : Type 0 where
   pub low : InEveryScore measure marks a (IsAtMostScore bounds.lo (unit_of measure))
   pub high : InEveryScore measure marks a (IsAtLeastScore bounds.hi (unit_of measure))
 
@@ -73,7 +73,7 @@ pub record CellIsModest (cell : Cell) : Type 0 where
 -- the laws of a measure with this name, these cells and these bounds
 pub record MeetsLaws (measure : MeasureName) (cell : List Mark → List ℕ → List ℕ → Cell) (bounds : List Mark → List ℕ → Span) : Type 0 where
   pub encloses : (marks : List Mark) (a b : List ℕ) → AreMet marks a b → Encloses measure marks a b (cell marks a b)
-  pub bounds_enclose : (marks : List Mark) (a : List ℕ) → IsMet marks a → Bounds measure marks a (bounds marks a)
+  pub bounds_enclose : (marks : List Mark) (a : List ℕ) → IsMet marks a → BoundsScore measure marks a (bounds marks a)
   pub least_case : (marks : List Mark) (a b : List ℕ) → AreMet marks a b → LeastCaseLiesIn measure marks a b (cell marks a b).least
   pub most_case : (marks : List Mark) (a b : List ℕ) → AreMet marks a b → MostCaseLiesIn measure marks a b (cell marks a b).most
   pub swaps : (marks : List Mark) (a b : List ℕ) → AreMet marks a b → cell marks b a ≡ swapped_cell (cell marks a b)
@@ -90,5 +90,5 @@ pub record OwesLaws (measure : MeasureName) (cell : List Mark → List ℕ → L
       IsAtLeast (cell marks a b).least.hi (unit_of measure) (score measure (length marks) (least_truth measure marks a b) a tail_a) (score measure (length marks) (least_truth measure marks a b) b tail_b)
   pub modest : (marks : List Mark) (a b : List ℕ) → AreMet marks a b → SpanIsModest (cell marks a b).least
   pub swaps : (marks : List Mark) (a b : List ℕ) → AreMet marks a b → cell marks b a ≡ swapped_cell (cell marks a b)
-  pub bounds_enclose : (marks : List Mark) (a : List ℕ) → IsMet marks a → Bounds measure marks a (bounds marks a)
+  pub bounds_enclose : (marks : List Mark) (a : List ℕ) → IsMet marks a → BoundsScore measure marks a (bounds marks a)
   pub bounds_modest : (marks : List Mark) (a : List ℕ) → IsMet marks a → SpanIsModest (bounds marks a)

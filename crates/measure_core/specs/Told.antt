@@ -7,7 +7,7 @@ use Rattle.desk_model.specs.declared.pairs.PairPlaces.{PairPlaces}
 use Rattle.desk_model.specs.declared.types.Mark.{Mark}
 use Rattle.measure_core.specs.Laws.{AreMet}
 use Rattle.measure_core.specs.Pairs.{DeskTopic, ranking_on, runs_on}
-use Rattle.topic_counts.specs.Own.{AreCountsOf, AreOwn}
+use Rattle.topic_counts.specs.Own.{AreCountsOf, AreOwnCounts}
 use Rattle.topic_counts.specs.Seen.{AreMarksIn, ArePrefix}
 use Rattle.topic_counts.specs.declared.counts.Counts.{Counts}
 use Rattle.topic_counts.specs.declared.counts.OwnCounts.{OwnCounts}
@@ -15,8 +15,8 @@ use Rattle.topic_counts.specs.declared.counts.OwnCounts.{OwnCounts}
 -- the counts of the documents that each of two rankings alone has among its first k, and of all documents
 pub record AreTold (k : ℕ) (marks : List Mark) (a b : List ℕ) (own : OwnCounts) (all : Counts) : Type 0 where
   pub met : AreMet marks a b
-  pub first : AreOwn k marks a b own.first
-  pub second : AreOwn k marks b a own.second
+  pub first : AreOwnCounts k marks a b own.first
+  pub second : AreOwnCounts k marks b a own.second
   pub topic : AreCountsOf (true_count (with_picked marks (λ _. false)) (length marks)) (true_count (with_picked marks (λ _. true)) (length marks)) all
   pub few : all.relevant + all.unjudged ≤ DOCUMENT_LIMIT
 

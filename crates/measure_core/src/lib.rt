@@ -6,6 +6,7 @@
 
 pub mod bits;
 pub mod by_ranks;
+pub mod cases;
 pub mod cell;
 pub mod kept;
 pub mod laws;
@@ -25,6 +26,7 @@ pub mod worths;
 
 pub use bits::has_bit;
 pub use by_ranks::shift_by_ranks;
+pub use cases::{Picks, case_values};
 pub use cell::Cell;
 pub use kept::KeptCell;
 pub use maker::Maker;

@@ -82,7 +82,10 @@ pub trait Measure: Drop {
         marks: &[Mark],
     ) -> Result<Vec<bool>, Memory>
         requires { AreMet marks.now a.now b.now }
-        ensures { IfOk result (λ values. AreValues (least_truth (measured self.now) marks.now b.now a.now) (length marks.now) values.items) };
+        ensures { IfOk result (λ values. AreValues (least_truth (measured self.now) marks.now b.now a.now) (length marks.now) values.items) }
+    {
+        self.least_case(alloc, b, a, marks)
+    }
 
     /// How much a document tells of the difference of a and b.
     fn weight(&self, a: &Ranking, b: &Ranking, marks: &[Mark], doc: u32) -> u128

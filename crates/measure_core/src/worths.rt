@@ -39,9 +39,7 @@ pub fn worths_of<W: RankWorth>(alloc: Global, ranks: &W) -> Result<Vec<u64>, Mem
 {
     let mut worths = Vec::new(alloc);
     for rank in 0..MOST_RANKS + 1 {
-        if worths.push(ranks.worth_at(rank)).is_err() {
-            return Err(Memory);
-        }
+        worths.push(ranks.worth_at(rank))?;
     }
     Ok(worths)
 }

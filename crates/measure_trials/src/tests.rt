@@ -5,7 +5,7 @@ ghost use Rattle.every_completion.specs.Walk.{LooksAtNoTail};
 use crate::answers::{Answers, ask, ranking};
 use crate::plain::judged;
 use desk_model::{Mark, MeasureName};
-use every_completion::{Ends, EndsFault, extremes};
+use every_completion::{EndsFault, ExtremeEnds, extremes};
 use std::alloc::Global;
 use std::process::Abort;
 use std::test::Fail;
@@ -50,7 +50,7 @@ fn walk(
     unit: u64,
     runs: (&[u32], &[u32]),
     marks: &[Mark],
-) -> Result<Result<Ends, EndsFault>, Fail>
+) -> Result<Result<ExtremeEnds, EndsFault>, Fail>
     requires measure { LooksAtNoTail measure }
     requires unit { unit ≤ 10 ^ 18 }
 {
@@ -68,15 +68,15 @@ fn walked(
     unit: u64,
     runs: (&[u32], &[u32]),
     marks: &[Mark],
-) -> Result<Ends, Fail>
+) -> Result<ExtremeEnds, Fail>
     requires measure { LooksAtNoTail measure }
     requires unit { unit ≤ 10 ^ 18 }
 {
     Ok(walk(rt, alloc, measure, unit, runs, marks)??)
 }
 
-fn ends(least: (i128, i128), most: (i128, i128)) -> Ends {
-    Ends {
+fn ends(least: (i128, i128), most: (i128, i128)) -> ExtremeEnds {
+    ExtremeEnds {
         least_lo: least.0,
         least_hi: least.1,
         most_lo: most.0,
@@ -221,7 +221,7 @@ fn is_case(
 }
 
 /// Whether the cell is that of the ends of the pair, and the bounds are those of the first run alone.
-fn has_ends(answers: &Answers, pair: Ends, alone: Ends) -> bool {
+fn has_ends(answers: &Answers, pair: ExtremeEnds, alone: ExtremeEnds) -> bool {
     let cell = answers.cell;
     let bounds = answers.bounds;
     pair == ends((cell.least.lo, cell.least.hi), (cell.most.lo, cell.most.hi))

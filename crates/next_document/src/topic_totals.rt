@@ -89,9 +89,7 @@ fn topic_totals<M: Measure>(
     ensures count { IfOk result (λ totals. length totals.items ≡ length (slice_index_or marks.now topic [])) }
     ensures totals { IfOk result (λ totals. AreTopicTotals (standing (M.measured measure.now) desk.now marks.now verdicts.now) topic totals.items) }
 {
-    let Ok(mut totals) = vec![in alloc; 0u128; marks.topic(topic).len()] else {
-        return Err(Memory);
-    };
+    let mut totals = vec![in alloc; 0u128; marks.topic(topic).len()]?;
     sum_topic(measure, desk, marks, verdicts, topic, &mut totals);
     Ok(totals)
 }
@@ -113,9 +111,7 @@ pub fn all_totals<M: Measure>(
     let mut all = Vec::new(alloc);
     for topic in 0..desk.topic_count() {
         let totals = topic_totals(alloc, measure, desk, marks, verdicts, topic)?;
-        if all.push(totals).is_err() {
-            return Err(Memory);
-        }
+        all.push(totals)?;
     }
     Ok(all)
 }

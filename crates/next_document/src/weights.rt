@@ -23,9 +23,9 @@ pub struct Weights {
 
 impl Model for Weights {
     ghost use Rattle.std.specs.Prelude.{map};
-    ghost use Rattle.next_document.specs.Kept.{Kept, AreNumbered};
+    ghost use Rattle.next_document.specs.Kept.{HeldTotals, AreNumbered};
 
-    ghost Value = { Kept };
+    ghost Value = { HeldTotals };
 
     ghost view = { λ w. record { totals = map (λ each. each.items) w.totals.items; verdicts = w.verdicts.items } };
 
@@ -51,10 +51,8 @@ impl Weights {
     {
         let _name = measure.name();
         let totals = all_totals(alloc, measure, desk, marks, verdicts)?;
-        match verdicts.to_vec(alloc) {
-            Ok(verdicts) => Ok(Weights { totals, verdicts }),
-            Err(_) => Err(Memory),
-        }
+        let verdicts = verdicts.to_vec(alloc)?;
+        Ok(Weights { totals, verdicts })
     }
 
     /// Renews the totals after a change of marks in one topic, and holds other verdicts.

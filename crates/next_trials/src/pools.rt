@@ -1,7 +1,7 @@
 // A small desk and the pool of a depth on it, by hand.
 use crate::desks::{desk_of, marks_of};
+use desk_model::{PoolCount, pool_count};
 use std::test::Fail;
-use topics_pool::{PoolCount, pool_count};
 
 #[test]
 fn two_runs_make_a_desk_and_a_pool(rt: HostRuntime) -> Result<(), Fail> {

@@ -6,7 +6,7 @@ ghost use Rattle.desk_model.specs.declared.types.Mark.{Mark as M};
 ghost use Rattle.desk_model.specs.declared.types.MeasureName.TheVariants.{Precision as P};
 ghost use Rattle.measure_core.specs.Laws.{AreMet};
 ghost use Rattle.measure_core.specs.Numbers.{exact_cell};
-ghost use Rattle.topic_counts.specs.Own.{AreOwn};
+ghost use Rattle.topic_counts.specs.Own.{AreOwnCounts};
 
 use crate::precision::Precision;
 use measure_core::{Cell, OwnMeasure};
@@ -27,7 +27,7 @@ pub fn cell_between(own: OwnCounts) -> Cell
     requires first { own.first.relevant + own.first.unjudged ≤ RANK_LIMIT }
     requires second { own.second.relevant + own.second.unjudged ≤ RANK_LIMIT }
     ensures { (k : ℕ) (marks : List M) (a b : List ℕ) → IsMeasure (P k) → AreMet marks a b →
-        AreOwn k marks a b own.first → AreOwn k marks b a own.second →
+        AreOwnCounts k marks a b own.first → AreOwnCounts k marks b a own.second →
         result ≡ exact_cell (P k) marks a b }
 {
     let least = own.first.least() - own.second.most();

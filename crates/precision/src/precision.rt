@@ -12,7 +12,8 @@ ghost use Rattle.measure_core.specs.Made.{IsMadeFor};
 use crate::own::cell_between;
 use desk_model::{Mark, MeasureName, Memory, Ranking};
 use measure_core::{
-    Cell, CellRoom, KeptCell, Measure, Shift, Steps, TopicRankings, own_cells, shift_one_side,
+    Cell, CellRoom, KeptCell, Measure, Picks, Shift, Steps, TopicRankings, case_values, own_cells,
+    shift_one_side,
 };
 use std::alloc::Global;
 use std::marker::Model;
@@ -60,31 +61,22 @@ impl Precision {
     }
 }
 
-/// Whether each document is relevant, where of the unjudged ones exactly those of the second run's
-/// first k are that the first run's first k lack.
-fn least_values(
-    alloc: Global,
+/// The documents of the second run's first k that the first run's first k lack.
+#[derive(Clone, Copy)]
+struct SecondAlone<'a> {
     k: u32,
-    first: &Ranking,
-    second: &Ranking,
-    marks: &[Mark],
-) -> Result<Vec<bool>, Memory>
-    requires { length marks.now ≤ DOCUMENT_LIMIT }
-    ensures { IfOk result (λ values. AreValues (with_picked marks.now (only_second k first.now second.now)) (length marks.now) values.items) }
-{
-    let mut values = Vec::new(alloc);
-    for (place, mark) in marks.iter().enumerate() {
-        let doc = place as u32;
-        let value = match *mark {
-            Mark::Unjudged => is_among_first(k, second, doc) && !is_among_first(k, first, doc),
-            Mark::Relevant => true,
-            Mark::Other => false,
-        };
-        if values.push(value).is_err() {
-            return Err(Memory);
-        }
+    first: &'a Ranking,
+    second: &'a Ranking,
+}
+
+impl Picks for SecondAlone<'_> {
+    ghost use Rattle.measure_laws.specs.Prefixes.{only_second};
+
+    ghost picks = { λ p. only_second p.k p.first.now p.second.now };
+
+    fn is_picked(&self, doc: u32) -> bool {
+        is_among_first(self.k, self.second, doc) && !is_among_first(self.k, self.first, doc)
     }
-    Ok(values)
 }
 
 impl Measure for Precision {
@@ -146,17 +138,12 @@ impl Measure for Precision {
         b: &Ranking,
         marks: &[Mark],
     ) -> Result<Vec<bool>, Memory> {
-        least_values(alloc, self.k, a, b, marks)
-    }
-
-    fn most_case(
-        &self,
-        alloc: Global,
-        a: &Ranking,
-        b: &Ranking,
-        marks: &[Mark],
-    ) -> Result<Vec<bool>, Memory> {
-        least_values(alloc, self.k, b, a, marks)
+        let picks = SecondAlone {
+            k: self.k,
+            first: a,
+            second: b,
+        };
+        case_values(alloc, &picks, marks)
     }
 
     fn weight(&self, a: &Ranking, b: &Ranking, _marks: &[Mark], doc: u32) -> u128 {

@@ -21,7 +21,7 @@ most_low s = pos s.relevant_lo -ℤ pos s.most_lo
 abbrev pub most_high : Added → ℤ
 most_high s = neg_ℤ (pos (s.most_hi + s.relevant_hi))
 
-pub record AreSumsOf (s : Added) (sums : Shares) : Type 0 where
+pub record AreAddedSums (s : Added) (sums : Shares) : Type 0 where
   pub least_lo : sums.least.lo ≡ least_low s
   pub least_hi : sums.least.hi ≡ least_high s
   pub most_lo : sums.most.lo ≡ most_low s

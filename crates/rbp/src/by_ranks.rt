@@ -8,7 +8,7 @@ ghost use Rattle.measure_laws.specs.Powers.{low_weight, high_weight};
 ghost use Rattle.measure_laws.specs.Ranks.{IsRankWithin, comes_before};
 ghost use Rattle.measure_core.specs.Bits.{AreBitsIn};
 ghost use Rattle.measure_core.specs.Ranks.{AreRanksIn};
-ghost use Rattle.rbp.specs.Added.{IsAdded, IsUpTo, AreSumsOf, added};
+ghost use Rattle.rbp.specs.Added.{IsAdded, IsUpTo, AreAddedSums, added};
 ghost use Rattle.rbp.specs.Walk.{AreCorrections};
 ghost use Rattle.measure_core.specs.Worths.{rank_or_none};
 
@@ -66,7 +66,7 @@ impl Added {
 
     /// The sums that they make.
     fn shares(self) -> Shares
-        ensures { AreSumsOf self result }
+        ensures { AreAddedSums self result }
     {
         let relevant_lo = i128::from(self.relevant_lo);
         let relevant_hi = i128::from(self.relevant_hi);

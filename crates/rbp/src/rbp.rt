@@ -13,17 +13,16 @@ ghost use Rattle.desk_model.specs.MeasureText.{IsPersistence};
 ghost use Rattle.desk_model.specs.declared.types.MeasureName.TheVariants.{Biased as B};
 
 use crate::corrections::{Shares, alone};
-use crate::weights::{Weights, high_weights, low_weights};
+use crate::weights::{RankWeights, high_weights, low_weights};
 use desk_model::{Mark, MeasureName, Memory, Ranking};
 use measure_core::{
-    Cell, CellRoom, KeptCell, KeptWeights, Measure, Shift, Steps, TopicRankings, ranked_cells,
-    shift_by_ranks,
+    Cell, CellRoom, KeptCell, KeptWeights, Measure, Picks, Shift, Steps, TopicRankings,
+    case_values, ranked_cells, shift_by_ranks,
 };
 use std::alloc::Global;
 use std::marker::Model;
 use std::sync::ledger::Ledger;
 use topic_counts::ranks::rank_in;
-use topic_counts::topic::is_true;
 use topic_counts::{Powers, Span};
 
 /// How many units make a score of 1.
@@ -70,19 +69,24 @@ fn ranks_of(run: &Ranking) -> u32
     run.docs().len() as u32
 }
 
-/// The truth value of each document in the least case.
-fn values(alloc: Global, a: &Ranking, b: &Ranking, marks: &[Mark]) -> Result<Vec<bool>, Memory>
-    requires { AreMet marks.now a.now b.now }
-    ensures { IfOk result (λ values. AreValues (biased_truth marks.now a.now b.now) (length marks.now) values.items) }
-{
-    let mut values = Vec::new(alloc);
-    for (doc, mark) in marks.iter().enumerate() {
-        let picked = is_before(rank_in(b, doc as u32), rank_in(a, doc as u32));
-        if values.push(is_true(picked, *mark)).is_err() {
-            return Err(Memory);
-        }
+/// The documents that the second run ranks before the first, or alone.
+#[derive(Clone, Copy)]
+struct BeforeFirst<'a> {
+    first: &'a Ranking,
+    second: &'a Ranking,
+    ghost first_is_short: { length first.now ≤ RANK_LIMIT },
+    ghost second_is_short: { length second.now ≤ RANK_LIMIT },
+}
+
+impl Picks for BeforeFirst<'_> {
+    ghost use Rattle.desk_model.specs.Ranking.{rank};
+    ghost use Rattle.measure_laws.specs.Ranks.{comes_before};
+
+    ghost picks = { λ p doc. comes_before (rank p.second.now doc) (rank p.first.now doc) };
+
+    fn is_picked(&self, doc: u32) -> bool {
+        is_before(rank_in(self.second, doc), rank_in(self.first, doc))
     }
-    Ok(values)
 }
 
 impl Rbp {
@@ -133,8 +137,8 @@ impl Rbp {
         let _ = a;
         let _ = b;
         let _ = marks;
-        let first = Weights::of(weights.first);
-        let second = Weights::of(weights.second);
+        let first = RankWeights::of(weights.first);
+        let second = RankWeights::of(weights.second);
         Shares {
             least: alone(first.relevant, second.possible).add(both.least),
             most: alone(first.possible, second.relevant).add(both.most),
@@ -253,17 +257,11 @@ impl Measure for Rbp {
         b: &Ranking,
         marks: &[Mark],
     ) -> Result<Vec<bool>, Memory> {
-        values(alloc, a, b, marks)
-    }
-
-    fn most_case(
-        &self,
-        alloc: Global,
-        a: &Ranking,
-        b: &Ranking,
-        marks: &[Mark],
-    ) -> Result<Vec<bool>, Memory> {
-        values(alloc, b, a, marks)
+        let picks = BeforeFirst {
+            first: a,
+            second: b,
+        };
+        case_values(alloc, &picks, marks)
     }
 
     fn weight(&self, a: &Ranking, b: &Ranking, _marks: &[Mark], doc: u32) -> u128 {

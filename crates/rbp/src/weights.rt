@@ -17,7 +17,7 @@ use topic_counts::{Powers, Span};
 
 /// The sums of the weights of a run's relevant documents, and of its relevant and unjudged ones.
 #[derive(Clone, Copy)]
-pub struct Weights {
+pub struct RankWeights {
     pub relevant: Span,
     pub possible: Span,
 }
@@ -53,9 +53,9 @@ fn span(low: u64, high: u64) -> Span
     }
 }
 
-impl Weights {
+impl RankWeights {
     /// What is kept, as spans.
-    pub fn of(kept: RunWeights) -> Weights
+    pub fn of(kept: RunWeights) -> RankWeights
         ensures relevant_lo { result.relevant.lo ≡ pos kept.relevant_low }
         ensures relevant_hi { result.relevant.hi ≡ pos kept.relevant_high }
         ensures possible_lo { result.possible.lo ≡ pos kept.possible_low }
@@ -63,7 +63,7 @@ impl Weights {
         ensures relevant_loose { IsLoose result.relevant }
         ensures possible_loose { IsLoose result.possible }
     {
-        Weights {
+        RankWeights {
             relevant: span(kept.relevant_low, kept.relevant_high),
             possible: span(kept.possible_low, kept.possible_high),
         }
@@ -125,7 +125,7 @@ impl Rbp {
     }
 
     /// The sums of the weights of a run's documents.
-    pub fn weights(&self, marks: &[Mark], docs: &[u32]) -> Weights
+    pub fn weights(&self, marks: &[Mark], docs: &[u32]) -> RankWeights
         requires known { All (λ doc. doc < length marks.now) docs.now }
         requires few { length docs.now ≤ RANK_LIMIT }
         ensures relevant_lo { result.relevant.lo ≡ pos (low_worth self.now.top self.now.bottom false marks.now docs.now) }
@@ -135,7 +135,7 @@ impl Rbp {
         ensures relevant_loose { IsLoose result.relevant }
         ensures possible_loose { IsLoose result.possible }
     {
-        Weights::of(self.kept_weights(marks, docs))
+        RankWeights::of(self.kept_weights(marks, docs))
     }
 
     /// 10^18 times what a tail after so many ranks adds at most.

@@ -13,8 +13,8 @@ ghost use Rattle.recall.specs.LeastCase.{AreCounts, least_relevant};
 
 use desk_model::{Mark, MeasureName, Memory, Ranking};
 use measure_core::{
-    Cell, CellRoom, KeptCell, Measure, OwnMeasure, Shift, Steps, TopicRankings, own_cells,
-    shift_one_side,
+    Cell, CellRoom, KeptCell, Measure, OwnMeasure, Picks, Shift, Steps, TopicRankings, case_values,
+    own_cells, shift_one_side,
 };
 use std::alloc::Global;
 use std::marker::Model;
@@ -94,43 +94,29 @@ fn leads(k: u32, a: &Ranking, b: &Ranking, marks: &[Mark]) -> bool
     own.second.relevant + own.second.unjudged < own.first.relevant
 }
 
-/// Whether the least case makes an unjudged document relevant.
-fn is_picked(leads: bool, k: u32, a: &Ranking, b: &Ranking, doc: u32) -> bool
-    ensures { result ≡ picked_where leads k a.now b.now doc }
-{
-    let in_first = is_among_first(k, a, doc);
-    let in_second = is_among_first(k, b, doc);
-    if in_first {
-        leads && in_second
-    } else {
-        leads || in_second
-    }
-}
-
-/// Whether each document is relevant in that case.
-fn values(
-    alloc: Global,
+/// The documents of the second run's first k alone, and where the first run leads those that both or neither have there.
+#[derive(Clone, Copy)]
+struct ByLead<'a> {
     leads: bool,
     k: u32,
-    a: &Ranking,
-    b: &Ranking,
-    marks: &[Mark],
-) -> Result<Vec<bool>, Memory>
-    requires { length marks.now ≤ DOCUMENT_LIMIT }
-    ensures { IfOk result (λ values. AreValues (with_picked marks.now (picked_where leads k a.now b.now)) (length marks.now) values.items) }
-{
-    let mut values = Vec::new(alloc);
-    for (place, mark) in marks.iter().enumerate() {
-        let value = match *mark {
-            Mark::Unjudged => is_picked(leads, k, a, b, place as u32),
-            Mark::Relevant => true,
-            Mark::Other => false,
-        };
-        if values.push(value).is_err() {
-            return Err(Memory);
+    a: &'a Ranking,
+    b: &'a Ranking,
+}
+
+impl Picks for ByLead<'_> {
+    ghost use Rattle.measure_laws.specs.Cases.{picked_where};
+
+    ghost picks = { λ p. picked_where p.leads p.k p.a.now p.b.now };
+
+    fn is_picked(&self, doc: u32) -> bool {
+        let in_first = is_among_first(self.k, self.a, doc);
+        let in_second = is_among_first(self.k, self.b, doc);
+        if in_first {
+            self.leads && in_second
+        } else {
+            self.leads || in_second
         }
     }
-    Ok(values)
 }
 
 /// Whether each document is relevant in the least case of two runs.
@@ -144,7 +130,8 @@ fn least_values(
     requires { AreMet marks.now a.now b.now }
     ensures { IfOk result (λ values. AreValues (with_picked marks.now (recall_pick k marks.now a.now b.now)) (length marks.now) values.items) }
 {
-    values(alloc, leads(k, a, b, marks), k, a, b, marks)
+    let leads = leads(k, a, b, marks);
+    case_values(alloc, &ByLead { leads, k, a, b }, marks)
 }
 
 impl Measure for Recall {
@@ -209,16 +196,6 @@ impl Measure for Recall {
         marks: &[Mark],
     ) -> Result<Vec<bool>, Memory> {
         least_values(alloc, self.k, a, b, marks)
-    }
-
-    fn most_case(
-        &self,
-        alloc: Global,
-        a: &Ranking,
-        b: &Ranking,
-        marks: &[Mark],
-    ) -> Result<Vec<bool>, Memory> {
-        least_values(alloc, self.k, b, a, marks)
     }
 
     fn weight(&self, a: &Ranking, b: &Ranking, _marks: &[Mark], doc: u32) -> u128 {

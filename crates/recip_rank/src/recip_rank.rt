@@ -12,14 +12,14 @@ ghost use Rattle.measure_core.specs.Numbers.{exact_least};
 use crate::firsts::{Firsts, first_rank, least, span};
 use desk_model::{Mark, MeasureName, Memory, Ranking};
 use measure_core::{
-    Cell, Measure, RankWorth, Shift, Steps, rank_or_none, shift_by_ranks, worths_of,
+    Cell, Measure, Picks, RankWorth, Shift, Steps, case_values, rank_or_none, shift_by_ranks,
+    worths_of,
 };
 use std::alloc::Global;
 use std::marker::Model;
 use std::sync::ledger::Ledger;
 use topic_counts::Span;
 use topic_counts::ranks::rank_in;
-use topic_counts::topic::is_true;
 
 /// How many units make a score of 1.
 const UNIT: u64 = 1_000_000_000_000_000_000;
@@ -87,29 +87,23 @@ fn worth(rank: Option<u32>) -> u64
     }
 }
 
-/// Whether a document is the chosen one.
-fn is_chosen(choice: Option<u32>, doc: u32) -> bool
-    ensures { result ≡ is_choice choice doc }
-{
-    match choice {
-        None => false,
-        Some(one) => one == doc,
-    }
+/// The chosen document alone, if there is one.
+#[derive(Clone, Copy)]
+struct Chosen {
+    choice: Option<u32>,
 }
 
-/// Whether each document is relevant, where of the unjudged ones the chosen one alone is.
-fn values(alloc: Global, choice: Option<u32>, marks: &[Mark]) -> Result<Vec<bool>, Memory>
-    requires { length marks.now ≤ DOCUMENT_LIMIT }
-    ensures { IfOk result (λ values. AreValues (with_choice marks.now choice) (length marks.now) values.items) }
-{
-    let mut values = Vec::new(alloc);
-    for (place, mark) in marks.iter().enumerate() {
-        let value = is_true(is_chosen(choice, place as u32), *mark);
-        if values.push(value).is_err() {
-            return Err(Memory);
+impl Picks for Chosen {
+    ghost use Rattle.measure_laws.specs.ReciprocalCase.{is_choice};
+
+    ghost picks = { λ p. is_choice p.choice };
+
+    fn is_picked(&self, doc: u32) -> bool {
+        match self.choice {
+            None => false,
+            Some(one) => one == doc,
         }
     }
-    Ok(values)
 }
 
 impl RankWorth for RecipRank {
@@ -184,17 +178,8 @@ impl Measure for RecipRank {
         b: &Ranking,
         marks: &[Mark],
     ) -> Result<Vec<bool>, Memory> {
-        values(alloc, least(a, b, marks).choice, marks)
-    }
-
-    fn most_case(
-        &self,
-        alloc: Global,
-        a: &Ranking,
-        b: &Ranking,
-        marks: &[Mark],
-    ) -> Result<Vec<bool>, Memory> {
-        values(alloc, least(b, a, marks).choice, marks)
+        let choice = least(a, b, marks).choice;
+        case_values(alloc, &Chosen { choice }, marks)
     }
 
     fn weight(&self, a: &Ranking, b: &Ranking, _marks: &[Mark], doc: u32) -> u128 {

@@ -6,7 +6,7 @@ use Rattle.std.proofs.lemmas.List.{length-take}
 use Rattle.desk_model.specs.Completion.{with_picked}
 use Rattle.desk_model.specs.Mark.{is_unjudged, mark_at}
 use Rattle.measure_laws.proofs.Scores.{among_count}
-use Rattle.rprec.specs.declared.greedy.Candidate.{Candidate}
+use Rattle.rprec.specs.declared.greedy.DepthCandidate.{DepthCandidate}
 use Rattle.rprec.specs.declared.pair.RunPair.{RunPair}
 use Rattle.rprec.specs.Greedy.{beats}
 use Rattle.rprec.specs.Packed.{pack, unpack}
@@ -57,7 +57,7 @@ shifted x y f s t n k some le h = elim (cases_lt (x + t) y) [
 ]
 
 -- a bound of the candidates with some numbers of relevant documents: at the low one and at the high one
-pub record IsBounded (low high c : Candidate) : Type 0 where
+pub record IsBounded (low high c : DepthCandidate) : Type 0 where
   pub same_first : high.first ≡ low.first
   pub same_second : high.second ≡ low.second
   pub fair : low.second ≤ low.count
@@ -68,7 +68,7 @@ pub record IsBounded (low high c : Candidate) : Type 0 where
   pub fewer : c.count ≤ low.count → c.second + low.count ≤ low.second + c.count
 
 -- what beats both ends of a bound beats each candidate that it bounds
-pub beats_bounded : (best low high c : Candidate) → beats best low ≡ true → beats best high ≡ true → IsBounded low high c → beats best c ≡ true
+pub beats_bounded : (best low high c : DepthCandidate) → beats best low ≡ true → beats best high ≡ true → IsBounded low high c → beats best c ≡ true
 beats_bounded best low high c under over h =
     let t = max 1 best.count in
     let n = max 1 c.count in
@@ -157,19 +157,19 @@ relevant_few : (p : RunPair) (depth : ℕ) → IsPair p → (second_counts p dep
 relevant_few p depth h = omega (arith, h.topic.relevant, among_count (with_picked p.marks.now (λ _. false)) depth (length p.marks.now) p.b.now h.b)
 
 -- the bound of the choices between two blocks' ends
-pub choice_bounded : (p : RunPair) (start end place next first begun second ended : ℕ) (low high : Candidate) → IsPair p → AreEnds p start end → place < next → 10 * start ≤ p.all.relevant + place → p.all.relevant + next ≤ 10 * end →
+pub choice_bounded : (p : RunPair) (start end place next first begun second ended : ℕ) (low high : DepthCandidate) → IsPair p → AreEnds p start end → place < next → 10 * start ≤ p.all.relevant + place → p.all.relevant + next ≤ 10 * end →
     first ≡ (first_counts p (10 * start)).relevant → begun ≡ (second_counts p (10 * start)).unjudged - shared_count p (10 * start) → second ≡ (second_counts p (10 * end)).relevant → ended ≡ (second_counts p (10 * end)).unjudged - shared_count p (10 * start) →
     high ≡ record { count = p.all.relevant + next; first = first; second = second + min ended next } → low ≡ record { count = min (p.all.relevant + next) (min ended next + max p.all.relevant (10 * start - begun)); first = first; second = second + min ended next } →
     IsBounded low high (choice_at p place)
 choice_bounded p start end place next first begun second ended low high h b lt after before ef eb es ee eh el = record {
-  same_first = omega (arith, ap (λ (x : Candidate). x.first) eh, ap (λ (x : Candidate). x.first) el);
-  same_second = omega (arith, ap (λ (x : Candidate). x.second) eh, ap (λ (x : Candidate). x.second) el);
-  fair = omega (arith, ap (λ (x : Candidate). x.second) el, ap (λ (x : Candidate). x.count) el, relevant_few p (10 * end) h, es);
-  first = omega (arith, ap (λ (x : Candidate). x.first) el, ef, relevant);
-  second = omega (arith, ap (λ (x : Candidate). x.second) el, es, ee, lt, more, all, shared, own);
+  same_first = omega (arith, ap (λ (x : DepthCandidate). x.first) eh, ap (λ (x : DepthCandidate). x.first) el);
+  same_second = omega (arith, ap (λ (x : DepthCandidate). x.second) eh, ap (λ (x : DepthCandidate). x.second) el);
+  fair = omega (arith, ap (λ (x : DepthCandidate). x.second) el, ap (λ (x : DepthCandidate). x.count) el, relevant_few p (10 * end) h, es);
+  first = omega (arith, ap (λ (x : DepthCandidate). x.first) el, ef, relevant);
+  second = omega (arith, ap (λ (x : DepthCandidate). x.second) el, es, ee, lt, more, all, shared, own);
   some = omega arith;
-  before = omega (arith, ap (λ (x : Candidate). x.count) eh, lt);
-  fewer = λ le. omega (arith, ap (λ (x : Candidate). x.second) el, ap (λ (x : Candidate). x.count) el, es, ee, eb, lt, more, all, shared, own, steps, b.some, begun_few p start);
+  before = omega (arith, ap (λ (x : DepthCandidate). x.count) eh, lt);
+  fewer = λ le. omega (arith, ap (λ (x : DepthCandidate). x.second) el, ap (λ (x : DepthCandidate). x.count) el, es, ee, eb, lt, more, all, shared, own, steps, b.some, begun_few p start);
 }
   where
     depth : ℕ

@@ -23,12 +23,12 @@ use Rattle.measure_laws.proofs.LeastDifferences.{among_few, greedy_lead, open_si
 use Rattle.measure_laws.proofs.RprecEnds.{count_picked, count_three}
 use Rattle.topic_counts.specs.declared.counts.Counts.{Counts}
 use Rattle.rprec.specs.declared.prefixes.Prefixes.{Prefixes}
-use Rattle.rprec.specs.declared.greedy.Candidate.{Candidate}
+use Rattle.rprec.specs.declared.greedy.DepthCandidate.{DepthCandidate}
 use Rattle.rprec.specs.Greedy.{AreTopic, AreFew, AreGains, beats}
 use Rattle.rprec.proofs.Steps.{ArePrefixes}
 
 -- ---- the gains of a greedy choice
-pub gains_are : (marks : List Mark) (a b : List ℕ) (r chosen : ℕ) (f : Prefixes) (all : Counts) (c : Candidate) → IsRanking (length marks) a → IsRanking (length marks) b →
+pub gains_are : (marks : List Mark) (a b : List ℕ) (r chosen : ℕ) (f : Prefixes) (all : Counts) (c : DepthCandidate) → IsRanking (length marks) a → IsRanking (length marks) b →
     ArePrefixes marks (take r a) (take r b) f → AreTopic marks all → r ≡ all.relevant + chosen → chosen ≤ all.unjudged → c.count ≡ r →
     c.first ≡ f.first.relevant + (chosen - (all.unjudged - f.first.unjudged)) → c.second ≡ f.second.relevant + min chosen f.second.unjudged → AreGains marks a b c
 gains_are marks a b r chosen f all c ra rb h topic er small ec e1 e2 =
@@ -59,7 +59,7 @@ test_step m n x y r s first second first' second' pr ps e f =
     ap (λ k. nat_lt k ((x * s) * (r * r) + (n * r) * (s * s))) left ∙ ap (λ k. nat_lt ((m * s + y * r) * (r * s)) k) right ∙ scaled_test (m * s + y * r) (x * r + n * s) (r * s) (mul-pos pr ps)
     ∙ same_difference (first' * r + second * s) (first * s + second' * r) (x * r + n * s) (m * s + y * r) (omega (arith, ap (λ k. k * s) e, ap (λ k. k * r) f))
 
-pub smaller_is : (marks : List Mark) (a b : List ℕ) (c best : Candidate) → AreGains marks a b c → AreGains marks a b best →
+pub smaller_is : (marks : List Mark) (a b : List ℕ) (c best : DepthCandidate) → AreGains marks a b c → AreGains marks a b best →
     is_smaller (greedy_scores marks a b c.count) (greedy_scores marks a b best.count) ≡ beats c best
 smaller_is marks a b c best h k =
     let r = c.count in

@@ -18,7 +18,7 @@ use Rattle.measure_laws.specs.Classes.{open_in}
 use Rattle.topic_counts.specs.declared.counts.Counts.{Counts}
 use Rattle.rprec.specs.declared.prefixes.Prefixes.{Prefixes}
 use Rattle.rprec.specs.Greedy.{AreNext, one_of, own_counts, prefixes_of}
-use Rattle.rprec.specs.Packed.{IsNext, pack, packed_of, unpack, unpacked_of}
+use Rattle.rprec.specs.Packed.{IsPackedNext, pack, packed_of, unpack, unpacked_of}
 use Rattle.rprec.specs.Shared.{AreShared, met}
 use Rattle.rprec.specs.Sums.{AreSharedBelow, counts_of}
 use Rattle.rprec.proofs.Counted.{counted_before}
@@ -114,11 +114,11 @@ are_more marks docs place one h = elim (cases_lt place (length docs)) [
     by_mark Other e f = omega (arith, e, f)
 
 -- what a number of the document at a place adds
-pub number_adds : (marks : List Mark) (docs : List ℕ) (place number : ℕ) → IsNext marks docs place number → pack (counts_of marks (take (place + 1) docs)) ≡ pack (counts_of marks (take place docs)) + number
+pub number_adds : (marks : List Mark) (docs : List ℕ) (place number : ℕ) → IsPackedNext marks docs place number → pack (counts_of marks (take (place + 1) docs)) ≡ pack (counts_of marks (take place docs)) + number
 number_adds marks docs place number h = let m = are_more marks docs place h.counts h.next in omega (arith, m.relevant, m.unjudged, h.same)
 
 -- each place has such a number
-some_next : (marks : List Mark) (docs : List ℕ) (place : ℕ) → (number : ℕ) × IsNext marks docs place number
+some_next : (marks : List Mark) (docs : List ℕ) (place : ℕ) → (number : ℕ) × IsPackedNext marks docs place number
 some_next marks docs place = elim (cases_lt place (length docs)) [ inl lt ↦ (_, next_here marks docs place _ lt refl) | inr le ↦ (0, next_past marks docs place le) ]
 
 -- ---- what both share

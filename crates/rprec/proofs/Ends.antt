@@ -21,12 +21,12 @@ use Rattle.measure_core.proofs.Exact.{exact_laws, modest_short}
 use Rattle.topic_counts.specs.declared.counts.Counts.{Counts}
 use Rattle.measure_laws.proofs.Ratios.{out_of}
 use Rattle.topic_counts.proofs.Ratio.{ratio_read}
-use Rattle.rprec.specs.declared.greedy.Candidate.{Candidate}
+use Rattle.rprec.specs.declared.greedy.DepthCandidate.{DepthCandidate}
 use Rattle.rprec.specs.Greedy.{AreTopic, IsLeast}
 use Rattle.measure_laws.proofs.LeastDifferences.{among_few}
 use Rattle.rprec.proofs.Choices.{all_open}
 
-pub least_is : (marks : List Mark) (a b : List ℕ) (c : Candidate) (num den : ℤ) (s : Span) → IsLeast marks a b c → num ≡ pos c.first -ℤ pos c.second → den ≡ pos (max 1 c.count) →
+pub least_is : (marks : List Mark) (a b : List ℕ) (c : DepthCandidate) (num den : ℤ) (s : Span) → IsLeast marks a b c → num ≡ pos c.first -ℤ pos c.second → den ≡ pos (max 1 c.count) →
     IsFloor (pos (10 ^ 18) *ℤ num) den s.lo → IsCeiling (pos (10 ^ 18) *ℤ num) den s.hi → s ≡ exact_least RPrecision marks a b
 unfolding exact_least
 least_is marks a b c num den s h en ed floor ceiling =

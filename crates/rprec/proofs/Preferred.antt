@@ -5,29 +5,29 @@ use Rattle.std.proofs.lemmas.Bool.{cases_lt, ltb-false, le-ltb}
 use Rattle.std.proofs.lemmas.Bool.Decides.{nat_tests}
 use Rattle.measure_laws.specs.Differences.{ArePositive, Scores, is_smaller}
 use Rattle.measure_laws.proofs.Picks.{NoGreater, NoGreater-trans, no_smaller}
-use Rattle.rprec.specs.declared.greedy.Candidate.{Candidate}
+use Rattle.rprec.specs.declared.greedy.DepthCandidate.{DepthCandidate}
 use Rattle.rprec.specs.Greedy.{beats}
-use Rattle.rprec.specs.Search.{IsChoiceOf, IsBestOf, precedes, preferred}
+use Rattle.rprec.specs.Search.{IsBestBetween, IsBestOf, precedes, preferred}
 use Rattle.rprec.proofs.Choices.{test_step}
 use Rattle.rprec.proofs.Tails.{not_smaller, smaller_no_greater}
 
 -- ---- candidates as scores
-abbrev scores_of : Candidate → Scores
+abbrev scores_of : DepthCandidate → Scores
 scores_of c = record { first = record { num = c.first; den = max 1 c.count }; second = record { num = c.second; den = max 1 c.count } }
 
-positive_of : (c : Candidate) → ArePositive (scores_of c)
+positive_of : (c : DepthCandidate) → ArePositive (scores_of c)
 positive_of c = record { first = omega arith; second = omega arith }
 
-beats_is : (c d : Candidate) → is_smaller (scores_of c) (scores_of d) ≡ beats c d
+beats_is : (c d : DepthCandidate) → is_smaller (scores_of c) (scores_of d) ≡ beats c d
 beats_is c d = test_step c.first c.second d.first d.second (max 1 c.count) (max 1 d.count) c.first c.second d.first d.second (omega arith) (omega arith) (omega arith) (omega arith)
 
 -- ---- which precedes
 -- what it says where a candidate does not precede another
-record IsNoEarlier (c best : Candidate) : Type 0 where
+record IsNoEarlier (c best : DepthCandidate) : Type 0 where
   pub least : NoGreater (scores_of best) (scores_of c)
   pub fewer : (beats best c ≡ true) ⊎ (best.count ≤ c.count)
 
-no_earlier : (c best : Candidate) → precedes c best ≡ false → IsNoEarlier c best
+no_earlier : (c best : DepthCandidate) → precedes c best ≡ false → IsNoEarlier c best
 no_earlier c best e = record { least = not_smaller (scores_of best) (scores_of c) (beats_is c best ∙ first (beats c best) refl e); fewer = second (beats c best) (beats best c) (nat_lt c.count best.count) refl refl e }
   where
     first : (b : Bool) → beats c best ≡ b → (b || (not (beats best c) && nat_lt c.count best.count)) ≡ false → beats c best ≡ false
@@ -40,7 +40,7 @@ no_earlier c best e = record { least = not_smaller (scores_of best) (scores_of c
     second true false true ed ev h = absurd (cc)
     second false false true ed ev h = absurd (cc)
 
-is_no_earlier : (c best : Candidate) → IsNoEarlier c best → precedes c best ≡ false
+is_no_earlier : (c best : DepthCandidate) → IsNoEarlier c best → precedes c best ≡ false
 is_no_earlier c best h = by_case (beats c best) (beats best c) (nat_lt c.count best.count) refl refl refl
   where
     none : beats c best ≡ false
@@ -56,7 +56,7 @@ is_no_earlier c best h = by_case (beats c best) (beats best c) (nat_lt c.count b
     by_case false false true eb ed ev = absurd (let h' = fewer ed in cc)
 
 -- what does not precede a second, which does not precede a third, does not precede the third
-pub later_trans : (c d e : Candidate) → precedes c d ≡ false → precedes d e ≡ false → precedes c e ≡ false
+pub later_trans : (c d e : DepthCandidate) → precedes c d ≡ false → precedes d e ≡ false → precedes c e ≡ false
 later_trans c d e h k =
     let x = no_earlier c d h in
     let y = no_earlier d e k in
@@ -76,18 +76,18 @@ later_trans c d e h k =
         inr (fewer x.fewer y.fewer first second)
 
 -- one that is beaten
-not_both : (c best : Candidate) → beats c best ≡ true → beats best c ≡ false
+not_both : (c best : DepthCandidate) → beats c best ≡ true → beats best c ≡ false
 not_both c best h = sym (beats_is best c) ∙ no_smaller (scores_of c) (scores_of best) (smaller_no_greater (scores_of c) (scores_of best) (beats_is c best ∙ h))
 
-pub beaten_not_before : (c best : Candidate) → beats best c ≡ true → precedes c best ≡ false
+pub beaten_not_before : (c best : DepthCandidate) → beats best c ≡ true → precedes c best ≡ false
 beaten_not_before c best h = let none = not_both best c h in rw (none, h) refl
 
 -- none precedes itself
-pub itself : (c : Candidate) → precedes c c ≡ false
+pub itself : (c : DepthCandidate) → precedes c c ≡ false
 itself c = is_no_earlier c c (record { least = omega arith; fewer = inr (omega arith) })
 
 -- the preferred of two
-preferred_none : (c best : Candidate) → (precedes c (preferred c best) ≡ false) × (precedes best (preferred c best) ≡ false)
+preferred_none : (c best : DepthCandidate) → (precedes c (preferred c best) ≡ false) × (precedes best (preferred c best) ≡ false)
 preferred_none c best = by_test (precedes c best) refl
   where
     back : precedes c best ≡ true → precedes best c ≡ false
@@ -106,7 +106,7 @@ preferred_none c best = by_test (precedes c best) refl
     by_test true e = (itself c, back e)
     by_test false e = (e, itself best)
 
-preferred_one : (c best : Candidate) → (preferred c best ≡ best) ⊎ (preferred c best ≡ c)
+preferred_one : (c best : DepthCandidate) → (preferred c best ≡ best) ⊎ (preferred c best ≡ c)
 preferred_one c best = by_test (precedes c best)
   where
     by_test : (b : Bool) → ((if b then c else best) ≡ best) ⊎ ((if b then c else best) ≡ c)
@@ -114,10 +114,10 @@ preferred_one c best = by_test (precedes c best)
     by_test false = inl refl
 
 -- ---- one of some choices
-pub choice_none : (choices : ℕ → Candidate) (start end : ℕ) (c : Candidate) → IsChoiceOf choices start end c c
+pub choice_none : (choices : ℕ → DepthCandidate) (start end : ℕ) (c : DepthCandidate) → IsBestBetween choices start end c c
 choice_none choices start end c = record { one = inl refl; not_before = itself c }
 
-pub choice_join : (choices : ℕ → Candidate) (s m n e : ℕ) (c d f : Candidate) → s ≤ n → m ≤ e → IsChoiceOf choices s m c d → IsChoiceOf choices n e d f → IsChoiceOf choices s e c f
+pub choice_join : (choices : ℕ → DepthCandidate) (s m n e : ℕ) (c d f : DepthCandidate) → s ≤ n → m ≤ e → IsBestBetween choices s m c d → IsBestBetween choices n e d f → IsBestBetween choices s e c f
 choice_join choices s m n e c d f lo hi h k = record { one = joined h.one k.one; not_before = later_trans c d f h.not_before k.not_before }
   where
     joined : (d ≡ c) ⊎ ((place : ℕ) × ((s ≤ place) × ((place < m) × (d ≡ choices place)))) → (f ≡ d) ⊎ ((place : ℕ) × ((n ≤ place) × ((place < e) × (f ≡ choices place)))) → (f ≡ c) ⊎ ((place : ℕ) × ((s ≤ place) × ((place < e) × (f ≡ choices place))))
@@ -125,7 +125,7 @@ choice_join choices s m n e c d f lo hi h k = record { one = joined h.one k.one;
     joined (inr x) (inl y) = inr (x.0, (x.1.0, (omega (arith, x.1.1.0), y ∙ x.1.1.1)))
     joined x (inr y) = inr (y.0, (omega (arith, y.1.0), (y.1.1.0, y.1.1.1)))
 
-pub choice_one : (choices : ℕ → Candidate) (start end place : ℕ) (c : Candidate) → start ≤ place → place < end → IsChoiceOf choices start end c (preferred (choices place) c)
+pub choice_one : (choices : ℕ → DepthCandidate) (start end place : ℕ) (c : DepthCandidate) → start ≤ place → place < end → IsBestBetween choices start end c (preferred (choices place) c)
 choice_one choices start end place c lo hi = record { one = either (preferred_one (choices place) c); not_before = (preferred_none (choices place) c).1 }
   where
     either : (preferred (choices place) c ≡ c) ⊎ (preferred (choices place) c ≡ choices place) → (preferred (choices place) c ≡ c) ⊎ ((p : ℕ) × ((start ≤ p) × ((p < end) × (preferred (choices place) c ≡ choices p))))
@@ -133,20 +133,20 @@ choice_one choices start end place c lo hi = record { one = either (preferred_on
     either (inr e) = inr (place, (lo, (hi, e)))
 
 -- ---- the best of some choices
-pub best_none : (choices : ℕ → Candidate) (start : ℕ) (c : Candidate) → IsBestOf choices start start c c
+pub best_none : (choices : ℕ → DepthCandidate) (start : ℕ) (c : DepthCandidate) → IsBestOf choices start start c c
 best_none choices start c = record { choice = choice_none choices start start c; none = λ place lo hi. absurd (omega arith) }
 
 -- where none precedes the earlier one
-pub best_skip : (choices : ℕ → Candidate) (start end : ℕ) (c : Candidate) → ((place : ℕ) → start ≤ place → place < end → precedes (choices place) c ≡ false) → IsBestOf choices start end c c
+pub best_skip : (choices : ℕ → DepthCandidate) (start end : ℕ) (c : DepthCandidate) → ((place : ℕ) → start ≤ place → place < end → precedes (choices place) c ≡ false) → IsBestOf choices start end c c
 best_skip choices start end c f = record { choice = choice_none choices start end c; none = f }
 
-pub best_one : (choices : ℕ → Candidate) (place : ℕ) (c : Candidate) → IsBestOf choices place (place + 1) c (preferred (choices place) c)
+pub best_one : (choices : ℕ → DepthCandidate) (place : ℕ) (c : DepthCandidate) → IsBestOf choices place (place + 1) c (preferred (choices place) c)
 best_one choices place c = record {
   choice = choice_one choices place (place + 1) place c (omega arith) (omega arith);
   none = λ p lo hi. let same : place ≡ p = omega (arith, lo, hi) in subst (λ (k : ℕ). precedes (choices k) (preferred (choices place) c) ≡ false) same (preferred_none (choices place) c).0;
 }
 
-pub best_join : (choices : ℕ → Candidate) (s m e : ℕ) (c d f : Candidate) → s ≤ m → m ≤ e → IsBestOf choices s m c d → IsBestOf choices m e d f → IsBestOf choices s e c f
+pub best_join : (choices : ℕ → DepthCandidate) (s m e : ℕ) (c d f : DepthCandidate) → s ≤ m → m ≤ e → IsBestOf choices s m c d → IsBestOf choices m e d f → IsBestOf choices s e c f
 best_join choices s m e c d f lo hi h k = record {
   choice = choice_join choices s m m e c d f lo hi h.choice k.choice;
   none = λ p l u. elim (cases_lt p m) [
@@ -156,5 +156,5 @@ best_join choices s m e c d f lo hi h k = record {
 }
 
 -- the best of a guess and all is the best of all, where the guess is one of them
-pub best_guess : (choices : ℕ → Candidate) (s e : ℕ) (c d f : Candidate) → IsChoiceOf choices s e c d → IsBestOf choices s e d f → IsBestOf choices s e c f
+pub best_guess : (choices : ℕ → DepthCandidate) (s e : ℕ) (c d f : DepthCandidate) → IsBestBetween choices s e c d → IsBestOf choices s e d f → IsBestOf choices s e c f
 best_guess choices s e c d f h k = record { choice = choice_join choices s e s e c d f (omega arith) (omega arith) h k.choice; none = k.none }

@@ -15,7 +15,7 @@ use Rattle.measure_laws.proofs.Picks.{NoGreater, NoGreater-trans, NoGreater-refl
 use Rattle.measure_laws.proofs.RprecEnds.{greedy_positive, range_push}
 use Rattle.topic_counts.specs.declared.counts.Counts.{Counts}
 use Rattle.rprec.specs.declared.prefixes.Prefixes.{Prefixes}
-use Rattle.rprec.specs.declared.greedy.Candidate.{Candidate}
+use Rattle.rprec.specs.declared.greedy.DepthCandidate.{DepthCandidate}
 use Rattle.rprec.specs.Greedy.{AreTopic, AreGains, IsLeast, beats, better_of, candidate, best_beyond}
 use Rattle.rprec.specs.Search.{IsBestOf, precedes}
 use Rattle.rprec.proofs.Choices.{scaled_test, smaller_is, gains_are, own_both}
@@ -84,12 +84,12 @@ stretch_least scores positive best s (suc n) true h f =
 
 -- ---- the best of the numbers so far
 -- a number of later ones is tried: the best is the first of the least, and no greater than the last
-pub record IsBest (marks : List Mark) (a b : List ℕ) (j tried : ℕ) (best : Candidate) : Type 0 where
+pub record IsBest (marks : List Mark) (a b : List ℕ) (j tried : ℕ) (best : DepthCandidate) : Type 0 where
   pub gains : AreGains marks a b best
   pub count : best.count ≡ first_least (greedy_scores marks a b) j (range_with_len (j + 1) tried)
   pub last : NoGreater (greedy_scores marks a b best.count) (greedy_scores marks a b (j + tried))
 
-pub best_alone : (marks : List Mark) (a b : List ℕ) (j : ℕ) (c : Candidate) → AreGains marks a b c → c.count ≡ j → IsBest marks a b j 0 c
+pub best_alone : (marks : List Mark) (a b : List ℕ) (j : ℕ) (c : DepthCandidate) → AreGains marks a b c → c.count ≡ j → IsBest marks a b j 0 c
 best_alone marks a b j c h e = record {
   gains = h;
   count = e;
@@ -97,7 +97,7 @@ best_alone marks a b j c h e = record {
 }
 
 -- the last of a stretch beside the best before it
-pub best_over : (marks : List Mark) (a b : List ℕ) (j tried n : ℕ) (falls : Bool) (c best : Candidate) → IsBest marks a b j tried best → AreGains marks a b c → c.count ≡ j + tried + n →
+pub best_over : (marks : List Mark) (a b : List ℕ) (j tried n : ℕ) (falls : Bool) (c best : DepthCandidate) → IsBest marks a b j tried best → AreGains marks a b c → c.count ≡ j + tried + n →
     ((m k : ℕ) → m < k → k ≤ n → is_smaller (greedy_scores marks a b (j + tried + k)) (greedy_scores marks a b (j + tried + m)) ≡ falls) → IsBest marks a b j (tried + n) (better_of c best)
 best_over marks a b j tried n falls c best h k e f =
     let scores = greedy_scores marks a b in
@@ -129,7 +129,7 @@ best_within marks a b j tried count e =
     (first_least-all (λ d. (j ≤ d) × (d ≤ j + tried)) (greedy_scores marks a b) j (range_with_len (j + 1) tried) (omega arith, omega arith) (range_all _ (j + 1) tried (λ d h k. (omega (arith, h), omega (arith, k)))))
 
 -- a stretch along which the difference never falls
-pub best_still : (marks : List Mark) (a b : List ℕ) (j tried n : ℕ) (best : Candidate) → IsBest marks a b j tried best →
+pub best_still : (marks : List Mark) (a b : List ℕ) (j tried n : ℕ) (best : DepthCandidate) → IsBest marks a b j tried best →
     ((m k : ℕ) → m < k → k ≤ n → is_smaller (greedy_scores marks a b (j + tried + k)) (greedy_scores marks a b (j + tried + m)) ≡ false) → best.count ≡ first_least (greedy_scores marks a b) j (range_with_len (j + 1) (tried + n))
 best_still marks a b j tried n best h f =
     let scores = greedy_scores marks a b in
@@ -159,14 +159,14 @@ stretch_test r f g up down i e h =
     ∙ scaled_test (up * r + g) (f + down * r) e h
 
 -- choices from a number on, along which both counts grow evenly
-pub record IsStretch (marks : List Mark) (a b : List ℕ) (p : ℕ → Candidate) (r n up down : ℕ) : Type 0 where
+pub record IsStretch (marks : List Mark) (a b : List ℕ) (p : ℕ → DepthCandidate) (r n up down : ℕ) : Type 0 where
   pub positive : 0 < n → 0 < r
   pub gains : (i : ℕ) → i ≤ n → AreGains marks a b (p i)
   pub count : (i : ℕ) → i ≤ n → (p i).count ≡ r + i
   pub first : (i : ℕ) → i ≤ n → (p i).first ≡ (p 0).first + up * i
   pub second : (i : ℕ) → i ≤ n → (p i).second ≡ (p 0).second + down * i
 
-test_by : (c best : Candidate) (r s f g x y : ℕ) → 0 < r → 0 < s → c.count ≡ r → best.count ≡ s → c.first ≡ f → c.second ≡ g → best.first ≡ x → best.second ≡ y → beats c best ≡ nat_lt (f * s + y * r) (x * r + g * s)
+test_by : (c best : DepthCandidate) (r s f g x y : ℕ) → 0 < r → 0 < s → c.count ≡ r → best.count ≡ s → c.first ≡ f → c.second ≡ g → best.first ≡ x → best.second ≡ y → beats c best ≡ nat_lt (f * s + y * r) (x * r + g * s)
 test_by c best r s f g x y pr ps er es ef eg ex ey =
     let here : max 1 c.count ≡ r = omega (arith, er, pr) in
     let there : max 1 best.count ≡ s = omega (arith, es, ps) in
@@ -175,7 +175,7 @@ test_by c best r s f g x y pr ps er es ef eg ex ey =
     ∙ ap (λ (k : ℕ). nat_lt (k * s + best.second * r) (best.first * r + c.second * s)) ef ∙ ap (λ (k : ℕ). nat_lt (f * s + best.second * r) (best.first * r + k * s)) eg
     ∙ ap (λ (k : ℕ). nat_lt (f * s + best.second * r) (k * r + g * s)) ex ∙ ap (λ (k : ℕ). nat_lt (f * s + k * r) (x * r + g * s)) ey
 
-pub stretch_falls : (marks : List Mark) (a b : List ℕ) (p : ℕ → Candidate) (r n up down : ℕ) → IsStretch marks a b p r n up down → (m k : ℕ) → m < k → k ≤ n →
+pub stretch_falls : (marks : List Mark) (a b : List ℕ) (p : ℕ → DepthCandidate) (r n up down : ℕ) → IsStretch marks a b p r n up down → (m k : ℕ) → m < k → k ≤ n →
     is_smaller (greedy_scores marks a b (r + k)) (greedy_scores marks a b (r + m)) ≡ nat_lt (up * r + (p 0).second) ((p 0).first + down * r)
 stretch_falls marks a b p r n up down h m k lt le =
     let scores = greedy_scores marks a b in
@@ -200,7 +200,7 @@ pub same_prefixes : (marks : List Mark) (a b : List ℕ) (f : Prefixes) (r s lon
 same_prefixes marks a b f r s longest ha hb le g h =
     subst (λ (ys : List ℕ). ArePrefixes marks (take s a) ys f) (sym (same_take b r s longest hb le g)) (subst (λ (xs : List ℕ). ArePrefixes marks xs (take r b) f) (sym (same_take a r s longest ha le g)) h)
 
-pub choice_gains : (marks : List Mark) (a b : List ℕ) (r chosen : ℕ) (f : Prefixes) (all : Counts) (c : Candidate) → IsRanking (length marks) a → IsRanking (length marks) b →
+pub choice_gains : (marks : List Mark) (a b : List ℕ) (r chosen : ℕ) (f : Prefixes) (all : Counts) (c : DepthCandidate) → IsRanking (length marks) a → IsRanking (length marks) b →
     ArePrefixes marks (take r a) (take r b) f → AreTopic marks all → r ≡ all.relevant + chosen → chosen ≤ all.unjudged → c ≡ candidate f all chosen → AreGains marks a b c
 choice_gains marks a b r chosen f all c ra rb h topic er small e =
     subst (AreGains marks a b) (sym e) (gains_are marks a b r chosen f all (candidate f all chosen) ra rb h topic er small (sym er) refl refl)
@@ -236,18 +236,18 @@ settled_stretch marks a b all f start c d up down ra rb topic h lo le hi first s
 }
 
 -- from one place to another, along an even stretch
-advanced : (marks : List Mark) (a b : List ℕ) (all : Counts) (f : Prefixes) (start c d up down : ℕ) (best : Candidate) → IsRanking (length marks) a → IsRanking (length marks) b → AreTopic marks all → IsSettled marks a b all f start →
+advanced : (marks : List Mark) (a b : List ℕ) (all : Counts) (f : Prefixes) (start c d up down : ℕ) (best : DepthCandidate) → IsRanking (length marks) a → IsRanking (length marks) b → AreTopic marks all → IsSettled marks a b all f start →
     start ≤ c → c ≤ d → d ≤ all.unjudged → ((i : ℕ) → c + i ≤ d → (candidate f all (c + i)).first ≡ (candidate f all (c + 0)).first + up * i) → ((i : ℕ) → c + i ≤ d → (candidate f all (c + i)).second ≡ (candidate f all (c + 0)).second + down * i) →
     IsBest marks a b all.relevant c best → IsBest marks a b all.relevant d (better_of (candidate f all d) best)
 advanced marks a b all f start c d up down best ra rb topic h lo le hi first second k =
-    let p : ℕ → Candidate = λ i. candidate f all (c + i) in
+    let p : ℕ → DepthCandidate = λ i. candidate f all (c + i) in
     let even = settled_stretch marks a b all f start c d up down ra rb topic h lo le hi first second in
     subst (λ (x : ℕ). IsBest marks a b all.relevant x (better_of (candidate f all d) best)) (omega arith)
     (best_over marks a b all.relevant c (d - c) (nat_lt (up * (all.relevant + c) + (p 0).second) ((p 0).first + down * (all.relevant + c))) (candidate f all d) best k
     (settled_gains marks a b all f start d ra rb topic h (omega arith) hi) (omega arith) (stretch_falls marks a b p (all.relevant + c) (d - c) up down even))
 
 -- beyond the places where the second run's own documents, and then all but the first run's own, are used up, the difference rises
-pub beyond_least : (marks : List Mark) (a b : List ℕ) (all : Counts) (f : Prefixes) (start : ℕ) (best : Candidate) → IsRanking (length marks) a → IsRanking (length marks) b → AreTopic marks all → start ≤ all.unjudged → IsSettled marks a b all f start → IsBest marks a b all.relevant start best →
+pub beyond_least : (marks : List Mark) (a b : List ℕ) (all : Counts) (f : Prefixes) (start : ℕ) (best : DepthCandidate) → IsRanking (length marks) a → IsRanking (length marks) b → AreTopic marks all → start ≤ all.unjudged → IsSettled marks a b all f start → IsBest marks a b all.relevant start best →
     ((best_beyond f all start best).count ≡ first_least (greedy_scores marks a b) all.relevant (range_with_len (all.relevant + 1) all.unjudged)) × AreGains marks a b (best_beyond f all start best)
 beyond_least marks a b all f start best ra rb topic small h k =
     let others = all.unjudged - f.first.unjudged in
@@ -266,7 +266,7 @@ beyond_least marks a b all f start best ra rb topic small h k =
     (best_still marks a b all.relevant two (all.unjudged - two) after second rises ∙ ap (λ (x : ℕ). first_least (greedy_scores marks a b) all.relevant (range_with_len (all.relevant + 1) x)) whole, second.gains)
 
 -- it is the least of all
-pub beyond_is_least : (marks : List Mark) (a b : List ℕ) (all : Counts) (f : Prefixes) (start : ℕ) (best after : Candidate) → IsRanking (length marks) a → IsRanking (length marks) b → AreTopic marks all → start ≤ all.unjudged → IsSettled marks a b all f start → IsBest marks a b all.relevant start best →
+pub beyond_is_least : (marks : List Mark) (a b : List ℕ) (all : Counts) (f : Prefixes) (start : ℕ) (best after : DepthCandidate) → IsRanking (length marks) a → IsRanking (length marks) b → AreTopic marks all → start ≤ all.unjudged → IsSettled marks a b all f start → IsBest marks a b all.relevant start best →
     after ≡ best_beyond f all start best → IsLeast marks a b after
 beyond_is_least marks a b all f start best after ra rb topic small h k e =
     let found = beyond_least marks a b all f start best ra rb topic small h k in
@@ -284,7 +284,7 @@ at_range P start (suc n) d h lo hi = elim (cases_lt start d) [
 ]
 
 -- the best so far is no greater than each number tried
-best_no_greater : (marks : List Mark) (a b : List ℕ) (j tried : ℕ) (best : Candidate) → IsBest marks a b j tried best → (d : ℕ) → j ≤ d → d ≤ j + tried → NoGreater (greedy_scores marks a b best.count) (greedy_scores marks a b d)
+best_no_greater : (marks : List Mark) (a b : List ℕ) (j tried : ℕ) (best : DepthCandidate) → IsBest marks a b j tried best → (d : ℕ) → j ≤ d → d ≤ j + tried → NoGreater (greedy_scores marks a b best.count) (greedy_scores marks a b d)
 best_no_greater marks a b j tried best h d lo hi =
     let scores = greedy_scores marks a b in
     let all = first_least-least scores (greedy_positive marks a b) j (range_with_len (j + 1) tried) in
@@ -294,14 +294,14 @@ best_no_greater marks a b j tried best h d lo hi =
     ])
 
 -- what it says that a candidate does not precede another
-no_beats : (c best : Candidate) → precedes c best ≡ false → beats c best ≡ false
+no_beats : (c best : DepthCandidate) → precedes c best ≡ false → beats c best ≡ false
 no_beats c best e = by_test (beats c best) refl e
   where
     by_test : (b : Bool) → beats c best ≡ b → (b || (not (beats best c) && nat_lt c.count best.count)) ≡ false → beats c best ≡ false
     by_test false eb h = eb
     by_test true eb h = absurd (cc)
 
-beaten : (c best : Candidate) → precedes c best ≡ false → c.count < best.count → beats best c ≡ true
+beaten : (c best : DepthCandidate) → precedes c best ≡ false → c.count < best.count → beats best c ≡ true
 beaten c best e lt = by_test (beats c best) (beats best c) (nat_lt c.count best.count) refl (fewer lt) e
   where
     fewer : c.count < best.count → nat_lt c.count best.count ≡ true
@@ -314,12 +314,12 @@ beaten c best e lt = by_test (beats c best) (beats best c) (nat_lt c.count best.
     by_test false false false ed ev h = absurd (cc)
 
 -- some choices at the numbers after those tried
-pub record AreNext (marks : List Mark) (a b : List ℕ) (j tried n : ℕ) (choices : ℕ → Candidate) : Type 0 where
+pub record AreNext (marks : List Mark) (a b : List ℕ) (j tried n : ℕ) (choices : ℕ → DepthCandidate) : Type 0 where
   pub gains : (place : ℕ) → place < n → AreGains marks a b (choices place)
   pub count : (place : ℕ) → place < n → (choices place).count ≡ j + tried + 1 + place
 
 -- the best of an earlier best and of some next choices
-pub best_found : (marks : List Mark) (a b : List ℕ) (j tried n : ℕ) (choices : ℕ → Candidate) (old best : Candidate) → IsBest marks a b j tried old → AreNext marks a b j tried n choices → IsBestOf choices 0 n old best → IsBest marks a b j (tried + n) best
+pub best_found : (marks : List Mark) (a b : List ℕ) (j tried n : ℕ) (choices : ℕ → DepthCandidate) (old best : DepthCandidate) → IsBest marks a b j tried old → AreNext marks a b j tried n choices → IsBestOf choices 0 n old best → IsBest marks a b j (tried + n) best
 best_found marks a b j tried n choices old best h next found = by_case found.choice.one
   where
     scores : ℕ → Scores
@@ -343,7 +343,7 @@ best_found marks a b j tried n choices old best h next found = by_case found.cho
     ]
       where
         none_tried : (best ≡ old) ⊎ ((place : ℕ) × ((0 ≤ place) × ((place < n) × (best ≡ choices place)))) → n ≡ 0 → NoGreater (scores best.count) (scores (j + (tried + n)))
-        none_tried (inl e) z = subst (λ (x : ℕ). NoGreater (scores best.count) (scores x)) (omega (arith, z)) (subst (λ (c : Candidate). NoGreater (scores c.count) (scores (j + tried))) (sym e) h.last)
+        none_tried (inl e) z = subst (λ (x : ℕ). NoGreater (scores best.count) (scores x)) (omega (arith, z)) (subst (λ (c : DepthCandidate). NoGreater (scores c.count) (scores (j + tried))) (sym e) h.last)
         none_tried (inr e) z = absurd (omega (arith, e.1.1.0, z))
 
     -- it is smaller than each number before it, where it is one of the choices
@@ -351,7 +351,7 @@ best_found marks a b j tried n choices old best h next found = by_case found.cho
     before place d lt e lo hi = elim (cases_lt (j + tried) d) [
       | inl more ↦
           let p = d - (j + tried + 1) in
-          let count : best.count ≡ j + tried + 1 + place = ap (λ (c : Candidate). c.count) e ∙ next.count place lt in
+          let count : best.count ≡ j + tried + 1 + place = ap (λ (c : DepthCandidate). c.count) e ∙ next.count place lt in
           let there : (choices p).count ≡ d = omega (arith, next.count p (omega (arith, count, hi))) in
           ap (λ (x : ℕ). is_smaller (scores best.count) (scores x)) (sym there) ∙ smaller_is marks a b best (choices p) (gains found.choice.one) (next.gains p (omega (arith, count, hi)))
           ∙ beaten (choices p) best (found.none p (omega arith) (omega (arith, count, hi))) (omega (arith, there, hi))
@@ -363,7 +363,7 @@ best_found marks a b j tried n choices old best h next found = by_case found.cho
 
         against : is_smaller (scores best.count) (scores old.count) ≡ true
         against =
-            let count : best.count ≡ j + tried + 1 + place = ap (λ (c : Candidate). c.count) e ∙ next.count place lt in
+            let count : best.count ≡ j + tried + 1 + place = ap (λ (c : DepthCandidate). c.count) e ∙ next.count place lt in
             smaller_is marks a b best old (gains found.choice.one) h.gains ∙ beaten old best found.choice.not_before (omega (arith, count, old_within))
 
         against_old : d ≤ j + tried → (v : Bool) → is_smaller (scores best.count) (scores d) ≡ v → is_smaller (scores best.count) (scores d) ≡ true
@@ -380,12 +380,12 @@ best_found marks a b j tried n choices old best h next found = by_case found.cho
 
     old_count : best ≡ old → best.count ≡ first_least scores j (range_with_len (j + 1) (tried + n))
     old_count e =
-        let same : best.count ≡ first_least scores j (range_with_len (j + 1) tried) = ap (λ (c : Candidate). c.count) e ∙ h.count in
+        let same : best.count ≡ first_least scores j (range_with_len (j + 1) tried) = ap (λ (c : DepthCandidate). c.count) e ∙ h.count in
         sym (whole tried n best.count (sym same) ∙ none_better scores best.count (j + 1 + tried) n (λ d lo hi. later d (omega (arith, lo)) (omega (arith, hi))))
 
     new_count : (place : ℕ) → place < n → best ≡ choices place → best.count ≡ first_least scores j (range_with_len (j + 1) (tried + n))
     new_count place lt e =
-        let count : best.count ≡ j + tried + 1 + place = ap (λ (c : Candidate). c.count) e ∙ next.count place lt in
+        let count : best.count ≡ j + tried + 1 + place = ap (λ (c : DepthCandidate). c.count) e ∙ next.count place lt in
         let m = tried + place in
         let first = first_least scores j (range_with_len (j + 1) m) in
         let smaller : is_smaller (scores best.count) (scores first) ≡ true =

@@ -11,7 +11,7 @@ use Rattle.measure_laws.specs.RprecCase.{greedy_truth, rprec_count}
 use Rattle.topic_counts.specs.declared.counts.Counts.{Counts}
 use Rattle.topic_counts.specs.Own.{AreCountsOf}
 use Rattle.rprec.specs.declared.prefixes.Prefixes.{Prefixes}
-use Rattle.rprec.specs.declared.greedy.Candidate.{Candidate}
+use Rattle.rprec.specs.declared.greedy.DepthCandidate.{DepthCandidate}
 
 -- one for a mark that is relevant, or that can be
 abbrev pub one_of : Bool → Mark → ℕ
@@ -40,19 +40,19 @@ pub record AreTopic (marks : List Mark) (all : Counts) : Type 0 where
   pub unjudged : all.unjudged ≡ size_of (length marks) (open_in marks (λ _. true))
 
 -- as many relevant documents apart as the two runs are, where a number of relevant documents is chosen greedily
-pub record AreGains (marks : List Mark) (a b : List ℕ) (c : Candidate) : Type 0 where
+pub record AreGains (marks : List Mark) (a b : List ℕ) (c : DepthCandidate) : Type 0 where
   pub same : true_among (greedy_truth marks a b c.count) c.count a + c.second ≡ true_among (greedy_truth marks a b c.count) c.count b + c.first
 
 -- whether the difference of one candidate is smaller than that of another
-abbrev pub beats : Candidate → Candidate → Bool
+abbrev pub beats : DepthCandidate → DepthCandidate → Bool
 beats c best = nat_lt (c.first * max 1 best.count + best.second * max 1 c.count) (best.first * max 1 c.count + c.second * max 1 best.count)
 
 -- the one of two candidates with the smaller difference, and of equal ones the second
-abbrev pub better_of : Candidate → Candidate → Candidate
+abbrev pub better_of : DepthCandidate → DepthCandidate → DepthCandidate
 better_of c best = if beats c best then c else best
 
 -- the greedy choice of some of the unjudged documents, by the counts of two prefixes
-abbrev pub candidate : Prefixes → Counts → ℕ → Candidate
+abbrev pub candidate : Prefixes → Counts → ℕ → DepthCandidate
 candidate prefixes all chosen = record {
   count = all.relevant + chosen;
   first = prefixes.first.relevant + (chosen - (all.unjudged - prefixes.first.unjudged));
@@ -67,18 +67,18 @@ pub record AreFew (prefixes : Prefixes) (all : Counts) : Type 0 where
   pub total : all.relevant + all.unjudged ≤ DOCUMENT_LIMIT
 
 -- a candidate with no more than a run and a topic have
-pub record IsSmall (c : Candidate) : Type 0 where
+pub record IsSmallCandidate (c : DepthCandidate) : Type 0 where
   pub few : c.count ≤ DOCUMENT_LIMIT
   pub first_few : c.first ≤ RANK_LIMIT
   pub second_few : c.second ≤ RANK_LIMIT
 
 -- the best so far, against the choices where the second run's own unjudged documents are used up, and all but the first run's own
-abbrev pub best_beyond : Prefixes → Counts → ℕ → Candidate → Candidate
+abbrev pub best_beyond : Prefixes → Counts → ℕ → DepthCandidate → DepthCandidate
 best_beyond prefixes all chosen best =
     better_of (candidate prefixes all (max chosen (all.unjudged - prefixes.first.unjudged))) (better_of (candidate prefixes all (max chosen prefixes.second.unjudged)) best)
 
 -- it is the smallest number of relevant documents with the least difference, one that the topic can have
-pub record IsLeast (marks : List Mark) (a b : List ℕ) (c : Candidate) : Type 0 where
+pub record IsLeast (marks : List Mark) (a b : List ℕ) (c : DepthCandidate) : Type 0 where
   pub gains : AreGains marks a b c
   pub chosen : c.count ≡ rprec_count marks a b
   pub low : judged_count marks ≤ c.count

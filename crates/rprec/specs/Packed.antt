@@ -28,7 +28,7 @@ counts_for Unjudged = record { relevant = 0; unjudged = 1 }
 counts_for Other = record { relevant = 0; unjudged = 0 }
 
 -- the number that holds those of the document at a place of a list
-pub record IsNext (marks : List Mark) (docs : List ℕ) (place number : ℕ) : Type 0 where
+pub record IsPackedNext (marks : List Mark) (docs : List ℕ) (place number : ℕ) : Type 0 where
   pub counts : Counts
   pub next : AreNext marks docs place counts
   pub same : number ≡ pack counts

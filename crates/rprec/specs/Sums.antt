@@ -6,7 +6,7 @@ use Rattle.desk_model.specs.Mark.{is_unjudged, mark_at}
 use Rattle.desk_model.specs.Ranking.{IsRanking}
 use Rattle.desk_model.specs.declared.types.Mark.{Mark}
 use Rattle.topic_counts.specs.declared.counts.Counts.{Counts}
-use Rattle.rprec.specs.declared.greedy.Candidate.{Candidate}
+use Rattle.rprec.specs.declared.greedy.DepthCandidate.{DepthCandidate}
 use Rattle.rprec.specs.declared.pair.RunPair.{RunPair}
 use Rattle.rprec.specs.declared.prefixes.Prefixes.{Prefixes}
 use Rattle.rprec.specs.Greedy.{AreTopic, candidate, prefixes_of}
@@ -17,7 +17,7 @@ abbrev pub counts_of : List Mark → List ℕ → Counts
 counts_of marks docs = record { relevant = count_by (with_picked marks (λ _. false)) docs; unjudged = count_by (λ doc. is_unjudged (mark_at marks doc)) docs }
 
 -- for each number of blocks, the counts of a run's documents up to there, in one number
-pub record AreSumsOf (marks : List Mark) (docs numbers : List ℕ) : Type 0 where
+pub record AreBlockSums (marks : List Mark) (docs numbers : List ℕ) : Type 0 where
   pub each : (block : ℕ) → block ≤ 1000 → slice_index_or numbers block 0 ≡ pack (counts_of marks (take (10 * block) docs))
 
 -- the same for what is counted place by place, up to a depth
@@ -33,8 +33,8 @@ pub record AreSharedBelow (marks : List Mark) (a b counts : List ℕ) : Type 0 w
 pub record IsPair (pair : RunPair) : Type 0 where
   pub a : IsRanking (length pair.marks.now) pair.a.now
   pub b : IsRanking (length pair.marks.now) pair.b.now
-  pub first : AreSumsOf pair.marks.now pair.a.now pair.first.now.numbers
-  pub second : AreSumsOf pair.marks.now pair.b.now pair.second.now.numbers
+  pub first : AreBlockSums pair.marks.now pair.a.now pair.first.now.numbers
+  pub second : AreBlockSums pair.marks.now pair.b.now pair.second.now.numbers
   pub shared : AreSharedBelow pair.marks.now pair.a.now pair.b.now pair.shared.now.counts
   pub both : AreSharedSums pair.shared.now.counts pair.both.now.numbers pair.longest
   pub first_short : length pair.a.now ≤ pair.longest
@@ -53,7 +53,7 @@ abbrev pub steps_of : RunPair → ℕ
 steps_of pair = min (pair.longest - pair.all.relevant) pair.all.unjudged
 
 -- the greedy choice at each of them
-abbrev pub choice_at : RunPair → ℕ → Candidate
+abbrev pub choice_at : RunPair → ℕ → DepthCandidate
 choice_at pair place = candidate (prefixes pair (pair.all.relevant + (place + 1))) pair.all (place + 1)
 
 -- the same with the runs swapped

@@ -1,9 +1,9 @@
 ghost use Rattle.std.specs.Prelude.{◌≡◌, ℕ, ◌+◌, ◌-◌, ◌*◌, ◌<◌, ◌≤◌, false};
-ghost use Rattle.rprec.specs.Greedy.{IsSmall, candidate};
-ghost use Rattle.rprec.specs.Search.{IsBestOf, IsChoiceOf, IsNear, precedes};
+ghost use Rattle.rprec.specs.Greedy.{IsSmallCandidate, candidate};
+ghost use Rattle.rprec.specs.Search.{IsBestOf, IsBestBetween, IsShallow, precedes};
 ghost use Rattle.rprec.specs.Sums.{IsPair, choice_at, prefixes, steps_of};
 
-use crate::greedy::{Candidate, greedy_choice};
+use crate::greedy::{DepthCandidate, greedy_choice};
 use crate::pair::RunPair;
 use crate::prefixes::counts_in;
 use crate::search::{is_less, preferred};
@@ -14,12 +14,12 @@ const STRETCH: u32 = 5;
 
 impl<'p> RunPair<'p> {
     /// The greedy choice at the end of a block.
-    fn choice_at_block(&self, block: u32) -> Candidate
+    fn choice_at_block(&self, block: u32) -> DepthCandidate
         requires pair { IsPair self.now }
         requires low { self.now.all.relevant < 10 * block }
         requires high { 10 * block ≤ self.now.all.relevant + steps_of self.now }
         ensures value { result ≡ candidate (prefixes self.now (10 * block)) self.now.all (10 * block - self.now.all.relevant) }
-        ensures near { IsNear result }
+        ensures near { IsShallow result }
     {
         let prefixes = self.at_block(block).unpacked();
         greedy_choice(prefixes, block * BLOCK - self.all.relevant, self.all)
@@ -27,11 +27,11 @@ impl<'p> RunPair<'p> {
 
     /// A good one of the greedy choices and an earlier candidate: the best of those at the ends of
     /// stretches.
-    fn guess(&self, earlier: Candidate) -> Candidate
+    fn guess(&self, earlier: DepthCandidate) -> DepthCandidate
         requires pair { IsPair self.now }
-        requires earlier { IsNear earlier }
-        ensures choice { IsChoiceOf (choice_at self.now) 0 (steps_of self.now) earlier result }
-        ensures near { IsNear result }
+        requires earlier { IsShallow earlier }
+        ensures choice { IsBestBetween (choice_at self.now) 0 (steps_of self.now) earlier result }
+        ensures near { IsShallow result }
     {
         let length = STRETCH * BLOCK;
         let first = self.all.relevant / length + 1;
@@ -63,11 +63,11 @@ impl<'p> RunPair<'p> {
     /// candidate has a smaller difference than what bounds them all: the relevant documents that the
     /// first run has at the start, and for the second run all that it has at the end, less what both
     /// share at the start. At each depth before the one where it may have so many, it has one fewer.
-    fn may_precede(&self, chosen: u32, next: u32, best: Candidate) -> bool
+    fn may_precede(&self, chosen: u32, next: u32, best: DepthCandidate) -> bool
         requires pair { IsPair self.now }
         requires order { chosen < next }
         requires high { next ≤ steps_of self.now }
-        requires best { IsNear best }
+        requires best { IsShallow best }
         ensures { result ≡ false → (place : ℕ) → chosen ≤ place → place < next → precedes (choice_at self.now place) best ≡ false }
     {
         let relevant = self.all.relevant;
@@ -80,12 +80,12 @@ impl<'p> RunPair<'p> {
         let most = ended.unjudged.min(next);
         let lack = relevant.max(start * BLOCK - begun.unjudged);
         let second = ended.relevant + most;
-        let high = Candidate {
+        let high = DepthCandidate {
             count: relevant + next,
             first,
             second,
         };
-        let low = Candidate {
+        let low = DepthCandidate {
             count: high.count.min(most + lack),
             first,
             second,
@@ -94,13 +94,13 @@ impl<'p> RunPair<'p> {
     }
 
     /// The best of the greedy choices at some depths and an earlier candidate, one by one.
-    fn best_in(&self, chosen: u32, next: u32, earlier: Candidate) -> Candidate
+    fn best_in(&self, chosen: u32, next: u32, earlier: DepthCandidate) -> DepthCandidate
         requires pair { IsPair self.now }
         requires order { chosen < next }
         requires high { next ≤ steps_of self.now }
-        requires earlier { IsNear earlier }
+        requires earlier { IsShallow earlier }
         ensures best { IsBestOf (choice_at self.now) chosen next earlier result }
-        ensures near { IsNear result }
+        ensures near { IsShallow result }
     {
         let mut packed = self.packed_at(self.all.relevant + chosen);
         let mut best = earlier;
@@ -112,13 +112,13 @@ impl<'p> RunPair<'p> {
     }
 
     /// The same at the depths of a block.
-    fn best_in_block(&self, chosen: u32, next: u32, earlier: Candidate) -> Candidate
+    fn best_in_block(&self, chosen: u32, next: u32, earlier: DepthCandidate) -> DepthCandidate
         requires pair { IsPair self.now }
         requires order { chosen < next }
         requires high { next ≤ steps_of self.now }
-        requires earlier { IsNear earlier }
+        requires earlier { IsShallow earlier }
         ensures best { IsBestOf (choice_at self.now) chosen next earlier result }
-        ensures near { IsNear result }
+        ensures near { IsShallow result }
     {
         if self.may_precede(chosen, next, earlier) {
             self.best_in(chosen, next, earlier)
@@ -128,13 +128,13 @@ impl<'p> RunPair<'p> {
     }
 
     /// The same at the depths of some blocks.
-    fn best_in_blocks(&self, start: u32, end: u32, earlier: Candidate) -> Candidate
+    fn best_in_blocks(&self, start: u32, end: u32, earlier: DepthCandidate) -> DepthCandidate
         requires pair { IsPair self.now }
         requires order { start < end }
         requires high { end ≤ steps_of self.now }
-        requires earlier { IsNear earlier }
+        requires earlier { IsShallow earlier }
         ensures best { IsBestOf (choice_at self.now) start end earlier result }
-        ensures near { IsNear result }
+        ensures near { IsShallow result }
     {
         let mut best = earlier;
         let mut chosen = start;
@@ -147,13 +147,13 @@ impl<'p> RunPair<'p> {
     }
 
     /// The same at the depths of a stretch.
-    fn best_in_stretch(&self, start: u32, end: u32, earlier: Candidate) -> Candidate
+    fn best_in_stretch(&self, start: u32, end: u32, earlier: DepthCandidate) -> DepthCandidate
         requires pair { IsPair self.now }
         requires order { start < end }
         requires high { end ≤ steps_of self.now }
-        requires earlier { IsNear earlier }
+        requires earlier { IsShallow earlier }
         ensures best { IsBestOf (choice_at self.now) start end earlier result }
-        ensures near { IsNear result }
+        ensures near { IsShallow result }
     {
         if self.may_precede(start, end, earlier) {
             self.best_in_blocks(start, end, earlier)
@@ -163,11 +163,11 @@ impl<'p> RunPair<'p> {
     }
 
     /// The same at all depths.
-    fn best_in_stretches(&self, earlier: Candidate) -> Candidate
+    fn best_in_stretches(&self, earlier: DepthCandidate) -> DepthCandidate
         requires pair { IsPair self.now }
-        requires earlier { IsNear earlier }
+        requires earlier { IsShallow earlier }
         ensures best { IsBestOf (choice_at self.now) 0 (steps_of self.now) earlier result }
-        ensures near { IsNear result }
+        ensures near { IsShallow result }
     {
         let steps = self.steps();
         let mut best = earlier;
@@ -183,12 +183,12 @@ impl<'p> RunPair<'p> {
     /// The best of the greedy choices at all depths and the one at the number of documents judged
     /// relevant: the one with the least difference, and of these the one with the smallest number of
     /// relevant documents.
-    pub fn best(&self, judged: Candidate) -> Candidate
+    pub fn best(&self, judged: DepthCandidate) -> DepthCandidate
         requires pair { IsPair self.now }
-        requires small { IsSmall judged }
+        requires small { IsSmallCandidate judged }
         requires count { judged.count ≡ self.now.all.relevant }
         ensures best { IsBestOf (choice_at self.now) 0 (steps_of self.now) judged result }
-        ensures small { IsSmall result }
+        ensures small { IsSmallCandidate result }
     {
         if self.steps() == 0 {
             judged

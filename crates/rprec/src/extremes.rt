@@ -2,11 +2,11 @@ ghost use Rattle.std.specs.Prelude.{◌≡◌, ◌+◌, ◌≤◌, length};
 ghost use Rattle.desk_model.specs.Limits.{DOCUMENT_LIMIT, RANK_LIMIT};
 ghost use Rattle.desk_model.specs.Ranking.{IsRanking};
 ghost use Rattle.measure_laws.specs.RprecCase.{IsSmallestAttained};
-ghost use Rattle.rprec.specs.Greedy.{AreTopic, IsLeast, IsSmall};
+ghost use Rattle.rprec.specs.Greedy.{AreTopic, IsLeast, IsSmallCandidate};
 ghost use Rattle.rprec.specs.Shared.{AreShared};
-ghost use Rattle.rprec.specs.Sums.{AreSumsOf, IsPair, prefixes, steps_of};
+ghost use Rattle.rprec.specs.Sums.{AreBlockSums, IsPair, prefixes, steps_of};
 
-use crate::greedy::{Candidate, best_beyond, greedy_choice};
+use crate::greedy::{DepthCandidate, best_beyond, greedy_choice};
 use crate::pair::RunPair;
 use crate::prefixes::Prefixes;
 use crate::shared::Shared;
@@ -19,8 +19,8 @@ use topic_counts::counts::Counts;
 /// one negated.
 #[derive(Clone, Copy, PartialEq, Eq)]
 pub struct Extremes {
-    pub least: Candidate,
-    pub most: Candidate,
+    pub least: DepthCandidate,
+    pub most: DepthCandidate,
 }
 
 /// How many documents the longer of two runs has, and at least 1.
@@ -38,12 +38,12 @@ fn longest(a: &[u32], b: &[u32]) -> u32
 impl<'p> RunPair<'p> {
     /// The least candidate of the first run against the second, from the counts at the number of
     /// documents judged relevant and at the last depth to look at.
-    fn least(&self, start: Prefixes, end: Prefixes) -> Candidate
+    fn least(&self, start: Prefixes, end: Prefixes) -> DepthCandidate
         requires pair { IsPair self.now }
         requires start { start ≡ prefixes self.now self.now.all.relevant }
         requires end { end ≡ prefixes self.now (self.now.all.relevant + steps_of self.now) }
         ensures least { IsLeast self.now.marks.now self.now.a.now self.now.b.now result }
-        ensures small { IsSmall result }
+        ensures small { IsSmallCandidate result }
     {
         let judged = greedy_choice(start, 0, self.all);
         best_beyond(end, self.steps(), self.all, self.best(judged))
@@ -54,8 +54,8 @@ impl<'p> RunPair<'p> {
         requires { IsPair self.now }
         ensures least { IsLeast self.now.marks.now self.now.a.now self.now.b.now result.least }
         ensures most { IsLeast self.now.marks.now self.now.b.now self.now.a.now result.most }
-        ensures least_small { IsSmall result.least }
-        ensures most_small { IsSmall result.most }
+        ensures least_small { IsSmallCandidate result.least }
+        ensures most_small { IsSmallCandidate result.most }
     {
         let start = self.prefixes_at(self.all.relevant);
         let end = self.prefixes_at(self.all.relevant + self.steps());
@@ -81,8 +81,8 @@ pub fn find_extremes(
 ) -> Extremes
     requires a { IsRanking (length marks.now) a.now }
     requires b { IsRanking (length marks.now) b.now }
-    requires first { AreSumsOf marks.now a.now first.now.numbers }
-    requires second { AreSumsOf marks.now b.now second.now.numbers }
+    requires first { AreBlockSums marks.now a.now first.now.numbers }
+    requires second { AreBlockSums marks.now b.now second.now.numbers }
     requires shared { AreShared marks.now a.now b.now shared.now.counts }
     requires topic { AreTopic marks.now all }
     requires few { all.relevant + all.unjudged ≤ DOCUMENT_LIMIT }
@@ -90,8 +90,8 @@ pub fn find_extremes(
     ensures most { IsLeast marks.now b.now a.now result.most }
     ensures least_first { IsSmallestAttained marks.now a.now b.now result.least.count }
     ensures most_first { IsSmallestAttained marks.now b.now a.now result.most.count }
-    ensures least_small { IsSmall result.least }
-    ensures most_small { IsSmall result.most }
+    ensures least_small { IsSmallCandidate result.least }
+    ensures most_small { IsSmallCandidate result.most }
     ensures low { all.relevant ≤ result.least.count }
 {
     let longest = longest(a, b);

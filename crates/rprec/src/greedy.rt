@@ -1,5 +1,5 @@
 ghost use Rattle.std.specs.Prelude.{◌≡◌, ◌≤◌};
-ghost use Rattle.rprec.specs.Greedy.{AreFew, IsSmall, beats, best_beyond as beyond, better_of, candidate};
+ghost use Rattle.rprec.specs.Greedy.{AreFew, IsSmallCandidate, beats, best_beyond as beyond, better_of, candidate};
 
 use crate::prefixes::Prefixes;
 use topic_counts::counts::Counts;
@@ -7,7 +7,7 @@ use topic_counts::counts::Counts;
 /// A number of relevant documents, and how many of them each run has among as many first documents,
 /// where the difference is the least. Documents that both have there may be left out of both counts.
 #[derive(Clone, Copy, PartialEq, Eq)]
-pub struct Candidate {
+pub struct DepthCandidate {
     pub count: u32,
     pub first: u32,
     pub second: u32,
@@ -15,14 +15,14 @@ pub struct Candidate {
 
 /// The greedy choice of some of the unjudged documents: the second run's own ones come first, and
 /// the first run's own ones last.
-pub fn greedy_choice(prefixes: Prefixes, chosen: u32, all: Counts) -> Candidate
+pub fn greedy_choice(prefixes: Prefixes, chosen: u32, all: Counts) -> DepthCandidate
     requires few { AreFew prefixes all }
     requires chosen { chosen ≤ all.unjudged }
     ensures value { result ≡ candidate prefixes all chosen }
-    ensures small { IsSmall result }
+    ensures small { IsSmallCandidate result }
 {
     let others = all.unjudged - prefixes.first.unjudged;
-    Candidate {
+    DepthCandidate {
         count: all.relevant + chosen,
         first: prefixes.first.relevant + chosen.saturating_sub(others),
         second: prefixes.second.relevant + chosen.min(prefixes.second.unjudged),
@@ -30,9 +30,9 @@ pub fn greedy_choice(prefixes: Prefixes, chosen: u32, all: Counts) -> Candidate
 }
 
 /// Whether the difference of one candidate is smaller than that of another.
-fn is_less(c: Candidate, best: Candidate) -> bool
-    requires candidate { IsSmall c }
-    requires best { IsSmall best }
+fn is_less(c: DepthCandidate, best: DepthCandidate) -> bool
+    requires candidate { IsSmallCandidate c }
+    requires best { IsSmallCandidate best }
     ensures { result ≡ beats c best }
 {
     let here = u64::from(c.count.max(1));
@@ -42,11 +42,11 @@ fn is_less(c: Candidate, best: Candidate) -> bool
 }
 
 /// The one of two candidates with the smaller difference, and of equal ones the second.
-fn better(c: Candidate, best: Candidate) -> Candidate
-    requires candidate { IsSmall c }
-    requires best { IsSmall best }
+fn better(c: DepthCandidate, best: DepthCandidate) -> DepthCandidate
+    requires candidate { IsSmallCandidate c }
+    requires best { IsSmallCandidate best }
     ensures value { result ≡ better_of c best }
-    ensures small { IsSmall result }
+    ensures small { IsSmallCandidate result }
 {
     if is_less(c, best) { c } else { best }
 }
@@ -54,12 +54,17 @@ fn better(c: Candidate, best: Candidate) -> Candidate
 /// The best of all, where the best up to some number is known and the prefixes stay as they are from
 /// there on. The difference falls or rises evenly up to where the second run's own documents are
 /// used up, and from there up to where only the first run's own ones are left; then it rises.
-pub fn best_beyond(prefixes: Prefixes, chosen: u32, all: Counts, best: Candidate) -> Candidate
+pub fn best_beyond(
+    prefixes: Prefixes,
+    chosen: u32,
+    all: Counts,
+    best: DepthCandidate,
+) -> DepthCandidate
     requires few { AreFew prefixes all }
     requires chosen { chosen ≤ all.unjudged }
-    requires best { IsSmall best }
+    requires best { IsSmallCandidate best }
     ensures value { result ≡ beyond prefixes all chosen best }
-    ensures small { IsSmall result }
+    ensures small { IsSmallCandidate result }
 {
     let others = all.unjudged - prefixes.first.unjudged;
     let second_used = greedy_choice(prefixes, chosen.max(prefixes.second.unjudged), all);

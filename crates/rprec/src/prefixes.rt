@@ -1,7 +1,7 @@
 ghost use Rattle.std.specs.Prelude.{◌≡◌, ◌<◌, length};
 ghost use Rattle.desk_model.specs.Ranking.{IsRanking};
 ghost use Rattle.rprec.specs.Greedy.{swapped};
-ghost use Rattle.rprec.specs.Packed.{IsNext, counts_for, pack, unpack, unpacked_of};
+ghost use Rattle.rprec.specs.Packed.{IsPackedNext, counts_for, pack, unpack, unpacked_of};
 
 use desk_model::Mark;
 use topic_counts::counts::Counts;
@@ -73,7 +73,7 @@ fn number_for(mark: Mark) -> u32
 pub fn number_at(docs: &[u32], place: u32, marks: &[Mark]) -> u32
     requires docs { IsRanking (length marks.now) docs.now }
     requires place { place < length docs.now }
-    ensures { IsNext marks.now docs.now place result }
+    ensures { IsPackedNext marks.now docs.now place result }
 {
     number_for(marks[docs[place as usize] as usize])
 }
@@ -81,7 +81,7 @@ pub fn number_at(docs: &[u32], place: u32, marks: &[Mark]) -> u32
 /// The counts of the document at a place of a ranking, packed, if there is one.
 pub fn next_number(docs: &[u32], place: u32, marks: &[Mark]) -> u32
     requires { IsRanking (length marks.now) docs.now }
-    ensures { IsNext marks.now docs.now place result }
+    ensures { IsPackedNext marks.now docs.now place result }
 {
     if (place as usize) < docs.len() {
         number_at(docs, place, marks)

@@ -6,12 +6,12 @@ ghost use Rattle.measure_laws.specs.RprecCase.{rprec_truth};
 ghost use Rattle.measure_core.specs.Laws.{AreMet, AreValues};
 ghost use Rattle.measure_core.specs.Made.{IsMadeFor};
 ghost use Rattle.measure_core.specs.Numbers.{exact_least, exact_cell};
-ghost use Rattle.rprec.specs.Greedy.{AreTopic, IsLeast, IsSmall};
+ghost use Rattle.rprec.specs.Greedy.{AreTopic, IsLeast, IsSmallCandidate};
 ghost use Rattle.rprec.specs.Shared.{AreShared};
-ghost use Rattle.rprec.specs.Sums.{AreSumsOf};
+ghost use Rattle.rprec.specs.Sums.{AreBlockSums};
 
 use crate::extremes::find_extremes;
-use crate::greedy::Candidate;
+use crate::greedy::DepthCandidate;
 use crate::shared::Shared;
 use crate::sums::sums_of_run;
 use crate::values::{values, wanted_for};
@@ -43,8 +43,8 @@ impl Rprec {
 }
 
 /// The ends of the difference of a candidate, in units.
-fn span(c: Candidate) -> Span
-    requires { IsSmall c }
+fn span(c: DepthCandidate) -> Span
+    requires { IsSmallCandidate c }
     ensures { (marks : List M) (a b : List ℕ) → IsLeast marks a b c → result ≡ exact_least R marks a b }
 {
     span_of(
@@ -74,8 +74,8 @@ fn cell_of(
     marks: &[Mark],
 ) -> Cell
     requires met { AreMet marks.now a.now b.now }
-    requires first { AreSumsOf marks.now a.now first.now.numbers }
-    requires second { AreSumsOf marks.now b.now second.now.numbers }
+    requires first { AreBlockSums marks.now a.now first.now.numbers }
+    requires second { AreBlockSums marks.now b.now second.now.numbers }
     requires shared { AreShared marks.now a.now b.now shared.now.counts }
     requires topic { AreTopic marks.now all }
     requires few { all.relevant + all.unjudged ≤ DOCUMENT_LIMIT }
@@ -118,11 +118,11 @@ fn least_values(
 impl RankedMeasure for Rprec {
     ghost use Rattle.desk_model.specs.declared.types.MeasureName.TheVariants.{RPrecision as R};
     ghost use Rattle.measure_core.specs.Numbers.{exact_cell};
-    ghost use Rattle.rprec.specs.Sums.{AreSumsOf};
+    ghost use Rattle.rprec.specs.Sums.{AreBlockSums};
 
     ghost ranked_cell_of = { λ _. exact_cell R };
 
-    ghost are_sums = { λ _. AreSumsOf };
+    ghost are_sums = { λ _. AreBlockSums };
 
     ghost weights_of = { λ _ _ _. record { relevant_low = 0; relevant_high = 0; possible_low = 0; possible_high = 0 } };
 
@@ -210,16 +210,6 @@ impl Measure for Rprec {
         marks: &[Mark],
     ) -> Result<Vec<bool>, Memory> {
         least_values(alloc, a, b, marks)
-    }
-
-    fn most_case(
-        &self,
-        alloc: Global,
-        a: &Ranking,
-        b: &Ranking,
-        marks: &[Mark],
-    ) -> Result<Vec<bool>, Memory> {
-        least_values(alloc, b, a, marks)
     }
 
     fn weight(&self, a: &Ranking, b: &Ranking, marks: &[Mark], doc: u32) -> u128 {

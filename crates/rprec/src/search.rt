@@ -1,13 +1,13 @@
 ghost use Rattle.std.specs.Prelude.{◌≡◌};
 ghost use Rattle.rprec.specs.Greedy.{beats};
-ghost use Rattle.rprec.specs.Search.{IsNear, precedes as before, preferred as better_of};
+ghost use Rattle.rprec.specs.Search.{IsShallow, precedes as before, preferred as better_of};
 
-use crate::greedy::Candidate;
+use crate::greedy::DepthCandidate;
 
 /// Whether a candidate has a smaller difference than another one.
-pub fn is_less(c: Candidate, best: Candidate) -> bool
-    requires candidate { IsNear c }
-    requires best { IsNear best }
+pub fn is_less(c: DepthCandidate, best: DepthCandidate) -> bool
+    requires candidate { IsShallow c }
+    requires best { IsShallow best }
     ensures { result ≡ beats c best }
 {
     let here = c.count.max(1);
@@ -17,20 +17,20 @@ pub fn is_less(c: Candidate, best: Candidate) -> bool
 
 /// Whether a candidate has a smaller difference than another one, or the same with a smaller number
 /// of relevant documents.
-fn precedes(c: Candidate, best: Candidate) -> bool
-    requires candidate { IsNear c }
-    requires best { IsNear best }
+fn precedes(c: DepthCandidate, best: DepthCandidate) -> bool
+    requires candidate { IsShallow c }
+    requires best { IsShallow best }
     ensures { result ≡ before c best }
 {
     is_less(c, best) || (!is_less(best, c) && c.count < best.count)
 }
 
 /// The one of two candidates that precedes the other.
-pub fn preferred(c: Candidate, best: Candidate) -> Candidate
-    requires candidate { IsNear c }
-    requires best { IsNear best }
+pub fn preferred(c: DepthCandidate, best: DepthCandidate) -> DepthCandidate
+    requires candidate { IsShallow c }
+    requires best { IsShallow best }
     ensures value { result ≡ better_of c best }
-    ensures near { IsNear result }
+    ensures near { IsShallow result }
 {
     if precedes(c, best) { c } else { best }
 }

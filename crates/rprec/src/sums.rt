@@ -2,7 +2,7 @@ ghost use Rattle.std.specs.Prelude.{◌≡◌, ℕ, ◌+◌, ◌*◌, ◌<◌, �
 ghost use Rattle.desk_model.specs.Limits.{RANK_LIMIT};
 ghost use Rattle.desk_model.specs.Ranking.{IsRanking};
 ghost use Rattle.rprec.specs.Packed.{pack};
-ghost use Rattle.rprec.specs.Sums.{AreSharedSums, AreSumsOf, counts_of};
+ghost use Rattle.rprec.specs.Sums.{AreSharedSums, AreBlockSums, counts_of};
 
 use crate::prefixes::number_at;
 use crate::shared::Shared;
@@ -36,7 +36,7 @@ fn with_documents(number: u32, start: u32, end: u32, docs: &[u32], marks: &[Mark
 /// The counts of a run's documents up to the end of each block, both in one number.
 pub fn sums_of_run(docs: &[u32], marks: &[Mark]) -> RunSums
     requires { IsRanking (length marks.now) docs.now }
-    ensures { AreSumsOf marks.now docs.now result.numbers }
+    ensures { AreBlockSums marks.now docs.now result.numbers }
 {
     let mut numbers = [0; 1001];
     let mut number = 0;

@@ -122,9 +122,7 @@ pub fn values(
             is_among_first(count, b, doc),
         );
         left = choice.left;
-        if values.push(choice.value).is_err() {
-            return Err(Memory);
-        }
+        values.push(choice.value)?;
     }
     Ok(values)
 }

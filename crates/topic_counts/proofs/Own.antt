@@ -8,7 +8,7 @@ use Rattle.desk_model.proofs.Counts.{count_by-split, count_by-swap, IsDistinct-t
 use Rattle.measure_laws.proofs.LeastDifferences.{only_more}
 use Rattle.topic_counts.specs.declared.counts.Counts.{Counts}
 use Rattle.topic_counts.specs.Seen.{ArePrefix}
-use Rattle.topic_counts.specs.Own.{shared_count, AreOwn}
+use Rattle.topic_counts.specs.Own.{shared_count, AreOwnCounts}
 
 -- the counts of those that are among another's first k too
 pub record AreShared (k : ℕ) (marks : List Mark) (a b : List ℕ) (counts : Counts) : Type 0 where
@@ -31,7 +31,7 @@ fewer_unjudged k marks a b prefix shared f s =
     omega (arith, f.least, f.most, s.least, s.most, split false k marks a b, split true k marks a b, only_more marks (take k a) (take k b))
 
 pub own_is : (k : ℕ) (marks : List Mark) (a b : List ℕ) (prefix shared own : Counts) → ArePrefix k marks a prefix → AreShared k marks a b shared →
-    own.relevant + shared.relevant ≡ prefix.relevant → own.unjudged + shared.unjudged ≡ prefix.unjudged → AreOwn k marks a b own
+    own.relevant + shared.relevant ≡ prefix.relevant → own.unjudged + shared.unjudged ≡ prefix.unjudged → AreOwnCounts k marks a b own
 own_is k marks a b prefix shared own f s er eu = record {
   least = omega (arith, f.least, s.least, er, split false k marks a b);
   most = omega (arith, f.most, s.most, er, eu, split true k marks a b);

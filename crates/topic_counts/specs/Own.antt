@@ -17,7 +17,7 @@ abbrev pub shared_count : Bool → List Mark → List ℕ → List ℕ → ℕ
 shared_count taken marks docs others = count_by (λ doc. with_picked marks (λ _. taken) doc && is_in others doc) docs
 
 -- the counts of a ranking's first k documents that are not among another's first k
-pub record AreOwn (k : ℕ) (marks : List Mark) (ranking other : List ℕ) (counts : Counts) : Type 0 where
+pub record AreOwnCounts (k : ℕ) (marks : List Mark) (ranking other : List ℕ) (counts : Counts) : Type 0 where
   pub least : counts.relevant ≡ only_count false marks (take k ranking) (take k other)
   pub most : counts.relevant + counts.unjudged ≡ only_count true marks (take k ranking) (take k other)
   pub few : counts.relevant + counts.unjudged ≤ RANK_LIMIT

@@ -20,7 +20,7 @@ pub record ArePrefix (k : ℕ) (marks : List Mark) (a : List ℕ) (counts : Coun
   pub few : counts.relevant + counts.unjudged ≤ RANK_LIMIT
 
 -- the counts of two rankings' first k documents, and the marks of those of the first
-pub record AreKept (k : ℕ) (marks : List Mark) (a b : List ℕ) (one two : Counts) (seen : List Mark) : Type 0 where
+pub record AreSeenCounts (k : ℕ) (marks : List Mark) (a b : List ℕ) (one two : Counts) (seen : List Mark) : Type 0 where
   pub ranking : IsRanking (length marks) a
   pub other : IsRanking (length marks) b
   pub first : ArePrefix k marks a one

@@ -3,7 +3,7 @@ ghost use Rattle.desk_model.specs.Limits.{RANK_LIMIT};
 ghost use Rattle.desk_model.specs.Completion.{picked_value};
 ghost use Rattle.desk_model.specs.Ranking.{IsRanking, is_in};
 ghost use Rattle.desk_model.specs.Classes.{only_count, prefix_count};
-ghost use Rattle.topic_counts.specs.Own.{AreOwn};
+ghost use Rattle.topic_counts.specs.Own.{AreOwnCounts};
 
 use crate::shared::shared_documents;
 use desk_model::{Mark, Ranking};
@@ -137,8 +137,8 @@ pub fn own_documents(k: u32, ranking: &Ranking, other: &Ranking, marks: &[Mark])
 pub fn own_counts(k: u32, a: &Ranking, b: &Ranking, marks: &[Mark]) -> OwnCounts
     requires first { IsRanking (length marks.now) a.now }
     requires second { IsRanking (length marks.now) b.now }
-    ensures first { AreOwn k marks.now a.now b.now result.first }
-    ensures second { AreOwn k marks.now b.now a.now result.second }
+    ensures first { AreOwnCounts k marks.now a.now b.now result.first }
+    ensures second { AreOwnCounts k marks.now b.now a.now result.second }
 {
     if k <= LOOKED_UP {
         return OwnCounts {

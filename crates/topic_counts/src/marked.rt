@@ -1,8 +1,8 @@
 ghost use Rattle.std.specs.Prelude.{◌≡◌, ℕ, ◌≤◌, List, length, take};
 ghost use Rattle.desk_model.specs.Ranking.{IsRanking};
 ghost use Rattle.desk_model.specs.declared.types.Mark.{Mark as M};
-ghost use Rattle.topic_counts.specs.Seen.{AreMarksIn, AreKept};
-ghost use Rattle.topic_counts.specs.Own.{AreOwn};
+ghost use Rattle.topic_counts.specs.Seen.{AreMarksIn, AreSeenCounts};
+ghost use Rattle.topic_counts.specs.Own.{AreOwnCounts};
 
 use crate::counts::{Counts, OwnCounts, prefix, prefix_documents};
 use desk_model::{Mark, Ranking};
@@ -31,9 +31,9 @@ pub fn own_by_marks(
     ranking: &Ranking,
     seen: &[Mark],
 ) -> OwnCounts
-    requires { (marks : List M) × (a : List ℕ) × AreKept k marks a ranking.now first second seen.now }
-    ensures first { (marks : List M) (a : List ℕ) → AreKept k marks a ranking.now first second seen.now → AreOwn k marks a ranking.now result.first }
-    ensures second { (marks : List M) (a : List ℕ) → AreKept k marks a ranking.now first second seen.now → AreOwn k marks ranking.now a result.second }
+    requires { (marks : List M) × (a : List ℕ) × AreSeenCounts k marks a ranking.now first second seen.now }
+    ensures first { (marks : List M) (a : List ℕ) → AreSeenCounts k marks a ranking.now first second seen.now → AreOwnCounts k marks a ranking.now result.first }
+    ensures second { (marks : List M) (a : List ℕ) → AreSeenCounts k marks a ranking.now first second seen.now → AreOwnCounts k marks ranking.now a result.second }
 {
     let shared = prefix_documents(k, ranking, seen);
     OwnCounts {

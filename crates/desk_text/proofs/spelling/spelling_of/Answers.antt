@@ -2,7 +2,7 @@ use Rattle.std.proofs.Common.{length, ltb, subst, sym, IsTrue, rules}
 use Rattle.desk_text.specs.Text.{HasParts}
 use Rattle.std.specs.Char.{IsAsciiDigit}
 use Rattle.std.proofs.lemmas.List.Elements.{recursion_from_All}
-use Rattle.desk_text.specs.Spelling.{AreParts}
+use Rattle.desk_text.specs.Spelling.{AreDigitParts}
 use Rattle.desk_text.proofs.Spellings.{digits_from_all, digit_text_by_steps, spelled_from_digits, cut_from_spelled}
 use Rattle.desk_text.proofs.spelling.spelling_of.Goals as goal
 
@@ -37,5 +37,5 @@ returns-clause-some c =
 
 pub returns-clause-exponent : goal.returns-clause-exponent
 returns-clause-exponent c =
-    let are : AreParts c.cut_at-2.result.0.now c.cut_at-2.result.1.now c.cut_sign-has_negative_exponent.result.1.now (ltb (length c.cut_at.result.0.now) (length c.cut_sign-is_negative.result.1.now)) = c.are_parts.ensures.0 (search rules) in
+    let are : AreDigitParts c.cut_at-2.result.0.now c.cut_at-2.result.1.now c.cut_sign-has_negative_exponent.result.1.now (ltb (length c.cut_at.result.0.now) (length c.cut_sign-is_negative.result.1.now)) = c.are_parts.ensures.0 (search rules) in
     digits_from_all _ (recursion_from_All IsAsciiDigit _ are.2)

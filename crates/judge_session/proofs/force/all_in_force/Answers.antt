@@ -12,7 +12,7 @@ pub replay-requires : goal.replay-requires
 replay-requires c = record {
   counted = λ doc e lt.
       let gs = c.grades.result.now in
-      let same : c.deref_mut.result.now ≡ map counted_grade gs = c.deref_mut.ensures.value ∙ c.in-Ok.ensures in
+      let same : c.deref_mut.result.now ≡ map counted_grade gs = c.deref_mut.ensures.value ∙ c.in_ok-grades.ensures in
       subst (λ (xs : List (Option ℤ)). get_or xs doc e ≡ counted_grade (get_or xs doc e)) (sym same)
       (all_counted_once gs doc e (omega (arith, lt, ap length same, length-map gs counted_grade)));
 }
@@ -22,13 +22,13 @@ returns c =
     let topic = c.args.topic in
     let changes = c.args.changes.now in
     let gs = c.grades.result.now in
-    let len = c.in-Ok.grades.len in
+    let len = c.in_ok-grades.grades.len in
     let r = c.replay.new.grades in
-    let same : c.deref_mut.result.now ≡ map counted_grade gs = c.deref_mut.ensures.value ∙ c.in-Ok.ensures in
+    let same : c.deref_mut.result.now ≡ map counted_grade gs = c.deref_mut.ensures.value ∙ c.in_ok-grades.ensures in
     let length-r : length r ≡ len = c.replay.auto.grades ∙ c.deref_mut.ensures.len in
     let length-gs : length gs ≡ len = sym (length-map gs counted_grade) ∙ ap length (sym same) ∙ c.deref_mut.ensures.len in
     let there = get_or_from_slice_get c.args.desk.now.topics topic c.topic.result.now (record { name = []; docs = []; grades = [] }) c.topic.ensures in
-    written_back len r c.in-Ok.grades.items length-r
+    written_back len r c.in_ok-grades.grades.items length-r
     ∙ all_forced topic 0 changes gs r (length-r ∙ sym length-gs) (λ k e lt.
     let in_range : k < length c.deref_mut.result.now = omega (arith, lt, c.deref_mut.ensures.len, length-gs) in
     let place : k ≡ 0 + k = omega arith in

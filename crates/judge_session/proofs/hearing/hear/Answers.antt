@@ -1,7 +1,7 @@
 use Rattle.std.proofs.Common.{◌≡◌, length, false, sym, ap, subst, ◌∙◌, arith}
 use Rattle.std.proofs.lemmas.Bool.{le-ltb}
 use Rattle.desk_text.specs.declared.line.TheConstants.{LONGEST_LINE}
-use Rattle.judge_session.specs.Forms.{AreWithin}
+use Rattle.judge_session.specs.Forms.{IsHeardWithin}
 use Rattle.judge_session.specs.Request.{Asked, heard_of, heard_request}
 use Rattle.judge_session.specs.Said.{request_said}
 use Rattle.judge_session.proofs.Lines.{bad_there, heard_is, no_bad, within}
@@ -22,4 +22,4 @@ pub returns-in-Some-clause-heard : goal.returns-in-Some-clause-heard
 returns-in-Some-clause-heard c = asked c
 
 pub returns-in-Some-clause-within : goal.returns-in-Some-clause-within
-returns-in-Some-clause-within c = subst AreWithin (sym (asked c)) (within c.args.line.now)
+returns-in-Some-clause-within c = subst IsHeardWithin (sym (asked c)) (within c.args.line.now)

@@ -41,16 +41,6 @@ returns-in_err-totals-clause-totals g c =
 pub returns-in_err-totals-clause-numbered : goal.returns-in_err-totals-clause-numbered
 returns-in_err-totals-clause-numbered g c = IfOk-from_err c.from_residual.result (λ (all : Vec (Vec ℕ Global) Global). AreNumbered (lists all.items)) c.from_residual.ensures.0
 
-pub returns-then-is_err-clause-totals : goal.returns-then-is_err-clause-totals
-returns-then-is_err-clause-totals g c = tt
-
-pub returns-then-is_err-clause-numbered : goal.returns-then-is_err-clause-numbered
-returns-then-is_err-clause-numbered g c = tt
-
--- what a push that is no error leaves
-pushed : (before now : List (Vec ℕ Global)) (v : Vec ℕ Global) (ok error : Bool) → now ≡ cond ok (before ++ v ∷ []) before → ok ≡ not error → error ≡ false → now ≡ before ++ v ∷ []
-pushed before now v ok error items negation is = items ∙ ap (λ (b : Bool). cond b (before ++ v ∷ []) before) (negation ∙ ap not is)
-
 -- what holds of the list of each topic, one more at the end
 one_more : (P : ℕ → List ℕ → Type 0) (before now : List (Vec ℕ Global)) (v : Vec ℕ Global) (end : ℕ) → length before ≡ end → now ≡ before ++ v ∷ [] → ((topic : ℕ) → topic < end → P topic (get_or (lists before) topic [])) → P end v.items → (topic : ℕ) → topic < end + 1 →
     P topic (get_or (lists now) topic [])
@@ -66,7 +56,7 @@ loop-topic-preserved g c =
     let before = c.loop-topic.all.items in
     let totals = c.in_ok-totals.totals in
     let s = standing (g.M.Measure.measured c.args.measure.now) c.args.desk.now c.args.marks.now c.args.verdicts.now in
-    let is : c.push.new.self.items ≡ before ++ totals ∷ [] = pushed before c.push.new.self.items totals (is_ok c.push.result) c.is_err.result c.push.ensures.items c.is_err.ensures.negation c.if-is_err.false in
+    let is : c.push.new.self.items ≡ before ++ totals ∷ [] = c.in_ok-push.ensures.items in
     let more = λ (P : ℕ → List ℕ → Type 0). one_more P before c.push.new.self.items totals c.loop-topic.topic c.loop-topic.invariant.topics is in
     record {
       topics = ap length is ∙ length-append before (totals ∷ []) ∙ ap (λ (n : ℕ). n + 1) c.loop-topic.invariant.topics;

@@ -7,21 +7,15 @@ use Rattle.next_document.proofs.topic_totals.topic_totals.Goals as goal
 pub topic-requires : goal.topic-requires
 topic-requires g c = omega (arith, length-marks c.args.desk.now c.args.marks.now c.requires.marks, c.requires.topic)
 
-pub returns-in_default-clause-count : goal.returns-in_default-clause-count
-returns-in_default-clause-count g c = tt
-
-pub returns-in_default-clause-totals : goal.returns-in_default-clause-totals
-returns-in_default-clause-totals g c = tt
-
 pub sum_topic-requires-clause-count : goal.sum_topic-requires-clause-count
 sum_topic-requires-clause-count g c =
-    c.deref_mut.ensures.len ∙ c.in-Ok.ensures.len ∙ sym (ap length (get_or_from_slice_get c.args.marks.now c.args.topic c.topic.result.now [] c.topic.ensures))
+    c.deref_mut.ensures.len ∙ c.in_ok-totals.ensures.len ∙ sym (ap length (get_or_from_slice_get c.args.marks.now c.args.topic c.topic.result.now [] c.topic.ensures))
 
 pub returns-clause-count : goal.returns-clause-count
 returns-clause-count g c =
-    ap length (with_items_is c.in-Ok.totals c.sum_topic.new.totals (c.sum_topic.auto.totals ∙ c.deref_mut.ensures.len))
-    ∙ c.sum_topic.auto.totals ∙ c.deref_mut.ensures.len ∙ c.in-Ok.ensures.len ∙ sym (ap length (get_or_from_slice_get c.args.marks.now c.args.topic c.topic.result.now [] c.topic.ensures))
+    ap length (with_items_is c.in_ok-totals.totals c.sum_topic.new.totals (c.sum_topic.auto.totals ∙ c.deref_mut.ensures.len))
+    ∙ c.sum_topic.auto.totals ∙ c.deref_mut.ensures.len ∙ c.in_ok-totals.ensures.len ∙ sym (ap length (get_or_from_slice_get c.args.marks.now c.args.topic c.topic.result.now [] c.topic.ensures))
 
 pub returns-clause-totals : goal.returns-clause-totals
 returns-clause-totals g c doc lt =
-    ap (λ (totals : List ℕ). get_or totals doc 0) (with_items_is c.in-Ok.totals c.sum_topic.new.totals (c.sum_topic.auto.totals ∙ c.deref_mut.ensures.len)) ∙ c.sum_topic.ensures doc lt
+    ap (λ (totals : List ℕ). get_or totals doc 0) (with_items_is c.in_ok-totals.totals c.sum_topic.new.totals (c.sum_topic.auto.totals ∙ c.deref_mut.ensures.len)) ∙ c.sum_topic.ensures doc lt

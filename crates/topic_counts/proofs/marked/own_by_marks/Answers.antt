@@ -1,18 +1,18 @@
 use Rattle.std.proofs.Common.{◌≡◌, ◌+◌, true, false, List, ℕ}
 use Rattle.desk_model.specs.Classes.{prefix_count}
 use Rattle.desk_model.specs.declared.types.Mark.{Mark}
-use Rattle.topic_counts.specs.Seen.{AreKept}
+use Rattle.topic_counts.specs.Seen.{AreSeenCounts}
 use Rattle.topic_counts.specs.declared.counts.Counts.{Counts}
 use Rattle.topic_counts.proofs.Own.{AreShared, shared_swapped, fewer_relevant, fewer_unjudged, own_is}
 use Rattle.topic_counts.proofs.Seen.{shared_by_marks, IsRanking-wider}
 use Rattle.topic_counts.proofs.marked.own_by_marks.Goals as goal
 
 -- the counts of a pass over the second's documents
-second_shared : (k : ℕ) (marks seen : List Mark) (a b : List ℕ) (one two shared : Counts) → AreKept k marks a b one two seen →
+second_shared : (k : ℕ) (marks seen : List Mark) (a b : List ℕ) (one two shared : Counts) → AreSeenCounts k marks a b one two seen →
     shared.relevant ≡ prefix_count false k seen b → shared.relevant + shared.unjudged ≡ prefix_count true k seen b → AreShared k marks b a shared
 second_shared k marks seen a b one two shared h least most = shared_by_marks k marks seen a b shared h.other h.alone least most
 
-first_shared : (k : ℕ) (marks seen : List Mark) (a b : List ℕ) (one two shared : Counts) → AreKept k marks a b one two seen →
+first_shared : (k : ℕ) (marks seen : List Mark) (a b : List ℕ) (one two shared : Counts) → AreSeenCounts k marks a b one two seen →
     shared.relevant ≡ prefix_count false k seen b → shared.relevant + shared.unjudged ≡ prefix_count true k seen b → AreShared k marks a b shared
 first_shared k marks seen a b one two shared h least most = shared_swapped k marks b a shared h.other h.ranking (second_shared k marks seen a b one two shared h least most)
 

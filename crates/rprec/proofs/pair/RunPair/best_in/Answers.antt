@@ -1,5 +1,5 @@
 use Rattle.std.proofs.Common.{◌≡◌, ℕ, ◌+◌, arith, ap, ◌∙◌, sym, subst}
-use Rattle.rprec.specs.declared.greedy.Candidate.{Candidate}
+use Rattle.rprec.specs.declared.greedy.DepthCandidate.{DepthCandidate}
 use Rattle.rprec.specs.declared.prefixes.Prefixes.{Prefixes}
 use Rattle.rprec.specs.Greedy.{AreFew, candidate}
 use Rattle.rprec.specs.Packed.{packed_of}
@@ -31,10 +31,10 @@ loop-place-preserved c =
     let next : depth ≡ p.all.relevant + (place + 1) = omega arith in
     let unpacked : c.unpacked.result ≡ prefixes p depth = c.unpacked.ensures ∙ unpacked_pair p depth c.deeper-packed.result c.requires.pair c.deeper-packed.ensures in
     let is : c.greedy_choice.result ≡ choice_at p place = c.greedy_choice.ensures.value ∙ ap (λ (f : Prefixes). candidate f p.all (place + 1)) (unpacked ∙ ap (prefixes p) next) in
-    let after : preferred (choice_at p place) best ≡ c.preferred-best.result = ap (λ (x : Candidate). preferred x best) (sym is) ∙ sym c.preferred-best.ensures.value in
+    let after : preferred (choice_at p place) best ≡ c.preferred-best.result = ap (λ (x : DepthCandidate). preferred x best) (sym is) ∙ sym c.preferred-best.ensures.value in
     record {
       packed = c.deeper-packed.ensures ∙ ap (λ (k : ℕ). packed_of (prefixes p k)) next;
-      best = subst (λ (x : Candidate). IsBestOf (choice_at p) c.args.chosen (place + 1) c.args.earlier x) after
+      best = subst (λ (x : DepthCandidate). IsBestOf (choice_at p) c.args.chosen (place + 1) c.args.earlier x) after
           (best_join (choice_at p) c.args.chosen place (place + 1) c.args.earlier best (preferred (choice_at p place) best) (omega (arith, c.loop-place.auto)) (omega arith) c.loop-place.invariant.best (best_one (choice_at p) place best));
       near = c.preferred-best.ensures.near;
     }

@@ -1,5 +1,5 @@
 use Rattle.std.proofs.Common.{◌≡◌, ◌*◌, ◌-◌, arith, ap, ◌∙◌, sym, subst}
-use Rattle.rprec.specs.declared.greedy.Candidate.{Candidate}
+use Rattle.rprec.specs.declared.greedy.DepthCandidate.{DepthCandidate}
 use Rattle.rprec.specs.declared.prefixes.Prefixes.{Prefixes}
 use Rattle.rprec.specs.Greedy.{AreFew, candidate}
 use Rattle.rprec.specs.Sums.{prefixes}
@@ -22,7 +22,7 @@ returns-clause-value c =
 
 pub returns-clause-near : goal.returns-clause-near
 returns-clause-near c = record {
-  few = omega (arith, ap (λ (x : Candidate). x.count) c.greedy_choice.ensures.value, c.requires.low, c.requires.high, c.requires.pair.few);
+  few = omega (arith, ap (λ (x : DepthCandidate). x.count) c.greedy_choice.ensures.value, c.requires.low, c.requires.high, c.requires.pair.few);
   first_few = c.greedy_choice.ensures.small.first_few;
   second_few = c.greedy_choice.ensures.small.second_few;
 }

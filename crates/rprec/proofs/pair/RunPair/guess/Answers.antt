@@ -1,7 +1,7 @@
 use Rattle.std.proofs.Common.{◌≡◌, ℕ, ◌+◌, ◌*◌, ◌-◌, ◌<◌, ◌≤◌, arith, ap, ◌∙◌, sym, subst}
-use Rattle.rprec.specs.declared.greedy.Candidate.{Candidate}
+use Rattle.rprec.specs.declared.greedy.DepthCandidate.{DepthCandidate}
 use Rattle.rprec.specs.Greedy.{candidate}
-use Rattle.rprec.specs.Search.{IsChoiceOf, preferred}
+use Rattle.rprec.specs.Search.{IsBestBetween, preferred}
 use Rattle.rprec.specs.Sums.{choice_at, prefixes, steps_of}
 use Rattle.rprec.proofs.Preferred.{choice_join, choice_none, choice_one}
 use Rattle.rprec.proofs.pair.RunPair.guess.Goals as goal
@@ -32,9 +32,9 @@ loop-stretch-preserved c =
     let next : place + 1 ≡ chosen = omega (arith, low) in
     let there : p.all.relevant + (place + 1) ≡ depth = omega (arith, low) in
     let is : choices place ≡ candidate (prefixes p depth) p.all chosen = ap (λ (k : ℕ). candidate (prefixes p k) p.all (place + 1)) there ∙ ap (candidate (prefixes p depth) p.all) next in
-    let after : preferred (choices place) best ≡ c.preferred-best.result = ap (λ (x : Candidate). preferred x best) (is ∙ sym c.choice_at_block.ensures.value) ∙ sym c.preferred-best.ensures.value in
+    let after : preferred (choices place) best ≡ c.preferred-best.result = ap (λ (x : DepthCandidate). preferred x best) (is ∙ sym c.choice_at_block.ensures.value) ∙ sym c.preferred-best.ensures.value in
     record {
-      choice = subst (λ (x : Candidate). IsChoiceOf choices 0 steps c.args.earlier x) after
+      choice = subst (λ (x : DepthCandidate). IsBestBetween choices 0 steps c.args.earlier x) after
           (choice_join choices 0 steps 0 steps c.args.earlier best (preferred (choices place) best) (omega arith) (omega arith) c.loop-stretch.invariant.choice (choice_one choices 0 steps place best (omega arith) (omega (arith, low, high))));
       near = c.preferred-best.ensures.near;
     }

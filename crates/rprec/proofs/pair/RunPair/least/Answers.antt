@@ -1,5 +1,5 @@
 use Rattle.std.proofs.Common.{◌≡◌, ℕ, ◌+◌, refl, arith, ap, ◌∙◌, sym, subst}
-use Rattle.rprec.specs.declared.greedy.Candidate.{Candidate}
+use Rattle.rprec.specs.declared.greedy.DepthCandidate.{DepthCandidate}
 use Rattle.rprec.specs.declared.pair.RunPair.{RunPair}
 use Rattle.rprec.specs.declared.prefixes.Prefixes.{Prefixes}
 use Rattle.rprec.specs.Greedy.{AreFew, AreGains, best_beyond, candidate}
@@ -33,7 +33,7 @@ returns-clause-least c =
     let judged = c.greedy_choice-judged in
     let is : judged.result ≡ candidate (prefixes p j) p.all 0 = judged.ensures.value ∙ ap (λ (f : Prefixes). candidate f p.all 0) c.requires.start in
     let gains : AreGains marks a b judged.result = choice_gains marks a b j 0 (prefixes p j) p.all judged.result h.a h.b (pair_prefixes p j h) h.topic (omega arith) (omega arith) is in
-    let alone : IsBest marks a b j 0 judged.result = best_alone marks a b j judged.result gains (omega (arith, ap (λ (x : Candidate). x.count) is)) in
+    let alone : IsBest marks a b j 0 judged.result = best_alone marks a b j judged.result gains (omega (arith, ap (λ (x : DepthCandidate). x.count) is)) in
     let found : IsBest marks a b j (0 + steps_of p) c.best.result = best_found marks a b j 0 (steps_of p) (choice_at p) judged.result c.best.result alone (next_choices p h) c.best.ensures.best in
     let best : IsBest marks a b j (steps_of p) c.best.result = subst (λ (k : ℕ). IsBest marks a b j k c.best.result) (omega arith) found in
     let end = prefixes p (j + steps_of p) in

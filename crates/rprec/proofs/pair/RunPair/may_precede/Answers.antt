@@ -1,6 +1,6 @@
 use Rattle.std.proofs.Common.{◌≡◌, ℕ, ◌+◌, ◌-◌, ◌*◌, ◌/◌, min, max, Bool, true, false, not, arith, refl, ap, ◌∙◌, sym}
 use Rattle.topic_counts.specs.declared.counts.Counts.{Counts}
-use Rattle.rprec.specs.declared.greedy.Candidate.{Candidate}
+use Rattle.rprec.specs.declared.greedy.DepthCandidate.{DepthCandidate}
 use Rattle.rprec.specs.Greedy.{beats}
 use Rattle.rprec.specs.Sums.{choice_at}
 use Rattle.rprec.proofs.Bounds.{AreEndCounts, AreEnds, IsBounded, beats_bounded, begun_few, choice_bounded, end_counts, ends_at}
@@ -62,7 +62,7 @@ returns c = λ h place lo hi.
     let first = c.counts_in-first.result.relevant in
     let begun = c.counts_in-begun.result.unjudged in
     let ended = c.counts_in-ended.result in
-    let bound : ℕ → ℕ → Candidate = λ count most. record { count = count; first = first; second = ended.relevant + most } in
+    let bound : ℕ → ℕ → DepthCandidate = λ count most. record { count = count; first = first; second = ended.relevant + most } in
     let low = bound c.min.result c.min-most.result in
     let high = bound (p.all.relevant + next) c.min-most.result in
     let is_high : high ≡ bound (p.all.relevant + next) (min ended.unjudged next) = ap (bound (p.all.relevant + next)) c.min-most.ensures in

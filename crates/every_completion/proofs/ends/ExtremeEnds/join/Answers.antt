@@ -1,7 +1,7 @@
 use Rattle.std.proofs.Common.{FitsSigned, rules}
 use Rattle.std.specs.Int.{w128}
 use Rattle.every_completion.proofs.Wide.{min_read, max_read}
-use Rattle.every_completion.proofs.ends.Ends.join.Goals as goal
+use Rattle.every_completion.proofs.ends.ExtremeEnds.join.Goals as goal
 
 pub returns-clause-least_lo : goal.returns-clause-least_lo
 returns-clause-least_lo c =

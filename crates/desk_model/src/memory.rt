@@ -1,3 +1,0 @@
-/// Memory ran out.
-#[derive(Clone, Copy, PartialEq, Eq, Debug)]
-pub struct Memory;
