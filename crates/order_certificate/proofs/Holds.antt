@@ -130,7 +130,8 @@ differing low high h = elim (sides (int_lt low (pos 0)) (int_le (pos 0) high) (i
 
 module _ (m : MeasureName) (topics : List Topic) (a b : ℕ) (u : ℕ) (some : 0 < u) (filled : 0 < length topics) (low high : List Completion) (cl : IsCompletion topics low) (ch : IsCompletion topics high) (x y : ℤ)
     (at_low : IsAtLeast x u (total (run_scores m a topics low)) (total (run_scores m b topics low))) (at_high : IsAtMost y u (total (run_scores m a topics high)) (total (run_scores m b topics high))) where
-  means_differ : differs x y ≡ true → Differ m topics a b low high
+  -- sums that differ on the order are of completions that do
+  pub means_differ : differs x y ≡ true → Differ m topics a b low high
   means_differ h =
       let la = length-run_scores m a topics low cl in
       let lb = length-run_scores m b topics low cl in

@@ -1,11 +1,12 @@
 -- Certificates and their text.
-use Rattle.std.specs.Prelude.{◌≡◌, ℕ, ◌<◌, ◌≤◌, ◌^◌, true, List, [], ◌∷◌, ◌++◌, All, length, map, flat_map, codes, decimal, ℤ, pos, unsigned_abs}
+use Rattle.std.specs.Prelude.{◌≡◌, ℕ, ◌≤◌, true, List, [], ◌∷◌, ◌++◌, All, length, map, flat_map, codes, decimal, pos}
 use Rattle.std.specs.Fmt.{signed_decimal}
 use Rattle.desk_model.specs.Limits.{DOCUMENT_LIMIT, TOPIC_LIMIT}
-use Rattle.desk_model.specs.Name.{is_name, AreAscending}
+use Rattle.desk_model.specs.Name.{is_name}
 use Rattle.desk_model.specs.MeasureText.{IsMeasure, measure_text}
 use Rattle.desk_model.specs.declared.types.MeasureName.{MeasureName}
-use Rattle.order_certificate.specs.Form.{text_of}
+use Rattle.line_forms.specs.Form.{text_of}
+use Rattle.line_forms.specs.Places.{AreAscendingNames, IsShortNumber, count_line}
 use Rattle.order_certificate.specs.declared.certificate.Certificate.{Certificate}
 use Rattle.order_certificate.specs.declared.certificate.Evidence.{Evidence}
 use Rattle.order_certificate.specs.declared.certificate.Evidence.TheVariants.{Above, Equal, Open}
@@ -24,10 +25,6 @@ low_line bound = codes "topic " ++ bound.topic ++ 32 ∷ signed_decimal bound.lo
 -- the topic and both its numbers
 abbrev pub low_high_line : TopicBound → List ℕ
 low_high_line bound = low_line bound ++ 32 ∷ signed_decimal bound.high
-
--- a topic and how many documents follow
-abbrev pub count_line : List ℕ → List ℕ → ℕ → List ℕ
-count_line word topic count = word ++ topic ++ 32 ∷ decimal count
 
 abbrev pub document_line : List ℕ → List ℕ
 document_line name = codes "doc " ++ name
@@ -70,36 +67,38 @@ certificate_text c = text_of (certificate_lines c)
 abbrev pub IsLevel : ℕ → Type 0
 IsLevel level = (1 ≤ level) × (level ≤ 1000)
 
--- at most 19 digits
-abbrev pub IsNumber : ℤ → Type 0
-IsNumber z = unsigned_abs z < 10 ^ 19
-
 abbrev pub IsTopicCount : ℕ → Type 0
 IsTopicCount n = (1 ≤ n) × (n ≤ TOPIC_LIMIT)
 
 abbrev pub IsDocumentCount : ℕ → Type 0
 IsDocumentCount n = n ≤ DOCUMENT_LIMIT
 
--- different names, in ascending order
-pub record AreNames (names : List (List ℕ)) : Type 0 where
-  pub named : All (λ name. is_name name ≡ true) names
-  pub ascending : AreAscending names
-
 -- topics of evidence
 pub record AreTopics (names : List (List ℕ)) : Type 0 where
   pub count : IsTopicCount (length names)
-  pub ascending : AreNames names
+  pub ascending : AreAscendingNames names
 
 -- documents of a list
 pub record AreDocuments (names : List (List ℕ)) : Type 0 where
   pub count : IsDocumentCount (length names)
-  pub ascending : AreNames names
+  pub ascending : AreAscendingNames names
+
+-- a lower number alone, and both numbers
+abbrev pub IsLowBound : TopicBound → Type 0
+IsLowBound b = IsShortNumber b.low × (b.high ≡ pos 0)
+
+abbrev pub IsLowHighBound : TopicBound → Type 0
+IsLowHighBound b = IsShortNumber b.low × IsShortNumber b.high
+
+-- two lists
+abbrev pub AreLists : TopicWitness → Type 0
+AreLists w = AreDocuments w.low × AreDocuments w.high
 
 -- what can be written of the evidence
 abbrev pub IsWritable : Evidence → Type 0
-IsWritable (Above bounds) = AreTopics (map (λ (b : TopicBound). b.topic) bounds) × All (λ (b : TopicBound). IsNumber b.low × (b.high ≡ pos 0)) bounds
-IsWritable (Equal bounds) = AreTopics (map (λ (b : TopicBound). b.topic) bounds) × All (λ (b : TopicBound). IsNumber b.low × IsNumber b.high) bounds
-IsWritable (Open witnesses) = AreTopics (map (λ (w : TopicWitness). w.topic) witnesses) × All (λ (w : TopicWitness). AreDocuments w.low × AreDocuments w.high) witnesses
+IsWritable (Above bounds) = AreTopics (map (λ (b : TopicBound). b.topic) bounds) × All IsLowBound bounds
+IsWritable (Equal bounds) = AreTopics (map (λ (b : TopicBound). b.topic) bounds) × All IsLowHighBound bounds
+IsWritable (Open witnesses) = AreTopics (map (λ (w : TopicWitness). w.topic) witnesses) × All AreLists witnesses
 
 -- a certificate that has a text
 pub record IsCertificate (c : Certificate) : Type 0 where

@@ -1,6 +1,7 @@
-pub mod Form
 pub mod Certificate
 pub mod Places
 pub mod Reading
 pub mod Claim
 pub mod Evidence
+pub mod PlaceLines
+pub mod Lengths

@@ -1,11 +1,11 @@
 -- Which line may stand where in the text of a certificate.
-use Rattle.std.specs.Prelude.{◌≡◌, ℕ, true, List, [], ◌++◌, codes, decimal, pos}
-use Rattle.std.specs.declared.cmp.Ordering.TheVariants.{Less}
-use Rattle.desk_model.specs.Name.{is_name, name_cmp}
+use Rattle.std.specs.Prelude.{ℕ, List, ◌++◌, codes}
 use Rattle.desk_model.specs.MeasureText.{IsMeasure, measure_text}
 use Rattle.desk_model.specs.declared.types.MeasureName.{MeasureName}
-use Rattle.order_certificate.specs.Form.{Form, Whole, Line, Says, bind, each, text_of}
-use Rattle.order_certificate.specs.Certificate.{low_line, low_high_line, count_line, document_line, IsLevel, IsNumber, IsTopicCount, IsDocumentCount}
+use Rattle.line_forms.specs.Form.{Form, Whole, Line, IsTextIn, bind}
+use Rattle.line_forms.specs.Places.{IsLaterName, count_line, fixed_place, later_name_place, name_and_count_place, name_place, number_place}
+use Rattle.line_forms.specs.Rows.{named_rows}
+use Rattle.order_certificate.specs.Certificate.{low_line, low_high_line, IsLevel, IsTopicCount, IsDocumentCount, IsLowBound, IsLowHighBound}
 use Rattle.order_certificate.specs.declared.certificate.Certificate.{Certificate}
 use Rattle.order_certificate.specs.declared.certificate.Evidence.{Evidence}
 use Rattle.order_certificate.specs.declared.certificate.Evidence.TheVariants.{Above, Equal, Open}
@@ -14,24 +14,8 @@ use Rattle.order_certificate.specs.declared.certificate.TopicWitness.{TopicWitne
 use Rattle.order_certificate.specs.declared.places.Claim.{Claim}
 use Rattle.order_certificate.specs.declared.places.Claim.TheVariants as claimed
 
--- a name that is greater than the one before it, which is empty where there is none
-abbrev pub IsNext : List ℕ → List ℕ → Type 0
-IsNext before name = (is_name name ≡ true) × (name_cmp before name ≡ Less)
-
--- a line that is always the same
-abbrev pub fixed_place : List ℕ → Form (Unit {0})
-fixed_place text = Line (λ _. text) (λ _. Unit {0}) Whole
-
--- a word and a name
-abbrev pub name_place : List ℕ → Form (List ℕ)
-name_place word = Line (λ name. word ++ name) (λ name. is_name name ≡ true) Whole
-
 abbrev pub measure_place : Form MeasureName
 measure_place = Line (λ measure. codes "measure " ++ measure_text measure) IsMeasure Whole
-
--- a word and a number
-abbrev pub number_place : List ℕ → (ℕ → Type 0) → Form ℕ
-number_place word Fits = Line (λ n. word ++ decimal n) Fits Whole
 
 abbrev pub level_place : Form ℕ
 level_place = number_place (codes "level ") IsLevel
@@ -41,17 +25,17 @@ abbrev pub topics_place : Form ℕ
 topics_place = number_place (codes "topics ") IsTopicCount
 
 abbrev pub document_place : List ℕ → Form (List ℕ)
-document_place before = Line document_line (IsNext before) Whole
+document_place = later_name_place (codes "doc ")
 
 abbrev pub low_place : List ℕ → Form TopicBound
-low_place before = Line low_line (λ b. IsNext before b.topic × IsNumber b.low × (b.high ≡ pos 0)) Whole
+low_place before = Line low_line (λ b. IsLaterName before b.topic × IsLowBound b) Whole
 
 abbrev pub low_high_place : List ℕ → Form TopicBound
-low_high_place before = Line low_high_line (λ b. IsNext before b.topic × IsNumber b.low × IsNumber b.high) Whole
+low_high_place before = Line low_high_line (λ b. IsLaterName before b.topic × IsLowHighBound b) Whole
 
 -- a topic, and how many documents its first list has
 abbrev pub low_count_place : List ℕ → Form (List ℕ × ℕ)
-low_count_place before = Line {P = List ℕ × ℕ} (λ p. count_line (codes "low ") p.0 p.1) (λ p. IsNext before p.0 × IsDocumentCount p.1) Whole
+low_count_place = name_and_count_place (codes "low ") IsDocumentCount
 
 -- how many documents the second list of a topic has
 abbrev pub high_count_place : List ℕ → Form ℕ
@@ -59,19 +43,18 @@ high_count_place topic = Line (λ n. count_line (codes "high ") topic n) IsDocum
 
 -- so many documents
 abbrev pub document_places : ℕ → Form (List (List ℕ))
-document_places n = each document_place (λ name. name) n []
+document_places n = named_rows document_place (λ name. name) n
 
 -- a topic's second list after its first, and both, each after its count
 abbrev pub high_places : List ℕ → List (List ℕ) → Form TopicWitness
 high_places topic low =
     bind (high_count_place topic) (λ n. bind (document_places n) (λ high. Whole (record { topic = topic; low = low; high = high })))
 
-abbrev pub witness_places : List ℕ → Form TopicWitness
-witness_places before = bind (low_count_place before) (λ p. bind (document_places p.1) (high_places p.0))
+abbrev pub listed_places : List ℕ → ℕ → Form TopicWitness
+listed_places topic n = bind (document_places n) (high_places topic)
 
--- the number of topics, and so many of a kind
-abbrev pub topic_places : {V : Type 0} → (List ℕ → Form V) → (V → List ℕ) → Form (List V)
-topic_places one name_of = bind topics_place (λ n. each one name_of n [])
+abbrev pub witness_places : List ℕ → Form TopicWitness
+witness_places before = bind (low_count_place before) (λ p. listed_places p.0 p.1)
 
 abbrev pub claim_line : Claim → List ℕ
 claim_line claimed.Above = codes "claim above"
@@ -81,27 +64,43 @@ claim_line claimed.Open = codes "claim open"
 abbrev pub claim_place : Form Claim
 claim_place = Line claim_line (λ _. Unit {0}) Whole
 
--- the evidence that a claim asks for
+-- the evidence of a claim on so many topics
+abbrev pub claim_rows : Claim → ℕ → Form Evidence
+claim_rows claimed.Above n = bind (named_rows low_place (λ b. b.topic) n) (λ bounds. Whole (Above bounds))
+claim_rows claimed.Equal n = bind (named_rows low_high_place (λ b. b.topic) n) (λ bounds. Whole (Equal bounds))
+claim_rows claimed.Open n = bind (named_rows witness_places (λ w. w.topic) n) (λ witnesses. Whole (Open witnesses))
+
+-- the number of topics, and the evidence on them
 abbrev pub claim_places : Claim → Form Evidence
-claim_places claimed.Above = bind (topic_places low_place (λ b. b.topic)) (λ bounds. Whole (Above bounds))
-claim_places claimed.Equal = bind (topic_places low_high_place (λ b. b.topic)) (λ bounds. Whole (Equal bounds))
-claim_places claimed.Open = bind (topic_places witness_places (λ w. w.topic)) (λ witnesses. Whole (Open witnesses))
+claim_places claim = bind topics_place (claim_rows claim)
 
 abbrev pub evidence_places : Form Evidence
 evidence_places = bind claim_place claim_places
 
+-- what a certificate asks for from each of its lines on
+abbrev pub from_end : MeasureName → ℕ → List ℕ → List ℕ → Evidence → Form Certificate
+from_end measure level first second evidence =
+    bind (fixed_place (codes "end")) (λ _. Whole (record { measure = measure; level = level; first = first; second = second; evidence = evidence }))
+
+abbrev pub from_evidence : MeasureName → ℕ → List ℕ → List ℕ → Form Certificate
+from_evidence measure level first second = bind evidence_places (from_end measure level first second)
+
+abbrev pub from_second : MeasureName → ℕ → List ℕ → Form Certificate
+from_second measure level first = bind (name_place (codes "second ")) (from_evidence measure level first)
+
+abbrev pub from_first : MeasureName → ℕ → Form Certificate
+from_first measure level = bind (name_place (codes "first ")) (from_second measure level)
+
+abbrev pub from_level : MeasureName → Form Certificate
+from_level measure = bind level_place (from_first measure)
+
+abbrev pub from_measure : Form Certificate
+from_measure = bind measure_place from_level
+
 -- the places of a certificate, from its first line to its last
 abbrev pub certificate_places : Form Certificate
-certificate_places =
-    bind (fixed_place (codes "desk-certificate 1")) (λ _.
-    bind measure_place (λ measure.
-    bind level_place (λ level.
-    bind (name_place (codes "first ")) (λ first.
-    bind (name_place (codes "second ")) (λ second.
-    bind evidence_places (λ evidence.
-    bind (fixed_place (codes "end")) (λ _.
-    Whole (record { measure = measure; level = level; first = first; second = second; evidence = evidence }))))))))
+certificate_places = bind (fixed_place (codes "desk-certificate 1")) (λ _. from_measure)
 
 -- bytes are the text of a certificate
 abbrev pub IsText : List ℕ → Certificate → Type 0
-IsText bytes c = (lines : List (List ℕ)) × (bytes ≡ text_of lines) × Says certificate_places lines c
+IsText = IsTextIn certificate_places

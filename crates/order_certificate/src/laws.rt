@@ -1,5 +1,5 @@
 //! Laws of certificates, each the contract of a function that does nothing.
-ghost use Rattle.std.specs.Prelude.{◌≡◌, ◌≤◌, ◌⊎◌, ◌++◌, ℕ, All, List, [], length, take, ℤ};
+ghost use Rattle.std.specs.Prelude.{◌≡◌, ◌≤◌, ◌+◌, ◌*◌, ◌⊎◌, ◌++◌, ℕ, All, List, [], length, take, ℤ};
 ghost use Rattle.desk_text.specs.Lines.{whole_lines};
 ghost use Rattle.desk_model.specs.Completion.{Completion};
 ghost use Rattle.desk_model.specs.Desk.{topics_under};
@@ -7,7 +7,9 @@ ghost use Rattle.desk_model.specs.Fraction.{IsSame};
 ghost use Rattle.desk_model.specs.Order.{IsCompletion, run_mean};
 ghost use Rattle.desk_model.specs.declared.types.MeasureName.{MeasureName};
 ghost use Rattle.order_certificate.specs.Certificate.{IsCertificate, certificate_text, first_lines};
-ghost use Rattle.order_certificate.specs.Form.{CanStand, IsFirstBad};
+ghost use Rattle.line_forms.specs.Form.{CanStand, IsFirstBad};
+ghost use Rattle.order_certificate.specs.Lengths.{listed_bytes};
+ghost use Rattle.order_certificate.specs.PlaceLines.{HasPlace, OfLine, SaysPlace, line_of_place};
 ghost use Rattle.order_certificate.specs.Places.{certificate_places, IsText};
 ghost use Rattle.order_certificate.specs.Claim.{NamedTopic, AreItsRuns, ClaimHolds, IsBelowIn, IsOpen};
 ghost use Rattle.order_certificate.specs.Evidence.{ForEvidence, IsLowSum, IsHighSum};
@@ -15,6 +17,7 @@ ghost use Rattle.order_certificate.specs.declared.certificate.Certificate.{Certi
 ghost use Rattle.order_certificate.specs.declared.certificate.Evidence.TheVariants.{Above, Equal, Open};
 ghost use Rattle.order_certificate.specs.declared.certificate.TopicBound.{TopicBound};
 ghost use Rattle.order_certificate.specs.declared.certificate.TopicWitness.{TopicWitness};
+ghost use Rattle.order_certificate.specs.declared.place.CertificatePlace.{CertificatePlace};
 
 use desk_model::measure_of_text_is_unique;
 
@@ -71,6 +74,22 @@ pub fn bad_line_exists()
 pub fn lines_are_short()
     ensures { (lines : List (List ℕ)) → CanStand certificate_places lines →
         All (λ line. length line ≤ 4096) lines }
+{}
+
+/// A text has less than 6,000,000 bytes beside the documents of its lists, each of which takes five bytes more than its name.
+/// So it is no longer than a file may be where these take at most so many bytes as names of 268,435,456 bytes and
+/// 25,000,000 documents take on two lists.
+pub fn texts_are_short()
+    ensures documents { (c : Certificate) → IsCertificate c → length (certificate_text c) ≤ 6000000 + listed_bytes c.evidence }
+    ensures file { (c : Certificate) → IsCertificate c → listed_bytes c.evidence ≤ 2 * (268435456 + 5 * 25000000) →
+        length (certificate_text c) ≤ 1073741824 }
+{}
+
+/// The line of each place of a certificate says what stands there: the name of a run, the number of topics, the name of
+/// a topic, or the name of a document on a list.
+pub fn lines_say_their_places()
+    ensures { (c : Certificate) (place : CertificatePlace) → HasPlace c.evidence place →
+        OfLine c (line_of_place c.evidence place) (SaysPlace c place) }
 {}
 
 /// Where a certificate is evidence, its claim holds, whoever wrote it.

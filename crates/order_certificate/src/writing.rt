@@ -1,30 +1,21 @@
 // The text of a certificate.
-ghost use Rattle.std.specs.Prelude.{◌≡◌, ◌++◌, ◌∷◌, [], ◌+◌, All, length, codes, decimal, map, flat_map, pos, IfOk, OnOk};
+ghost use Rattle.std.specs.Prelude.{◌≡◌, ◌++◌, ◌∷◌, [], length, codes, decimal, map, flat_map, IfOk, OnOk};
 ghost use Rattle.std.specs.Fmt.{signed_decimal};
 ghost use Rattle.desk_model.specs.MeasureText.{measure_text};
-ghost use Rattle.order_certificate.specs.Form.{ended, text_of};
-ghost use Rattle.order_certificate.specs.Certificate.{IsCertificate, IsNumber, IsWritable, certificate_text, certificate_lines, opening_lines, low_line, low_high_line, count_line, document_line, witness_lines, topics_line, evidence_lines};
+ghost use Rattle.line_forms.specs.Form.{ended, text_of};
+ghost use Rattle.line_forms.specs.Places.{count_line};
+ghost use Rattle.order_certificate.specs.Certificate.{IsCertificate, certificate_text, opening_lines, low_line, low_high_line, document_line, witness_lines, topics_line, evidence_lines};
 ghost use Rattle.order_certificate.specs.Places.{IsText};
-ghost use Rattle.order_certificate.specs.declared.certificate.TopicBound.{TopicBound};
 
 use crate::certificate::{Certificate, Evidence, TopicBound, TopicWitness};
-use desk_model::{MeasureName, Memory, Name, push_measure};
-use itoa::Buffer;
+use desk_model::{MeasureName, Memory, Name, push_measure, push_signed, push_whole};
 use std::alloc::{AllocError, Global};
 
-fn push_number(out: &mut Vec<u8>, number: usize) -> Result<(), AllocError>
-    ensures { OnOk result (out.new.items ≡ out.old.items ++ decimal number) }
-{
-    out.extend_from_slice(Buffer::new().format(number).as_bytes())
-}
-
-// A space and a number.
-fn push_signed(out: &mut Vec<u8>, number: i128) -> Result<(), AllocError>
-    requires { IsNumber number }
+fn push_after_space(out: &mut Vec<u8>, number: i128) -> Result<(), AllocError>
     ensures { OnOk result (out.new.items ≡ out.old.items ++ 32 ∷ signed_decimal number) }
 {
     out.extend_from_slice(b" ")?;
-    out.extend_from_slice(Buffer::new().format(number).as_bytes())
+    push_signed(out, number)
 }
 
 fn push_line(out: &mut Vec<u8>, word: &[u8], rest: &[u8]) -> Result<(), AllocError>
@@ -39,7 +30,7 @@ fn push_number_line(out: &mut Vec<u8>, word: &[u8], number: usize) -> Result<(),
     ensures { OnOk result (out.new.items ≡ out.old.items ++ ended (word.now ++ decimal number)) }
 {
     out.extend_from_slice(word)?;
-    push_number(out, number)?;
+    push_whole(out, number as u128)?;
     out.extend_from_slice(b"\n")
 }
 
@@ -52,16 +43,14 @@ fn push_measure_line(out: &mut Vec<u8>, measure: &MeasureName) -> Result<(), All
 }
 
 fn push_low(out: &mut Vec<u8>, bound: &TopicBound) -> Result<(), AllocError>
-    requires { IsNumber bound.now.low }
     ensures { OnOk result (out.new.items ≡ out.old.items ++ low_line bound.now) }
 {
     out.extend_from_slice(b"topic ")?;
     out.extend_from_slice(bound.topic.as_bytes())?;
-    push_signed(out, bound.low)
+    push_after_space(out, bound.low)
 }
 
 fn push_low_line(out: &mut Vec<u8>, bound: &TopicBound) -> Result<(), AllocError>
-    requires { IsNumber bound.now.low }
     ensures { OnOk result (out.new.items ≡ out.old.items ++ ended (low_line bound.now)) }
 {
     push_low(out, bound)?;
@@ -69,17 +58,14 @@ fn push_low_line(out: &mut Vec<u8>, bound: &TopicBound) -> Result<(), AllocError
 }
 
 fn push_low_high_line(out: &mut Vec<u8>, bound: &TopicBound) -> Result<(), AllocError>
-    requires low { IsNumber bound.now.low }
-    requires high { IsNumber bound.now.high }
     ensures { OnOk result (out.new.items ≡ out.old.items ++ ended (low_high_line bound.now)) }
 {
     push_low(out, bound)?;
-    push_signed(out, bound.high)?;
+    push_after_space(out, bound.high)?;
     out.extend_from_slice(b"\n")
 }
 
 fn push_lows(out: &mut Vec<u8>, bounds: &[TopicBound]) -> Result<(), AllocError>
-    requires { All (λ (b : TopicBound). IsNumber b.low × (b.high ≡ pos 0)) bounds.now }
     ensures { OnOk result (out.new.items ≡ out.old.items ++ text_of (map low_line bounds.now)) }
 {
     for bound in bounds {
@@ -89,7 +75,6 @@ fn push_lows(out: &mut Vec<u8>, bounds: &[TopicBound]) -> Result<(), AllocError>
 }
 
 fn push_lows_and_highs(out: &mut Vec<u8>, bounds: &[TopicBound]) -> Result<(), AllocError>
-    requires { All (λ (b : TopicBound). IsNumber b.low × IsNumber b.high) bounds.now }
     ensures { OnOk result (out.new.items ≡ out.old.items ++ text_of (map low_high_line bounds.now)) }
 {
     for bound in bounds {
@@ -161,7 +146,6 @@ fn push_claim(out: &mut Vec<u8>, claim: &[u8], topics: usize) -> Result<(), Allo
 }
 
 fn push_evidence(out: &mut Vec<u8>, evidence: &Evidence) -> Result<(), AllocError>
-    requires { IsWritable evidence.now }
     ensures { OnOk result (out.new.items ≡ out.old.items ++ text_of (evidence_lines evidence.now)) }
 {
     match evidence {
@@ -196,7 +180,6 @@ fn push_runs(out: &mut Vec<u8>, first: &[u8], second: &[u8]) -> Result<(), Alloc
 }
 
 fn push_certificate(out: &mut Vec<u8>, certificate: &Certificate) -> Result<(), AllocError>
-    requires { IsCertificate certificate.now }
     ensures { OnOk result (out.new.items ≡ out.old.items ++ certificate_text certificate.now) }
 {
     push_opening(out, &certificate.measure, certificate.level)?;
@@ -215,8 +198,6 @@ pub fn write_certificate(alloc: Global, certificate: &Certificate) -> Result<Vec
     ensures { IfOk result (λ text. IsText text.items certificate.now) }
 {
     let mut out = Vec::new(alloc);
-    match push_certificate(&mut out, certificate) {
-        Ok(()) => Ok(out),
-        Err(_) => Err(Memory),
-    }
+    push_certificate(&mut out, certificate)?;
+    Ok(out)
 }

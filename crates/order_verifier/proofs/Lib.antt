@@ -14,9 +14,9 @@ pub mod Prefixes
 pub mod Topics
 pub mod Unjudged
 pub mod OnLists
-pub mod Places
+pub mod FirstFailing
 pub mod NumbersOnTopics
 pub mod SameNames
-pub mod Lines
+pub mod ListNames
 pub mod Answers
-pub mod TextLines
+pub mod Told

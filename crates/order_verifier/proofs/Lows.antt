@@ -22,7 +22,7 @@ use Rattle.measure_laws.specs.LeastDifference.{IsLeastDifference, own_relevant, 
 use Rattle.measure_laws.proofs.LeastDifferences.{one_more, only_more, recall_difference}
 use Rattle.measure_laws.proofs.Ratios.{high_in, high_out, out_of}
 use Rattle.measure_laws.proofs.RecallEnds.{over-max, true_count_classes}
-use Rattle.order_verifier.specs.declared.counts.Counts.{Counts}
+use Rattle.order_verifier.specs.declared.counts.RelevantCounts.{RelevantCounts}
 use Rattle.order_verifier.proofs.Whole.{ceiling_whole}
 
 -- the floor of a least difference
@@ -53,7 +53,7 @@ whole_upper k m n p q z h e em en =
 
 -- ---- recall
 -- the counts of the documents that a ranking has among its first k, and another not
-pub record AreOwn (k : ℕ) (marks : List Mark) (a b : List ℕ) (counts : Counts) : Type 0 where
+pub record CountsFirst (k : ℕ) (marks : List Mark) (a b : List ℕ) (counts : RelevantCounts) : Type 0 where
   pub relevant : counts.relevant ≡ only_count false marks (take k a) (take k b)
   pub possible : counts.possible ≡ only_count true marks (take k a) (take k b)
 
@@ -61,7 +61,7 @@ whole_by : (t : Bool) (p q r u v j s whole : ℕ) → r ≡ q + v → nat_lt (q 
 whole_by true p q r u v j s whole e f h k = h (let l : q + v < p = grind (arith, nat_tests, f) in omega arith)
 whole_by false p q r u v j s whole e f h k = k (let l : p ≤ q + v = grind (arith, nat_tests, f) in omega arith)
 
-pub recall_low : (k : ℕ) (marks : List Mark) (a b : List ℕ) (first second all : Counts) (whole : ℕ) (z : ℤ) → IsRanking (length marks) a → IsRanking (length marks) b → AreOwn k marks a b first → AreOwn k marks b a second →
+pub recall_low : (k : ℕ) (marks : List Mark) (a b : List ℕ) (first second all : RelevantCounts) (whole : ℕ) (z : ℤ) → IsRanking (length marks) a → IsRanking (length marks) b → CountsFirst k marks a b first → CountsFirst k marks b a second →
     all.relevant ≡ judged_count marks → all.possible ≡ possible_count marks → (second.possible < first.relevant → whole ≡ all.possible - (first.possible - first.relevant)) → (first.relevant ≤ second.possible → whole ≡ all.relevant + (second.possible - second.relevant)) →
     IsFloor (pos (10 ^ 18) *ℤ (pos first.relevant -ℤ pos second.possible)) (pos (max 1 whole)) z → IsGreatest (λ w. InEvery (Recall k) marks a b (IsAtMost w (10 ^ 18))) z
 recall_low k marks a b first second all whole z ra rb own other ej es led trails floor =

@@ -12,7 +12,7 @@ use Rattle.measure_laws.specs.LeastDifference.{possible_count, rprec_lead, unjud
 use Rattle.measure_laws.proofs.RecallEnds.{every}
 use Rattle.measure_laws.proofs.RprecEnds.{count_picked}
 use Rattle.order_verifier.specs.Differences.{IsLowered, lead_of, whole_of}
-use Rattle.order_verifier.specs.Own.{AreOwn}
+use Rattle.order_verifier.specs.Own.{CountsOwn}
 use Rattle.order_verifier.specs.declared.difference.Difference.{Difference}
 use Rattle.order_verifier.specs.declared.own.Own.{Own}
 use Rattle.order_verifier.proofs.Smallest.{IsBelow, IsOneMore, IsUnder, low_first, low_more}
@@ -38,7 +38,7 @@ pub record IsAt (marks : List Mark) (a b : List ℕ) (r : ℕ) (d : Difference) 
   pub lead : lead_of d ≡ rprec_lead marks a b r
   pub whole : whole_of d ≡ max 1 r
 
-pub is_at : (marks : List Mark) (a b : List ℕ) (relevant possible chosen r : ℕ) (own : Own) (d : Difference) → relevant ≡ judged_count marks → possible ≡ possible_count marks → r ≡ relevant + chosen → AreOwn marks (take r a) (take r b) own →
+pub is_at : (marks : List Mark) (a b : List ℕ) (relevant possible chosen r : ℕ) (own : Own) (d : Difference) → relevant ≡ judged_count marks → possible ≡ possible_count marks → r ≡ relevant + chosen → CountsOwn marks (take r a) (take r b) own →
     lead_of d ≡ pos (own.first.relevant + (chosen - (possible - relevant - (own.first.possible - own.first.relevant)))) -ℤ pos (own.second.relevant + min chosen (own.second.possible - own.second.relevant)) → whole_of d ≡ max 1 (relevant + chosen) →
     IsAt marks a b r d
 is_at marks a b relevant possible chosen r own d ej ep er h lead whole =

@@ -9,7 +9,7 @@ use Rattle.order_certificate.specs.Claim.{NamedTopic}
 use Rattle.order_certificate.specs.declared.certificate.TopicBound.{TopicBound}
 use Rattle.order_verifier.specs.Checks.{OfTopic}
 use Rattle.order_verifier.specs.Refusal.{Bounded, Compared, IsFirstFailing, OfEnds, topics_in}
-use Rattle.order_verifier.proofs.Places.{all_more}
+use Rattle.order_verifier.proofs.FirstFailing.{all_more}
 use Rattle.small_lemmas.proofs.Lists.{slice_get-zip}
 
 module _ (c : Compared) (bounds : List TopicBound) (i : ℕ) (bound : TopicBound) (fact : Ends → Type 0) (at : slice_get bounds i ≡ Some bound) (of : OfTopic (topics_in c) i (λ t. OfEnds c t fact)) where

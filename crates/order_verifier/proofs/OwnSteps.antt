@@ -11,11 +11,11 @@ use Rattle.desk_model.specs.declared.types.Mark.{Mark}
 use Rattle.desk_model.proofs.Counts.{IsDistinct-take, one_if, one_if_split}
 use Rattle.desk_model.proofs.PrecisionEnds.{difference_outside}
 use Rattle.measure_laws.proofs.LeastDifferences.{only_more}
-use Rattle.order_verifier.specs.Own.{AreOwn, IsOrdered}
-use Rattle.order_verifier.specs.declared.counts.Counts.{Counts}
+use Rattle.order_verifier.specs.Own.{CountsOwn, IsOrdered}
+use Rattle.order_verifier.specs.declared.counts.RelevantCounts.{RelevantCounts}
 use Rattle.order_verifier.specs.declared.own.Own.{Own}
 
-pub own_ordered : (marks : List Mark) (xs ys : List ℕ) (own : Own) → length xs ≤ 10000 → length ys ≤ 10000 → AreOwn marks xs ys own → IsOrdered own
+pub own_ordered : (marks : List Mark) (xs ys : List ℕ) (own : Own) → length xs ≤ 10000 → length ys ≤ 10000 → CountsOwn marks xs ys own → IsOrdered own
 own_ordered marks xs ys own few few' h = record {
   first = omega (arith, h.first_relevant, h.first_possible, only_more marks xs ys);
   second = omega (arith, h.second_relevant, h.second_possible, only_more marks ys xs);
@@ -56,12 +56,12 @@ pub prefix_short : (k : ℕ) (docs : List ℕ) → length docs ≤ 10000 → len
 prefix_short k docs h = omega (arith, h, length-take k docs)
 
 -- the counts of the swapped lists
-pub own_swapped : (marks : List Mark) (xs ys : List ℕ) (own turned : Own) → turned.first ≡ own.second → turned.second ≡ own.first → AreOwn marks xs ys own → AreOwn marks ys xs turned
+pub own_swapped : (marks : List Mark) (xs ys : List ℕ) (own turned : Own) → turned.first ≡ own.second → turned.second ≡ own.first → CountsOwn marks xs ys own → CountsOwn marks ys xs turned
 own_swapped marks xs ys own turned e f h = record {
-  first_relevant = ap (λ (c : Counts). c.relevant) e ∙ h.second_relevant;
-  first_possible = ap (λ (c : Counts). c.possible) e ∙ h.second_possible;
-  second_relevant = ap (λ (c : Counts). c.relevant) f ∙ h.first_relevant;
-  second_possible = ap (λ (c : Counts). c.possible) f ∙ h.first_possible;
+  first_relevant = ap (λ (c : RelevantCounts). c.relevant) e ∙ h.second_relevant;
+  first_possible = ap (λ (c : RelevantCounts). c.possible) e ∙ h.second_possible;
+  second_relevant = ap (λ (c : RelevantCounts). c.relevant) f ∙ h.first_relevant;
+  second_possible = ap (λ (c : RelevantCounts). c.possible) f ∙ h.first_possible;
 }
 
 -- the next document of a ranking, as the code finds it
@@ -77,10 +77,10 @@ next_is marks docs found others place k x v rd ro e lt here shown =
       others = IsDistinct-take k others ro.distinct;
     }
 
-pub own_next : (marks : List Mark) (docs ys : List ℕ) (place x : ℕ) (v : Bool) (own after : Own) → IsNext marks docs ys place x v → AreOwn marks (take place docs) ys own →
+pub own_next : (marks : List Mark) (docs ys : List ℕ) (place x : ℕ) (v : Bool) (own after : Own) → IsNext marks docs ys place x v → CountsOwn marks (take place docs) ys own →
     after.first.relevant ≡ own.first.relevant + one_if (picked_value false (mark_at marks x) && not v) → after.first.possible ≡ own.first.possible + one_if (picked_value true (mark_at marks x) && not v) →
     after.second.relevant + one_if (picked_value false (mark_at marks x) && v) ≡ own.second.relevant → after.second.possible + one_if (picked_value true (mark_at marks x) && v) ≡ own.second.possible →
-    AreOwn marks (take (place + 1) docs) ys after
+    CountsOwn marks (take (place + 1) docs) ys after
 own_next marks docs ys place x v own after next h ea eb ec ed = record {
   first_relevant = omega (arith, ea, h.first_relevant, first_more false marks docs ys place x v next);
   first_possible = omega (arith, eb, h.first_possible, first_more true marks docs ys place x v next);
@@ -89,7 +89,7 @@ own_next marks docs ys place x v own after next h ea eb ec ed = record {
 }
 
 -- past the end of a ranking
-pub own_past : (marks : List Mark) (docs found ys : List ℕ) (place : ℕ) (own : Own) → found ≡ docs → length found ≤ place → AreOwn marks (take place docs) ys own → AreOwn marks (take (place + 1) docs) ys own
+pub own_past : (marks : List Mark) (docs found ys : List ℕ) (place : ℕ) (own : Own) → found ≡ docs → length found ≤ place → CountsOwn marks (take place docs) ys own → CountsOwn marks (take (place + 1) docs) ys own
 own_past marks docs found ys place own e past h =
     let same : take place docs ≡ take (place + 1) docs = take_all place docs (omega (arith, past, ap length e)) ∙ sym (take_all (place + 1) docs (omega (arith, past, ap length e))) in
-    subst (λ (xs : List ℕ). AreOwn marks xs ys own) same h
+    subst (λ (xs : List ℕ). CountsOwn marks xs ys own) same h

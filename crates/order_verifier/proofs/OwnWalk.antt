@@ -9,7 +9,7 @@ use Rattle.desk_model.specs.declared.types.Mark.TheVariants.{Unjudged, Relevant,
 use Rattle.desk_model.proofs.Counts.{one_if}
 use Rattle.measure_laws.proofs.RecallEnds.{class_count}
 use Rattle.measure_laws.proofs.RprecEnds.{count_more}
-use Rattle.order_verifier.specs.Own.{AreOwn}
+use Rattle.order_verifier.specs.Own.{CountsOwn}
 use Rattle.order_verifier.specs.declared.own.Own.{Own}
 
 -- how many of the first n documents of a topic are true, in one list and not in another
@@ -61,7 +61,7 @@ own_step n marks xs ys own after i j ei ej h ea eb ec ed =
       second_few = omega (arith, ed, h.second_few, second);
     }
 
-pub own_whole : (marks : List Mark) (xs ys : List ℕ) (own : Own) → IsDistinct nat_eq xs → IsDistinct nat_eq ys → AllByRecursion (λ d. d < length marks) xs → AllByRecursion (λ d. d < length marks) ys → AreOwnTo (length marks) marks xs ys own → AreOwn marks xs ys own
+pub own_whole : (marks : List Mark) (xs ys : List ℕ) (own : Own) → IsDistinct nat_eq xs → IsDistinct nat_eq ys → AllByRecursion (λ d. d < length marks) xs → AllByRecursion (λ d. d < length marks) ys → AreOwnTo (length marks) marks xs ys own → CountsOwn marks xs ys own
 own_whole marks xs ys own dx dy wx wy h =
     let n = length marks in
     record {

@@ -1,11 +1,7 @@
 -- Names of topics, one after another.
-use Rattle.std.proofs.Common.{◌≡◌, ◌≢◌, ℕ, ◌+◌, Bool, true, false, not, nat_eq, List, [], ◌∷◌, length, take, Some, refl, ap, sym, subst, ◌∙◌, arith}
-use Rattle.std.specs.Prelude.{slice_get, sum}
+use Rattle.std.proofs.Common.{◌≡◌, ◌≢◌, ℕ, Bool, true, false, not, nat_eq, List, [], ◌∷◌, length, refl, ap, sym, subst, ◌∙◌, arith}
 use Rattle.std.specs.Cmp.Lexicographic.{pointwise, same_text, other_text}
 use Rattle.std.specs.List.{AllByRecursion, zip}
-use Rattle.std.proofs.lemmas.Option.{slice_get_within}
-use Rattle.std.proofs.lemmas.List.Sums.{sum_by_more}
-use Rattle.desk_model.proofs.Nested.{get_or-there}
 
 from_not : (b c : Bool) → not b ≡ c → not c ≡ b
 from_not true c e = sym (ap not e)
@@ -31,6 +27,3 @@ same_zip xs ys e = subst (λ zs. AllByRecursion (λ (p : List ℕ × List ℕ). 
     itself : (zs : List (List ℕ)) → AllByRecursion (λ (p : List ℕ × List ℕ). p.0 ≡ p.1) (zip zs zs)
     itself [] = tt
     itself (z ∷ zs) = (refl, itself zs)
-
-pub count_more : (xs : List ℕ) (i n : ℕ) → slice_get xs i ≡ Some n → sum (take (i + 1) xs) ≡ sum (take i xs) + n
-count_more xs i n e = sum_by_more (λ k. k) xs i n (slice_get_within xs i n e) ∙ ap (λ k. sum (take i xs) + k) (get_or-there xs i n n e)

@@ -14,7 +14,7 @@ abbrev pub whole_of : Difference → ℕ
 whole_of d = max 1 d.whole
 
 -- each number is at most 100,000,000
-pub record IsSmall (d : Difference) : Type 0 where
+pub record IsSmallDifference (d : Difference) : Type 0 where
   pub first : d.first ≤ 100000000
   pub second : d.second ≤ 100000000
   pub whole : d.whole ≤ 100000000
@@ -32,6 +32,6 @@ rank_whole x y = (reciprocal x).den * (reciprocal y).den
 
 -- that difference, of small numbers
 pub record IsDifferenceOf (x y : Option ℕ) (d : Difference) : Type 0 where
-  pub small : IsSmall d
+  pub small : IsSmallDifference d
   pub lead : lead_of d ≡ rank_lead x y
   pub whole : whole_of d ≡ rank_whole x y

@@ -13,7 +13,7 @@ pub record IsOrdered (own : Own) : Type 0 where
   pub second_few : own.second.possible ≤ RANK_LIMIT
 
 -- the counts of each of two lists that the other has not
-pub record AreOwn (marks : List Mark) (xs ys : List ℕ) (own : Own) : Type 0 where
+pub record CountsOwn (marks : List Mark) (xs ys : List ℕ) (own : Own) : Type 0 where
   pub first_relevant : own.first.relevant ≡ only_count false marks xs ys
   pub first_possible : own.first.possible ≡ only_count true marks xs ys
   pub second_relevant : own.second.relevant ≡ only_count false marks ys xs

@@ -1,5 +1,5 @@
 -- Why a certificate is no evidence for what it claims of a desk under marks.
-use Rattle.std.specs.Prelude.{◌≡◌, ◌≢◌, ◌⊎◌, ℕ, ◌+◌, ◌-◌, ◌∷◌, ◌++◌, false, codes, List, [], length, map, flat_map, take, slice_get, sum, Option, Some, None, ℤ, pos, ◌≤ℤ◌, ◌<ℤ◌}
+use Rattle.std.specs.Prelude.{◌≡◌, ◌≢◌, ◌⊎◌, ℕ, ◌∷◌, false, List, [], length, map, take, slice_get, Some, None, ℤ, pos, ◌≤ℤ◌, ◌<ℤ◌}
 use Rattle.std.specs.List.{AllByRecursion, AllZip, zip}
 use Rattle.desk_model.specs.Book.{Book}
 use Rattle.desk_model.specs.Desk.{Desk}
@@ -9,7 +9,6 @@ use Rattle.desk_model.specs.Verdict.{whole_sum, differs}
 use Rattle.desk_model.specs.declared.types.Mark.{Mark}
 use Rattle.desk_model.specs.declared.types.MeasureName.{MeasureName}
 use Rattle.measure_laws.specs.Ends.{HasEnds}
-use Rattle.order_certificate.specs.Certificate.{certificate_lines, witness_lines}
 use Rattle.order_certificate.specs.Claim.{NamedTopic, AreItsRuns, named_topics, topics_of}
 use Rattle.order_certificate.specs.Evidence.{AreLows, AreHighs, AreUnjudged, IsLowSum, IsHighSum, Shows, lows_of, highs_of}
 use Rattle.order_certificate.specs.declared.certificate.Certificate.{Certificate}
@@ -17,12 +16,15 @@ use Rattle.order_certificate.specs.declared.certificate.Evidence.{Evidence}
 use Rattle.order_certificate.specs.declared.certificate.Evidence.TheVariants.{Above, Equal, Open}
 use Rattle.order_certificate.specs.declared.certificate.TopicBound.{TopicBound}
 use Rattle.order_certificate.specs.declared.certificate.TopicWitness.{TopicWitness}
+use Rattle.order_certificate.specs.declared.place.CertificatePlace.{CertificatePlace}
+use Rattle.order_certificate.specs.declared.place.CertificatePlace.TheVariants.{FirstRun, SecondRun, TopicCount, Topic, Document}
+use Rattle.order_certificate.specs.declared.place.WitnessList.TheVariants.{Low, High}
 
--- the first place of a list, from 0, whose item fails, where all before it hold
-pub record IsFirstFailing {X : Type 0} (Holds Fails : X → Type 0) (xs : List X) (place : ℕ) : Type 0 where
-  pub before : AllByRecursion Holds (take place xs)
+-- the first item of a list that fails, by its number from 0, where all before it hold
+pub record IsFirstFailing {X : Type 0} (Holds Fails : X → Type 0) (xs : List X) (number : ℕ) : Type 0 where
+  pub before : AllByRecursion Holds (take number xs)
   pub item : X
-  pub there : slice_get xs place ≡ Some item
+  pub there : slice_get xs number ≡ Some item
   pub fails : Fails item
 
 -- ---- names
@@ -38,41 +40,28 @@ NamesRuns c desk first second = AreItsRuns c desk first second × (first ≢ sec
 abbrev pub HasNoSecond : Certificate → Desk → Type 0
 HasNoSecond c desk = (number_of desk.runs c.second ≡ None) ⊎ (number_of desk.runs c.second ≡ number_of desk.runs c.first)
 
--- how many lines evidence has on each of its topics
-abbrev pub line_counts : Evidence → List ℕ
-line_counts (Above bounds) = map (λ _. 1) bounds
-line_counts (Equal bounds) = map (λ _. 1) bounds
-line_counts (Open witnesses) = map (λ (w : TopicWitness). length (witness_lines w)) witnesses
+-- the names of some topics differ from a desk's: their number, or the first of them that differs
+abbrev pub HaveWrongTopic : List (List ℕ) → List (List ℕ) → CertificatePlace → Type 0
+HaveWrongTopic names own FirstRun = ⊥
+HaveWrongTopic names own SecondRun = ⊥
+HaveWrongTopic names own TopicCount = length names ≢ length own
+HaveWrongTopic names own (Topic topic) =
+    (length names ≡ length own) × IsFirstFailing (λ (p : List ℕ × List ℕ). p.0 ≡ p.1) (λ p. p.0 ≢ p.1) (zip names own) topic
+HaveWrongTopic names own (Document topic list document) = ⊥
 
--- a fact of the line of a certificate with a number, from 1
-abbrev pub OfLine : Certificate → ℕ → (List ℕ → Type 0) → Type 0
-OfLine c number fact = (line : List ℕ) × (slice_get (certificate_lines c) (number - 1) ≡ Some line) × fact line
+-- the first run of a certificate is no run of the desk, or its second is none or is the first
+abbrev pub HasWrongRun : Certificate → Desk → CertificatePlace → Type 0
+HasWrongRun c desk FirstRun = number_of desk.runs c.first ≡ None
+HasWrongRun c desk SecondRun = (first : ℕ) × (number_of desk.runs c.first ≡ Some first) × HasNoSecond c desk
+HasWrongRun c desk TopicCount = ⊥
+HasWrongRun c desk (Topic topic) = ⊥
+HasWrongRun c desk (Document topic list document) = ⊥
 
--- a line names a topic of evidence
-abbrev pub NamesTopic : List ℕ → List ℕ → Type 0
-NamesTopic name line = (rest : List ℕ) × ((line ≡ codes "topic " ++ name ++ 32 ∷ rest) ⊎ (line ≡ codes "low " ++ name ++ 32 ∷ rest))
-
--- the line of a certificate that names a topic of its evidence: seven lines come before all topics
-abbrev pub line_of_topic : List ℕ → ℕ → ℕ
-line_of_topic counts topic = 8 + sum (take topic counts)
-
--- the names of some topics differ from a desk's: their number, which is in line 7, or the first of them that differs
-abbrev pub HaveWrongTopic : List (List ℕ) → List ℕ → List (List ℕ) → ℕ → Type 0
-HaveWrongTopic names counts own line =
-    ((length names ≢ length own) × (line ≡ 7))
-    ⊎ ((length names ≡ length own) × (topic : ℕ) × (IsFirstFailing (λ (p : List ℕ × List ℕ). p.0 ≡ p.1) (λ p. p.0 ≢ p.1) (zip names own) topic) × (line ≡ line_of_topic counts topic))
-
--- the first run of a certificate is no run of the desk, which is line 4, or its second is none or is the first, which is line 5
-abbrev pub HasWrongRun : Certificate → Desk → ℕ → Type 0
-HasWrongRun c desk line =
-    ((number_of desk.runs c.first ≡ None) × (line ≡ 4))
-    ⊎ ((first : ℕ) × (number_of desk.runs c.first ≡ Some first) × HasNoSecond c desk × (line ≡ 5))
-
--- the first name of a certificate that differs from the desk, by its line: a run's or a topic's
-abbrev pub IsWrongName : Certificate → Desk → ℕ → Type 0
-IsWrongName c desk line =
-    HasWrongRun c desk line
-    ⊎ ((first : ℕ) × (second : ℕ) × NamesRuns c desk first second × HaveWrongTopic (topics_of c.evidence) (line_counts c.evidence) (topic_names desk) line)
+-- the first name of a certificate that differs from the desk, by its place: a run's or a topic's
+abbrev pub IsWrongName : Certificate → Desk → CertificatePlace → Type 0
+IsWrongName c desk place =
+    HasWrongRun c desk place
+    ⊎ ((first : ℕ) × (second : ℕ) × NamesRuns c desk first second × HaveWrongTopic (topics_of c.evidence) (topic_names desk) place)
 
 -- ---- what is compared
 -- two runs of a desk by their numbers, with the measure and the marks under which they are compared
@@ -121,10 +110,10 @@ HasBoundTooGreat c (Equal bounds) topic = IsFirstFailing (λ p. HasLow c p × Ha
 HasBoundTooGreat c (Open witnesses) topic = ⊥
 
 -- the numbers of evidence are as it wants them on each topic
-abbrev pub HasBounds : Compared → Evidence → Type 0
-HasBounds c (Above bounds) = AreLows c.measure c.first c.second (lows_of bounds) (topics_in c)
-HasBounds c (Equal bounds) = AreLows c.measure c.first c.second (lows_of bounds) (topics_in c) × AreHighs c.measure c.first c.second (highs_of bounds) (topics_in c)
-HasBounds c (Open witnesses) = ⊥
+abbrev pub BoundsHold : Compared → Evidence → Type 0
+BoundsHold c (Above bounds) = AreLows c.measure c.first c.second (lows_of bounds) (topics_in c)
+BoundsHold c (Equal bounds) = AreLows c.measure c.first c.second (lows_of bounds) (topics_in c) × AreHighs c.measure c.first c.second (highs_of bounds) (topics_in c)
+BoundsHold c (Open witnesses) = ⊥
 
 -- their sums do not show the claim
 abbrev pub HasWrongSum : Evidence → Type 0
@@ -133,29 +122,28 @@ HasWrongSum (Equal bounds) = (whole_sum (lows_of bounds) <ℤ pos 0) ⊎ (pos 0 
 HasWrongSum (Open witnesses) = ⊥
 
 -- ---- lists of documents
--- a name on a list of a topic
-abbrev pub Listing : Type 0
-Listing = NamedTopic × List ℕ
+-- both lists of a topic name unjudged documents
+abbrev pub AreCompletions : TopicWitness × NamedTopic → Type 0
+AreCompletions p = AreUnjudged p.1 p.0.low × AreUnjudged p.1 p.0.high
 
--- what each line of a topic's two lists names: a count's line no document
-abbrev pub listings : TopicWitness × NamedTopic → List (Option Listing)
-listings p = None ∷ map (λ name. Some (p.1, name)) p.0.low ++ None ∷ map (λ name. Some (p.1, name)) p.0.high
+-- the first name of a list, by its number from 0, that is no unjudged document's
+abbrev pub IsFirstOther : NamedTopic → List (List ℕ) → ℕ → Type 0
+IsFirstOther t names document = IsFirstFailing (λ name. AreUnjudged t (name ∷ [])) (λ name. AreUnjudged t (name ∷ []) → ⊥) names document
 
--- a line names nothing but an unjudged document of its topic, or another name
-abbrev pub NamesUnjudged : Option Listing → Type 0
-NamesUnjudged None = Unit {0}
-NamesUnjudged (Some l) = AreUnjudged l.0 (l.1 ∷ [])
+-- the first of both lists of a topic, the low one before the high one
+abbrev pub HasOther : ℕ → TopicWitness × NamedTopic → CertificatePlace → Type 0
+HasOther topic p FirstRun = ⊥
+HasOther topic p SecondRun = ⊥
+HasOther topic p TopicCount = ⊥
+HasOther topic p (Topic at) = ⊥
+HasOther topic p (Document at Low document) = (at ≡ topic) × IsFirstOther p.1 p.0.low document
+HasOther topic p (Document at High document) = (at ≡ topic) × AreUnjudged p.1 p.0.low × IsFirstOther p.1 p.0.high document
 
-abbrev pub NamesAnother : Option Listing → Type 0
-NamesAnother None = ⊥
-NamesAnother (Some l) = AreUnjudged l.0 (l.1 ∷ []) → ⊥
-
--- the first line of evidence that names what is no unjudged document of its topic
-abbrev pub HasWrongDocument : Compared → Evidence → ℕ → Type 0
-HasWrongDocument c (Above bounds) line = ⊥
-HasWrongDocument c (Equal bounds) line = ⊥
-HasWrongDocument c (Open witnesses) line =
-    (place : ℕ) × IsFirstFailing NamesUnjudged NamesAnother (flat_map listings (zip witnesses (topics_in c))) place × (line ≡ 8 + place)
+-- the first of the lists of all topics, in the order of the topics
+abbrev pub HasWrongDocument : Compared → Evidence → CertificatePlace → Type 0
+HasWrongDocument c (Above bounds) place = ⊥
+HasWrongDocument c (Equal bounds) place = ⊥
+HasWrongDocument c (Open witnesses) place = (topic : ℕ) × IsFirstFailing AreCompletions (λ p. HasOther topic p place) (zip witnesses (topics_in c)) topic
 
 -- the lists of evidence name unjudged documents of their topics
 abbrev pub HasCompletions : Compared → Evidence → Type 0

@@ -2,20 +2,20 @@
 ghost use Rattle.std.specs.Prelude.{◌≡◌, ◌≤◌, All, length, MatchOption, MatchResult};
 ghost use Rattle.desk_model.specs.Limits.{TOPIC_LIMIT};
 ghost use Rattle.desk_model.specs.Verdict.{whole_sum};
-ghost use Rattle.order_certificate.specs.Certificate.{IsNumber};
+ghost use Rattle.line_forms.specs.Places.{IsShortNumber};
 ghost use Rattle.order_certificate.specs.Evidence.{lows_of, highs_of};
 ghost use Rattle.order_certificate.specs.declared.certificate.Evidence.TheVariants.{Above as A, Equal as E};
 ghost use Rattle.order_certificate.specs.declared.certificate.TopicBound.{TopicBound as Bound};
-ghost use Rattle.order_verifier.specs.Refusal.{HasBounds, HasBoundTooGreat, ShowsOf, topics_in};
+ghost use Rattle.order_verifier.specs.Refusal.{BoundsHold, HasBoundTooGreat, ShowsOf, topics_in};
 ghost use Rattle.order_verifier.specs.Verified.{FailsBy};
 
 use crate::comparison::Comparison;
-use crate::rejected::Rejected;
+use crate::failure::Failure;
 use order_certificate::TopicBound;
 
 fn low_sum(bounds: &[TopicBound]) -> i128
     requires few { length bounds.now ≤ TOPIC_LIMIT }
-    requires sizes { All (λ (b : Bound). IsNumber b.low) bounds.now }
+    requires sizes { All (λ (b : Bound). IsShortNumber b.low) bounds.now }
     ensures { result ≡ whole_sum (lows_of bounds.now) }
 {
     let mut sum = 0;
@@ -27,7 +27,7 @@ fn low_sum(bounds: &[TopicBound]) -> i128
 
 fn high_sum(bounds: &[TopicBound]) -> i128
     requires few { length bounds.now ≤ TOPIC_LIMIT }
-    requires sizes { All (λ (b : Bound). IsNumber b.high) bounds.now }
+    requires sizes { All (λ (b : Bound). IsShortNumber b.high) bounds.now }
     ensures { result ≡ whole_sum (highs_of bounds.now) }
 {
     let mut sum = 0;
@@ -42,7 +42,7 @@ impl Comparison<'_> {
     fn first_low_too_great(&self, bounds: &[TopicBound]) -> Option<u32>
         requires topics { length bounds.now ≡ length (topics_in self.now) }
         requires few { length bounds.now ≤ TOPIC_LIMIT }
-        ensures { MatchOption result (HasBounds self.now (A bounds.now)) (HasBoundTooGreat self.now (A bounds.now)) }
+        ensures { MatchOption result (BoundsHold self.now (A bounds.now)) (HasBoundTooGreat self.now (A bounds.now)) }
     {
         let mut topic = 0;
         for bound in bounds {
@@ -58,7 +58,7 @@ impl Comparison<'_> {
     fn first_too_great(&self, bounds: &[TopicBound]) -> Option<u32>
         requires topics { length bounds.now ≡ length (topics_in self.now) }
         requires few { length bounds.now ≤ TOPIC_LIMIT }
-        ensures { MatchOption result (HasBounds self.now (E bounds.now)) (HasBoundTooGreat self.now (E bounds.now)) }
+        ensures { MatchOption result (BoundsHold self.now (E bounds.now)) (HasBoundTooGreat self.now (E bounds.now)) }
     {
         let mut topic = 0;
         for bound in bounds {
@@ -72,34 +72,34 @@ impl Comparison<'_> {
     }
 
     /// Whether numbers show that the first run is always above the second.
-    pub fn check_above(&self, bounds: &[TopicBound]) -> Result<(), Rejected>
+    pub fn check_above(&self, bounds: &[TopicBound]) -> Result<(), Failure>
         requires topics { length bounds.now ≡ length (topics_in self.now) }
         requires few { length bounds.now ≤ TOPIC_LIMIT }
-        requires lows { All (λ (b : Bound). IsNumber b.low) bounds.now }
+        requires lows { All (λ (b : Bound). IsShortNumber b.low) bounds.now }
         ensures { MatchResult result (λ _. ShowsOf self.now (A bounds.now)) (FailsBy self.now (A bounds.now)) }
     {
         if let Some(topic) = self.first_low_too_great(bounds) {
-            return Err(Rejected::BoundTooGreat { topic });
+            return Err(Failure::BoundTooGreat { topic });
         }
         if low_sum(bounds) <= 0 {
-            return Err(Rejected::NoSum);
+            return Err(Failure::NoSum);
         }
         Ok(())
     }
 
     /// Whether numbers show that the two runs are always equal.
-    pub fn check_equal(&self, bounds: &[TopicBound]) -> Result<(), Rejected>
+    pub fn check_equal(&self, bounds: &[TopicBound]) -> Result<(), Failure>
         requires topics { length bounds.now ≡ length (topics_in self.now) }
         requires few { length bounds.now ≤ TOPIC_LIMIT }
-        requires lows { All (λ (b : Bound). IsNumber b.low) bounds.now }
-        requires highs { All (λ (b : Bound). IsNumber b.high) bounds.now }
+        requires lows { All (λ (b : Bound). IsShortNumber b.low) bounds.now }
+        requires highs { All (λ (b : Bound). IsShortNumber b.high) bounds.now }
         ensures { MatchResult result (λ _. ShowsOf self.now (E bounds.now)) (FailsBy self.now (E bounds.now)) }
     {
         if let Some(topic) = self.first_too_great(bounds) {
-            return Err(Rejected::BoundTooGreat { topic });
+            return Err(Failure::BoundTooGreat { topic });
         }
         if low_sum(bounds) < 0 || high_sum(bounds) > 0 {
-            return Err(Rejected::NoSum);
+            return Err(Failure::NoSum);
         }
         Ok(())
     }

@@ -10,7 +10,7 @@ ghost use Rattle.order_verifier.specs.Refusal.{OfEnds, topics_in};
 
 use crate::TopicEnds;
 use crate::listed::Listed;
-use crate::names::RunPair;
+use crate::names::RunNumbers;
 use desk_model::{Desk, Mark, Marks, Name};
 use std::marker::Model;
 
@@ -20,7 +20,7 @@ pub struct Comparison<'a> {
     ends: &'a TopicEnds,
     desk: &'a Desk,
     marks: &'a Marks,
-    runs: RunPair,
+    runs: RunNumbers,
 }
 
 impl<'a> Model for Comparison<'a> {
@@ -56,7 +56,7 @@ impl<'a> Comparison<'a> {
         ends: &'a TopicEnds,
         desk: &'a Desk,
         marks: &'a Marks,
-        runs: RunPair,
+        runs: RunNumbers,
     ) -> Comparison<'a>
         requires { IsOne desk.now marks.now runs.first runs.second }
         ensures { result ≡ record { measure = ends.now; desk = desk.now; marks = marks.now; first = runs.first; second = runs.second } }
@@ -112,7 +112,7 @@ impl<'a> Comparison<'a> {
             ends: self.ends,
             desk: self.desk,
             marks: self.marks,
-            runs: RunPair {
+            runs: RunNumbers {
                 first: self.runs.second,
                 second: self.runs.first,
             },

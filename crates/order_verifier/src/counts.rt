@@ -13,39 +13,39 @@ use desk_model::{Mark, Ranking};
 /// How many of some documents are judged relevant, and how many can be relevant: those and the
 /// unjudged ones.
 #[derive(Clone, Copy, PartialEq, Eq)]
-pub struct Counts {
+pub struct RelevantCounts {
     pub relevant: u32,
     pub possible: u32,
 }
 
-impl Counts {
+impl RelevantCounts {
     /// The counts of no documents.
-    pub const NONE: Counts = Counts {
+    pub const NONE: RelevantCounts = RelevantCounts {
         relevant: 0,
         possible: 0,
     };
 
     /// With one more document of this mark.
-    pub fn with(self, mark: Mark) -> Counts
+    pub fn with(self, mark: Mark) -> RelevantCounts
         requires order { self.relevant ≤ self.possible }
         requires few { self.possible < DOCUMENT_LIMIT }
         ensures relevant { result.relevant ≡ self.relevant + (if picked_value false mark then 1 else 0) }
         ensures possible { result.possible ≡ self.possible + (if picked_value true mark then 1 else 0) }
     {
-        Counts {
+        RelevantCounts {
             relevant: self.relevant + u32::from(mark == Mark::Relevant),
             possible: self.possible + u32::from(mark != Mark::Other),
         }
     }
 
     /// Without one document of this mark.
-    pub fn without(self, mark: Mark) -> Counts
+    pub fn without(self, mark: Mark) -> RelevantCounts
         requires relevant { (if picked_value false mark then 1 else 0) ≤ self.relevant }
         requires possible { (if picked_value true mark then 1 else 0) ≤ self.possible }
         ensures relevant { result.relevant + (if picked_value false mark then 1 else 0) ≡ self.relevant }
         ensures possible { result.possible + (if picked_value true mark then 1 else 0) ≡ self.possible }
     {
-        Counts {
+        RelevantCounts {
             relevant: self.relevant - u32::from(mark == Mark::Relevant),
             possible: self.possible - u32::from(mark != Mark::Other),
         }
@@ -75,14 +75,14 @@ pub fn is_among_first(k: u32, ranking: &Ranking, doc: u32) -> bool
 }
 
 /// The counts of all documents of a topic.
-pub fn all_documents(marks: &[Mark]) -> Counts
+pub fn all_documents(marks: &[Mark]) -> RelevantCounts
     requires { length marks.now ≤ DOCUMENT_LIMIT }
     ensures relevant { result.relevant ≡ judged_count marks.now }
     ensures possible { result.possible ≡ possible_count marks.now }
     ensures order { result.relevant ≤ result.possible }
     ensures few { result.possible ≤ DOCUMENT_LIMIT }
 {
-    let mut counts = Counts::NONE;
+    let mut counts = RelevantCounts::NONE;
     for mark in marks {
         counts = counts.with(*mark);
     }

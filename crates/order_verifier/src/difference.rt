@@ -2,7 +2,7 @@ ghost use Rattle.std.specs.Prelude.{pos, ◌*ℤ◌};
 ghost use Rattle.desk_model.specs.Floors.{IsFloor, IsCeiling};
 ghost use Rattle.desk_model.specs.Limits.{PARTS_OF_ONE};
 ghost use Rattle.topic_counts.specs.Ends.{IsNear};
-ghost use Rattle.order_verifier.specs.Differences.{IsSmall, IsLowered, lead_of, whole_of};
+ghost use Rattle.order_verifier.specs.Differences.{IsSmallDifference, IsLowered, lead_of, whole_of};
 
 use topic_counts::{Span, span_of};
 
@@ -20,7 +20,7 @@ pub struct Difference {
 impl Difference {
     /// Its ends in units.
     fn span(self) -> Span
-        requires { IsSmall self }
+        requires { IsSmallDifference self }
         ensures floor { IsFloor (pos PARTS_OF_ONE *ℤ lead_of self) (pos (whole_of self)) result.lo }
         ensures ceiling { IsCeiling (pos PARTS_OF_ONE *ℤ lead_of self) (pos (whole_of self)) result.hi }
         ensures near { IsNear result.lo }
@@ -34,7 +34,7 @@ impl Difference {
 
     /// The greatest whole number of units that is at most the difference.
     pub fn floor(self) -> i128
-        requires { IsSmall self }
+        requires { IsSmallDifference self }
         ensures floor { IsFloor (pos PARTS_OF_ONE *ℤ lead_of self) (pos (whole_of self)) result }
         ensures near { IsNear result }
     {
@@ -43,7 +43,7 @@ impl Difference {
 
     /// The smallest whole number of units that is at least the difference.
     pub fn ceiling(self) -> i128
-        requires { IsSmall self }
+        requires { IsSmallDifference self }
         ensures { IsCeiling (pos PARTS_OF_ONE *ℤ lead_of self) (pos (whole_of self)) result }
     {
         self.span().hi
@@ -51,7 +51,7 @@ impl Difference {
 
     /// The greatest whole number that is at most both a number and the difference in units.
     pub fn lowered(self, low: i128) -> i128
-        requires small { IsSmall self }
+        requires small { IsSmallDifference self }
         requires near { IsNear low }
         ensures lowered { IsLowered self low result }
         ensures near { IsNear result }

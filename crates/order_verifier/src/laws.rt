@@ -1,17 +1,15 @@
 //! Laws of what the verifier answers, each the contract of a function that does nothing.
-ghost use Rattle.std.specs.Prelude.{◌≡◌, ◌+◌, ℕ, List, Result, Some, flat_map, slice_get};
-ghost use Rattle.std.specs.List.{zip};
-ghost use Rattle.desk_model.specs.Desk.{Desk, IsDesk, AreMarksOf};
+ghost use Rattle.std.specs.Prelude.{◌≡◌, ℕ, List, Result};
+ghost use Rattle.desk_model.specs.Desk.{Desk};
 ghost use Rattle.desk_model.specs.declared.types.Mark.{Mark};
-ghost use Rattle.order_certificate.specs.Certificate.{document_line};
-ghost use Rattle.order_certificate.specs.Claim.{NamedTopic, topics_of};
 ghost use Rattle.order_certificate.specs.Evidence.{IsEvidence};
+ghost use Rattle.order_certificate.specs.PlaceLines.{OfLine, SaysPlace};
 ghost use Rattle.order_certificate.specs.declared.certificate.Certificate.{Certificate};
-ghost use Rattle.order_certificate.specs.declared.certificate.Evidence.TheVariants.{Open};
-ghost use Rattle.order_certificate.specs.declared.certificate.TopicWitness.{TopicWitness};
-ghost use Rattle.order_verifier.specs.Refusal.{Listing, NamesTopic, OfLine, line_counts, line_of_topic, listings};
-ghost use Rattle.order_verifier.specs.Verified.{IsRejected, IsVerified};
+ghost use Rattle.order_certificate.specs.declared.place.CertificatePlace.{CertificatePlace};
+ghost use Rattle.order_verifier.specs.Refusal.{HasWrongDocument, IsWrongName};
+ghost use Rattle.order_verifier.specs.Verified.{IsRejected, IsVerified, OnDesk};
 ghost use Rattle.order_verifier.specs.declared.rejected.Rejected.{Rejected};
+ghost use Rattle.order_verifier.specs.declared.rejected.Rejected.TheVariants.{WrongNames, NotCompletion};
 
 /// A certificate that is rejected, for whichever reason, is no evidence: so it is accepted exactly where it is
 /// evidence.
@@ -25,12 +23,11 @@ pub fn answers_are_one()
         IsVerified c desk marks r → IsVerified c desk marks s → r ≡ s }
 {}
 
-/// The number of a line is its place in the certificate's text, from 1: the line of a topic names the
-/// topic, and the line of a name on a list names that document.
+/// The line that is told says in the certificate's text what stands at the first wrong place: the name of a run, the number
+/// of topics or the name of a topic that is not the desk's, or the name of a document that is no unjudged one.
 pub fn numbers_are_of_lines()
-    ensures topic { (c : Certificate) (topic : ℕ) (name : List ℕ) → slice_get (topics_of c.evidence) topic ≡ Some name →
-        OfLine c (line_of_topic (line_counts c.evidence) topic) (NamesTopic name) }
-    ensures document { (c : Certificate) (witnesses : List TopicWitness) (topics : List NamedTopic) (place : ℕ) (listing : Listing) →
-        c.evidence ≡ Open witnesses → slice_get (flat_map listings (zip witnesses topics)) place ≡ Some (Some listing) →
-        OfLine c (8 + place) (λ line. line ≡ document_line listing.1) }
+    ensures names { (c : Certificate) (desk : Desk) (marks : List (List Mark)) (line : ℕ) → IsRejected c desk marks (WrongNames line) →
+        (place : CertificatePlace) × IsWrongName c desk place × OfLine c line (SaysPlace c place) }
+    ensures document { (c : Certificate) (desk : Desk) (marks : List (List Mark)) (line : ℕ) → IsRejected c desk marks (NotCompletion line) →
+        (place : CertificatePlace) × OnDesk c desk marks (λ k. HasWrongDocument k c.evidence place) × OfLine c line (SaysPlace c place) }
 {}

@@ -8,6 +8,7 @@ mod comparison;
 pub mod counts;
 pub mod difference;
 pub mod ends;
+mod failure;
 pub mod kind;
 pub mod laws;
 mod listed;

@@ -3,9 +3,9 @@ ghost use Rattle.desk_model.specs.Completion.{picked_value};
 ghost use Rattle.desk_model.specs.Limits.{DOCUMENT_LIMIT};
 ghost use Rattle.desk_model.specs.Ranking.{IsRanking};
 ghost use Rattle.order_verifier.specs.Least.{AreRankings};
-ghost use Rattle.order_verifier.specs.Own.{AreOwn, IsOrdered};
+ghost use Rattle.order_verifier.specs.Own.{CountsOwn, IsOrdered};
 
-use crate::counts::{Counts, is_among_first};
+use crate::counts::{RelevantCounts, is_among_first};
 use crate::ranks::is_within;
 use crate::walk::{after, next_rank};
 use desk_model::{Mark, Ranking};
@@ -13,8 +13,8 @@ use desk_model::{Mark, Ranking};
 /// The counts of the documents that each of two rankings has among its first ones, and the other not.
 #[derive(Clone, Copy, PartialEq, Eq)]
 pub struct Own {
-    pub first: Counts,
-    pub second: Counts,
+    pub first: RelevantCounts,
+    pub second: RelevantCounts,
 }
 
 impl Own {
@@ -56,14 +56,14 @@ impl Own {
     /// The counts of the first k documents, by one walk over all documents.
     pub fn of_first(k: u32, a: &Ranking, b: &Ranking, marks: &[Mark]) -> Own
         requires { AreRankings (length marks.now) a.now b.now }
-        ensures own { AreOwn marks.now (take k a.now) (take k b.now) result }
+        ensures own { CountsOwn marks.now (take k a.now) (take k b.now) result }
         ensures ordered { IsOrdered result }
     {
         let mut first = a.by_doc();
         let mut second = b.by_doc();
         let mut own = Own {
-            first: Counts::NONE,
-            second: Counts::NONE,
+            first: RelevantCounts::NONE,
+            second: RelevantCounts::NONE,
         };
         for (place, mark) in marks.iter().enumerate() {
             let doc = place as u32;
@@ -112,8 +112,8 @@ impl Own {
     ) -> Own
         requires first { IsRanking (length marks.now) ranking.now }
         requires second { IsRanking (length marks.now) other.now }
-        requires own { AreOwn marks.now (take depth ranking.now) (take seen other.now) self }
-        ensures { AreOwn marks.now (take (depth + 1) ranking.now) (take seen other.now) result }
+        requires own { CountsOwn marks.now (take depth ranking.now) (take seen other.now) self }
+        ensures { CountsOwn marks.now (take (depth + 1) ranking.now) (take seen other.now) result }
     {
         match ranking.docs().get(depth as usize) {
             Some(doc) => self.with_next(marks[*doc as usize], is_among_first(seen, other, *doc)),
@@ -126,8 +126,8 @@ impl Own {
         requires first { IsRanking (length marks.now) a.now }
         requires second { IsRanking (length marks.now) b.now }
         requires depth { depth + 1 < 2 ^ 32 }
-        requires own { AreOwn marks.now (take depth a.now) (take depth b.now) self }
-        ensures { AreOwn marks.now (take (depth + 1) a.now) (take (depth + 1) b.now) result }
+        requires own { CountsOwn marks.now (take depth a.now) (take depth b.now) self }
+        ensures { CountsOwn marks.now (take (depth + 1) a.now) (take (depth + 1) b.now) result }
     {
         let first = self.with_document(depth, a, depth, b, marks).swapped();
         first.with_document(depth, b, depth + 1, a, marks).swapped()

@@ -4,11 +4,11 @@ ghost use Rattle.desk_model.specs.Limits.{DOCUMENT_LIMIT, RANK_LIMIT};
 ghost use Rattle.desk_model.specs.Ranking.{IsRanking};
 ghost use Rattle.desk_model.specs.declared.types.MeasureName.TheVariants.{RPrecision as R};
 ghost use Rattle.measure_laws.specs.Ends.{IsUpperEnd};
-ghost use Rattle.order_verifier.specs.Differences.{IsSmall, lead_of, whole_of};
+ghost use Rattle.order_verifier.specs.Differences.{IsSmallDifference, lead_of, whole_of};
 ghost use Rattle.order_verifier.specs.Least.{AreRankings, IsLeastLow};
-ghost use Rattle.order_verifier.specs.Own.{AreOwn, IsOrdered};
+ghost use Rattle.order_verifier.specs.Own.{CountsOwn, IsOrdered};
 
-use crate::counts::{Counts, all_documents, relevant_among};
+use crate::counts::{RelevantCounts, all_documents, relevant_among};
 use crate::difference::Difference;
 use crate::own::Own;
 use crate::relevance::Relevance;
@@ -16,12 +16,12 @@ use desk_model::{Mark, Ranking};
 
 /// The difference where so many unjudged documents are relevant: b's own ones are chosen first, and
 /// a's own ones last.
-fn difference(own: Own, all: Counts, chosen: u32) -> Difference
+fn difference(own: Own, all: RelevantCounts, chosen: u32) -> Difference
     requires own { IsOrdered own }
     requires all { all.relevant ≤ all.possible }
     requires few { all.possible ≤ DOCUMENT_LIMIT }
     requires chosen { all.relevant + chosen ≤ all.possible }
-    ensures small { IsSmall result }
+    ensures small { IsSmallDifference result }
     ensures lead { lead_of result ≡ pos (own.first.relevant + (chosen - (all.possible - all.relevant - (own.first.possible - own.first.relevant)))) -ℤ pos (own.second.relevant + min chosen (own.second.possible - own.second.relevant)) }
     ensures whole { whole_of result ≡ max 1 (all.relevant + chosen) }
 {

@@ -8,6 +8,7 @@ ghost use Rattle.order_verifier.specs.Verified.{FailsBy, IsVerified};
 
 use crate::TopicEnds;
 use crate::comparison::Comparison;
+use crate::failure::{Failure, rejection, wrong_names};
 use crate::names::{runs_of, wrong_topic};
 use crate::rejected::Rejected;
 use desk_model::{Desk, Marks, MeasureName, Memory};
@@ -58,20 +59,23 @@ impl Verifier {
         evidence_implies_claim();
         let runs = match runs_of(desk, certificate) {
             Ok(runs) => runs,
-            Err(line) => return Err(Rejected::WrongNames { line }),
+            Err(place) => return Err(wrong_names(&certificate.evidence, place)),
         };
-        if let Some(line) = wrong_topic(desk, &certificate.evidence) {
-            return Err(Rejected::WrongNames { line });
+        if let Some(place) = wrong_topic(desk, &certificate.evidence) {
+            return Err(wrong_names(&certificate.evidence, place));
         }
-        check(
+        match check(
             &Comparison::new(&self.ends, desk, marks, runs),
             &certificate.evidence,
-        )
+        ) {
+            Ok(()) => Ok(()),
+            Err(failure) => Err(rejection(&certificate.evidence, failure)),
+        }
     }
 }
 
 /// Whether evidence shows what it claims of two runs.
-fn check(comparison: &Comparison<'_>, evidence: &Evidence) -> Result<(), Rejected>
+fn check(comparison: &Comparison<'_>, evidence: &Evidence) -> Result<(), Failure>
     requires form { IsWritable evidence.now }
     requires topics { length (topics_of evidence.now) ≡ length (topics_in comparison.now) }
     ensures { MatchResult result (λ _. ShowsOf comparison.now evidence.now) (FailsBy comparison.now evidence.now) }

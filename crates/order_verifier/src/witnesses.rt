@@ -1,20 +1,18 @@
 // The lists of an open claim: each name against the documents of its topic, and the sums of both completions.
-ghost use Rattle.std.specs.Prelude.{◌≡◌, ◌≤◌, ◌<◌, ◌∷◌, [], All, length, map, MatchOption, MatchResult};
-ghost use Rattle.std.specs.List.{AllZip};
-ghost use Rattle.desk_model.specs.Limits.{TOPIC_LIMIT};
-ghost use Rattle.order_certificate.specs.Certificate.{AreDocuments};
+ghost use Rattle.std.specs.Prelude.{◌≡◌, ◌≤◌, ◌<◌, All, length, MatchOption, MatchResult};
+ghost use Rattle.desk_model.specs.Limits.{DOCUMENT_LIMIT, TOPIC_LIMIT};
+ghost use Rattle.order_certificate.specs.Certificate.{AreLists};
 ghost use Rattle.order_certificate.specs.Evidence.{AreUnjudged, IsLowSum, IsHighSum};
 ghost use Rattle.desk_model.specs.Verdict.{differs};
 ghost use Rattle.order_certificate.specs.declared.certificate.Evidence.TheVariants.{Open as O};
-ghost use Rattle.order_certificate.specs.declared.certificate.TopicWitness.{TopicWitness as Witness};
 ghost use Rattle.order_verifier.specs.Checks.{OfTopic};
-ghost use Rattle.order_verifier.specs.Refusal.{IsFirstFailing, NamesUnjudged, NamesAnother, listings, HasCompletions, HasWrongDocument, ShowsOf, topics_in};
+ghost use Rattle.order_verifier.specs.Refusal.{AreCompletions, HasCompletions, HasOther, HasWrongDocument, IsFirstOther, ShowsOf, topics_in};
 ghost use Rattle.order_verifier.specs.Verified.{FailsBy};
 
 use crate::comparison::Comparison;
-use crate::rejected::Rejected;
+use crate::failure::Failure;
 use desk_model::Name;
-use order_certificate::TopicWitness;
+use order_certificate::{CertificatePlace, TopicWitness, WitnessList};
 
 /// Whether two sums, of a low and of a high completion, differ on the order: they are on two sides of 0, or one is 0.
 fn differ(low: i128, high: i128) -> bool
@@ -24,51 +22,57 @@ fn differ(low: i128, high: i128) -> bool
 }
 
 impl Comparison<'_> {
-    /// The first place of a list, from 0, whose name is not that of an unjudged document of a topic.
-    fn first_other(&self, topic: u32, names: &[Name]) -> Option<usize>
-        requires { topic < length (topics_in self.now) }
-        ensures { OfTopic (topics_in self.now) topic (λ t. MatchOption result (AreUnjudged t names.now) (IsFirstFailing (λ name. AreUnjudged t (name ∷ [])) (λ name. AreUnjudged t (name ∷ []) → ⊥) names.now)) }
+    /// The first name of a list, by its number from 0, that is not that of an unjudged document of a topic.
+    fn first_other(&self, topic: u32, names: &[Name]) -> Option<u32>
+        requires topic { topic < length (topics_in self.now) }
+        requires few { length names.now ≤ DOCUMENT_LIMIT }
+        ensures { OfTopic (topics_in self.now) topic (λ t. MatchOption result (AreUnjudged t names.now) (IsFirstOther t names.now)) }
     {
-        let mut place = 0;
+        let mut document = 0;
         for name in names {
             if !self.is_unjudged(topic, name.as_bytes()) {
-                return Some(place);
+                return Some(document);
             }
-            place += 1;
+            document += 1;
         }
         None
     }
 
-    /// The first of the lines on a topic, from 0, that names what is no unjudged document of it.
-    fn first_wrong_line(&self, topic: u32, witness: &TopicWitness) -> Option<usize>
+    /// The same of the two lists of a topic, the low one first.
+    fn first_other_on(&self, topic: u32, witness: &TopicWitness) -> Option<CertificatePlace>
         requires topic { topic < length (topics_in self.now) }
-        requires lists { AreDocuments witness.now.low × AreDocuments witness.now.high }
-        ensures { OfTopic (topics_in self.now) topic (λ t. MatchOption result (AreUnjudged t witness.now.low × AreUnjudged t witness.now.high) (IsFirstFailing NamesUnjudged NamesAnother (listings (witness.now, t)))) }
+        requires lists { AreLists witness.now }
+        ensures { OfTopic (topics_in self.now) topic (λ t. MatchOption result (AreCompletions (witness.now, t)) (HasOther topic (witness.now, t))) }
     {
-        let low = witness.low.as_slice();
-        if let Some(place) = self.first_other(topic, low) {
-            return Some(place + 1);
+        if let Some(document) = self.first_other(topic, witness.low.as_slice()) {
+            return Some(CertificatePlace::Document {
+                topic,
+                list: WitnessList::Low,
+                document,
+            });
         }
         match self.first_other(topic, witness.high.as_slice()) {
-            Some(place) => Some(place + low.len() + 2),
+            Some(document) => Some(CertificatePlace::Document {
+                topic,
+                list: WitnessList::High,
+                document,
+            }),
             None => None,
         }
     }
 
-    /// The first line that names what is no unjudged document of its topic.
-    fn first_wrong_document(&self, witnesses: &[TopicWitness]) -> Option<u64>
+    /// The same of all topics, in their order.
+    fn first_wrong_document(&self, witnesses: &[TopicWitness]) -> Option<CertificatePlace>
         requires topics { length witnesses.now ≡ length (topics_in self.now) }
         requires few { length witnesses.now ≤ TOPIC_LIMIT }
-        requires lists { All (λ (w : Witness). AreDocuments w.low × AreDocuments w.high) witnesses.now }
+        requires lists { All AreLists witnesses.now }
         ensures { MatchOption result (HasCompletions self.now (O witnesses.now)) (HasWrongDocument self.now (O witnesses.now)) }
     {
-        let mut line = 8;
         let mut topic = 0;
         for witness in witnesses {
-            if let Some(place) = self.first_wrong_line(topic, witness) {
-                return Some(line + place as u64);
+            if let Some(place) = self.first_other_on(topic, witness) {
+                return Some(place);
             }
-            line += (witness.low.as_slice().len() + witness.high.as_slice().len() + 2) as u64;
             topic += 1;
         }
         None
@@ -77,7 +81,7 @@ impl Comparison<'_> {
     /// The sum over the topics of the upper end of the difference in the low completion.
     fn upper_sum(&self, witnesses: &[TopicWitness]) -> i128
         requires few { length witnesses.now ≤ TOPIC_LIMIT }
-        requires lists { All (λ (w : Witness). AreDocuments w.low × AreDocuments w.high) witnesses.now }
+        requires lists { All AreLists witnesses.now }
         requires unjudged { HasCompletions self.now (O witnesses.now) }
         ensures { IsLowSum self.now.measure self.now.first self.now.second witnesses.now (topics_in self.now) result }
     {
@@ -93,7 +97,7 @@ impl Comparison<'_> {
     /// The sum over the topics of the lower end of the difference in the high completion.
     fn lower_sum(&self, witnesses: &[TopicWitness]) -> i128
         requires few { length witnesses.now ≤ TOPIC_LIMIT }
-        requires lists { All (λ (w : Witness). AreDocuments w.low × AreDocuments w.high) witnesses.now }
+        requires lists { All AreLists witnesses.now }
         requires unjudged { HasCompletions self.now (O witnesses.now) }
         ensures { IsHighSum self.now.measure self.now.first self.now.second witnesses.now (topics_in self.now) result }
     {
@@ -107,17 +111,17 @@ impl Comparison<'_> {
     }
 
     /// Whether lists are two completions that differ on the order of the two runs.
-    pub fn check_open(&self, witnesses: &[TopicWitness]) -> Result<(), Rejected>
+    pub fn check_open(&self, witnesses: &[TopicWitness]) -> Result<(), Failure>
         requires topics { length witnesses.now ≡ length (topics_in self.now) }
         requires few { length witnesses.now ≤ TOPIC_LIMIT }
-        requires lists { All (λ (w : Witness). AreDocuments w.low × AreDocuments w.high) witnesses.now }
+        requires lists { All AreLists witnesses.now }
         ensures { MatchResult result (λ _. ShowsOf self.now (O witnesses.now)) (FailsBy self.now (O witnesses.now)) }
     {
-        if let Some(line) = self.first_wrong_document(witnesses) {
-            return Err(Rejected::NotCompletion { line });
+        if let Some(place) = self.first_wrong_document(witnesses) {
+            return Err(Failure::NotCompletion { place });
         }
         if !differ(self.upper_sum(witnesses), self.lower_sum(witnesses)) {
-            return Err(Rejected::NoDifference);
+            return Err(Failure::NoDifference);
         }
         Ok(())
     }

@@ -1,5 +1,5 @@
 use Rattle.std.proofs.Common.{◌∷◌, ◌++◌}
-use Rattle.order_certificate.proofs.Parts.{after_word, weaker_none}
+use Rattle.line_forms.proofs.WordParts.{after_word, weaker_none}
 use Rattle.order_certificate.proofs.places.after_topic.Goals as goal
 
 pub returns-in_err-text-2-clause-none : goal.returns-in_err-text-2-clause-none

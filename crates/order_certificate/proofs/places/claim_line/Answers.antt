@@ -1,6 +1,6 @@
 use Rattle.order_certificate.specs.Places.{claim_line}
-use Rattle.order_certificate.proofs.Cuts.{above_free}
-use Rattle.order_certificate.proofs.Sequel.{read_part, read_none}
+use Rattle.line_forms.proofs.Cuts.{above_free}
+use Rattle.line_forms.proofs.Sequel.{read_part, read_none}
 use Rattle.order_certificate.proofs.Whole.{evidence_plain}
 use Rattle.order_certificate.proofs.places.claim_line.Goals as goal
 

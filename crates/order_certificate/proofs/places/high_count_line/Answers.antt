@@ -1,8 +1,9 @@
 use Rattle.std.proofs.Common.{ℕ}
 use Rattle.std.specs.Prelude.{codes}
-use Rattle.order_certificate.specs.Certificate.{count_line, IsDocumentCount}
-use Rattle.order_certificate.proofs.Cuts.{above_free}
-use Rattle.order_certificate.proofs.Sequel.{read_part, read_none}
+use Rattle.line_forms.specs.Places.{count_line}
+use Rattle.order_certificate.specs.Certificate.{IsDocumentCount}
+use Rattle.line_forms.proofs.Cuts.{above_free}
+use Rattle.line_forms.proofs.Sequel.{read_part, read_none}
 use Rattle.order_certificate.proofs.RowKinds.{high_count_plain}
 use Rattle.order_certificate.proofs.places.high_count_line.Goals as goal
 

@@ -1,7 +1,7 @@
 use Rattle.std.proofs.Common.{[], ◌∷◌, ◌++◌, decimal, arith}
 use Rattle.std.specs.Prelude.{codes}
 use Rattle.std.proofs.lemmas.List.{append_cancel_left}
-use Rattle.order_certificate.proofs.Parts.{after_word}
+use Rattle.line_forms.proofs.WordParts.{after_word}
 use Rattle.order_certificate.proofs.places.high_count_of.Goals as goal
 
 pub returns-in-None : goal.returns-in-None

@@ -1,22 +1,23 @@
 use Rattle.std.proofs.Common.{◌∷◌, ◌++◌, ◌∙◌, sym, rules}
 use Rattle.std.specs.Prelude.{codes}
 use Rattle.std.specs.Fmt.{signed_decimal}
-use Rattle.order_certificate.proofs.Cuts.{free_parts, above_free}
+use Rattle.line_forms.proofs.Cuts.{free_parts, above_free}
 use Rattle.order_certificate.proofs.RowKinds.{low_high_cut}
-use Rattle.order_certificate.proofs.Shown.{signed_above}
-use Rattle.order_certificate.proofs.Parts.{one_topic, low_high_is}
+use Rattle.line_forms.proofs.Shown.{signed_above}
+use Rattle.line_forms.proofs.WordParts.{one_name}
+use Rattle.order_certificate.proofs.Joins.{low_high_is}
 use Rattle.order_certificate.proofs.places.low_high_of.Goals as goal
 
 pub returns-in_default : goal.returns-in_default
 returns-in_default c b fits e =
-    let cut = one_topic (codes "topic ") c.args.line.now c.in_ok-topic.topic c.in_ok-topic.numbers.now b.topic (signed_decimal b.low ++ 32 ∷ signed_decimal b.high) c.in_ok-topic.ensures.next.0 fits.0.0 c.in_ok-topic.ensures.ok (e ∙ low_high_cut b) in
+    let cut = one_name (codes "topic ") c.args.line.now c.in_ok-topic.topic c.in_ok-topic.numbers.now b.topic (signed_decimal b.low ++ 32 ∷ signed_decimal b.high) c.in_ok-topic.ensures.later.0 fits.0.0 c.in_ok-topic.ensures.ok (e ∙ low_high_cut b) in
     c.in_default.ensures.none (signed_decimal b.low) (signed_decimal b.high) cut.1
 
 pub returns-in_default-number : goal.returns-in_default-number
 returns-in_default-number c b fits e =
-    let cut = one_topic (codes "topic ") c.args.line.now c.in_ok-topic.topic c.in_ok-topic.numbers.now b.topic (signed_decimal b.low ++ 32 ∷ signed_decimal b.high) c.in_ok-topic.ensures.next.0 fits.0.0 c.in_ok-topic.ensures.ok (e ∙ low_high_cut b) in
+    let cut = one_name (codes "topic ") c.args.line.now c.in_ok-topic.topic c.in_ok-topic.numbers.now b.topic (signed_decimal b.low ++ 32 ∷ signed_decimal b.high) c.in_ok-topic.ensures.later.0 fits.0.0 c.in_ok-topic.ensures.ok (e ∙ low_high_cut b) in
     let parts = free_parts 32 c.in-Some.low.now (signed_decimal b.low) c.in-Some.high.now (signed_decimal b.high) c.in-Some.ensures.free (above_free 32 (signed_decimal b.low) (signed_above b.low)) (sym c.in-Some.ensures.some ∙ cut.1) in
-    c.in_default-number.ensures.none b.low fits.1 parts.0
+    c.in_default-number.ensures.none b.low fits.1.0 parts.0
 
 pub returns-in-Some-number-2 : goal.returns-in-Some-number-2
 returns-in-Some-number-2 c =
@@ -25,6 +26,6 @@ returns-in-Some-number-2 c =
 
 pub returns-in-None : goal.returns-in-None
 returns-in-None c b fits e =
-    let cut = one_topic (codes "topic ") c.args.line.now c.in_ok-topic.topic c.in_ok-topic.numbers.now b.topic (signed_decimal b.low ++ 32 ∷ signed_decimal b.high) c.in_ok-topic.ensures.next.0 fits.0.0 c.in_ok-topic.ensures.ok (e ∙ low_high_cut b) in
+    let cut = one_name (codes "topic ") c.args.line.now c.in_ok-topic.topic c.in_ok-topic.numbers.now b.topic (signed_decimal b.low ++ 32 ∷ signed_decimal b.high) c.in_ok-topic.ensures.later.0 fits.0.0 c.in_ok-topic.ensures.ok (e ∙ low_high_cut b) in
     let parts = free_parts 32 c.in-Some.low.now (signed_decimal b.low) c.in-Some.high.now (signed_decimal b.high) c.in-Some.ensures.free (above_free 32 (signed_decimal b.low) (signed_above b.low)) (sym c.in-Some.ensures.some ∙ cut.1) in
-    c.in-None.ensures.none b.high fits.2 parts.1
+    c.in-None.ensures.none b.high fits.1.1 parts.1

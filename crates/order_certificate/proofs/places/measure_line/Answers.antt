@@ -1,10 +1,10 @@
 use Rattle.std.proofs.Common.{◌++◌, rules}
 use Rattle.std.specs.Prelude.{codes}
 use Rattle.desk_model.specs.MeasureText.{measure_text, IsMeasure}
-use Rattle.order_certificate.proofs.Cuts.{above_free}
-use Rattle.order_certificate.proofs.Parts.{free-append}
-use Rattle.order_certificate.proofs.Sequel.{read_part, read_none}
-use Rattle.order_certificate.proofs.Shown.{measure_above}
+use Rattle.line_forms.proofs.Cuts.{above_free}
+use Rattle.line_forms.proofs.WordParts.{free-append}
+use Rattle.line_forms.proofs.Sequel.{read_part, read_none}
+use Rattle.order_certificate.proofs.Measures.{measure_above}
 use Rattle.order_certificate.proofs.places.measure_line.Goals as goal
 
 pub returns-in-Some : goal.returns-in-Some

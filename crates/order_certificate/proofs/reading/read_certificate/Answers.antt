@@ -2,10 +2,11 @@ use Rattle.std.proofs.Common.{◌≡◌, ◌≢◌, [], ◌++◌, ap, sym, subst
 use Rattle.std.specs.Prelude.{Err}
 use Rattle.std.proofs.lemmas.Bool.{eqb-true, eqb-false}
 use Rattle.std.proofs.lemmas.List.{nil_from_length}
-use Rattle.order_certificate.specs.Form.{text_of}
+use Rattle.line_forms.specs.Form.{text_of}
 use Rattle.order_certificate.specs.Places.{certificate_places}
-use Rattle.order_certificate.specs.Reading.{Left, BeginsWith, FailsAt, IsReading}
-use Rattle.order_certificate.proofs.Numbering.{bad_line, line_after, not_longer, whole_text}
+use Rattle.line_forms.specs.Reading.{Left, BeginsWith, FailsAt, IsReading}
+use Rattle.line_forms.proofs.LineNumbers.{bad_line, line_after, not_longer, whole_text}
+use Rattle.order_certificate.proofs.Whole.{places_plain}
 use Rattle.order_certificate.proofs.reading.read_certificate.Goals as goal
 
 pub returns-then-is_empty : goal.returns-then-is_empty
@@ -14,7 +15,7 @@ returns-then-is_empty c =
     let whole = subst (λ z. BeginsWith certificate_places z certificate c.certificate.new.lines.rest) (ap (λ (l : Left). l.rest) c.new-lines.ensures) c.in-Ok.ensures in
     let begins = subst (λ z. BeginsWith certificate_places c.args.bytes.now certificate z) (sym c.rest-rest.ensures) whole in
     let none : c.rest-rest.result.now ≡ [] = nil_from_length c.rest-rest.result.now (eqb-true (length c.rest-rest.result.now) 0 (sym c.is_empty.ensures ∙ c.if-is_empty.true)) in
-    whole_text c.args.bytes.now c.rest-rest.result.now certificate begins none
+    whole_text certificate_places c.args.bytes.now c.rest-rest.result.now certificate begins none
 
 pub line_number-line-requires : goal.line_number-line-requires
 line_number-line-requires c =
@@ -28,7 +29,7 @@ returns-else-is_empty c =
     let whole = subst (λ z. BeginsWith certificate_places z certificate c.certificate.new.lines.rest) (ap (λ (l : Left). l.rest) c.new-lines.ensures) c.in-Ok.ensures in
     let begins = subst (λ z. BeginsWith certificate_places bytes certificate z) (sym c.rest-rest.ensures) whole in
     let some : c.rest-rest.result.now ≢ [] = λ e. eqb-false (length c.rest-rest.result.now) 0 (sym c.is_empty.ensures ∙ c.if-is_empty.false) (ap length e) in
-    line_after c.measure_of_text_is_unique.ensures bytes c.rest-rest.result.now certificate c.line_number-line.result begins some c.line_number-line.ensures
+    line_after certificate_places (places_plain c.measure_of_text_is_unique.ensures) bytes c.rest-rest.result.now certificate c.line_number-line.result begins some c.line_number-line.ensures
 
 pub line_number-line-requires-in-Err-Bad : goal.line_number-line-requires-in-Err-Bad
 line_number-line-requires-in-Err-Bad c =
@@ -42,4 +43,4 @@ returns-in-Err-Bad c =
     let here = subst (λ f. IsReading certificate_places c.new-lines.result.rest (Err f) c.certificate.new.lines) c.in-Err-Bad.field-0-is c.in-Err-Bad.ensures in
     let whole = subst (λ z. FailsAt certificate_places z c.certificate.new.lines.last) (ap (λ (l : Left). l.rest) c.new-lines.ensures) here in
     let fails = subst (λ z. FailsAt certificate_places bytes z) (sym c.last.ensures) whole in
-    bad_line c.measure_of_text_is_unique.ensures bytes c.last.result.now c.line_number-line-in-Err-Bad.result fails c.line_number-line-in-Err-Bad.ensures
+    bad_line certificate_places (places_plain c.measure_of_text_is_unique.ensures) bytes c.last.result.now c.line_number-line-in-Err-Bad.result fails c.line_number-line-in-Err-Bad.ensures

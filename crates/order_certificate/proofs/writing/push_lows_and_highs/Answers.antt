@@ -1,6 +1,6 @@
 use Rattle.std.proofs.Common.{refl, arith, map}
 use Rattle.order_certificate.specs.Certificate.{low_high_line}
-use Rattle.order_certificate.proofs.Joins.{one_line_more, all_written}
+use Rattle.line_forms.proofs.Joins.{one_line_more, all_written}
 use Rattle.order_certificate.proofs.writing.push_lows_and_highs.Goals as goal
 
 pub loop-bound-preserved : goal.loop-bound-preserved

@@ -1,8 +1,8 @@
 use Rattle.std.proofs.Common.{◌++◌, codes, decimal}
 use Rattle.std.proofs.lemmas.Result.{on_ok_weaker}
 use Rattle.desk_model.specs.MeasureText.{measure_text}
-use Rattle.order_certificate.specs.Form.{ended}
-use Rattle.order_certificate.proofs.Joins.{three}
+use Rattle.line_forms.specs.Form.{ended}
+use Rattle.line_forms.proofs.Joins.{three}
 use Rattle.order_certificate.proofs.writing.push_opening.Goals as goal
 
 pub returns : goal.returns

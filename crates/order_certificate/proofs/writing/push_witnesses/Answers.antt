@@ -1,6 +1,6 @@
 use Rattle.std.proofs.Common.{refl, arith, flat_map}
 use Rattle.order_certificate.specs.Certificate.{witness_lines}
-use Rattle.order_certificate.proofs.Joins.{lines_more, all_written}
+use Rattle.line_forms.proofs.Joins.{lines_more, all_written}
 use Rattle.order_certificate.proofs.writing.push_witnesses.Goals as goal
 
 pub loop-witness-preserved : goal.loop-witness-preserved

@@ -3,7 +3,7 @@ use Rattle.std.specs.Prelude.{unsigned_abs}
 use Rattle.std.specs.Int.{w128}
 use Rattle.std.proofs.lemmas.Int.{ints}
 use Rattle.order_certificate.specs.declared.certificate.TopicBound.{TopicBound}
-use Rattle.order_certificate.specs.Certificate.{IsNumber}
+use Rattle.line_forms.specs.Places.{IsShortNumber}
 use Rattle.order_verifier.proofs.NumbersOnTopics.{sum_more}
 use Rattle.order_verifier.proofs.Topics.{item_there}
 use Rattle.order_verifier.proofs.bounds.high_sum.Goals as goal
@@ -13,7 +13,7 @@ loop-bound-preserved c =
     let i = c.loop-bound.bound-index in
     let bound = c.bound-item.result in
     let there = item_there c.args.bounds.now i bound c.loop-bound-test.true c.bound-item.is in
-    let sized : IsNumber bound.high = subst (λ (b : TopicBound). IsNumber b.high) (sym c.bound-item.is) (c.requires.sizes i bound c.loop-bound-test.true) in
+    let sized : IsShortNumber bound.high = subst (λ (b : TopicBound). IsShortNumber b.high) (sym c.bound-item.is) (c.requires.sizes i bound c.loop-bound-test.true) in
     let more = sum_more (λ (b : TopicBound). b.high) c.args.bounds.now i bound there in
     let within = c.loop-bound.invariant.1 in
     let before = to_z w128 c.loop-bound.sum-bits in

@@ -1,12 +1,13 @@
-use Rattle.std.proofs.Common.{◌≡◌, ◌+◌, ◌≤◌, List, ℕ, length, map, take, ap, sym, subst, ◌∙◌, arith, inr, Some}
+use Rattle.std.proofs.Common.{◌≡◌, ◌+◌, List, ℕ, length, map, take, ap, sym, subst, ◌∙◌, arith, Some}
 use Rattle.std.specs.Prelude.{slice_get}
 use Rattle.std.specs.List.{AllByRecursion, zip}
 use Rattle.std.proofs.lemmas.List.{length-map, take_all}
 use Rattle.std.proofs.lemmas.Slice.Zip.{length-zip}
 use Rattle.desk_model.specs.Book.{Book}
-use Rattle.order_verifier.specs.Refusal.{topic_names}
-use Rattle.order_verifier.proofs.Places.{all_more}
-use Rattle.order_verifier.proofs.SameNames.{count_more, names_differ, names_same, zip_same}
+use Rattle.order_certificate.specs.declared.place.CertificatePlace.TheVariants.{Topic}
+use Rattle.order_verifier.specs.Refusal.{HaveWrongTopic, topic_names}
+use Rattle.order_verifier.proofs.FirstFailing.{all_more}
+use Rattle.order_verifier.proofs.SameNames.{names_differ, names_same, zip_same}
 use Rattle.small_lemmas.proofs.Lists.{slice_get-zip, map_there}
 use Rattle.order_verifier.proofs.Topics.{item_there}
 use Rattle.order_verifier.proofs.names.first_wrong.Goals as goal
@@ -21,24 +22,21 @@ returns-then-ne g c =
     let inv = c.loop-item.invariant in
     let lengths : length names ≡ length own = length-map c.args.items.now f ∙ c.requires.count ∙ sym (length-map c.args.desk.now.topics name) in
     let item = map_there f c.args.items.now i c.item-item.result (item_there c.args.items.now i c.item-item.result c.loop-item-test.true c.item-item.is) in
-    let book = map_there name c.args.desk.now.topics i c.topic-in-loop-item.result.now (subst (λ k. slice_get c.args.desk.now.topics k ≡ Some c.topic-in-loop-item.result.now) inv.place c.topic-in-loop-item.ensures) in
+    let book = map_there name c.args.desk.now.topics i c.topic-in-loop-item.result.now (subst (λ k. slice_get c.args.desk.now.topics k ≡ Some c.topic-in-loop-item.result.now) inv.number c.topic-in-loop-item.ensures) in
     let differ = names_differ c.topic.result.now c.name.result.now c.ne.result c.ne.ensures c.if-ne.true in
-    inr (
+    subst (HaveWrongTopic names own) (ap Topic (sym inv.number)) (
       lengths,
-      i,
       record {
         before = inv.same;
         item = (f c.item-item.result, c.topic-in-loop-item.result.now.name);
         there = slice_get-zip names own i _ _ item book;
         fails = λ same. differ (c.topic.ensures ∙ same ∙ sym c.name.ensures.name);
       },
-      inv.counted,
     )
 
 pub loop-item-preserved : goal.loop-item-preserved
 loop-item-preserved g c =
     let f = g.T.OnTopic.topic_of in
-    let h = g.T.OnTopic.lines_of in
     let name : Book → List ℕ = λ book. book.name in
     let names = map f c.args.items.now in
     let own = topic_names c.args.desk.now in
@@ -46,14 +44,10 @@ loop-item-preserved g c =
     let inv = c.loop-item.invariant in
     let at = item_there c.args.items.now i c.item-item.result c.loop-item-test.true c.item-item.is in
     let item = map_there f c.args.items.now i c.item-item.result at in
-    let lines = map_there h c.args.items.now i c.item-item.result at in
-    let book = map_there name c.args.desk.now.topics i c.topic-in-loop-item.result.now (subst (λ k. slice_get c.args.desk.now.topics k ≡ Some c.topic-in-loop-item.result.now) inv.place c.topic-in-loop-item.ensures) in
+    let book = map_there name c.args.desk.now.topics i c.topic-in-loop-item.result.now (subst (λ k. slice_get c.args.desk.now.topics k ≡ Some c.topic-in-loop-item.result.now) inv.number c.topic-in-loop-item.ensures) in
     let same = names_same c.topic.result.now c.name.result.now c.ne.result c.ne.ensures c.if-ne.false in
-    let few : h c.item-item.result ≤ 50000002 = subst (λ x. h x ≤ 50000002) (sym c.item-item.is) (c.requires.lines i c.item-item.result c.loop-item-test.true) in
     record {
-      place = ap (λ k. k + 1) inv.place;
-      counted = omega (arith, inv.counted, c.line_count-line.ensures, count_more (map h c.args.items.now) i (h c.item-item.result) lines);
-      small = omega (arith, inv.small, c.line_count-line.ensures, few);
+      number = ap (λ k. k + 1) inv.number;
       same = all_more (λ (p : List ℕ × List ℕ). p.0 ≡ p.1) (zip names own) i (f c.item-item.result, c.topic-in-loop-item.result.now.name) inv.same (slice_get-zip names own i _ _ item book) (sym c.topic.ensures ∙ same ∙ c.name.ensures.name);
     }
 

@@ -5,7 +5,7 @@ use Rattle.desk_model.specs.declared.types.MeasureName.TheVariants.{RPrecision}
 use Rattle.topic_counts.specs.Ends.{IsNear}
 use Rattle.measure_laws.specs.LeastDifference.{unjudged_count}
 use Rattle.measure_laws.proofs.LeastDifferences.{rprec_differences}
-use Rattle.order_verifier.specs.Own.{AreOwn}
+use Rattle.order_verifier.specs.Own.{CountsOwn}
 use Rattle.order_verifier.proofs.Numbers.{IsLowTo, is_at, low_further, low_judged, unjudged_is}
 use Rattle.order_verifier.proofs.OwnSteps.{own_ordered, prefix_short}
 use Rattle.order_verifier.proofs.Smallest.{smallest_is}
@@ -22,7 +22,7 @@ loop-chosen-init c =
     let same : to_z w128 (of_z w128 c.floor-low.result) ≡ c.floor-low.result = omega (arith, ints) in
     let at = is_at marks a b k all.result.possible 0 k c.of_first-own.result c.difference.result all.ensures.relevant all.ensures.possible none c.of_first-own.ensures.own c.difference.ensures.lead c.difference.ensures.whole in
     record {
-      own = subst (λ (n : ℕ). AreOwn marks (take n a) (take n b) c.of_first-own.result) none c.of_first-own.ensures.own;
+      own = subst (λ (n : ℕ). CountsOwn marks (take n a) (take n b) c.of_first-own.result) none c.of_first-own.ensures.own;
       low = subst (IsLowTo marks a b 0) (sym same) (low_judged marks a b k c.difference.result c.floor-low.result all.ensures.relevant at c.floor-low.ensures.floor);
       near = subst IsNear (sym same) c.floor-low.ensures.near;
     }
@@ -42,7 +42,7 @@ loop-chosen-preserved c =
     let n = c.loop-chosen.chosen in
     let d = c.difference-in-loop-chosen in
     let next : k + n + 1 ≡ k + (n + 1) = omega arith in
-    let own = subst (λ (m : ℕ). AreOwn marks (take m a) (take m b) c.deepened-own.result) next c.deepened-own.ensures in
+    let own = subst (λ (m : ℕ). CountsOwn marks (take m a) (take m b) c.deepened-own.result) next c.deepened-own.ensures in
     let same : to_z w128 (of_z w128 c.lowered-low.result) ≡ c.lowered-low.result = omega (arith, ints) in
     let at = is_at marks a b k all.result.possible (n + 1) (k + (n + 1)) c.deepened-own.result d.result all.ensures.relevant all.ensures.possible refl own d.ensures.lead d.ensures.whole in
     record {

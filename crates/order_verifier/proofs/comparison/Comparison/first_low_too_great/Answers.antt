@@ -7,7 +7,7 @@ use Rattle.order_certificate.specs.declared.certificate.TopicBound.{TopicBound}
 use Rattle.order_verifier.specs.Checks.{OfTopic}
 use Rattle.order_verifier.specs.Refusal.{HasLow, HasGreaterLow, IsFirstFailing, OfEnds, topics_in}
 use Rattle.order_verifier.proofs.NumbersOnTopics.{bound_more, bound_fails}
-use Rattle.order_verifier.proofs.Places.{all_pairs}
+use Rattle.order_verifier.proofs.FirstFailing.{all_pairs}
 use Rattle.order_verifier.proofs.Topics.{item_there}
 use Rattle.order_verifier.proofs.comparison.Comparison.first_low_too_great.Goals as goal
 

@@ -6,4 +6,4 @@ use Rattle.order_verifier.specs.Refusal.{topics_in}
 use Rattle.order_verifier.proofs.comparison.Comparison.first_other.Given as goal
 
 abbrev pub invariant-loop-name : goal.invariant-loop-name
-invariant-loop-name l = (l.place ≡ l.name-index) × OfTopic (topics_in l.self) l.topic (λ t. AllByRecursion (λ name. AreUnjudged t (name ∷ [])) (take l.name-index l.names))
+invariant-loop-name l = (l.document ≡ l.name-index) × OfTopic (topics_in l.self) l.topic (λ t. AllByRecursion (λ name. AreUnjudged t (name ∷ [])) (take l.name-index l.names))

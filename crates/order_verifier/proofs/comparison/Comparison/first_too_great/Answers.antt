@@ -9,7 +9,7 @@ use Rattle.order_verifier.specs.Checks.{OfTopic}
 use Rattle.order_verifier.specs.Refusal.{HasLow, HasHigh, HasGreaterLow, HasSmallerHigh, IsFirstFailing, OfEnds, topics_in}
 use Rattle.order_verifier.specs.declared.comparison.OuterEnds.{OuterEnds}
 use Rattle.order_verifier.proofs.NumbersOnTopics.{bound_more, bound_fails}
-use Rattle.order_verifier.proofs.Places.{all_pairs, firsts, seconds}
+use Rattle.order_verifier.proofs.FirstFailing.{all_pairs, firsts, seconds}
 use Rattle.order_verifier.proofs.Topics.{item_there}
 use Rattle.order_verifier.proofs.comparison.Comparison.first_too_great.Goals as goal
 use Rattle.order_verifier.proofs.comparison.Comparison.first_too_great.Goals.{then-bound-ends-via-then-bound-ends, then-bound-ends-via-else-bound-ends+then-bound-ends-2}

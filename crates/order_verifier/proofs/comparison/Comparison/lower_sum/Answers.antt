@@ -9,7 +9,7 @@ use Rattle.order_certificate.specs.Evidence.{AreUnjudged}
 use Rattle.order_certificate.specs.declared.certificate.TopicWitness.{TopicWitness}
 use Rattle.order_verifier.specs.Checks.{OfTopic}
 use Rattle.order_verifier.specs.Refusal.{topics_in}
-use Rattle.order_verifier.proofs.Places.{SumsTo, beside, sums_more}
+use Rattle.order_verifier.proofs.FirstFailing.{SumsTo, beside, sums_more}
 use Rattle.small_lemmas.proofs.Lists.{slice_get-zip}
 use Rattle.order_verifier.proofs.Topics.{item_there}
 use Rattle.order_verifier.proofs.comparison.Comparison.lower_sum.Invariants.{IsEnd}

@@ -6,7 +6,7 @@ use Rattle.order_certificate.specs.Claim.{NamedTopic}
 use Rattle.order_certificate.specs.Evidence.{listed_truth}
 use Rattle.order_certificate.specs.declared.certificate.TopicWitness.{TopicWitness}
 use Rattle.order_verifier.specs.Refusal.{Compared, topics_in}
-use Rattle.order_verifier.proofs.Places.{SumsTo}
+use Rattle.order_verifier.proofs.FirstFailing.{SumsTo}
 use Rattle.order_verifier.proofs.comparison.Comparison.lower_sum.Given as goal
 
 -- the lower end of a high completion

@@ -1,9 +1,8 @@
 use Rattle.std.proofs.Common.{List, ℕ, length, ap, sym, ◌∙◌, arith}
 use Rattle.std.proofs.lemmas.List.{length-map}
 use Rattle.desk_model.specs.Book.{Book}
-use Rattle.desk_model.specs.declared.types.MeasureName.{MeasureName}
-use Rattle.order_verifier.specs.Refusal.{Compared, topics_in}
-use Rattle.order_verifier.proofs.Answers.{verified, accepted}
+use Rattle.order_verifier.specs.Refusal.{Compared, topic_names, topics_in}
+use Rattle.order_verifier.proofs.Told.{failure_placed, topic_placed}
 use Rattle.order_verifier.proofs.Topics.{length-named}
 use Rattle.order_certificate.proofs.Holds.{place_within}
 use Rattle.order_verifier.proofs.verifier.Verifier.verify.Goals as goal
@@ -21,16 +20,10 @@ new-requires c =
 pub check-requires-clause-topics : goal.check-requires-clause-topics
 check-requires-clause-topics c =
     let name : Book → List ℕ = λ book. book.name in
-    ap length c.in_default.ensures.line ∙ length-map c.args.desk.now.topics name ∙ sym (length-named c.args.desk.now c.args.marks.now c.requires.marks) ∙ ap (λ (w : Compared). length (topics_in w)) (sym c.new.ensures)
+    ap length c.in_default.ensures.place ∙ length-map c.args.desk.now.topics name ∙ sym (length-named c.args.desk.now c.args.marks.now c.requires.marks) ∙ ap (λ (w : Compared). length (topics_in w)) (sym c.new.ensures)
 
-pub returns-clause-verified : goal.returns-clause-verified
-returns-clause-verified c =
-    let measure = c.self.view_is ∙ c.requires.made in
-    let under : MeasureName → Compared = λ m. record { measure = m; desk = c.args.desk.now; marks = c.args.marks.now; first = c.in-Ok.runs.first; second = c.in-Ok.runs.second } in
-    let same = c.new.ensures ∙ ap under measure in
-    verified c.args.certificate.now c.args.desk.now c.args.marks.now c.in-Ok.runs.first c.in-Ok.runs.second c.in-Ok.ensures c.in_default.ensures.line c.new.result same c.check.result c.check.ensures
+pub wrong_names-requires-in-Some-clause-place : goal.wrong_names-requires-in-Some-clause-place
+wrong_names-requires-in-Some-clause-place c = topic_placed c.args.certificate.now.evidence (topic_names c.args.desk.now) c.in-Some.place c.in-Some.ensures.place
 
-pub returns-clause-claim : goal.returns-clause-claim
-returns-clause-claim c =
-    accepted c.args.certificate.now c.args.desk.now c.args.marks.now _ (c.evidence_implies_claim.ensures c.args.certificate.now c.args.desk.now c.args.marks.now c.requires.certificate.measure c.wrong_topic.ensures.desk c.requires.marks) c.check.result
-    (returns-clause-verified c)
+pub rejection-requires-clause-place : goal.rejection-requires-clause-place
+rejection-requires-clause-place c = failure_placed c.new.result c.args.certificate.now.evidence c.in-Err-check.failure c.in-Err-check.ensures

@@ -1,0 +1,5 @@
+pub mod Form
+pub mod Rows
+pub mod Places
+pub mod Faults
+pub mod Reading

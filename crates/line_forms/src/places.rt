@@ -1,0 +1,83 @@
+//! Lines of the commonest kinds, each taken at its place.
+ghost use Rattle.std.specs.Prelude.{◌≡◌, ◌≢◌, ◌≤◌};
+ghost use Rattle.desk_model.specs.Limits.{DOCUMENT_LIMIT};
+ghost use Rattle.line_forms.specs.Places.{fixed_place, later_name_place, name_and_count_place, name_place, number_place};
+ghost use Rattle.line_forms.specs.Reading.{IsReading, IsFreeOf};
+
+use crate::lines::{FormFault, TextLines};
+use crate::parts::{fixed_of, later_name_of, name_and_count_of, name_of, number_of};
+use desk_model::Name;
+use std::alloc::Global;
+
+/// Takes a line that is this text.
+pub fn fixed_line(lines: &mut TextLines<'_>, text: &[u8]) -> Result<(), FormFault>
+    requires { IsFreeOf 10 text.now }
+    ensures { IsReading (fixed_place text.now) lines.old.rest result lines.new }
+{
+    match lines.next_line() {
+        Some(line) => fixed_of(line, text),
+        None => Err(FormFault::Bad),
+    }
+}
+
+/// Takes a word and a name.
+pub fn name_line(alloc: Global, lines: &mut TextLines<'_>, word: &[u8]) -> Result<Name, FormFault>
+    requires { IsFreeOf 10 word.now }
+    ensures { IsReading (name_place word.now) lines.old.rest result lines.new }
+{
+    match lines.next_line() {
+        Some(line) => name_of(alloc, line, word),
+        None => Err(FormFault::Bad),
+    }
+}
+
+/// Takes a word and a name that comes after another.
+pub fn later_name_line(
+    alloc: Global,
+    lines: &mut TextLines<'_>,
+    word: &[u8],
+    before: &[u8],
+) -> Result<Name, FormFault>
+    requires { IsFreeOf 10 word.now }
+    ensures { IsReading (later_name_place word.now before.now) lines.old.rest result lines.new }
+{
+    match lines.next_line() {
+        Some(line) => later_name_of(alloc, word, before, line),
+        None => Err(FormFault::Bad),
+    }
+}
+
+/// Takes a word and a number from `least` to `most`.
+pub fn number_line(
+    lines: &mut TextLines<'_>,
+    word: &[u8],
+    least: u64,
+    most: u64,
+) -> Result<u32, FormFault>
+    requires word { IsFreeOf 10 word.now }
+    requires most { most ≤ DOCUMENT_LIMIT }
+    ensures { IsReading (number_place word.now (λ n. (least ≤ n) × (n ≤ most))) lines.old.rest result lines.new }
+{
+    match lines.next_line() {
+        Some(line) => number_of(line, word, least, most),
+        None => Err(FormFault::Bad),
+    }
+}
+
+/// Takes a word, a name that comes after another, and a number up to `most`.
+pub fn name_and_count_line(
+    alloc: Global,
+    lines: &mut TextLines<'_>,
+    word: &[u8],
+    before: &[u8],
+    most: u64,
+) -> Result<(Name, u32), FormFault>
+    requires word { IsFreeOf 10 word.now }
+    requires most { most ≤ DOCUMENT_LIMIT }
+    ensures { IsReading (name_and_count_place word.now (λ n. n ≤ most) before.now) lines.old.rest result lines.new }
+{
+    match lines.next_line() {
+        Some(line) => name_and_count_of(alloc, word, before, most, line),
+        None => Err(FormFault::Bad),
+    }
+}

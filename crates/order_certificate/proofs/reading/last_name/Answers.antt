@@ -1,6 +1,0 @@
-use Rattle.std.proofs.Common.{◌∙◌}
-use Rattle.order_certificate.proofs.Sequel.{last_is}
-use Rattle.order_certificate.proofs.reading.last_name.Goals as goal
-
-pub returns-in-Some : goal.returns-in-Some
-returns-in-Some c = c.as_bytes.ensures.bytes ∙ last_is (λ name. name) c.args.names.now c.in-Some.name.now c.in-Some.ensures.value
