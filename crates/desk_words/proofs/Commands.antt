@@ -1,101 +1,75 @@
--- The command of words whose first is known.
-use Rattle.std.proofs.Common.{◌≡◌, ℕ, eqb, false, List, [], ◌∷◌, length, get_or, map, String, refl, ap, sym, ◌∙◌, subst, arith, codes, string_bytes}
-use Rattle.std.specs.declared.alloc.Global.{Global}
-use Rattle.std.proofs.lemmas.Bool.{eqb-false}
+-- No words are of two commands.
+use Rattle.std.proofs.Common.{◌≡◌, ℕ, List, [], ◌∷◌, map, refl, ap, sym, subst, ◌∙◌, arith, decimal, inl, inr}
+use Rattle.std.specs.Prelude.{Some, unwrap_or}
+use Rattle.std.proofs.lemmas.Fmt.{decimal_injective}
 use Rattle.clap.specs.Words.{Text}
-use Rattle.desk_words.specs.Words.{IsJobOf, IsCheckOf, IsSeedOf, IsCommandAfter, IsCommandOf}
+use Rattle.command_line.specs.Given.{Values}
+use Rattle.desk_model.specs.declared.types.MeasureName.{MeasureName}
+use Rattle.desk_model.specs.MeasureText.{IsTextOf}
+use Rattle.desk_model.proofs.Decimals.{unique}
+use Rattle.desk_words.specs.Verbs.{verb_of}
+use Rattle.desk_words.specs.Words.{IsCommandAfter, IsLevelOf, IsMeasureOf, Says, SaysCheck, SaysJob, verb_for}
+use Rattle.desk_words.specs.Laws.{CommandIsUnique}
+use Rattle.desk_words.specs.declared.verb.Verb.{Verb}
+use Rattle.desk_words.specs.declared.command.RunWord.{RunWord}
+use Rattle.desk_words.specs.declared.command.Job.{Job}
 use Rattle.desk_words.specs.declared.command.Check.{Check}
 use Rattle.desk_words.specs.declared.command.Command.{Command}
 use Rattle.desk_words.specs.declared.command.Command.TheVariants.{Table, Certify, Session, Verify, Demo}
-use Rattle.desk_words.specs.declared.command.Job.{Job}
 
--- no words say no command
-pub no_command : (words : List (String Global)) (command : Command) → length words ≡ 0 → IsCommandOf (map string_bytes words) command → ⊥
-no_command [] command e is = is
-no_command (word ∷ rest) command e is = absurd (omega (arith, e))
+one_value : (values : List Text) (a b : Text) → values ≡ a ∷ [] → values ≡ b ∷ [] → a ≡ b
+one_value values a b e f = let both : a ∷ [] ≡ b ∷ [] = sym e ∙ f in cc
 
-module _ (words : List (String Global)) (word : String Global) (rest : List (String Global)) (text : Text) (are : words ≡ word ∷ rest) (read : text ≡ string_bytes word) where
-  pub command_from : (command : Command) → IsCommandAfter text (map string_bytes rest) command → IsCommandOf (map string_bytes words) command
-  command_from command h = subst (λ (ws : List (String Global)). IsCommandOf (map string_bytes ws) command) (sym are) (subst (λ (t : Text). IsCommandAfter t (map string_bytes rest) command) read h)
+one_measure : (values : List Text) (a b : MeasureName) → IsMeasureOf values a → IsMeasureOf values b → a ≡ b
+one_measure values a b (text, e, is, of) (other, f, is_too, of_too) = unique text a b is is_too of (subst (λ (t : Text). IsTextOf b t) (one_value values other text f e) of_too)
 
-  pub command_after : (command : Command) → IsCommandOf (map string_bytes words) command → IsCommandAfter text (map string_bytes rest) command
-  command_after command h = subst (λ (t : Text). IsCommandAfter t (map string_bytes rest) command) (sym read) (subst (λ (ws : List (String Global)). IsCommandOf (map string_bytes ws) command) are h)
+one_level : (values : List Text) (a b : ℕ) → IsLevelOf values a → IsLevelOf values b → a ≡ b
+one_level values a b (inl h) (inl k) = h.1 ∙ sym k.1
+one_level values a b (inl h) (inr k) = let no : [] ≡ decimal b ∷ [] = sym h.0 ∙ k.0 in cc
+one_level values a b (inr h) (inl k) = let no : decimal a ∷ [] ≡ [] = sym h.0 ∙ k.0 in cc
+one_level values a b (inr h) (inr k) = decimal_injective a b (omega arith) (omega arith) (one_value values (decimal a) (decimal b) h.0 k.0)
 
--- what the words after the first are, by the first
-record AreNone (text : Text) (rest : List Text) : Type 0 where
-  table : (job : Job) → text ≡ codes "table" → IsJobOf 1 rest job → ⊥
-  certify : (job : Job) → text ≡ codes "certify" → IsJobOf 2 rest job → ⊥
-  session : (job : Job) → text ≡ codes "session" → IsJobOf 1 rest job → ⊥
-  verify : (check : Check) → text ≡ codes "verify" → IsCheckOf rest check → ⊥
-  demo : (seed : ℕ) → text ≡ codes "demo" → IsSeedOf rest seed → ⊥
+all_same : (runs others : List RunWord) → map Some runs ≡ map Some others → runs ≡ others
+all_same [] [] e = refl
+all_same [] (y ∷ ys) e = cc
+all_same (x ∷ xs) [] e = cc
+all_same (x ∷ xs) (y ∷ ys) e =
+    let first : x ≡ y = cc in
+    let rest : map Some xs ≡ map Some ys = cc in
+    let tail : xs ≡ ys = all_same xs ys rest in
+    cc
 
-none_after : (text : Text) (rest : List Text) → AreNone text rest → (command : Command) → IsCommandAfter text rest command → ⊥
-none_after text rest none (Table job) h = none.table job h.0 h.1
-none_after text rest none (Certify job) h = none.certify job h.0 h.1
-none_after text rest none (Session job) h = none.session job h.0 h.1
-none_after text rest none (Verify check) h = none.verify check h.0 h.1
-none_after text rest none (Demo seed) h = none.demo seed h.0 h.1
+one_job : (values : Values) (a b : Job) → SaysJob values a → SaysJob values b → a ≡ b
+one_job values a b h k =
+    let qrels = one_value _ a.qrels b.qrels h.qrels.0 k.qrels.0 in
+    let measure = one_measure _ a.measure b.measure h.measure k.measure in
+    let level = one_level _ a.level b.level h.level k.level in
+    let runs = all_same a.runs b.runs (sym h.runs.each ∙ k.runs.each) in
+    λ i. record { qrels = qrels i; measure = measure i; level = level i; runs = runs i }
 
--- two words with different first letters
-apart : (text word another : Text) → eqb (get_or word 0 0) (get_or another 0 0) ≡ false → text ≡ word → text ≡ another → ⊥
-apart text word another differ is e = eqb-false (get_or word 0 0) (get_or another 0 0) differ (ap (λ (t : Text). get_or t 0 0) (sym is ∙ e))
+one_check : (values : Values) (a b : Check) → SaysCheck values a → SaysCheck values b → a ≡ b
+one_check values a b h k =
+    let qrels = one_value _ a.qrels b.qrels h.qrels.0 k.qrels.0 in
+    let cert = one_value _ a.cert b.cert h.cert.0 k.cert.0 in
+    let runs = all_same a.runs b.runs (sym h.runs.each ∙ k.runs.each) in
+    λ i. record { qrels = qrels i; cert = cert i; runs = runs i }
 
-module _ (text : Text) (rest : List Text) (command : Command) where
-  pub no_other : (text ≡ codes "table" → ⊥) → (text ≡ codes "certify" → ⊥) → (text ≡ codes "session" → ⊥) → (text ≡ codes "verify" → ⊥) → (text ≡ codes "demo" → ⊥) → IsCommandAfter text rest command → ⊥
-  no_other table certify session verify demo =
-      none_after text rest (record { table = λ job e h. table e; certify = λ job e h. certify e; session = λ job e h. session e; verify = λ check e h. verify e; demo = λ seed e h. demo e }) command
+-- a row for each command
+one_said : (values : Values) (a b : Command) → verb_for a ≡ verb_for b → Says values a → Says values b → a ≡ b
+one_said values (Table a) (Table b) e h k = ap Table (one_job values a b h k)
+one_said values (Certify a) (Certify b) e h k = ap Certify (one_job values a b h k)
+one_said values (Session a) (Session b) e h k = ap Session (one_job values a b h k)
+one_said values (Verify a) (Verify b) e h k = ap Verify (one_check values a b h k)
+one_said values (Demo a) (Demo b) e h k = ap Demo (decimal_injective a b (omega (arith, h.1)) (omega (arith, k.1)) (one_value _ (decimal a) (decimal b) h.0 k.0))
+one_said values a b e h k = absurd (cc)
 
-  pub no_table : text ≡ codes "table" → ((job : Job) → IsJobOf 1 rest job → ⊥) → IsCommandAfter text rest command → ⊥
-  no_table is none =
-      none_after text rest
-      (record {
-        table = λ job e h. none job h;
-        certify = λ job e h. apart text (codes "table") (codes "certify") refl is e;
-        session = λ job e h. apart text (codes "table") (codes "session") refl is e;
-        verify = λ check e h. apart text (codes "table") (codes "verify") refl is e;
-        demo = λ seed e h. apart text (codes "table") (codes "demo") refl is e;
-      }) command
+-- a word has one verb
+pub one_verb : (word : Text) (v w : Verb) → verb_of word ≡ Some v → verb_of word ≡ Some w → v ≡ w
+one_verb word v w e f = ap (λ o. unwrap_or o v) (sym e ∙ f)
 
-  pub no_certify : text ≡ codes "certify" → ((job : Job) → IsJobOf 2 rest job → ⊥) → IsCommandAfter text rest command → ⊥
-  no_certify is none =
-      none_after text rest
-      (record {
-        table = λ job e h. apart text (codes "certify") (codes "table") refl is e;
-        certify = λ job e h. none job h;
-        session = λ job e h. apart text (codes "certify") (codes "session") refl is e;
-        verify = λ check e h. apart text (codes "certify") (codes "verify") refl is e;
-        demo = λ seed e h. apart text (codes "certify") (codes "demo") refl is e;
-      }) command
-
-  pub no_session : text ≡ codes "session" → ((job : Job) → IsJobOf 1 rest job → ⊥) → IsCommandAfter text rest command → ⊥
-  no_session is none =
-      none_after text rest
-      (record {
-        table = λ job e h. apart text (codes "session") (codes "table") refl is e;
-        certify = λ job e h. apart text (codes "session") (codes "certify") refl is e;
-        session = λ job e h. none job h;
-        verify = λ check e h. apart text (codes "session") (codes "verify") refl is e;
-        demo = λ seed e h. apart text (codes "session") (codes "demo") refl is e;
-      }) command
-
-  pub no_verify : text ≡ codes "verify" → ((check : Check) → IsCheckOf rest check → ⊥) → IsCommandAfter text rest command → ⊥
-  no_verify is none =
-      none_after text rest
-      (record {
-        table = λ job e h. apart text (codes "verify") (codes "table") refl is e;
-        certify = λ job e h. apart text (codes "verify") (codes "certify") refl is e;
-        session = λ job e h. apart text (codes "verify") (codes "session") refl is e;
-        verify = λ check e h. none check h;
-        demo = λ seed e h. apart text (codes "verify") (codes "demo") refl is e;
-      }) command
-
-  pub no_demo : text ≡ codes "demo" → ((seed : ℕ) → IsSeedOf rest seed → ⊥) → IsCommandAfter text rest command → ⊥
-  no_demo is none =
-      none_after text rest
-      (record {
-        table = λ job e h. apart text (codes "demo") (codes "table") refl is e;
-        certify = λ job e h. apart text (codes "demo") (codes "certify") refl is e;
-        session = λ job e h. apart text (codes "demo") (codes "session") refl is e;
-        verify = λ check e h. apart text (codes "demo") (codes "verify") refl is e;
-        demo = λ seed e h. none seed h;
-      }) command
+pub command_is_unique : CommandIsUnique
+command_is_unique [] a b h k = absurd h
+command_is_unique (word ∷ rest) a b h k =
+    let same : verb_for a ≡ verb_for b = one_verb word (verb_for a) (verb_for b) h.0 k.0 in
+    let other : IsCommandAfter (verb_for a) rest b = subst (λ v. IsCommandAfter v rest b) (sym same) k.1 in
+    one_said h.1.values a b same h.1.said.says (subst (λ vs. Says vs b) (other.given.read ∙ sym h.1.given.read) other.said.says)

@@ -1,9 +1,3 @@
 pub mod Values
 pub mod Commands
-pub mod Walks
-pub mod Arrivals
-pub mod Readers
-pub mod Saying
-pub mod Unique
-pub mod Missing
-pub mod Cutting
+pub mod Lines

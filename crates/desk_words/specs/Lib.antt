@@ -1,4 +1,3 @@
-pub mod Parser
+pub mod Verbs
 pub mod Words
-pub mod Parts
 pub mod Laws

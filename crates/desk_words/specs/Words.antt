@@ -1,12 +1,15 @@
 -- The command of the words.
 use Rattle.std.specs.Prelude.{◌≡◌, ℕ, ◌<◌, ◌≤◌, ◌^◌, ◌==◌, ◌&&◌, Bool, nat_lt, List, [], ◌∷◌, Option, Some, None, if◌then◌else◌, ◌⊎◌, codes, decimal, length, map}
 use Rattle.std.specs.List.{before_first, after_first, list_any}
-use Rattle.clap.specs.Words.{Text, fault_of}
+use Rattle.clap.specs.Words.{Text}
+use Rattle.command_line.specs.Given.{Values, AreGiven}
 use Rattle.desk_model.specs.Limits.{RUN_LIMIT}
 use Rattle.desk_model.specs.Name.{is_name}
 use Rattle.desk_model.specs.MeasureText.{IsMeasure, IsTextOf}
 use Rattle.desk_model.specs.declared.types.MeasureName.{MeasureName}
-use Rattle.desk_words.specs.Parser.{job_app, check_app, seed_app, given}
+use Rattle.desk_words.specs.Verbs.{verb_of, takes}
+use Rattle.desk_words.specs.declared.verb.Verb.{Verb}
+use Rattle.desk_words.specs.declared.verb.Verb.TheVariants as verb
 use Rattle.desk_words.specs.declared.command.RunWord.{RunWord}
 use Rattle.desk_words.specs.declared.command.Job.{Job}
 use Rattle.desk_words.specs.declared.command.Check.{Check}
@@ -41,42 +44,57 @@ IsMeasureOf values measure = (text : Text) × (values ≡ text ∷ []) × IsMeas
 abbrev pub IsLevelOf : List Text → ℕ → Type 0
 IsLevelOf values level = ((values ≡ []) × (level ≡ 1)) ⊎ ((values ≡ decimal level ∷ []) × (1 ≤ level) × (level ≤ 1000))
 
--- the runs of RUN words, as many as the least number or more, and 256 at most
-pub record AreRunsOf (least : ℕ) (values : List Text) (runs : List RunWord) : Type 0 where
+-- one value, a number of 32 bits in digits
+abbrev pub IsSeedOf : List Text → ℕ → Type 0
+IsSeedOf values seed = (values ≡ decimal seed ∷ []) × (seed < 2 ^ 32)
+
+-- the runs of RUN words, from 1 to 256
+pub record AreRunsOf (values : List Text) (runs : List RunWord) : Type 0 where
   pub each : map run_word_of values ≡ map Some runs
-  pub enough : least ≤ length runs
+  pub some : 0 < length runs
   pub few : length runs ≤ RUN_LIMIT
 
--- the job that the words after the first say
-pub record IsJobOf (least : ℕ) (words : List Text) (job : Job) : Type 0 where
-  pub taken : fault_of job_app words ≡ []
-  pub qrels : IsPathOf (given job_app (codes "qrels") words) job.qrels
-  pub measure : IsMeasureOf (given job_app (codes "measure") words) job.measure
-  pub level : IsLevelOf (given job_app (codes "level") words) job.level
-  pub runs : AreRunsOf least (given job_app (codes "RUN") words) job.runs
+-- the values say this job
+pub record SaysJob (values : Values) (job : Job) : Type 0 where
+  pub qrels : IsPathOf (values (codes "qrels")) job.qrels
+  pub measure : IsMeasureOf (values (codes "measure")) job.measure
+  pub level : IsLevelOf (values (codes "level")) job.level
+  pub runs : AreRunsOf (values (codes "RUN")) job.runs
 
--- the check that the words after the first say
-pub record IsCheckOf (words : List Text) (check : Check) : Type 0 where
-  pub taken : fault_of check_app words ≡ []
-  pub qrels : IsPathOf (given check_app (codes "qrels") words) check.qrels
-  pub cert : IsPathOf (given check_app (codes "cert") words) check.cert
-  pub runs : AreRunsOf 2 (given check_app (codes "RUN") words) check.runs
+-- the values say this check
+pub record SaysCheck (values : Values) (check : Check) : Type 0 where
+  pub qrels : IsPathOf (values (codes "qrels")) check.qrels
+  pub cert : IsPathOf (values (codes "cert")) check.cert
+  pub runs : AreRunsOf (values (codes "RUN")) check.runs
 
--- the seed that the words after the first say
-pub record IsSeedOf (words : List Text) (seed : ℕ) : Type 0 where
-  pub taken : fault_of seed_app words ≡ []
-  pub digits : given seed_app (codes "SEED") words ≡ decimal seed ∷ []
-  pub fits : seed < 2 ^ 32
+-- the verb of a command
+abbrev pub verb_for : Command → Verb
+verb_for (Table job) = verb.Table
+verb_for (Certify job) = verb.Certify
+verb_for (Session job) = verb.Session
+verb_for (Verify check) = verb.Verify
+verb_for (Demo seed) = verb.Demo
 
--- the command by its first word, and what the words after it say
-abbrev pub IsCommandAfter : Text → List Text → Command → Type 0
-IsCommandAfter word rest (Table job) = (word ≡ codes "table") × IsJobOf 1 rest job
-IsCommandAfter word rest (Certify job) = (word ≡ codes "certify") × IsJobOf 2 rest job
-IsCommandAfter word rest (Session job) = (word ≡ codes "session") × IsJobOf 1 rest job
-IsCommandAfter word rest (Verify check) = (word ≡ codes "verify") × IsCheckOf rest check
-IsCommandAfter word rest (Demo seed) = (word ≡ codes "demo") × IsSeedOf rest seed
+-- the values say what the command has beside its verb
+abbrev pub Says : Values → Command → Type 0
+Says values (Table job) = SaysJob values job
+Says values (Certify job) = SaysJob values job
+Says values (Session job) = SaysJob values job
+Says values (Verify check) = SaysCheck values check
+Says values (Demo seed) = IsSeedOf (values (codes "SEED")) seed
 
--- the command of the words
+-- a command of the verb that the values say
+pub record IsSaid (v : Verb) (values : Values) (command : Command) : Type 0 where
+  pub of_verb : verb_for command ≡ v
+  pub says : Says values command
+
+-- the words after that of the verb give values that say the command
+pub record IsCommandAfter (v : Verb) (words : List Text) (command : Command) : Type 0 where
+  pub values : Values
+  pub given : AreGiven (takes v) words values
+  pub said : IsSaid v values command
+
+-- the command of the words: the first is the word of its verb, and the others say it
 abbrev pub IsCommandOf : List Text → Command → Type 0
 IsCommandOf [] command = ⊥
-IsCommandOf (word ∷ rest) command = IsCommandAfter word rest command
+IsCommandOf (word ∷ rest) command = (verb_of word ≡ Some (verb_for command)) × IsCommandAfter (verb_for command) rest command

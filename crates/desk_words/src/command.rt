@@ -5,15 +5,6 @@ ghost use Rattle.std.specs.Prelude.{◌≡◌, ◌<◌, ◌≤◌, length, strin
 use desk_model::{MeasureName, Name};
 use std::marker::Model;
 
-/// Why there is no command.
-#[derive(Clone, Copy, PartialEq, Eq)]
-pub enum WordsFault {
-    /// The words are of no command.
-    Usage,
-    /// Memory ran out.
-    Memory,
-}
-
 /// A command with what its words say.
 #[derive(Drop)]
 pub enum Command {
@@ -109,6 +100,9 @@ impl Model for RunWords {
 }
 
 impl RunWords {
+    /// The most runs.
+    pub const MOST: usize = 256;
+
     /// These runs.
     pub fn new(words: Vec<RunWord>) -> RunWords
         requires some { 0 < vec_len words }

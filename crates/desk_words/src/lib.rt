@@ -3,13 +3,15 @@
 
 pub mod command;
 pub mod laws;
-mod parser;
 mod read;
 mod value;
+mod verb;
 
-pub use command::{Check, Command, Job, Path, RunWord, RunWords, WordsFault};
+pub use command::{Check, Command, Job, Path, RunWord, RunWords};
+pub use command_line::WordsFault;
 pub use laws::{
-    command_is_unique, each_line_is_of_parts, empty_value_is_usage, help_is_usage,
-    missing_value_is_usage, option_twice_is_usage, order_of_options_is_free, parts_say_the_command,
+    command_is_unique, each_line_is_of_parts, empty_value_is_usage, flag_with_value_is_usage,
+    help_is_usage, missing_value_is_usage, option_twice_is_usage, order_of_options_is_free,
+    parts_say_the_command, unknown_name_is_usage,
 };
 pub use read::read_words;

@@ -1,13 +1,15 @@
 //! The command of the words.
-ghost use Rattle.std.specs.Prelude.{◌≡◌, ◌<◌, ℕ, IfOk, Err, map, string_bytes};
-ghost use Rattle.desk_words.specs.Words.{IsCommandOf, IsJobOf, IsCheckOf, IsSeedOf};
+ghost use Rattle.std.specs.Prelude.{◌≡◌, ℕ, IfOk, Err, map, codes, string_bytes};
+ghost use Rattle.command_line.specs.Given.{values_held};
+ghost use Rattle.desk_words.specs.Words.{IsCommandOf, IsSaid, IsSeedOf, SaysJob, SaysCheck};
 ghost use Rattle.desk_words.specs.declared.command.Command.{Command};
 ghost use Rattle.desk_words.specs.declared.command.Job.{Job};
 ghost use Rattle.desk_words.specs.declared.command.Check.{Check};
 
-use crate::command::{Check, Command, Job, WordsFault};
-use crate::parser::{check_words, job_words, seed_words};
+use crate::command::{Check, Command, Job};
 use crate::value::{level, measure, path, runs, seed};
+use crate::verb::{Verb, row_of, verb_of};
+use command_line::{Given, WordsFault};
 use std::alloc::Global;
 
 /// The command that the words say, which are those after the program's name. `Usage` comes exactly where the words are
@@ -19,48 +21,56 @@ pub fn read_words(alloc: Global, words: &[String]) -> Result<Command, WordsFault
     let Some((word, rest)) = words.split_first() else {
         return Err(WordsFault::Usage);
     };
-    match word.as_str() {
-        "table" => Ok(Command::Table(read_job(alloc, rest, 1)?)),
-        "certify" => Ok(Command::Certify(read_job(alloc, rest, 2)?)),
-        "session" => Ok(Command::Session(read_job(alloc, rest, 1)?)),
-        "verify" => Ok(Command::Verify(read_check(alloc, rest)?)),
-        "demo" => Ok(Command::Demo {
-            seed: read_seed(alloc, rest)?,
+    let Some(verb) = verb_of(word.as_str()) else {
+        return Err(WordsFault::Usage);
+    };
+    let row = row_of(verb);
+    let given = Given::read(alloc, &row, rest)?;
+    said(alloc, verb, &given)
+}
+
+// The command of a verb that the values say.
+fn said(alloc: Global, verb: Verb, given: &Given) -> Result<Command, WordsFault>
+    ensures ok { IfOk result (λ command. IsSaid verb (values_held given.now) command) }
+    ensures usage { result ≡ Err WordsFault.Usage → (command : Command) → IsSaid verb (values_held given.now) command → ⊥ }
+{
+    match verb {
+        Verb::Table => Ok(Command::Table(job(alloc, given)?)),
+        Verb::Certify => Ok(Command::Certify(job(alloc, given)?)),
+        Verb::Session => Ok(Command::Session(job(alloc, given)?)),
+        Verb::Verify => Ok(Command::Verify(check(alloc, given)?)),
+        Verb::Demo => Ok(Command::Demo {
+            seed: demo_seed(given)?,
         }),
-        _ => Err(WordsFault::Usage),
     }
 }
 
-fn read_job(alloc: Global, words: &[String], least: usize) -> Result<Job, WordsFault>
-    requires { 0 < least }
-    ensures ok { IfOk result (λ job. IsJobOf least (map string_bytes words.now) job) }
-    ensures usage { result ≡ Err WordsFault.Usage → (job : Job) → IsJobOf least (map string_bytes words.now) job → ⊥ }
+fn job(alloc: Global, given: &Given) -> Result<Job, WordsFault>
+    ensures ok { IfOk result (λ job. SaysJob (values_held given.now) job) }
+    ensures usage { result ≡ Err WordsFault.Usage → (job : Job) → SaysJob (values_held given.now) job → ⊥ }
 {
-    let matches = job_words(alloc, words)?;
     Ok(Job {
-        qrels: path(alloc, matches.get_strs("qrels").unwrap_or(&[]))?,
-        measure: measure(matches.get_strs("measure").unwrap_or(&[])).ok_or(WordsFault::Usage)?,
-        level: level(matches.get_strs("level").unwrap_or(&[])).ok_or(WordsFault::Usage)?,
-        runs: runs(alloc, matches.get_strs("RUN").unwrap_or(&[]), least)?,
+        qrels: path(alloc, given.values("qrels"))?,
+        measure: measure(given.values("measure")).ok_or(WordsFault::Usage)?,
+        level: level(given.values("level")).ok_or(WordsFault::Usage)?,
+        runs: runs(alloc, given.values("RUN"))?,
     })
 }
 
-fn read_check(alloc: Global, words: &[String]) -> Result<Check, WordsFault>
-    ensures ok { IfOk result (λ check. IsCheckOf (map string_bytes words.now) check) }
-    ensures usage { result ≡ Err WordsFault.Usage → (check : Check) → IsCheckOf (map string_bytes words.now) check → ⊥ }
+fn check(alloc: Global, given: &Given) -> Result<Check, WordsFault>
+    ensures ok { IfOk result (λ check. SaysCheck (values_held given.now) check) }
+    ensures usage { result ≡ Err WordsFault.Usage → (check : Check) → SaysCheck (values_held given.now) check → ⊥ }
 {
-    let matches = check_words(alloc, words)?;
     Ok(Check {
-        qrels: path(alloc, matches.get_strs("qrels").unwrap_or(&[]))?,
-        cert: path(alloc, matches.get_strs("cert").unwrap_or(&[]))?,
-        runs: runs(alloc, matches.get_strs("RUN").unwrap_or(&[]), 2)?,
+        qrels: path(alloc, given.values("qrels"))?,
+        cert: path(alloc, given.values("cert"))?,
+        runs: runs(alloc, given.values("RUN"))?,
     })
 }
 
-fn read_seed(alloc: Global, words: &[String]) -> Result<u32, WordsFault>
-    ensures ok { IfOk result (λ number. IsSeedOf (map string_bytes words.now) number) }
-    ensures usage { result ≡ Err WordsFault.Usage → (number : ℕ) → IsSeedOf (map string_bytes words.now) number → ⊥ }
+fn demo_seed(given: &Given) -> Result<u32, WordsFault>
+    ensures ok { IfOk result (λ n. IsSeedOf (values_held given.now (codes "SEED")) n) }
+    ensures usage { result ≡ Err WordsFault.Usage → (n : ℕ) → IsSeedOf (values_held given.now (codes "SEED")) n → ⊥ }
 {
-    let matches = seed_words(alloc, words)?;
-    seed(matches.get_strs("SEED").unwrap_or(&[])).ok_or(WordsFault::Usage)
+    seed(given.values("SEED")).ok_or(WordsFault::Usage)
 }

@@ -2,10 +2,11 @@
 ghost use Rattle.std.specs.Prelude.{◌≡◌, ◌≢◌, ℕ, IfOk, Err, Some, None, map, List, decimal, [], ◌∷◌, ◌<◌, ◌≤◌, ◌^◌, length, IfSome, IfNone};
 ghost use Rattle.clap.specs.Words.{Text};
 ghost use Rattle.desk_model.specs.declared.types.MeasureName.{MeasureName};
-ghost use Rattle.desk_words.specs.Words.{IsPathOf, IsMeasureOf, IsLevelOf, AreRunsOf, named, run_word_of};
+ghost use Rattle.desk_words.specs.Words.{IsPathOf, IsMeasureOf, IsLevelOf, IsSeedOf, AreRunsOf, named, run_word_of};
 ghost use Rattle.desk_words.specs.declared.command.RunWord.{RunWord};
 
-use crate::command::{Path, RunWord, RunWords, WordsFault};
+use crate::command::{Path, RunWord, RunWords};
+use command_line::WordsFault;
 use desk_model::{MeasureName, Name, NameFault, read_measure};
 use desk_text::plain;
 use std::alloc::Global;
@@ -70,9 +71,8 @@ fn number(text: &str, most: u32) -> Option<u32>
 
 /// The seed that the one value says, and none where the values say no seed.
 pub fn seed(values: &[&str]) -> Option<u32>
-    ensures some { IfSome result (λ n. map (λ v. v.now) values.now ≡ decimal n ∷ []) }
-    ensures fits { IfSome result (λ n. n < 2 ^ 32) }
-    ensures none { IfNone result ((n : ℕ) → n < 2 ^ 32 → map (λ v. v.now) values.now ≢ decimal n ∷ []) }
+    ensures some { IfSome result (λ n. IsSeedOf (map (λ v. v.now) values.now) n) }
+    ensures none { IfNone result ((n : ℕ) → IsSeedOf (map (λ v. v.now) values.now) n → ⊥) }
 {
     match *values {
         [text] => number(text, u32::MAX),
@@ -80,13 +80,12 @@ pub fn seed(values: &[&str]) -> Option<u32>
     }
 }
 
-/// The runs of the RUN words, from `least` to 256.
-pub fn runs(alloc: Global, values: &[&str], least: usize) -> Result<RunWords, WordsFault>
-    requires { 0 < least }
-    ensures ok { IfOk result (λ runs. AreRunsOf least (map (λ v. v.now) values.now) runs) }
-    ensures usage { result ≡ Err WordsFault.Usage → (runs : List RunWord) → AreRunsOf least (map (λ v. v.now) values.now) runs → ⊥ }
+/// The runs of the RUN words, from 1 to 256.
+pub fn runs(alloc: Global, values: &[&str]) -> Result<RunWords, WordsFault>
+    ensures ok { IfOk result (λ runs. AreRunsOf (map (λ v. v.now) values.now) runs) }
+    ensures usage { result ≡ Err WordsFault.Usage → (runs : List RunWord) → AreRunsOf (map (λ v. v.now) values.now) runs → ⊥ }
 {
-    if values.len() < least || values.len() > 256 {
+    if values.is_empty() || values.len() > RunWords::MOST {
         return Err(WordsFault::Usage);
     }
     let words = run_words(alloc, values)?;
@@ -101,9 +100,7 @@ fn run_words(alloc: Global, values: &[&str]) -> Result<Vec<RunWord>, WordsFault>
     let mut words = Vec::new(alloc);
     for value in values {
         let word = run_word(alloc, value)?;
-        if words.push(word).is_err() {
-            return Err(WordsFault::Memory);
-        }
+        words.push(word)?;
     }
     Ok(words)
 }
@@ -147,8 +144,5 @@ fn filled(alloc: Global, text: &str) -> Result<Path, WordsFault>
     if text.is_empty() {
         return Err(WordsFault::Usage);
     }
-    match String::from_str(alloc, text) {
-        Ok(text) => Ok(Path::new(text)),
-        Err(_) => Err(WordsFault::Memory),
-    }
+    Ok(Path::new(String::from_str(alloc, text)?))
 }

@@ -1,4 +1,4 @@
-use Rattle.desk_words.proofs.Unique as lemmas
+use Rattle.desk_words.proofs.Commands as lemmas
 use Rattle.desk_words.proofs.laws.command_is_unique.Goals as goal
 
 pub returns : goal.returns

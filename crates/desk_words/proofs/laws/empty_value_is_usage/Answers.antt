@@ -1,4 +1,4 @@
-use Rattle.desk_words.proofs.Saying as lemmas
+use Rattle.desk_words.proofs.Lines as lemmas
 use Rattle.desk_words.proofs.laws.empty_value_is_usage.Goals as goal
 
 pub returns : goal.returns

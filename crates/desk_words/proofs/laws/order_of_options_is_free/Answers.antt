@@ -1,4 +1,4 @@
-use Rattle.desk_words.proofs.Saying as lemmas
+use Rattle.desk_words.proofs.Lines as lemmas
 use Rattle.desk_words.proofs.laws.order_of_options_is_free.Goals as goal
 
 pub returns : goal.returns

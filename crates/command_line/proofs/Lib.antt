@@ -1,0 +1,9 @@
+pub mod Names
+pub mod Making
+pub mod Allowing
+pub mod Rows
+pub mod Walks
+pub mod Arrivals
+pub mod Refusals
+pub mod Cutting
+pub mod Lines

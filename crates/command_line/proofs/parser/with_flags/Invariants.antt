@@ -1,0 +1,7 @@
+use Rattle.std.proofs.Common.{◌≡◌, map, take}
+use Rattle.clap.specs.Words.{app_of}
+use Rattle.command_line.specs.Parser.{flag_rule, with_rules}
+use Rattle.command_line.proofs.parser.with_flags.Given as goal
+
+abbrev pub invariant-loop-name : goal.invariant-loop-name
+invariant-loop-name l = app_of l.built ≡ with_rules (app_of l.fn.command) (map flag_rule (map (λ n. n.now) (take l.name-index l.names)))
