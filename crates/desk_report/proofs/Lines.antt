@@ -131,6 +131,7 @@ other_line name desk marks line none runs = record {
   above = λ f s l h e. absurd (none f (codes "above") s l h e);
   below = λ f s l h e. absurd (none f (codes "below") s l h e);
   equal = λ f s l h e. absurd (none f (codes "equal") s l h e);
+  undecided = λ f s l h e. absurd (none f (codes "open") s l h e);
   exact = λ k is f w s l h e. absurd (none f w s l h e);
   pair_bounds = λ f w s l h e. absurd (none f w s l h e);
   run_bounds = runs;
@@ -254,6 +255,8 @@ module _ (name : MeasureName) (desk : Desk) (marks : List (List Mark)) where
               named_runs a b x y f s _ na.0 nb.0 (ap (field 1) is) (ap (field 3) is) (h.0.below (word_of_injective (verdict t) Below (ap (field 2) is)));
           equal = λ f s l k e. let is = sym own ∙ e in
               named_runs a b x y f s _ na.0 nb.0 (ap (field 1) is) (ap (field 3) is) (h.0.equal (word_of_injective (verdict t) Equal (ap (field 2) is)));
+          undecided = λ f s l k e. let is = sym own ∙ e in
+              named_runs a b x y f s _ na.0 nb.0 (ap (field 1) is) (ap (field 3) is) (h.0.undecided (word_of_injective (verdict t) Open (ap (field 2) is)));
           exact = λ k named f w s l u e. let is = sym own ∙ e in
               named_runs a b x y f s _ na.0 nb.0 (ap (field 1) is) (ap (field 3) is)
               (subst (λ v. SaysExactly name topics v a b) (ap (field 2) is) (says_exactly name topics a b (verdict t) (h.1 k named)));

@@ -13,7 +13,8 @@ use Rattle.desk_model.specs.declared.types.Mark.{Mark}
 use Rattle.desk_model.specs.declared.types.MeasureName.{MeasureName}
 use Rattle.desk_model.specs.declared.types.Totals.{Totals}
 use Rattle.desk_report.specs.Close.{sum_text, sums_text, close_line}
-use Rattle.order_certificate.specs.Certificate.{opening_lines, low_line, low_high_line, count_line, document_line, witness_lines, topics_line, evidence_lines, certificate_lines, AreDocuments, IsWritable, IsCertificate}
+use Rattle.line_forms.specs.Places.{count_line}
+use Rattle.order_certificate.specs.Certificate.{opening_lines, low_line, low_high_line, document_line, witness_lines, topics_line, evidence_lines, certificate_lines, AreDocuments, IsWritable, IsCertificate}
 use Rattle.order_certificate.specs.declared.certificate.Certificate.{Certificate}
 use Rattle.order_certificate.specs.declared.certificate.Evidence.{Evidence}
 use Rattle.order_certificate.specs.declared.certificate.Evidence.TheVariants.{Above, Equal, Open}

@@ -30,7 +30,7 @@ use Rattle.pair_table.proofs.Answered.{named_answer}
 use Rattle.pair_table.proofs.DeskTopics.{topics_met}
 use Rattle.pair_table.proofs.Named.{pair_named, table_named}
 use Rattle.pair_table.proofs.Saying.{standing_sums}
-use Rattle.next_document.specs.Kept.{Kept as Weights, AreKeptFor, IsNextWhereKept}
+use Rattle.next_document.specs.Kept.{HeldTotals as Weights, AreKeptFor, IsNextWhereKept}
 use Rattle.next_document.specs.Proposal.{Standing, IsNext}
 use Rattle.next_document.specs.Total.{standing}
 use Rattle.next_document.specs.declared.proposal.Proposal.{Proposal}

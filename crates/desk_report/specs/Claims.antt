@@ -15,6 +15,7 @@ use Rattle.desk_model.specs.declared.types.Totals.{Totals}
 use Rattle.topic_counts.specs.declared.span.Span.{Span}
 use Rattle.measure_laws.specs.Measures.{unit_of}
 use Rattle.pair_table.specs.Numbers.{ArePairNumbers, AreAllPairNumbers, AreNumbersIn}
+use Rattle.pair_table.specs.Orders.{AreUndecided}
 use Rattle.desk_report.specs.Means.{decimal_text}
 use Rattle.desk_model.specs.Name.{is_name}
 use Rattle.desk_model.specs.Named.{book_at, name_at}
@@ -90,6 +91,8 @@ pub record IsTrueLine (name : MeasureName) (desk : Desk) (marks : List (List Mar
       HoldsByNames desk first second (λ a b. IsAlwaysAbove name (topics_under desk marks) b a)
   pub equal : (first second low high : List ℕ) → IsPairLine line first (codes "equal") second low high →
       HoldsByNames desk first second (AreAlwaysEqual name (topics_under desk marks))
+  pub undecided : (first second low high : List ℕ) → IsPairLine line first (codes "open") second low high →
+      HoldsByNames desk first second (AreUndecided name (topics_under desk marks))
   pub exact : (k : ℕ) → name ≡ Precision k → (first word second low high : List ℕ) → IsPairLine line first word second low high →
       HoldsByNames desk first second (SaysExactly name (topics_under desk marks) word)
   pub pair_bounds : (first word second low high : List ℕ) → IsPairLine line first word second low high →

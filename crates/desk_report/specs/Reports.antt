@@ -13,9 +13,10 @@ use Rattle.measure_core.specs.declared.cell.Cell.{Cell}
 use Rattle.order_certificate.specs.Certificate.{IsCertificate, certificate_text}
 use Rattle.order_certificate.specs.declared.certificate.Certificate.{Certificate}
 use Rattle.pair_table.specs.Evidence.{IsCertificateOf}
-use Rattle.pair_table.specs.Kept.{Kept, StandsFor}
+use Rattle.pair_table.specs.Kept.{Kept}
+use Rattle.pair_table.specs.Made.{IsTableOf}
 use Rattle.pair_table.specs.Numbers.{AreNumbersIn, ArePairNumbers, AreAllPairNumbers}
-use Rattle.next_document.specs.Kept.{Kept as Weights, AreKeptFor}
+use Rattle.next_document.specs.Kept.{HeldTotals as Weights, AreKeptFor}
 use Rattle.next_document.specs.Proposal.{Standing, IsNext}
 use Rattle.next_document.specs.declared.proposal.Proposal.{Proposal}
 use Rattle.desk_report.specs.Close.{close_line}
@@ -38,10 +39,9 @@ subject measure level desk marks = record { measure = measure; level = level; de
 abbrev pub cells_of : Desk → ℕ
 cells_of desk = pair_count (length desk.runs) * length desk.topics
 
--- a table stands for a desk under marks, with the numbers of the measure
-pub record IsTableOn {M : Type 0} (measured : MeasureName) (cell : List Mark → List ℕ → List ℕ → Cell) (bound : List Mark → List ℕ → Span) (s : Subject) (table : Kept M) : Type 0 where
-  pub made : IsMadeFor s.measure measured cell bound
-  pub stands : StandsFor cell bound s.desk s.marks table
+-- a table is that of a subject
+abbrev pub IsTableOn : {M : Type 0} → MeasureName → (List Mark → List ℕ → List ℕ → Cell) → (List Mark → List ℕ → Span) → Subject → Kept M → Type 0
+IsTableOn measured cell bound s table = IsTableOf measured cell bound s.measure s.desk s.marks table
 
 -- what a table over a desk speaks of
 pub record IsSubjectOf {M : Type 0} (measured : MeasureName) (cell : List Mark → List ℕ → List ℕ → Cell) (bound : List Mark → List ℕ → Span) (desk : Desk) (table : Kept M) (s : Subject) : Type 0 where

@@ -60,8 +60,6 @@ pub fn close_line(
     ensures { IfOk result (λ line. line.items ≡ ended (close_line first.now second.now totals.now)) }
 {
     let mut out = Vec::new(alloc);
-    match push_close(&mut out, first, second, totals) {
-        Ok(()) => Ok(out),
-        Err(_) => Err(Memory),
-    }
+    push_close(&mut out, first, second, totals)?;
+    Ok(out)
 }

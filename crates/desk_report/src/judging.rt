@@ -63,10 +63,8 @@ pub fn changed_line(
     let book = desk.topic(changed.topic);
     let doc = book.doc_name(changed.doc);
     let mut out = Vec::new(alloc);
-    match push_changed(&mut out, word, book.name(), doc, changed.grade) {
-        Ok(()) => Ok(out),
-        Err(_) => Err(Memory),
-    }
+    push_changed(&mut out, word, book.name(), doc, changed.grade)?;
+    Ok(out)
 }
 
 // A number after a space.
@@ -96,10 +94,8 @@ pub fn pool_line(alloc: Global, count: &PoolCount) -> Result<Vec<u8>, Memory>
     ensures { IfOk result (λ line. line.items ≡ ended (pool_line count.now)) }
 {
     let mut out = Vec::new(alloc);
-    match push_pool(&mut out, count) {
-        Ok(()) => Ok(out),
-        Err(_) => Err(Memory),
-    }
+    push_pool(&mut out, count)?;
+    Ok(out)
 }
 
 // The line of a document that is proposed.
@@ -151,8 +147,6 @@ pub fn next_line_text(
     ensures { IfOk result (λ line. line.items ≡ ended (next_line desk.now (option_copied proposal.entry))) }
 {
     let mut out = Vec::new(alloc);
-    match push_proposal(&mut out, desk, proposal) {
-        Ok(()) => Ok(out),
-        Err(_) => Err(Memory),
-    }
+    push_proposal(&mut out, desk, proposal)?;
+    Ok(out)
 }

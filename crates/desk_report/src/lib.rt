@@ -14,6 +14,6 @@ pub use close::close_line;
 pub use judging::{changed_line, next_line_text, pool_line};
 pub use qrels::qrels_text;
 pub use reports::{
-    Certified, certified_report, kept_next_report, next_report, pair_report, table_on, table_report,
+    Certified, certified_report, kept_next_report, next_report, pair_report, table_report,
 };
 pub use table::{pair_line, table_text};

@@ -70,8 +70,6 @@ pub fn qrels_text(
     ensures { IfOk result (λ text. text.items ≡ topic_qrels_text (book_at desk.now topic) grades.now) }
 {
     let mut out = Vec::new(alloc);
-    match push_topic(&mut out, desk.topic(topic), grades) {
-        Ok(()) => Ok(out),
-        Err(_) => Err(Memory),
-    }
+    push_topic(&mut out, desk.topic(topic), grades)?;
+    Ok(out)
 }

@@ -26,31 +26,6 @@ pub enum Certified {
     Close(Vec<u8>),
 }
 
-/// The table of the measure of a name over a desk under marks. It is one step for each pair and topic, and none where
-/// memory runs out.
-///
-/// # Errors
-/// `Memory`: out of memory.
-pub fn table_on<P: Maker, L: Ledger>(
-    alloc: Global,
-    desk: &Desk,
-    marks: &Marks,
-    name: MeasureName,
-    maker: &P,
-    steps: &mut Steps<L>,
-) -> Result<Table<P::Made>, Memory>
-    requires measure { IsMeasure name }
-    requires marks { AreMarksOf desk.now marks.now }
-    ensures table { IfOk result (λ table. (level : ℕ) →
-        IsTableOn (P.Made.measured table.measure) (P.Made.cell_of table.measure) (P.Made.bounds_of table.measure) (subject name level desk.now marks.now) table) }
-    ensures steps { OnOk result (steps.new ≡ steps.old + cells_of desk.now) }
-    ensures no_steps { OnErr result (steps.new ≡ steps.old) }
-{
-    let measure = maker.make(alloc, name)?;
-    let table = Table::new(alloc, desk, marks, measure, steps)?;
-    Ok(table)
-}
-
 /// The text of a table over a desk: its head with the measure, the level, and how many topics and runs there are, a
 /// line for each run and a line for each pair. It speaks of the marks for which the table stands.
 ///
@@ -67,8 +42,7 @@ pub fn table_report<M: Measure>(
         IsSubjectOf (M.measured table.now.measure) (M.cell_of table.now.measure) (M.bounds_of table.now.measure) desk.now table.now s →
         IsTableText s text.items) }
 {
-    // A report speaks of a valid desk, which every desk is.
-    let _runs = desk.run_count();
+    desk.valid();
     let measure = table.measure();
     let name = measure.name();
     let text = table_text(
@@ -139,8 +113,7 @@ pub fn certified_report<M: Measure>(
         IsSubjectOf (M.measured table.now.measure) (M.cell_of table.now.measure) (M.bounds_of table.now.measure) desk.now table.now s →
         IsCertifiedAs s first second answer) }
 {
-    // A report speaks of a valid desk, which every desk is.
-    let _runs = desk.run_count();
+    desk.valid();
     match table.evidence(alloc, desk, marks, level, first, second) {
         Ok(certificate) => {
             let text = write_certificate(alloc, &certificate)?;
@@ -171,8 +144,9 @@ pub fn next_report<M: Measure>(
         IsSubjectOf (M.measured table.now.measure) (M.cell_of table.now.measure) (M.bounds_of table.now.measure) desk.now table.now s →
         IsNextText s text.items) }
 {
-    // A report speaks of a valid desk, which every desk is, and a table has sums for each pair.
-    let (_runs, _sums) = (desk.run_count(), table.all_totals());
+    desk.valid();
+    // A table has sums for each pair.
+    let _sums = table.all_totals();
     let proposal = next(table.measure(), desk, marks, table.verdicts());
     let text = next_line_text(alloc, desk, proposal.as_ref())?;
     Ok(text)
@@ -193,8 +167,7 @@ pub fn kept_next_report(
     requires kept { (measure : Measured) × AreKeptFor measure desk.now marks.now weights.now }
     ensures { IfOk result (λ text. (s : Subject) → s.desk ≡ desk.now → s.marks ≡ marks.now → AreWeightsOf s weights.now → IsNextText s text.items) }
 {
-    // A report speaks of a valid desk, which every desk is.
-    let _runs = desk.run_count();
+    desk.valid();
     let proposal = weights.next(marks);
     let text = next_line_text(alloc, desk, proposal.as_ref())?;
     Ok(text)

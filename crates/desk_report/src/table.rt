@@ -167,10 +167,8 @@ pub fn pair_line(
     ensures { IfOk result (λ line. line.items ≡ ended (pair_line (unsigned_abs unit * topics) first.now second.now totals.now)) }
 {
     let mut out = Vec::new(alloc);
-    match push_pair(&mut out, parts(unit, topics), first, second, totals) {
-        Ok(()) => Ok(out),
-        Err(_) => Err(Memory),
-    }
+    push_pair(&mut out, parts(unit, topics), first, second, totals)?;
+    Ok(out)
 }
 
 fn push_table(
@@ -217,8 +215,6 @@ pub fn table_text(
     ensures { IfOk result (λ text. text.items ≡ table_text desk.now measure.now level unit bounds.now totals.now) }
 {
     let mut out = Vec::new(alloc);
-    match push_table(&mut out, desk, measure, level, unit, bounds, totals) {
-        Ok(()) => Ok(out),
-        Err(_) => Err(Memory),
-    }
+    push_table(&mut out, desk, measure, level, unit, bounds, totals)?;
+    Ok(out)
 }

@@ -16,7 +16,7 @@ use Rattle.measure_core.specs.declared.cell.Cell.{Cell}
 use Rattle.order_certificate.specs.declared.certificate.Certificate.{Certificate}
 use Rattle.order_certificate.specs.declared.certificate.Evidence.{Evidence}
 use Rattle.order_certificate.specs.declared.certificate.Evidence.TheVariants.{Above as AboveBy, Equal as EqualBy}
-use Rattle.pair_table.specs.Evidence.{bounds_of, Compares, Says, IsCertificateOf, IsAnswered}
+use Rattle.pair_table.specs.Evidence.{bounds_of, Compares, SaysOfVerdict, IsCertificateOf, IsAnswered}
 use Rattle.pair_table.specs.Numbers.{HaveEnds, HasCellEnds, AreEndsBy, ArePairSums}
 use Rattle.pair_table.specs.declared.evidence.EvidenceFault.{EvidenceFault}
 use Rattle.pair_table.specs.declared.evidence.EvidenceFault.TheVariants.{Close as CloseBy, Memory}
@@ -36,7 +36,7 @@ module _ (Has Has' : HaveEnds) (gives : (m : List Mark) (a b : List ℕ) (e : En
   given_sums : (a b : ℕ) (sums : Totals) → a < length desk.runs → b < length desk.runs → ArePairSums Has (topics_under desk marks) a b sums → ArePairSums Has' (topics_under desk marks) a b sums
   given_sums a b sums in_a in_b h = record { ends = h.ends; named = given_ends a b h.ends in_a in_b h.named; summed = h.summed }
 
-  given_says : (a b : ℕ) (c : Certificate) (v : Verdict) → a < length desk.runs → b < length desk.runs → Says Has measure desk marks level a b c v → Says Has' measure desk marks level a b c v
+  given_says : (a b : ℕ) (c : Certificate) (v : Verdict) → a < length desk.runs → b < length desk.runs → SaysOfVerdict Has measure desk marks level a b c v → SaysOfVerdict Has' measure desk marks level a b c v
   given_says a b c Above in_a in_b h = record { compares = h.compares; ends = h.ends; named = given_ends a b h.ends in_a in_b h.named; bounds = h.bounds }
   given_says a b c Below in_a in_b h = record { compares = h.compares; ends = h.ends; named = given_ends b a h.ends in_b in_a h.named; bounds = h.bounds }
   given_says a b c Equal in_a in_b h = record { compares = h.compares; ends = h.ends; named = given_ends a b h.ends in_a in_b h.named; bounds = h.bounds }
@@ -73,7 +73,7 @@ module _ (name : MeasureName) (desk : Desk) (marks : List (List Mark)) (level : 
       (one_run a c.first d.first (there_number desk.runs c.first a h.runs.0) (there_number desk.runs d.first a k.runs.0))
       (one_run b c.second d.second (there_number desk.runs c.second b h.runs.1) (there_number desk.runs d.second b k.runs.1)) same
 
-  one_said : (a b : ℕ) (c d : Certificate) (v : Verdict) → Says (HasEnds name) name desk marks level a b c v → Says (HasEnds name) name desk marks level a b d v → c ≡ d
+  one_said : (a b : ℕ) (c d : Certificate) (v : Verdict) → SaysOfVerdict (HasEnds name) name desk marks level a b c v → SaysOfVerdict (HasEnds name) name desk marks level a b d v → c ≡ d
   one_said a b c d Above h k =
       one_compared a b c d h.compares k.compares (h.bounds ∙ ap (λ ends. AboveBy (bounds_of _ desk ends)) (ends_one name (topics_under desk marks) a b h.ends k.ends h.named k.named) ∙ sym k.bounds)
   one_said a b c d Below h k =
@@ -88,13 +88,13 @@ module _ (name : MeasureName) (desk : Desk) (marks : List (List Mark)) (level : 
 
   -- a close verdict has no certificate
   none_close : (a b : ℕ) (c : Certificate) (sums : Totals) → IsCertificateOf (HasEnds name) name desk marks level a b c → ArePairSums (HasEnds name) (topics_under desk marks) a b sums → verdict sums ≡ Close → ⊥
-  none_close a b c sums h k close = subst (Says (HasEnds name) name desk marks level a b c) (ap verdict (one_sums a b h.sums sums h.summed k) ∙ close) h.says
+  none_close a b c sums h k close = subst (SaysOfVerdict (HasEnds name) name desk marks level a b c) (ap verdict (one_sums a b h.sums sums h.summed k) ∙ close) h.says
 
 pub one_answer : (name : MeasureName) (desk : Desk) (marks : List (List Mark)) (level a b : ℕ) (answer other : Result Certificate EvidenceFault) →
     IsAnswered (HasEnds name) name desk marks level a b answer → IsAnswered (HasEnds name) name desk marks level a b other → answer ≢ Err Memory → other ≢ Err Memory → answer ≡ other
 one_answer name desk marks level a b (Ok c) (Ok d) h k m n =
     ap Ok (one_said name desk marks level a b c d (verdict h.sums) h.says
-    (subst (Says (HasEnds name) name desk marks level a b d) (ap verdict (one_sums name desk marks level a b k.sums h.sums k.summed h.summed)) k.says))
+    (subst (SaysOfVerdict (HasEnds name) name desk marks level a b d) (ap verdict (one_sums name desk marks level a b k.sums h.sums k.summed h.summed)) k.says))
 one_answer name desk marks level a b (Ok c) (Err (CloseBy sums)) h k m n = absurd (none_close name desk marks level a b c sums h k.0 k.1)
 one_answer name desk marks level a b (Err (CloseBy sums)) (Ok d) h k m n = absurd (none_close name desk marks level a b d sums k h.0 h.1)
 one_answer name desk marks level a b (Err (CloseBy sums)) (Err (CloseBy others)) h k m n = ap (λ t. Err (CloseBy t)) (one_sums name desk marks level a b sums others h.0 k.0)

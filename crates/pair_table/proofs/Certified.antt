@@ -24,12 +24,13 @@ use Rattle.measure_laws.specs.Cases.{least_truth}
 use Rattle.measure_laws.specs.Shares.{IsModest}
 use Rattle.measure_core.specs.Laws.{AreMet, MeetsLaws}
 use Rattle.measure_core.specs.declared.cell.Cell.{Cell}
-use Rattle.order_certificate.specs.Certificate.{IsCertificate, IsLevel, IsNumber, IsWritable, AreTopics, AreDocuments}
+use Rattle.line_forms.specs.Places.{IsShortNumber}
+use Rattle.order_certificate.specs.Certificate.{IsCertificate, IsLevel, IsWritable, AreTopics, AreDocuments}
 use Rattle.order_certificate.specs.declared.certificate.Certificate.{Certificate}
 use Rattle.order_certificate.specs.declared.certificate.Evidence.TheVariants.{Above as AboveBy, Equal as EqualBy, Open as OpenBy}
 use Rattle.order_certificate.specs.declared.certificate.TopicBound.{TopicBound}
 use Rattle.order_certificate.specs.declared.certificate.TopicWitness.{TopicWitness}
-use Rattle.pair_table.specs.Evidence.{bounds_of, relevant_names, witnesses_of, Compares, Says, IsCertificateOf}
+use Rattle.pair_table.specs.Evidence.{bounds_of, relevant_names, witnesses_of, Compares, SaysOfVerdict, IsCertificateOf}
 use Rattle.pair_table.specs.Numbers.{HaveEnds, HasCellEnds, AreEndsBy}
 use Rattle.pair_table.proofs.DeskTopics.{topics_met}
 use Rattle.pair_table.proofs.Documents.{listed_documents}
@@ -38,7 +39,7 @@ use Rattle.pair_table.proofs.Orders.{MetBy}
 use Rattle.pair_table.proofs.Zips.{all_first}
 
 -- ---- numbers
-number_modest : (z : ℤ) → IsModest z → IsNumber z
+number_modest : (z : ℤ) → IsModest z → IsShortNumber z
 number_modest (pos n) h = omega (arith, ints, h)
 number_modest (negsuc n) h = omega (arith, ints, h)
 
@@ -120,15 +121,15 @@ module _ (Has : HaveEnds) (measure : MeasureName) (desk : Desk) (marks : List (L
   zero_bounds : (a b : ℕ) (ends : List Ends) → a < length desk.runs → b < length desk.runs → AreEndsBy Has (topics_under desk marks) a b ends → IsWritable (AboveBy (bounds_of (λ _. pos 0) desk ends))
   zero_bounds a b ends in_a in_b h = (
     subst AreTopics (sym (bounds_name (λ _. pos 0) desk ends (length-ends Has desk marks a b ends known h))) (desk_topics desk is_desk),
-    All-from_recursion (λ (x : TopicBound). IsNumber x.low × (x.high ≡ pos 0)) (bounds_of (λ _. pos 0) desk ends)
-        (bounds_each (λ (x : TopicBound). IsNumber x.low × (x.high ≡ pos 0)) (λ _. pos 0) (λ book e q. (number_modest e.least_lo q.low, refl)) desk.topics ends (modest_ends a b ends in_a in_b h)),
+    All-from_recursion (λ (x : TopicBound). IsShortNumber x.low × (x.high ≡ pos 0)) (bounds_of (λ _. pos 0) desk ends)
+        (bounds_each (λ (x : TopicBound). IsShortNumber x.low × (x.high ≡ pos 0)) (λ _. pos 0) (λ book e q. (number_modest e.least_lo q.low, refl)) desk.topics ends (modest_ends a b ends in_a in_b h)),
   )
 
   both_bounds : (a b : ℕ) (ends : List Ends) → a < length desk.runs → b < length desk.runs → AreEndsBy Has (topics_under desk marks) a b ends → IsWritable (EqualBy (bounds_of (λ e. e.most_hi) desk ends))
   both_bounds a b ends in_a in_b h = (
     subst AreTopics (sym (bounds_name (λ e. e.most_hi) desk ends (length-ends Has desk marks a b ends known h))) (desk_topics desk is_desk),
-    All-from_recursion (λ (x : TopicBound). IsNumber x.low × IsNumber x.high) (bounds_of (λ e. e.most_hi) desk ends)
-        (bounds_each (λ (x : TopicBound). IsNumber x.low × IsNumber x.high) (λ e. e.most_hi) (λ book e q. (number_modest e.least_lo q.low, number_modest e.most_hi q.high)) desk.topics ends (modest_ends a b ends in_a in_b h)),
+    All-from_recursion (λ (x : TopicBound). IsShortNumber x.low × IsShortNumber x.high) (bounds_of (λ e. e.most_hi) desk ends)
+        (bounds_each (λ (x : TopicBound). IsShortNumber x.low × IsShortNumber x.high) (λ e. e.most_hi) (λ book e q. (number_modest e.least_lo q.low, number_modest e.most_hi q.high)) desk.topics ends (modest_ends a b ends in_a in_b h)),
   )
 
   lists : (a b : ℕ) → IsWritable (OpenBy (witnesses_of measure desk marks a b))
@@ -152,7 +153,7 @@ module _ (Has : HaveEnds) (measure : MeasureName) (desk : Desk) (marks : List (L
     evidence = w;
   }
 
-  pub said_certificate : (a b : ℕ) (c : Certificate) (v : Verdict) → a < length desk.runs → b < length desk.runs → Says Has measure desk marks level a b c v → IsCertificate c
+  pub said_certificate : (a b : ℕ) (c : Certificate) (v : Verdict) → a < length desk.runs → b < length desk.runs → SaysOfVerdict Has measure desk marks level a b c v → IsCertificate c
   said_certificate a b c Above in_a in_b h = compared a b c h.compares (subst IsWritable (sym h.bounds) (zero_bounds a b h.ends in_a in_b h.named))
   said_certificate a b c Below in_a in_b h = compared b a c h.compares (subst IsWritable (sym h.bounds) (zero_bounds b a h.ends in_b in_a h.named))
   said_certificate a b c Equal in_a in_b h = compared a b c h.compares (subst IsWritable (sym h.bounds) (both_bounds a b h.ends in_a in_b h.named))

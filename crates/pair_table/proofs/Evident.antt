@@ -26,7 +26,7 @@ use Rattle.order_certificate.specs.declared.certificate.Certificate.{Certificate
 use Rattle.order_certificate.specs.declared.certificate.Evidence.{Evidence}
 use Rattle.order_certificate.specs.declared.certificate.Evidence.TheVariants.{Above as AboveBy, Equal as EqualBy, Open as OpenBy}
 use Rattle.order_certificate.specs.declared.certificate.TopicWitness.{TopicWitness}
-use Rattle.pair_table.specs.Evidence.{bounds_of, relevant_names, witnesses_of, Compares, Says, IsCertificateOf}
+use Rattle.pair_table.specs.Evidence.{bounds_of, relevant_names, witnesses_of, Compares, SaysOfVerdict, IsCertificateOf}
 use Rattle.pair_table.specs.Numbers.{AreEndsOf}
 use Rattle.pair_table.proofs.Certified.{bound_from, witness_from, length-ends, bounds_name, witnesses_name}
 use Rattle.pair_table.proofs.DeskTopics.{topics_met}
@@ -192,7 +192,7 @@ module _ (m : MeasureName) (valid : IsMeasure m) (desk : Desk) (marks : List (Li
       )
 
   said_evidence : (a b : ℕ) (c : Certificate) (ends : List Ends) (v : Verdict) → a ≢ b → a < length desk.runs → b < length desk.runs → AreEndsOf m (topics_under desk marks) a b ends → verdict (totals_of ends) ≡ v →
-      Says (HasEnds m) m desk marks level a b c v → IsEvidence c desk marks
+      SaysOfVerdict (HasEnds m) m desk marks level a b c v → IsEvidence c desk marks
   said_evidence a b c ends Above apart in_a in_b h is s =
       let same = ends_one m (topics_under desk marks) a b ends s.ends h s.named in
       evident a b c _ apart s.compares s.bounds (bounds_name (λ _. pos 0) desk s.ends (length-ends (HasEnds m) desk marks a b s.ends known s.named))
@@ -216,7 +216,7 @@ module _ (m : MeasureName) (valid : IsMeasure m) (desk : Desk) (marks : List (Li
       evident a b c _ apart s.compares s.cases (witnesses_name m desk marks a b known) (shown_open a b ends in_a in_b h is)
   said_evidence a b c ends Close apart in_a in_b h is s = absurd s
 
-  said_measure : (a b : ℕ) (c : Certificate) (v : Verdict) → Says (HasEnds m) m desk marks level a b c v → c.measure ≡ m
+  said_measure : (a b : ℕ) (c : Certificate) (v : Verdict) → SaysOfVerdict (HasEnds m) m desk marks level a b c v → c.measure ≡ m
   said_measure a b c Above s = s.compares.by_measure
   said_measure a b c Below s = s.compares.by_measure
   said_measure a b c Equal s = s.compares.by_measure

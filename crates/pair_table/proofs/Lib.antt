@@ -5,6 +5,7 @@ pub mod Changing
 pub mod DeskTopics
 pub mod Zips
 pub mod Verdicts
+pub mod Undecided
 pub mod Orders
 pub mod Named
 pub mod Swapped

@@ -20,6 +20,7 @@ use Rattle.desk_model.proofs.Topics.{always_above, always_below, always_equal, d
 use Rattle.desk_model.proofs.Exact.{exact_verdict}
 use Rattle.desk_model.specs.MeasureText.{IsMeasure}
 use Rattle.measure_laws.specs.Measures.{IsExactMeasure, unit_of}
+use Rattle.measure_laws.specs.Shares.{biased_ends}
 use Rattle.measure_laws.proofs.Persistence.{least_encloses, most_encloses, run_low_encloses, run_high_encloses}
 use Rattle.measure_laws.proofs.Weights.{unit-size}
 use Rattle.topic_counts.specs.declared.span.Span.{Span}
@@ -32,22 +33,25 @@ use Rattle.pair_table.specs.Numbers.{AreEndsOf, ArePairNumbers, AreRunNumbers}
 use Rattle.pair_table.specs.Orders.{HoldsOfPair, HoldsOfRun, total_width, IsNearZero, ForEachPair, ForTwoRuns, ForEachRun}
 use Rattle.pair_table.proofs.DeskTopics.{topics_met, topics_met_one}
 use Rattle.pair_table.proofs.Zips.{zip_then, zip_by, zip_made, zip_mapped, all_then, all_first, all_in_range, IsPairBelow, pairs_below}
+use Rattle.pair_table.proofs.Undecided.{CasesHold, named_cases, lawful_cases, open_undecided}
 use Rattle.pair_table.proofs.Verdicts.{above_says, below_says, equal_says, close_says}
 
 -- the outer ends of a name enclose
 record Enclose (name : MeasureName) (marks : List Mark) (a b : List ℕ) (e : Ends) : Type 0 where
   low : InEvery name marks a b (IsAtMost e.least_lo (unit_of name))
   high : InEvery name marks a b (IsAtLeast e.most_hi (unit_of name))
+  cases : CasesHold name marks a b e
 
 ends_enclose : (name : MeasureName) (marks : List Mark) (a b : List ℕ) (e : Ends) → IsMeasure name → AreMet marks a b → HasEnds name marks a b e → Enclose name marks a b e
-ends_enclose (Precision k) marks a b e valid met h = record { low = h.least_lo.so; high = h.most_hi.so }
-ends_enclose (Recall k) marks a b e valid met h = record { low = h.least_lo.so; high = h.most_hi.so }
-ends_enclose RPrecision marks a b e valid met h = record { low = h.least_lo.so; high = h.most_hi.so }
-ends_enclose Reciprocal marks a b e valid met h = record { low = h.least_lo.so; high = h.most_hi.so }
+ends_enclose (Precision k) marks a b e valid met h = record { low = h.least_lo.so; high = h.most_hi.so; cases = named_cases (Precision k) marks a b e valid met h }
+ends_enclose (Recall k) marks a b e valid met h = record { low = h.least_lo.so; high = h.most_hi.so; cases = named_cases (Recall k) marks a b e valid met h }
+ends_enclose RPrecision marks a b e valid met h = record { low = h.least_lo.so; high = h.most_hi.so; cases = named_cases RPrecision marks a b e valid met h }
+ends_enclose Reciprocal marks a b e valid met h = record { low = h.least_lo.so; high = h.most_hi.so; cases = named_cases Reciprocal marks a b e valid met h }
 ends_enclose (Biased top bottom) marks a b e valid met h =
     subst (Enclose (Biased top bottom) marks a b) (sym h) (record {
       low = least_encloses top bottom marks a b valid met.first met.second;
       high = most_encloses top bottom marks a b valid met.first met.second;
+      cases = named_cases (Biased top bottom) marks a b (biased_ends top bottom marks a b) valid met refl;
     })
 
 record EncloseOne (name : MeasureName) (marks : List Mark) (a : List ℕ) (s : Span) : Type 0 where
@@ -79,7 +83,7 @@ MetOneBy run topic = IsMet topic.marks (topic.ranking run)
 abbrev EncloseBy : MeasureName → ℕ → ℕ → Ends → Topic → Type 0
 EncloseBy name a b e topic = Enclose name topic.marks (topic.ranking a) (topic.ranking b) e
 
-module _ (name : MeasureName) (valid : IsMeasure name) (topics : List Topic) (a b : ℕ) (ends : List Ends) (enclosed : AllZip (EncloseBy name a b) ends topics) where
+module _ (name : MeasureName) (valid : IsMeasure name) (topics : List Topic) (a b : ℕ) (apart : a ≢ b) (ends : List Ends) (enclosed : AllZip (EncloseBy name a b) ends topics) where
   lows : AreLowEnds name (unit_of name) topics a b (map (λ (e : Ends). e.least_lo) ends)
   lows = zip_mapped (λ (e : Ends). e.least_lo) _ ends topics
       (zip_then (EncloseBy name a b) (λ (e : Ends) (topic : Topic). InEvery name topic.marks (topic.ranking a) (topic.ranking b) (IsAtMost e.least_lo (unit_of name))) (λ (t : Topic). Unit {0})
@@ -90,6 +94,11 @@ module _ (name : MeasureName) (valid : IsMeasure name) (topics : List Topic) (a 
       (zip_then (EncloseBy name a b) (λ (e : Ends) (topic : Topic). InEvery name topic.marks (topic.ranking a) (topic.ranking b) (IsAtLeast e.most_hi (unit_of name))) (λ (t : Topic). Unit {0})
       (λ e topic _ h. h.high) ends topics (always topics) enclosed)
 
+  cases_hold : AllZip (λ (e : Ends) (topic : Topic). CasesHold name topic.marks (topic.ranking a) (topic.ranking b) e) ends topics
+  cases_hold =
+      zip_then (EncloseBy name a b) (λ (e : Ends) (topic : Topic). CasesHold name topic.marks (topic.ranking a) (topic.ranking b) e) (λ (t : Topic). Unit {0})
+      (λ e topic _ h. h.cases) ends topics (always topics) enclosed
+
   enclosed_hold : HoldsOfPair name topics a b (totals_of ends)
   enclosed_hold =
       let t : Totals = totals_of ends in
@@ -99,14 +108,15 @@ module _ (name : MeasureName) (valid : IsMeasure name) (topics : List Topic) (a 
         below = λ v. always_below name (unit_of name) a b topics _ highs (below_says t v);
         equal = λ v. let zeros = equal_says t v in
             always_equal name (unit_of name) a b topics _ _ (omega (arith, unit)) lows highs (subst (λ z. pos 0 ≤ℤ z) (sym zeros.0) (omega (arith, ints))) (subst (λ z. z ≤ℤ pos 0) (sym zeros.1) (omega (arith, ints)));
+        undecided = λ v. open_undecided name valid a b ends topics cases_hold apart v;
         least = difference_low name (unit_of name) a b topics _ lows;
         most = difference_high name (unit_of name) a b topics _ highs;
       }
 
 module _ (name : MeasureName) (valid : IsMeasure name) (topics : List Topic) (a b : ℕ) (met : AllByRecursion (MetBy a b) topics) (ends : List Ends) (named : AreEndsOf name topics a b ends) where
-  ends_hold : HoldsOfPair name topics a b (totals_of ends)
-  ends_hold =
-      enclosed_hold name valid topics a b ends
+  ends_hold : a ≢ b → HoldsOfPair name topics a b (totals_of ends)
+  ends_hold apart =
+      enclosed_hold name valid topics a b apart ends
       (zip_then (λ (e : Ends) (topic : Topic). HasEnds name topic.marks (topic.ranking a) (topic.ranking b) e) (EncloseBy name a b) (MetBy a b)
       (λ e topic m h. ends_enclose name topic.marks (topic.ranking a) (topic.ranking b) e valid m h) ends topics met named)
 
@@ -187,13 +197,14 @@ bounds_hold name valid topics run met s h =
 
 -- ---- a measure that meets its laws
 module _ (name : MeasureName) (valid : IsMeasure name) (cell : List Mark → List ℕ → List ℕ → Cell) (bounds : List Mark → List ℕ → Span) (laws : MeetsLaws name cell bounds) where
-  cells_hold : (topics : List Topic) (a b : ℕ) → AllByRecursion (MetBy a b) topics → HoldsOfPair name topics a b (pair_sums cell topics a b)
+  cells_hold : (topics : List Topic) (a b : ℕ) → a ≢ b → AllByRecursion (MetBy a b) topics → HoldsOfPair name topics a b (pair_sums cell topics a b)
   unfolding pair_sums
-  cells_hold topics a b met =
-      enclosed_hold name valid topics a b (cell_ends cell topics a b)
+  cells_hold topics a b apart met =
+      enclosed_hold name valid topics a b apart (cell_ends cell topics a b)
       (zip_made (EncloseBy name a b) (λ (topic : Topic). ends_of (cell topic.marks (topic.ranking a) (topic.ranking b))) topics
       (all_then (MetBy a b) (λ (topic : Topic). EncloseBy name a b (ends_of (cell topic.marks (topic.ranking a) (topic.ranking b))) topic)
-      (λ topic m. let law = laws.encloses topic.marks (topic.ranking a) (topic.ranking b) m in record { low = law.least; high = law.most }) topics met))
+      (λ topic m. let law = laws.encloses topic.marks (topic.ranking a) (topic.ranking b) m in
+      record { low = law.least; high = law.most; cases = lawful_cases name cell bounds topic.marks (topic.ranking a) (topic.ranking b) laws m }) topics met))
 
   spans_hold : (topics : List Topic) (run : ℕ) → AllByRecursion (MetOneBy run) topics → HoldsOfRun name topics run (run_sums bounds topics run)
   unfolding run_sums
@@ -204,9 +215,9 @@ module _ (name : MeasureName) (valid : IsMeasure name) (cell : List Mark → Lis
       (λ topic m. let law = laws.bounds_enclose topic.marks (topic.ranking run) m in record { low = law.low; high = law.high }) topics met))
 
 pub measure_pairs_hold : (name : MeasureName) (cell : List Mark → List ℕ → List ℕ → Cell) (bounds : List Mark → List ℕ → Span) (desk : Desk) (marks : List (List Mark)) (a b : ℕ) →
-    IsMeasure name → MeetsLaws name cell bounds → IsDesk desk → AreMarksOf desk marks → a < length desk.runs → b < length desk.runs →
+    IsMeasure name → MeetsLaws name cell bounds → IsDesk desk → AreMarksOf desk marks → a ≢ b → a < length desk.runs → b < length desk.runs →
     HoldsOfPair name (topics_under desk marks) a b (pair_sums cell (topics_under desk marks) a b)
-measure_pairs_hold name cell bounds desk marks a b valid laws is_desk known in_a in_b = cells_hold name valid cell bounds laws (topics_under desk marks) a b (topics_met desk marks is_desk known a b in_a in_b)
+measure_pairs_hold name cell bounds desk marks a b valid laws is_desk known apart in_a in_b = cells_hold name valid cell bounds laws (topics_under desk marks) a b apart (topics_met desk marks is_desk known a b in_a in_b)
 
 pub measure_runs_hold : (name : MeasureName) (cell : List Mark → List ℕ → List ℕ → Cell) (bounds : List Mark → List ℕ → Span) (desk : Desk) (marks : List (List Mark)) (run : ℕ) →
     IsMeasure name → MeetsLaws name cell bounds → IsDesk desk → AreMarksOf desk marks → run < length desk.runs →
@@ -239,7 +250,7 @@ for_each_pair fact f name desk marks bounds totals valid is_desk known h =
     (pairs_of (run_numbers n)) totals (pairs_below n) h.pairs
 
 sums_hold : OfEnds HoldsOfPair
-sums_hold name topics a b ends valid apart met named = ends_hold name valid topics a b met ends named
+sums_hold name topics a b ends valid apart met named = ends_hold name valid topics a b met ends named apart
 
 -- under precision the verdict says exactly what always holds
 abbrev IsExactUnderPrecision : MeasureName → List Topic → ℕ → ℕ → Totals → Type 0

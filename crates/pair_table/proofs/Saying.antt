@@ -16,7 +16,7 @@ use Rattle.measure_core.specs.Made.{ends_of}
 use Rattle.measure_core.specs.declared.cell.Cell.{Cell}
 use Rattle.order_certificate.specs.declared.certificate.Certificate.{Certificate}
 use Rattle.pair_table.specs.Numbers.{HasCellEnds, AreEndsBy, ArePairSums}
-use Rattle.pair_table.specs.Evidence.{Says, IsCertificateOf}
+use Rattle.pair_table.specs.Evidence.{SaysOfVerdict, IsCertificateOf}
 use Rattle.pair_table.specs.Kept.{Kept, AreSumsOf, StandsFor}
 use Rattle.pair_table.specs.Sums.{cell_ends, pair_sums}
 use Rattle.pair_table.proofs.Swapped.{exact_in_both}
@@ -47,9 +47,9 @@ unfolding pair_sums
 summed_cells cell topics a b sums e = record { ends = cell_ends cell topics a b; named = cells_named cell topics a b; summed = e }
 
 pub answered_by : (cell : List Mark → List ℕ → List ℕ → Cell) (measure : MeasureName) (desk : Desk) (marks : List (List Mark)) (level a b : ℕ) (c : Certificate) (sums : Totals) (v : Verdict) →
-    sums ≡ pair_sums cell (topics_under desk marks) a b → v ≡ verdict sums → Says (HasCellEnds cell) measure desk marks level a b c v → IsCertificateOf (HasCellEnds cell) measure desk marks level a b c
+    sums ≡ pair_sums cell (topics_under desk marks) a b → v ≡ verdict sums → SaysOfVerdict (HasCellEnds cell) measure desk marks level a b c v → IsCertificateOf (HasCellEnds cell) measure desk marks level a b c
 answered_by cell measure desk marks level a b c sums v e is said = record {
   sums = sums;
   summed = summed_cells cell (topics_under desk marks) a b sums e;
-  says = subst (Says (HasCellEnds cell) measure desk marks level a b c) is said;
+  says = subst (SaysOfVerdict (HasCellEnds cell) measure desk marks level a b c) is said;
 }

@@ -67,18 +67,18 @@ pub record SaysOpen (measure : MeasureName) (desk : Desk) (marks : List (List Ma
   pub cases : c.evidence ≡ OpenBy (witnesses_of measure desk marks a b)
 
 -- what a certificate says by the verdict of a on b: runs that are below are above when swapped, and by a close verdict there is none
-abbrev pub Says : HaveEnds → MeasureName → Desk → List (List Mark) → ℕ → ℕ → ℕ → Certificate → Verdict → Type 0
-Says Has measure desk marks level a b c Above = SaysAbove Has measure desk marks level a b c
-Says Has measure desk marks level a b c Below = SaysAbove Has measure desk marks level b a c
-Says Has measure desk marks level a b c Equal = SaysEqual Has measure desk marks level a b c
-Says Has measure desk marks level a b c Open = SaysOpen measure desk marks level a b c
-Says Has measure desk marks level a b c Close = ⊥
+abbrev pub SaysOfVerdict : HaveEnds → MeasureName → Desk → List (List Mark) → ℕ → ℕ → ℕ → Certificate → Verdict → Type 0
+SaysOfVerdict Has measure desk marks level a b c Above = SaysAbove Has measure desk marks level a b c
+SaysOfVerdict Has measure desk marks level a b c Below = SaysAbove Has measure desk marks level b a c
+SaysOfVerdict Has measure desk marks level a b c Equal = SaysEqual Has measure desk marks level a b c
+SaysOfVerdict Has measure desk marks level a b c Open = SaysOpen measure desk marks level a b c
+SaysOfVerdict Has measure desk marks level a b c Close = ⊥
 
 -- the certificate of two runs, by the verdict of their sums
 pub record IsCertificateOf (Has : HaveEnds) (measure : MeasureName) (desk : Desk) (marks : List (List Mark)) (level a b : ℕ) (c : Certificate) : Type 0 where
   pub sums : Totals
   pub summed : ArePairSums Has (topics_under desk marks) a b sums
-  pub says : Says Has measure desk marks level a b c (verdict sums)
+  pub says : SaysOfVerdict Has measure desk marks level a b c (verdict sums)
 
 -- the answer of two runs: their certificate, or their sums where the verdict of these is close
 abbrev pub IsAnswered : HaveEnds → MeasureName → Desk → List (List Mark) → ℕ → ℕ → ℕ → Result Certificate EvidenceFault → Type 0

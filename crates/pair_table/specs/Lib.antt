@@ -4,3 +4,4 @@ pub mod Numbers
 pub mod Orders
 pub mod Evidence
 pub mod Refined
+pub mod Made

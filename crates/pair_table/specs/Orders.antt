@@ -11,19 +11,37 @@ use Rattle.desk_model.specs.Verdict.{verdict}
 use Rattle.desk_model.specs.declared.types.Mark.{Mark}
 use Rattle.desk_model.specs.declared.types.MeasureName.{MeasureName}
 use Rattle.desk_model.specs.declared.types.Totals.{Totals}
-use Rattle.desk_model.specs.declared.types.Verdict.TheVariants.{Above, Below, Equal}
+use Rattle.desk_model.specs.declared.types.Verdict.TheVariants.{Above, Below, Equal, Open}
 use Rattle.topic_counts.specs.declared.span.Span.{Span}
 use Rattle.desk_model.specs.MeasureText.{IsMeasure}
+use Rattle.measure_laws.specs.Cases.{least_truth, HasLeastTails}
 use Rattle.measure_laws.specs.Measures.{unit_of}
 use Rattle.measure_core.specs.Made.{width_of}
+use Rattle.order_certificate.specs.Claim.{Differ}
 use Rattle.pair_table.specs.Sums.{run_numbers}
 use Rattle.pair_table.specs.Numbers.{ArePairNumbers, AreNumbersIn}
 
--- in every completion the order of two means is that of the verdict, and unit times topics times their difference lies from least_lo to most_hi
+-- a completion of a topic is the least case of two runs, with the tails that go with it
+pub record IsLeastCaseOf (measure : MeasureName) (a b : ℕ) (c : Completion) (topic : Topic) : Type 0 where
+  pub truth : (doc : ℕ) → c.truth doc ≡ least_truth measure topic.marks (topic.ranking a) (topic.ranking b) doc
+  pub tails : HasLeastTails measure (c.tail a) (c.tail b)
+
+-- two completions of the judgements differ on the order of two runs: the least case of the two on each topic, and that of the swapped runs
+pub record AreUndecided (measure : MeasureName) (topics : List Topic) (a b : ℕ) : Type 0 where
+  pub low : List Completion
+  pub high : List Completion
+  pub low_completes : IsCompletion topics low
+  pub high_completes : IsCompletion topics high
+  pub low_is : AllZip (IsLeastCaseOf measure a b) low topics
+  pub high_is : AllZip (IsLeastCaseOf measure b a) high topics
+  pub differ : Differ measure topics a b low high
+
+-- in every completion the order of two means is that of the verdict, two completions differ on it where the verdict is open, and unit times topics times their difference lies from least_lo to most_hi
 pub record HoldsOfPair (measure : MeasureName) (topics : List Topic) (a b : ℕ) (t : Totals) : Type 0 where
   pub above : verdict t ≡ Above → IsAlwaysAbove measure topics a b
   pub below : verdict t ≡ Below → IsAlwaysAbove measure topics b a
   pub equal : verdict t ≡ Equal → AreAlwaysEqual measure topics a b
+  pub undecided : verdict t ≡ Open → AreUndecided measure topics a b
   pub least : (cs : List Completion) → IsCompletion topics cs →
       IsAtMost t.least_lo (unit_of measure * length topics) (run_mean measure a topics cs) (run_mean measure b topics cs)
   pub most : (cs : List Completion) → IsCompletion topics cs →

@@ -13,13 +13,14 @@ ghost use Rattle.order_certificate.specs.Certificate.{IsLevel, IsCertificate};
 ghost use Rattle.pair_table.specs.Numbers.{HasCellEnds};
 ghost use Rattle.pair_table.specs.Sums.{cell_ends};
 ghost use Rattle.pair_table.specs.Kept.{StandsFor};
+ghost use Rattle.pair_table.specs.declared.evidence.EvidenceFault.TheVariants.{Memory as NoMemory};
 ghost use Rattle.pair_table.specs.Evidence.{bounds_of, relevant_names, witnesses_of, Compares, SaysAbove, SaysEqual, SaysOpen, IsAnswered};
 
 use crate::table::Table;
-use desk_model::{Desk, Mark, Marks, Memory, Name, NameFault, Ranking, TopicBook, Totals, Verdict};
+use desk_model::{Desk, Mark, Marks, Memory, Name, Ranking, TopicBook, Totals, Verdict};
 use measure_core::{Cell, Measure};
 use order_certificate::{
-    Bounds, Certificate, Evidence, Names, TopicBound, TopicWitness, Witnesses,
+    Certificate, Evidence, NameList, TopicBound, TopicBounds, TopicWitness, Witnesses,
 };
 use std::alloc::Global;
 
@@ -32,15 +33,11 @@ pub enum EvidenceFault {
     Memory,
 }
 
-// A copy of a name.
-fn copied(alloc: Global, name: &[u8]) -> Result<Name, Memory>
-    requires { is_name name.now ≡ true }
-    ensures { IfOk result (λ copy. copy ≡ name.now) }
-{
-    match Name::new(alloc, name) {
-        Ok(copy) => Ok(copy),
-        Err(NameFault::Memory) => Err(Memory),
-        Err(NameFault::BadName) => unreachable!(),
+impl From<Memory> for EvidenceFault {
+    ghost from_gives = { λ _ e. e ≡ NoMemory };
+
+    fn from(_: Memory) -> EvidenceFault {
+        EvidenceFault::Memory
     }
 }
 
@@ -51,7 +48,7 @@ fn bound(alloc: Global, name: &[u8], cell: Cell, upper: bool) -> Result<TopicBou
     ensures { IfOk result (λ bound. bound ≡ record { topic = name.now; low = cell.least.lo; high = if upper then cell.most.hi else pos 0 }) }
 {
     Ok(TopicBound {
-        topic: copied(alloc, name)?,
+        topic: Name::copy_of(alloc, name)?,
         low: cell.least.lo,
         high: if upper { cell.most.hi } else { 0 },
     })
@@ -63,7 +60,7 @@ fn bounds_of_cells(
     desk: &Desk,
     cells: &[Cell],
     upper: bool,
-) -> Result<Bounds, Memory>
+) -> Result<TopicBounds, Memory>
     requires { length cells.now ≡ length desk.now.topics }
     ensures { IfOk result (λ bounds. bounds ≡ bounds_of (λ (e : Ends). if upper then e.most_hi else pos 0) desk.now (map ends_of cells.now)) }
 {
@@ -71,11 +68,9 @@ fn bounds_of_cells(
     for topic in 0..desk.topic_count() {
         let name = desk.topic(topic).name();
         let next = bound(alloc, name, cells[topic as usize], upper)?;
-        let Ok(()) = bounds.push(next) else {
-            return Err(Memory);
-        };
+        bounds.push(next)?;
     }
-    Ok(Bounds::new(bounds))
+    Ok(TopicBounds::new(bounds))
 }
 
 // The bound of each topic for two runs.
@@ -86,7 +81,7 @@ fn bounds<M: Measure>(
     first: u32,
     second: u32,
     upper: bool,
-) -> Result<Bounds, Memory>
+) -> Result<TopicBounds, Memory>
     requires different { first ≢ second }
     requires first { first < table.now.runs }
     requires second { second < table.now.runs }
@@ -96,7 +91,8 @@ fn bounds<M: Measure>(
 {
     // The laws speak of desks, and of measures that have a name.
     let measure = table.measure();
-    let (_name, _runs) = (measure.name(), desk.run_count());
+    let _name = measure.name();
+    desk.valid();
     let cells = table.cells(alloc, first, second)?;
     bounds_of_cells(alloc, desk, &cells, upper)
 }
@@ -114,7 +110,7 @@ fn relevant(
     book: &TopicBook,
     marks: &[Mark],
     truth: &[bool],
-) -> Result<Names, Memory>
+) -> Result<NameList, Memory>
     requires marks { length marks.now ≡ length book.now.docs }
     requires truth { length truth.now ≡ length book.now.docs }
     ensures { IfOk result (λ names. names ≡ relevant_names book.now.docs marks.now (λ doc. slice_index_or truth.now doc false)) }
@@ -123,13 +119,11 @@ fn relevant(
     for doc in 0..book.doc_count() {
         let place = doc as usize;
         if is_added(marks[place], truth[place]) {
-            let name = copied(alloc, book.doc_name(doc))?;
-            let Ok(()) = names.push(name) else {
-                return Err(Memory);
-            };
+            let name = Name::copy_of(alloc, book.doc_name(doc))?;
+            names.push(name)?;
         }
     }
-    Ok(Names::new(names))
+    Ok(NameList::new(names))
 }
 
 // The names of the unjudged documents that the least case of two rankings makes relevant.
@@ -140,7 +134,7 @@ fn least_names<M: Measure>(
     a: &Ranking,
     b: &Ranking,
     marks: &[Mark],
-) -> Result<Names, Memory>
+) -> Result<NameList, Memory>
     requires met { AreMet marks.now a.now b.now }
     requires count { length marks.now ≡ length book.now.docs }
     ensures { IfOk result (λ names. names ≡ relevant_names book.now.docs marks.now (least_truth (M.measured measure.now) marks.now a.now b.now)) }
@@ -157,7 +151,7 @@ fn most_names<M: Measure>(
     a: &Ranking,
     b: &Ranking,
     marks: &[Mark],
-) -> Result<Names, Memory>
+) -> Result<NameList, Memory>
     requires met { AreMet marks.now a.now b.now }
     requires count { length marks.now ≡ length book.now.docs }
     ensures { IfOk result (λ names. names ≡ relevant_names book.now.docs marks.now (least_truth (M.measured measure.now) marks.now b.now a.now)) }
@@ -181,7 +175,7 @@ fn witness<M: Measure>(
     ensures low { IfOk result (λ witness. witness.low ≡ relevant_names book.now.docs marks.now (least_truth (M.measured measure.now) marks.now a.now b.now)) }
     ensures high { IfOk result (λ witness. witness.high ≡ relevant_names book.now.docs marks.now (least_truth (M.measured measure.now) marks.now b.now a.now)) }
 {
-    let topic = copied(alloc, book.name())?;
+    let topic = Name::copy_of(alloc, book.name())?;
     let low = least_names(alloc, measure, book, a, b, marks)?;
     let high = most_names(alloc, measure, book, a, b, marks)?;
     Ok(TopicWitness { topic, low, high })
@@ -206,9 +200,7 @@ fn witnesses<M: Measure>(
         let a = desk.ranking(first, topic);
         let b = desk.ranking(second, topic);
         let next = witness(alloc, measure, desk.topic(topic), a, b, marks.topic(topic))?;
-        let Ok(()) = witnesses.push(next) else {
-            return Err(Memory);
-        };
+        witnesses.push(next)?;
     }
     Ok(Witnesses::new(witnesses))
 }
@@ -228,13 +220,12 @@ fn certificate<M: Measure>(
     ensures compares { IfOk result (Compares (M.measured measure.now) desk.now level first second) }
     ensures evidence { IfOk result (λ certificate. certificate.evidence ≡ evidence) }
 {
-    // The desk's names are names.
-    let _runs = desk.run_count();
+    desk.valid();
     Ok(Certificate {
         measure: measure.name(),
         level,
-        first: copied(alloc, desk.run_name(first))?,
-        second: copied(alloc, desk.run_name(second))?,
+        first: Name::copy_of(alloc, desk.run_name(first))?,
+        second: Name::copy_of(alloc, desk.run_name(second))?,
         evidence,
     })
 }
@@ -354,7 +345,8 @@ impl<M: Measure> Table<M> {
     {
         // The laws speak of desks, and of measures that have a name.
         let measure = self.measure();
-        let (_name, _runs) = (measure.name(), desk.run_count());
+        let _name = measure.name();
+        desk.valid();
         let made = match self.verdict(i, j) {
             Verdict::Above => above(alloc, self, desk, level, i, j),
             Verdict::Below => above(alloc, self, desk, level, j, i),
@@ -364,7 +356,7 @@ impl<M: Measure> Table<M> {
         };
         match made {
             Ok(certificate) => Ok(certificate),
-            Err(Memory) => Err(EvidenceFault::Memory),
+            Err(memory) => Err(memory.into()),
         }
     }
 }

@@ -52,12 +52,12 @@ pub fn numbers_of_two_runs_hold()
         (k : ℕ) → name ≡ Precision k → IsExactVerdict name topics a b (verdict sums)) }
 {}
 
-/// The same of the sums of a measure that meets its laws, for any two runs and for each run.
+/// The same of the sums of a measure that meets its laws, for any two different runs and for each run.
 pub fn sums_of_a_measure_hold()
     ensures pairs { (name : MeasureName) (cell : List Mark → List ℕ → List ℕ → Cell) (bounds : List Mark → List ℕ → Span)
         (desk : Desk) (marks : List (List Mark)) (a b : ℕ) →
         IsMeasure name → MeetsLaws name cell bounds → IsDesk desk → AreMarksOf desk marks →
-        a < length desk.runs → b < length desk.runs →
+        a ≢ b → a < length desk.runs → b < length desk.runs →
         HoldsOfPair name (topics_under desk marks) a b (pair_sums cell (topics_under desk marks) a b) }
     ensures runs { (name : MeasureName) (cell : List Mark → List ℕ → List ℕ → Cell) (bounds : List Mark → List ℕ → Span)
         (desk : Desk) (marks : List (List Mark)) (run : ℕ) →

@@ -5,10 +5,12 @@ pub mod evidence;
 pub mod evidence_laws;
 mod kept;
 pub mod laws;
+mod made;
 mod numbers;
 pub mod settled;
 mod sums;
 pub mod table;
 
 pub use evidence::EvidenceFault;
+pub use made::table_on;
 pub use table::Table;

@@ -44,8 +44,7 @@ pub fn evaluate_cells<M: Measure, L: Ledger>(
     ensures modest { All CellIsModest cells.new }
     ensures steps { steps.new ≡ steps.old + length cells.old }
 {
-    // The laws speak of desks.
-    let _runs = desk.run_count();
+    desk.valid();
     let rankings = TopicRankings::new(desk, topic);
     measure.cells(&rankings, marks.topic(topic), room, cells, steps);
 }

@@ -216,8 +216,7 @@ fn renew_topic<M: Measure, L: Ledger>(
     ensures bounds { bounds.new ≡ kept_bounds (length desk.now.runs) topics.new }
     ensures steps { steps.new ≡ steps.old + length (pairs_of (run_numbers (length desk.now.runs))) }
 {
-    // The laws speak of desks.
-    let _runs = desk.run_count();
+    desk.valid();
     let kept = &mut topics[topic as usize];
     kept.take_back(totals, bounds);
     kept.evaluate(measure, desk, marks, topic, room, steps);
@@ -257,15 +256,9 @@ impl<M: Measure> Table<M> {
         let _name = measure.name();
         let runs = desk.run_count();
         let count = runs * (runs - 1) / 2;
-        let Ok(mut topics) = topic_rooms(alloc, desk.topic_count(), count, runs) else {
-            return Err(Memory);
-        };
-        let Ok((mut totals, mut verdicts, mut bounds)) = sum_rooms(alloc, count, runs) else {
-            return Err(Memory);
-        };
-        let Ok(mut room) = CellRoom::new(alloc, most_documents(desk), runs) else {
-            return Err(Memory);
-        };
+        let mut topics = topic_rooms(alloc, desk.topic_count(), count, runs)?;
+        let (mut totals, mut verdicts, mut bounds) = sum_rooms(alloc, count, runs)?;
+        let mut room = CellRoom::new(alloc, most_documents(desk), runs)?;
         evaluate_topics(&mut topics, &measure, desk, marks, &mut room, steps);
         add_topics(&mut totals, &mut bounds, &topics, runs);
         fill_verdicts(&mut verdicts, &totals);
@@ -325,9 +318,7 @@ impl<M: Measure> Table<M> {
         let mut cells = Vec::new(alloc);
         for topic in 0..self.topics.len() {
             let cell = cell_of_runs(&self.topics[topic], self.runs, i, j);
-            let Ok(()) = cells.push(cell) else {
-                return Err(Memory);
-            };
+            cells.push(cell)?;
         }
         Ok(cells)
     }

@@ -5,13 +5,13 @@ use Rattle.std.specs.declared.alloc.Global.{Global}
 use Rattle.std.proofs.lemmas.Bool.{ne_eqb}
 use Rattle.std.proofs.lemmas.Int.{ints, to_z-of_z}
 use Rattle.std.proofs.lemmas.Result.{IfOk-weaker}
-use Rattle.desk_model.specs.declared.memory.Memory.{Memory}
+use Rattle.desk_model.specs.declared.Memory.{Memory}
 use Rattle.judge_session.specs.Forms.{IsGrade}
 use Rattle.judge_session.specs.Request.{Heard, Asked}
 use Rattle.judge_session.specs.Said.{request_said}
 use Rattle.judge_session.specs.declared.types.Request.{Request}
 use Rattle.session_replies.specs.Replies.{Setting, OnNumbers, IsReply, changes_after, refusal}
-use Rattle.session_replies.specs.State.{Numbers, IsReady, Answers, CountsLine, owed}
+use Rattle.session_replies.specs.State.{Numbers, IsReadyForLine, Answers, CountsLine, owed}
 use Rattle.session_replies.specs.declared.state.Judging.{Judging}
 
 -- a grade as the code has it
@@ -64,7 +64,7 @@ module _ {M : Type 0} where
     answers_said h = subst (λ (q : Request). IfOk r (λ text. Answers n s (Asked (request_said q)) old new text.items)) (sym is) h
 
     -- a line that leaves the judgements
-    pub answers_told : (Fact : List ℕ → Type 0) → IsReady n s new → new.session ≡ changes_after s.desk (Asked (request_said said)) old.session → ((text : List ℕ) → Fact text → IsReply s old.session (Asked (request_said said)) text) → IfOk r (λ text. Fact text.items) →
+    pub answers_told : (Fact : List ℕ → Type 0) → IsReadyForLine n s new → new.session ≡ changes_after s.desk (Asked (request_said said)) old.session → ((text : List ℕ) → Fact text → IsReply s old.session (Asked (request_said said)) text) → IfOk r (λ text. Fact text.items) →
         IfOk r (λ text. Answers n s (Asked (request_said request)) old new text.items)
     answers_told Fact ready changes step told =
         answers_said (IfOk-weaker r (λ (text : Vec ℕ Global). Fact text.items) (λ (text : Vec ℕ Global). Answers n s (Asked (request_said said)) old new text.items) (λ text fact. record { ready = ready; changes = changes; is = step text.items fact }) told)

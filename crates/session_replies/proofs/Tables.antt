@@ -6,12 +6,12 @@ use Rattle.judge_session.specs.declared.change.Change.{Change}
 use Rattle.desk_report.specs.Reports.{IsTableOn, IsSubjectOf}
 use Rattle.pair_table.specs.Kept.{Kept}
 use Rattle.session_replies.specs.Replies.{Setting, subject_after}
-use Rattle.session_replies.specs.State.{Numbers, IsReady}
+use Rattle.session_replies.specs.State.{Numbers, IsReadyForLine}
 use Rattle.session_replies.specs.declared.state.Judging.{Judging}
 use Rattle.session_replies.proofs.Marks.{marks_of_desk}
 
 -- what a table that is there speaks of
-pub subject_ready : {M : Type 0} (n : Numbers M) (s : Setting) (kept : Judging M) (t : Kept M) (before : List Change) → IsDesk s.desk → IsReady n s kept → kept.table ≡ Some t → kept.session ≡ before →
+pub subject_ready : {M : Type 0} (n : Numbers M) (s : Setting) (kept : Judging M) (t : Kept M) (before : List Change) → IsDesk s.desk → IsReadyForLine n s kept → kept.table ≡ Some t → kept.session ≡ before →
     IsSubjectOf (n.name t.measure) (n.cell t.measure) (n.bound t.measure) s.desk t (subject_after s before)
 subject_ready {M} n s kept t before valid ready there session = record {
   over = refl;

@@ -28,7 +28,7 @@ use Rattle.judge_session.specs.Request.{Heard, Judge, Undo, Redo, Table, Pair, C
 use Rattle.session_replies.specs.Replies.{Setting, subject_after, OnNumbers, IsCertified, IsPoolReply, IsReply, refusal}
 use Rattle.session_replies.proofs.Marks.{marks_of_desk}
 
-one_table : (s : Subject) (text other : List ℕ) → IsTableText s text → IsTableText s other → text ≡ other
+pub one_table : (s : Subject) (text other : List ℕ) → IsTableText s text → IsTableText s other → text ≡ other
 one_table s text other h k =
     let same = table_determined s.measure s.desk s.marks h.bounds k.bounds h.totals k.totals h.numbers k.numbers in
     h.is ∙ ap (λ bounds. table_text s.desk s.measure s.level (pos (unit_of s.measure)) bounds h.totals) same.0
@@ -44,7 +44,7 @@ given c answer is e = absurd (cc)
 close_given : (totals : Totals) (answer : Result Certificate EvidenceFault) → answer ≡ Err (Close totals) → answer ≢ Err Memory
 close_given totals answer is e = absurd (cc)
 
-one_certified : (s : Subject) (a b : ℕ) (text other : List ℕ) → IsCertified s a b text → IsCertified s a b other → text ≡ other
+pub one_certified : (s : Subject) (a b : ℕ) (text other : List ℕ) → IsCertified s a b text → IsCertified s a b other → text ≡ other
 one_certified s a b text other (inl h) (inl k) =
     let same : Ok h.certificate ≡ Ok k.certificate = one_answer s.measure s.desk s.marks s.level a b (Ok h.certificate) (Ok k.certificate) h.of_pair k.of_pair (given h.certificate (Ok h.certificate) refl) (given k.certificate (Ok k.certificate) refl) in
     let one : h.certificate ≡ k.certificate = cc in
@@ -58,7 +58,7 @@ one_certified s a b text other (inr h) (inl k) =
 one_certified s a b text other (inr h) (inr k) =
     h.is ∙ ap (λ totals. ended (close_line (run_name s.desk a) (run_name s.desk b) totals)) (pair_unique s.measure (topics_under s.desk s.marks) a b h.totals k.totals h.summed k.summed) ∙ sym k.is
 
-one_next : NextIsOne → (s : Subject) (text other : List ℕ) → AreMarksOf s.desk s.marks → IsNextText s text → IsNextText s other → text ≡ other
+pub one_next : NextIsOne → (s : Subject) (text other : List ℕ) → AreMarksOf s.desk s.marks → IsNextText s text → IsNextText s other → text ≡ other
 one_next law s text other marked h k =
     let pairs = pairs_of (run_numbers (length s.desk.runs)) in
     let topics = topics_under s.desk s.marks in

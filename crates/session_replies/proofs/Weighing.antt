@@ -13,7 +13,8 @@ use Rattle.desk_model.specs.declared.types.Verdict.{Verdict}
 use Rattle.topic_counts.specs.declared.span.Span.{Span}
 use Rattle.measure_core.specs.declared.cell.Cell.{Cell}
 use Rattle.measure_laws.specs.Weights.{weight_of}
-use Rattle.next_document.specs.Kept.{Kept as Weights, AreKeptFor, AreKeptBut}
+use Rattle.next_document.specs.Kept.{HeldTotals as Weights, AreKeptFor}
+use Rattle.next_document.proofs.Elsewhere.{kept_elsewhere}
 use Rattle.next_document.specs.Proposal.{total_weight, unsettled_pairs}
 use Rattle.next_document.specs.Total.{standing}
 use Rattle.desk_report.specs.Reports.{Subject, IsSubjectOf, AreWeightsOf}
@@ -29,25 +30,6 @@ pub verdict_each : {M : Type 0} (cell : List Mark → List ℕ → List ℕ → 
 verdict_each cell bound desk marks table h =
     length-map table.totals verdict ∙ ap length h.totals
     ∙ length-map (pairs_of (run_numbers (length desk.runs))) (λ (pair : ℕ × ℕ). pair_sums cell (topics_under desk marks) pair.0 pair.1) ∙ length-pairs_of desk.runs 0
-
--- ---- the marks of one topic are others
-module _ (measure : MeasureName) (desk : Desk) (marks : List (List Mark)) (topic : ℕ) (row : List Mark) where
-  total_elsewhere : (verdicts : List Verdict) (t doc : ℕ) → t ≢ topic → total_weight (standing measure desk (set marks topic row) verdicts) t doc ≡ total_weight (standing measure desk marks verdicts) t doc
-  total_elsewhere verdicts t doc apart =
-      ap (λ (r : List Mark). sum (map (λ (pair : ℕ × ℕ). weight_of measure r (ranking_of desk pair.0 t) (ranking_of desk pair.1 t) doc) (unsettled_pairs (standing measure desk marks verdicts)))) (get_or-set_other marks topic t row [] apart)
-
-  kept_elsewhere : (weights : Weights) → topic < length marks → length row ≡ length (get_or marks topic []) → AreKeptFor measure desk marks weights → AreKeptBut topic measure desk (set marks topic row) weights
-  kept_elsewhere weights within count h = record {
-    over = record {
-      topics = h.over.topics ∙ sym (length-set marks topic row);
-      docs = λ t lt. h.over.docs t (omega (arith, lt, length-set marks topic row)) ∙ sym (elim (same_or_not t topic) [
-        | inl e ↦ subst (λ (u : ℕ). length (get_or (set marks topic row) u []) ≡ length (get_or marks u [])) (sym e) (ap length (get_or-set_same marks topic row [] within) ∙ count)
-        | inr apart ↦ ap length (get_or-set_other marks topic t row [] apart)
-      ]);
-    };
-    each = λ t lt apart doc inside.
-        h.each t (omega (arith, lt, length-set marks topic row)) doc (omega (arith, inside, ap length (get_or-set_other marks topic t row [] apart))) ∙ sym (total_elsewhere weights.verdicts t doc apart);
-  }
 
 -- totals that are there are those of every other topic for the marks with another mark of one document
 pub weights_elsewhere : {M : Type 0} (n : Numbers M) (desk : Desk) (marks : List (List Mark)) (topic doc : ℕ) (mark : Mark) (weights : Option Weights) (table : Option (Kept M)) → topic < length marks →

@@ -9,7 +9,7 @@ use Rattle.desk_model.specs.declared.types.Mark.{Mark}
 use Rattle.desk_model.specs.declared.types.MeasureName.{MeasureName}
 use Rattle.topic_counts.specs.declared.span.Span.{Span}
 use Rattle.measure_core.specs.declared.cell.Cell.{Cell}
-use Rattle.next_document.specs.Kept.{Kept as Weights, AreKeptFor, AreKeptBut}
+use Rattle.next_document.specs.Kept.{HeldTotals as Weights, AreKeptFor, AreKeptBut}
 use Rattle.order_certificate.specs.Certificate.{IsLevel}
 use Rattle.judge_session.specs.InForce.{IsSessionOf}
 use Rattle.desk_report.specs.Reports.{Subject, AreRuns, IsTableOn, IsTableText, IsPairText}
@@ -20,8 +20,8 @@ use Rattle.judge_session.specs.Request.{Heard, Asked, Quit}
 use Rattle.session_replies.specs.Replies.{Setting, marks_after, subject_after, changes_after, accepted, IsCertified, IsReply}
 use Rattle.session_replies.specs.declared.state.Judging.{Judging}
 use Rattle.session_replies.specs.declared.state.Given.{Given}
-use Rattle.session_replies.specs.declared.comparing.Report.{Report}
-use Rattle.session_replies.specs.declared.comparing.Report.TheVariants as reports
+use Rattle.session_replies.specs.declared.comparing.TableRequest.{TableRequest}
+use Rattle.session_replies.specs.declared.comparing.TableRequest.TheVariants as reports
 use Rattle.session_replies.specs.declared.comparing.RunFault.{RunFault}
 use Rattle.session_replies.specs.declared.comparing.RunFault.TheVariants.{UnknownRun, SameRun}
 use Rattle.session_replies.specs.declared.replies.Reply.{Reply}
@@ -36,13 +36,13 @@ word_of UnknownRun = codes "UnknownRun"
 word_of SameRun = codes "SameRun"
 
 -- the runs of a report are different runs of the desk
-abbrev pub AreRunsOf : Desk → Report → Type 0
-AreRunsOf desk (reports.Pair runs) = AreRuns desk runs.0 runs.1
-AreRunsOf desk (reports.Certificate runs) = AreRuns desk runs.0 runs.1
-AreRunsOf desk report = Unit {0}
+abbrev pub AreReportedRuns : Desk → TableRequest → Type 0
+AreReportedRuns desk (reports.Pair runs) = AreRuns desk runs.0 runs.1
+AreReportedRuns desk (reports.Certificate runs) = AreRuns desk runs.0 runs.1
+AreReportedRuns desk report = Unit {0}
 
 -- the text is that of a report
-abbrev pub IsReported : Subject → Report → List ℕ → Type 0
+abbrev pub IsReported : Subject → TableRequest → List ℕ → Type 0
 IsReported s reports.Table text = IsTableText s text
 IsReported s (reports.Pair runs) text = IsPairText s runs.0 runs.1 text
 IsReported s (reports.Certificate runs) text = IsCertified s runs.0 runs.1 text
@@ -76,7 +76,7 @@ AreWeightsElsewhere n topic desk marks (Some weights) None = ⊥
 AreWeightsElsewhere n topic desk marks (Some weights) (Some table) = AreKeptBut topic (n.name table.measure) desk marks weights × (length weights.verdicts ≡ length (pairs_of desk.runs))
 
 -- the changes are of the desk, the marks are those by the judgements in force, and a table and totals that are there are those of these marks
-pub record IsReady {M : Type 0} (n : Numbers M) (s : Setting) (kept : Judging M) : Type 0 where
+pub record IsReadyForLine {M : Type 0} (n : Numbers M) (s : Setting) (kept : Judging M) : Type 0 where
   pub on_desk : IsSessionOf s.desk kept.session
   pub marked : kept.marks ≡ marks_after s kept.session
   pub table : IfSome kept.table (λ table. IsTableOn (n.name table.measure) (n.cell table.measure) (n.bound table.measure) (subject_after s kept.session) table)
@@ -108,11 +108,11 @@ CountsLine s heard old new before after = after + owed s.desk new.table ≤ befo
 
 -- a line was answered: the session is ready for the next one, the changes are those after the line, and the text is its reply
 pub record Answers {M : Type 0} (n : Numbers M) (s : Setting) (heard : Heard) (old new : Judging M) (text : List ℕ) : Type 0 where
-  pub ready : IsReady n s new
+  pub ready : IsReadyForLine n s new
   pub changes : new.session ≡ changes_after s.desk heard old.session
   pub is : IsReply s old.session heard text
 
 -- the same, with the end of the session
-abbrev pub IsAnswered : {M : Type 0} → Numbers M → Setting → Heard → Judging M → Judging M → Reply → Type 0
-IsAnswered n s heard old new (replies.Text text) = Answers n s heard old new text.items × (heard ≡ Asked Quit → ⊥)
-IsAnswered n s heard old new replies.Quit = (heard ≡ Asked Quit) × IsReady n s new × (new.session ≡ old.session)
+abbrev pub IsReplied : {M : Type 0} → Numbers M → Setting → Heard → Judging M → Judging M → Reply → Type 0
+IsReplied n s heard old new (replies.Text text) = Answers n s heard old new text.items × (heard ≡ Asked Quit → ⊥)
+IsReplied n s heard old new replies.Quit = (heard ≡ Asked Quit) × IsReadyForLine n s new × (new.session ≡ old.session)

@@ -10,7 +10,7 @@ ghost use Rattle.desk_report.specs.Table.{ended};
 ghost use Rattle.pair_table.specs.Kept.{StandsFor, StandsElsewhere};
 ghost use Rattle.judge_session.specs.Request as lines;
 ghost use Rattle.session_replies.specs.Replies.{refusal, fault_word};
-ghost use Rattle.session_replies.specs.State.{setting_of, IsReady, Answers, CountsLine, Keeps, TakesOver, AreWeightsFor, AreWeightsElsewhere, owed, pairs_in};
+ghost use Rattle.session_replies.specs.State.{setting_of, IsReadyForLine, Answers, CountsLine, Keeps, TakesOver, AreWeightsFor, AreWeightsElsewhere, owed, pairs_in};
 
 use crate::state::{Given, Judging};
 use crate::telling::refused;
@@ -117,7 +117,7 @@ impl<M: Measure> Judging<M> {
         grade: i32,
         steps: &mut Steps<L>,
     ) -> Result<Vec<u8>, Memory>
-        requires ready { IsReady (record { name = M.measured; cell = M.cell_of; bound = M.bounds_of }) (setting_of given.now) self.old }
+        requires ready { IsReadyForLine (record { name = M.measured; cell = M.cell_of; bound = M.bounds_of }) (setting_of given.now) self.old }
         requires named { is_name who.now ≡ true }
         requires low { negsuc 999 ≤ℤ grade }
         requires high { grade ≤ℤ pos 1000 }
@@ -128,8 +128,7 @@ impl<M: Measure> Judging<M> {
         // Where memory runs out, nothing was evaluated.
         ensures stopped { OnErr result (steps.new ≡ steps.old) }
     {
-        // The grades of a valid desk are one for each document.
-        let _topics = given.desk.topic_count();
+        given.desk.valid();
         match self
             .session
             .judge(alloc, given.desk, who, topic, doc, grade)
@@ -147,7 +146,7 @@ impl<M: Measure> Judging<M> {
         who: &[u8],
         steps: &mut Steps<L>,
     ) -> Result<Vec<u8>, Memory>
-        requires { IsReady (record { name = M.measured; cell = M.cell_of; bound = M.bounds_of }) (setting_of given.now) self.old }
+        requires { IsReadyForLine (record { name = M.measured; cell = M.cell_of; bound = M.bounds_of }) (setting_of given.now) self.old }
         ensures answers { IfOk result (λ text. Answers (record { name = M.measured; cell = M.cell_of; bound = M.bounds_of }) (setting_of given.now)
             (lines.Asked (lines.Undo who.now)) self.old self.new text.items) }
         ensures counts { CountsLine (setting_of given.now) (lines.Asked (lines.Undo who.now)) self.old self.new steps.old steps.new }
@@ -155,8 +154,7 @@ impl<M: Measure> Judging<M> {
         // Where memory runs out, nothing was evaluated.
         ensures stopped { OnErr result (steps.new ≡ steps.old) }
     {
-        // The grades of a valid desk are one for each document.
-        let _topics = given.desk.topic_count();
+        given.desk.valid();
         match self.session.undo(given.desk, who) {
             Ok(changed) => self.follow(alloc, given, b"undone", &changed, steps),
             Err(NothingToUndo) => refused(alloc, b"NothingToUndo"),
@@ -171,7 +169,7 @@ impl<M: Measure> Judging<M> {
         who: &[u8],
         steps: &mut Steps<L>,
     ) -> Result<Vec<u8>, Memory>
-        requires { IsReady (record { name = M.measured; cell = M.cell_of; bound = M.bounds_of }) (setting_of given.now) self.old }
+        requires { IsReadyForLine (record { name = M.measured; cell = M.cell_of; bound = M.bounds_of }) (setting_of given.now) self.old }
         ensures answers { IfOk result (λ text. Answers (record { name = M.measured; cell = M.cell_of; bound = M.bounds_of }) (setting_of given.now)
             (lines.Asked (lines.Redo who.now)) self.old self.new text.items) }
         ensures counts { CountsLine (setting_of given.now) (lines.Asked (lines.Redo who.now)) self.old self.new steps.old steps.new }
@@ -179,8 +177,7 @@ impl<M: Measure> Judging<M> {
         // Where memory runs out, nothing was evaluated.
         ensures stopped { OnErr result (steps.new ≡ steps.old) }
     {
-        // The grades of a valid desk are one for each document.
-        let _topics = given.desk.topic_count();
+        given.desk.valid();
         match self.session.redo(given.desk, who) {
             Ok(changed) => self.follow(alloc, given, b"redone", &changed, steps),
             Err(NothingToRedo) => refused(alloc, b"NothingToRedo"),

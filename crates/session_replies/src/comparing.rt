@@ -6,17 +6,15 @@ ghost use Rattle.order_certificate.specs.Certificate.{IsLevel};
 ghost use Rattle.desk_report.specs.Reports.{Subject, IsSubjectOf, IsNextText, AreRuns};
 ghost use Rattle.pair_table.specs.Kept.{StandsFor};
 ghost use Rattle.session_replies.specs.Replies.{refusal, subject_after, IsRunRefusal};
-ghost use Rattle.session_replies.specs.State.{setting_of, IsSetting, IsReady, Keeps, IsReported, AreRunsOf, AreWeightsFor, owed, word_of, shown_text};
+ghost use Rattle.session_replies.specs.State.{setting_of, IsSetting, IsReadyForLine, Keeps, IsReported, AreReportedRuns, AreWeightsFor, owed, word_of, shown_text};
 
 use crate::state::{Given, Judging};
 use crate::telling::refused;
 use desk_model::{Desk, Marks, Memory};
-use desk_report::{
-    Certified, certified_report, kept_next_report, pair_report, table_on, table_report,
-};
+use desk_report::{Certified, certified_report, kept_next_report, pair_report, table_report};
 use measure_core::{Maker, Measure, Steps};
 use next_document::Weights;
-use pair_table::Table;
+use pair_table::{Table, table_on};
 use std::alloc::Global;
 use std::sync::ledger::Ledger;
 
@@ -29,7 +27,7 @@ pub enum RunFault {
 
 /// What a line asks of a table. Runs are numbered from 0.
 #[derive(Clone, Copy)]
-pub enum Report {
+pub enum TableRequest {
     /// The whole table.
     Table,
     /// The line of two different runs.
@@ -76,15 +74,14 @@ fn prepare<P: Maker, L: Ledger>(
     steps: &mut Steps<L>,
 ) -> Result<(), Memory>
     requires setting { IsSetting (setting_of given.now) }
-    requires ready { IsReady (record { name = P.Made.measured; cell = P.Made.cell_of; bound = P.Made.bounds_of }) (setting_of given.now) judging.old }
-    ensures ready { IsReady (record { name = P.Made.measured; cell = P.Made.cell_of; bound = P.Made.bounds_of }) (setting_of given.now) judging.new }
+    requires ready { IsReadyForLine (record { name = P.Made.measured; cell = P.Made.cell_of; bound = P.Made.bounds_of }) (setting_of given.now) judging.old }
+    ensures ready { IsReadyForLine (record { name = P.Made.measured; cell = P.Made.cell_of; bound = P.Made.bounds_of }) (setting_of given.now) judging.new }
     ensures kept { Keeps judging.old judging.new }
     ensures session { judging.new.session ≡ judging.old.session }
     ensures table { OnOk result (IsSome judging.new.table) }
     ensures steps { steps.new + owed given.now.desk.now judging.new.table ≤ steps.old + owed given.now.desk.now judging.old.table }
 {
-    // A table speaks of a valid desk, which every desk is.
-    let _topics = given.desk.topic_count();
+    given.desk.valid();
     if judging.table.is_none() {
         let table = table_on(
             alloc,
@@ -115,21 +112,21 @@ fn report_text<M: Measure>(
     given: &Given<'_>,
     marks: &Marks,
     table: &Table<M>,
-    report: Report,
+    report: TableRequest,
 ) -> Result<Vec<u8>, Memory>
     requires level { IsLevel given.now.level }
     requires marks { AreMarksOf given.now.desk.now marks.now }
     requires table { StandsFor (M.cell_of table.now.measure) (M.bounds_of table.now.measure) given.now.desk.now marks.now table.now }
-    requires runs { AreRunsOf given.now.desk.now report }
+    requires runs { AreReportedRuns given.now.desk.now report }
     ensures { IfOk result (λ text. (s : Subject) → s.level ≡ given.now.level → s.marks ≡ marks.now →
         IsSubjectOf (M.measured table.now.measure) (M.cell_of table.now.measure) (M.bounds_of table.now.measure) given.now.desk.now table.now s →
         IsReported s report text.items) }
 {
     let (desk, level) = (given.desk, given.level);
     match report {
-        Report::Table => table_report(alloc, desk, level, table),
-        Report::Pair((first, second)) => pair_report(alloc, desk, table, first, second),
-        Report::Certificate((first, second)) => {
+        TableRequest::Table => table_report(alloc, desk, level, table),
+        TableRequest::Pair((first, second)) => pair_report(alloc, desk, table, first, second),
+        TableRequest::Certificate((first, second)) => {
             let answer = certified_report(alloc, desk, marks, level, table, first, second)?;
             Ok(shown(answer))
         }
@@ -144,21 +141,20 @@ pub fn make_report<P: Maker, L: Ledger>(
     alloc: Global,
     judging: &mut Judging<P::Made>,
     given: &Given<'_>,
-    report: Report,
+    report: TableRequest,
     maker: &P,
     steps: &mut Steps<L>,
 ) -> Result<Vec<u8>, Memory>
     requires setting { IsSetting (setting_of given.now) }
-    requires ready { IsReady (record { name = P.Made.measured; cell = P.Made.cell_of; bound = P.Made.bounds_of }) (setting_of given.now) judging.old }
-    requires runs { AreRunsOf given.now.desk.now report }
-    ensures ready { IsReady (record { name = P.Made.measured; cell = P.Made.cell_of; bound = P.Made.bounds_of }) (setting_of given.now) judging.new }
+    requires ready { IsReadyForLine (record { name = P.Made.measured; cell = P.Made.cell_of; bound = P.Made.bounds_of }) (setting_of given.now) judging.old }
+    requires runs { AreReportedRuns given.now.desk.now report }
+    ensures ready { IsReadyForLine (record { name = P.Made.measured; cell = P.Made.cell_of; bound = P.Made.bounds_of }) (setting_of given.now) judging.new }
     ensures kept { Keeps judging.old judging.new }
     ensures session { judging.new.session ≡ judging.old.session }
     ensures told { IfOk result (λ text. IsReported (subject_after (setting_of given.now) judging.old.session) report text.items) }
     ensures steps { steps.new + owed given.now.desk.now judging.new.table ≤ steps.old + owed given.now.desk.now judging.old.table }
 {
-    // A report speaks of a valid desk, which every desk is.
-    let _topics = given.desk.topic_count();
+    given.desk.valid();
     prepare(alloc, judging, given, maker, steps)?;
     match &judging.table {
         Some(table) => report_text(alloc, given, &judging.marks, table, report),
@@ -205,8 +201,7 @@ fn next_text<M: Measure>(
         IsSubjectOf (M.measured table.now.measure) (M.cell_of table.now.measure) (M.bounds_of table.now.measure) desk.now table.now s →
         IsNextText s text.items) }
 {
-    // A report speaks of a valid desk, which every desk is.
-    let _runs = desk.run_count();
+    desk.valid();
     weigh(alloc, desk, marks, table, weights)?;
     match weights {
         Some(weights) => kept_next_report(alloc, desk, marks, weights),
@@ -227,15 +222,14 @@ pub fn make_next<P: Maker, L: Ledger>(
     steps: &mut Steps<L>,
 ) -> Result<Vec<u8>, Memory>
     requires setting { IsSetting (setting_of given.now) }
-    requires ready { IsReady (record { name = P.Made.measured; cell = P.Made.cell_of; bound = P.Made.bounds_of }) (setting_of given.now) judging.old }
-    ensures ready { IsReady (record { name = P.Made.measured; cell = P.Made.cell_of; bound = P.Made.bounds_of }) (setting_of given.now) judging.new }
+    requires ready { IsReadyForLine (record { name = P.Made.measured; cell = P.Made.cell_of; bound = P.Made.bounds_of }) (setting_of given.now) judging.old }
+    ensures ready { IsReadyForLine (record { name = P.Made.measured; cell = P.Made.cell_of; bound = P.Made.bounds_of }) (setting_of given.now) judging.new }
     ensures kept { Keeps judging.old judging.new }
     ensures session { judging.new.session ≡ judging.old.session }
     ensures told { IfOk result (λ text. IsNextText (subject_after (setting_of given.now) judging.old.session) text.items) }
     ensures steps { steps.new + owed given.now.desk.now judging.new.table ≤ steps.old + owed given.now.desk.now judging.old.table }
 {
-    // A report speaks of a valid desk, which every desk is.
-    let _topics = given.desk.topic_count();
+    given.desk.valid();
     prepare(alloc, judging, given, maker, steps)?;
     match &judging.table {
         Some(table) => next_text(

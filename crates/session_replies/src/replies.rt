@@ -4,9 +4,9 @@ ghost use Rattle.judge_session.specs.Forms.{IsWithin};
 ghost use Rattle.judge_session.specs.Request as lines;
 ghost use Rattle.judge_session.specs.Request.{heard_of};
 ghost use Rattle.judge_session.specs.Said.{request_said};
-ghost use Rattle.session_replies.specs.State.{setting_of, IsSetting, IsReady, Answers, IsAnswered, CountsLine, Keeps, owed};
+ghost use Rattle.session_replies.specs.State.{setting_of, IsSetting, IsReadyForLine, Answers, IsReplied, CountsLine, Keeps, owed};
 
-use crate::comparing::{Report, find_runs, make_next, make_report, refused_runs};
+use crate::comparing::{TableRequest, find_runs, make_next, make_report, refused_runs};
 use crate::state::{Given, Judging};
 use crate::telling::{pool, qrels, refused};
 use desk_model::Memory;
@@ -34,7 +34,7 @@ fn answer<P: Maker, L: Ledger>(
     steps: &mut Steps<L>,
 ) -> Result<Vec<u8>, Memory>
     requires setting { IsSetting (setting_of given.now) }
-    requires ready { IsReady (record { name = P.Made.measured; cell = P.Made.cell_of; bound = P.Made.bounds_of }) (setting_of given.now) judging.old }
+    requires ready { IsReadyForLine (record { name = P.Made.measured; cell = P.Made.cell_of; bound = P.Made.bounds_of }) (setting_of given.now) judging.old }
     requires within { IsWithin (request_said request) }
     ensures answers { IfOk result (λ text. Answers (record { name = P.Made.measured; cell = P.Made.cell_of; bound = P.Made.bounds_of }) (setting_of given.now)
         (lines.Asked (request_said request.entry)) judging.old judging.new text.items) }
@@ -42,8 +42,7 @@ fn answer<P: Maker, L: Ledger>(
     ensures kept { Keeps judging.old judging.new }
     ensures stopped { OnErr result (steps.new ≤ steps.old + owed given.now.desk.now judging.old.table) }
 {
-    // The marks of a valid desk are one for each document.
-    let _topics = given.desk.topic_count();
+    given.desk.valid();
     match request {
         Request::Judge {
             who,
@@ -53,9 +52,16 @@ fn answer<P: Maker, L: Ledger>(
         } => judging.judge(alloc, given, who, topic, doc, grade, steps),
         Request::Undo { who } => judging.undo(alloc, given, who, steps),
         Request::Redo { who } => judging.redo(alloc, given, who, steps),
-        Request::Table => make_report(alloc, judging, given, Report::Table, maker, steps),
+        Request::Table => make_report(alloc, judging, given, TableRequest::Table, maker, steps),
         Request::Pair { first, second } => match find_runs(given.desk, first, second) {
-            Ok(runs) => make_report(alloc, judging, given, Report::Pair(runs), maker, steps),
+            Ok(runs) => make_report(
+                alloc,
+                judging,
+                given,
+                TableRequest::Pair(runs),
+                maker,
+                steps,
+            ),
             Err(fault) => refused_runs(alloc, fault),
         },
         Request::Certify { first, second } => match find_runs(given.desk, first, second) {
@@ -63,7 +69,7 @@ fn answer<P: Maker, L: Ledger>(
                 alloc,
                 judging,
                 given,
-                Report::Certificate(runs),
+                TableRequest::Certificate(runs),
                 maker,
                 steps,
             ),
@@ -95,8 +101,8 @@ pub fn reply_to<P: Maker, L: Ledger>(
     steps: &mut Steps<L>,
 ) -> Result<Reply, Memory>
     requires setting { IsSetting (setting_of given.now) }
-    requires ready { IsReady (record { name = P.Made.measured; cell = P.Made.cell_of; bound = P.Made.bounds_of }) (setting_of given.now) judging.old }
-    ensures answered { IfOk result (IsAnswered (record { name = P.Made.measured; cell = P.Made.cell_of; bound = P.Made.bounds_of }) (setting_of given.now)
+    requires ready { IsReadyForLine (record { name = P.Made.measured; cell = P.Made.cell_of; bound = P.Made.bounds_of }) (setting_of given.now) judging.old }
+    ensures answered { IfOk result (IsReplied (record { name = P.Made.measured; cell = P.Made.cell_of; bound = P.Made.bounds_of }) (setting_of given.now)
         (heard_of line.now) judging.old judging.new) }
     ensures counts { CountsLine (setting_of given.now) (heard_of line.now) judging.old judging.new steps.old steps.new }
     // A table and totals that were there are not thrown away, to be made anew at a later line.

@@ -2,7 +2,7 @@
 ghost use Rattle.std.specs.Prelude.{◌≡◌, [], None, IfOk};
 ghost use Rattle.desk_model.specs.declared.types.MeasureName.{MeasureName as N};
 ghost use Rattle.session_replies.specs.Replies.{Setting};
-ghost use Rattle.session_replies.specs.State.{IsReady};
+ghost use Rattle.session_replies.specs.State.{IsReadyForLine};
 
 use desk_model::{Desk, Marks, MeasureName, Memory};
 use judge_session::Session;
@@ -41,10 +41,9 @@ impl<M: Measure> Judging<M> {
         ensures session { IfOk result (λ judging. judging.session ≡ []) }
         ensures table { IfOk result (λ judging. judging.table ≡ None) }
         ensures ready { IfOk result (λ judging. (measure : N) →
-            IsReady (record { name = M.measured; cell = M.cell_of; bound = M.bounds_of }) (record { measure = measure; level = level; desk = desk.now }) judging) }
+            IsReadyForLine (record { name = M.measured; cell = M.cell_of; bound = M.bounds_of }) (record { measure = measure; level = level; desk = desk.now }) judging) }
     {
-        // The grades of a valid desk are one for each document.
-        let _topics = desk.topic_count();
+        desk.valid();
         let marks = Marks::of_file(alloc, desk, level)?;
         Ok(Judging {
             session: Session::new(alloc),

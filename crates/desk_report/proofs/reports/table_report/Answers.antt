@@ -19,7 +19,7 @@ returns g c = λ s at of.
     let measured = ap M.measured c.measure-measure.ensures in
     let unit : c.unit.result ≡ pos (unit_of (M.measured table.measure)) = c.unit.ensures ∙ ap (λ m. pos (unit_of m)) measured in
     let given : to_z w128 (of_z w128 c.unit.result) ≡ c.unit.result = omega (arith, ints) in
-    table_is (M.measured table.measure) (M.cell_of table.measure) (M.bounds_of table.measure) c.args.desk.now c.run_count-runs.ensures.desk table s of c.args.level c.name-name.result c.unit.result c.in_ok-text.text.items at (c.name-name.ensures.name ∙ measured) unit
+    table_is (M.measured table.measure) (M.cell_of table.measure) (M.bounds_of table.measure) c.args.desk.now c.valid.ensures table s of c.args.level c.name-name.result c.unit.result c.in_ok-text.text.items at (c.name-name.ensures.name ∙ measured) unit
     (c.in_ok-text.ensures
     ∙ ap (λ u. table_text c.args.desk.now c.name-name.result c.args.level u c.all_bounds.result.now c.all_totals.result.now) given
     ∙ ap (λ bs. table_text c.args.desk.now c.name-name.result c.args.level c.unit.result bs c.all_totals.result.now) c.all_bounds.ensures.bounds

@@ -36,5 +36,5 @@ returns g c =
     let in_i : i < length desk.runs = subst (λ n. i < n) stands.runs c.requires.first in
     let in_j : j < length desk.runs = subst (λ n. j < n) stands.runs c.requires.second in
     is ∙ ap (λ l. bounds_of high desk (map ends_of l)) c.deref.ensures.value
-    ∙ ap (bounds_of high desk) (cells_stand name cell bounds laws (length desk.runs) i j cells (topics_under desk marks) (topics_met desk marks c.run_count-runs.ensures.desk known j i in_j in_i)
+    ∙ ap (bounds_of high desk) (cells_stand name cell bounds laws (length desk.runs) i j cells (topics_under desk marks) (topics_met desk marks c.valid.ensures known j i in_j in_i)
     (subst (λ (ts : List TopicNumbers). AllZip (IsCellOf (length desk.runs) i j) cells ts) stands.topics (subst (λ n. AllZip (IsCellOf n i j) cells table.topics) stands.runs c.in_ok-cells.ensures)))) c.bounds_of_cells.ensures

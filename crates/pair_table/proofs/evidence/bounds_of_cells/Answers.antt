@@ -25,7 +25,7 @@ loop-topic-preserved c =
     c.in_ok-next.ensures ∙ ap (λ (n : List ℕ). record { topic = n; low = cell.least.lo; high = high (ends_of cell) }) c.name-name.ensures.name in
     let there : slice_get (bounds_of high desk (map ends_of cells)) t ≡ Some c.in_ok-next.next =
     bound_there high desk (map ends_of cells) t c.topic.result.now (ends_of cell) c.topic.ensures (map_there ends_of cells t cell (slice_get-get_or cells t no_cell within)) ∙ ap Some (sym made) in
-    record { made = c.in-Ok.ensures.items ∙ grown _ _ t _ there c.loop-topic.invariant.made }
+    record { made = c.in_ok-push.ensures.items ∙ grown _ _ t _ there c.loop-topic.invariant.made }
 
 pub returns : goal.returns
 returns c =

@@ -29,7 +29,7 @@ loop-topic-preserved g c =
     let w = c.in_ok-next.ensures in
     let same = witness_same measure desk first second t book m c.ranking-a.result.now c.ranking-b.result.now c.in_ok-next.next c.ranking-a.ensures.ranking c.ranking-b.ensures.ranking w.topic w.low w.high in
     let there = witness_there measure desk c.args.marks.now first second t book m c.topic.ensures c.topic-in-loop-topic.ensures ∙ ap Some (sym same) in
-    record { made = c.in-Ok.ensures.items ∙ grown _ _ t _ there c.loop-topic.invariant.made }
+    record { made = c.in_ok-push.ensures.items ∙ grown _ _ t _ there c.loop-topic.invariant.made }
 
 pub returns : goal.returns
 returns g c =

@@ -11,7 +11,7 @@ pub topic-requires : goal.topic-requires
 topic-requires g c = omega (arith, c.requires.topic, length-marks c.args.desk.now c.args.marks.now c.requires.marks)
 
 pub cells-requires-clause-met : goal.cells-requires-clause-met
-cells-requires-clause-met g c = rw c.new-rankings.ensures (all_met_at c.args.desk.now c.args.marks.now c.run_count-runs.ensures.desk c.requires.marks c.args.topic c.topic.result.now c.topic.ensures)
+cells-requires-clause-met g c = rw c.new-rankings.ensures (all_met_at c.args.desk.now c.args.marks.now c.valid.ensures c.requires.marks c.args.topic c.topic.result.now c.topic.ensures)
 
 pub cells-requires-clause-count : goal.cells-requires-clause-count
 cells-requires-clause-count g c = c.requires.count ∙ sym (ap (λ (t : DeskTopic). length (pairs_of (run_numbers (runs_on t)))) c.new-rankings.ensures)

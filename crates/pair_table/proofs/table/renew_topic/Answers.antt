@@ -35,7 +35,7 @@ pub take_back-requires-clause-totals : goal.take_back-requires-clause-totals
 take_back-requires-clause-totals g c =
     let n = length c.args.desk.now.runs in
     let topics = c.args.topics.now in
-    let few = subst (λ m. m ≤ TOPIC_LIMIT) (sym c.requires.count) c.run_count-runs.ensures.desk.topics in
+    let few = subst (λ m. m ≤ TOPIC_LIMIT) (sym c.requires.count) c.valid.ensures.topics in
     let sizes = c.requires.sizes in
     subst TotalsCanGrow (sym c.requires.totals) (totals_can_grow n topics sizes few)
 
@@ -43,7 +43,7 @@ pub take_back-requires-clause-bounds : goal.take_back-requires-clause-bounds
 take_back-requires-clause-bounds g c =
     let n = length c.args.desk.now.runs in
     let topics = c.args.topics.now in
-    let few = subst (λ m. m ≤ TOPIC_LIMIT) (sym c.requires.count) c.run_count-runs.ensures.desk.topics in
+    let few = subst (λ m. m ≤ TOPIC_LIMIT) (sym c.requires.count) c.valid.ensures.topics in
     let sizes = c.requires.sizes in
     subst BoundsCanGrow (sym c.requires.bounds) (bounds_can_grow n topics sizes few)
 
@@ -82,7 +82,7 @@ add_to-requires-clause-totals g c =
     let old : TopicNumbers = get_or topics t d in
     let within = subst (λ m. t < m) (sym c.requires.count) c.requires.topic in
     let own : AreTopicNumbers n old = c.requires.sizes t d within in
-    let few = subst (λ m. m ≤ TOPIC_LIMIT) (sym c.requires.count) c.run_count-runs.ensures.desk.topics in
+    let few = subst (λ m. m ≤ TOPIC_LIMIT) (sym c.requires.count) c.valid.ensures.topics in
     let sizes = c.requires.sizes in
     subst TotalsCanGrow (sym (c.take_back.ensures.totals ∙ ap (λ s. each_with without_cell s old.cells) c.requires.totals)) (less_totals_can_grow n topics sizes few old own)
 
@@ -95,7 +95,7 @@ add_to-requires-clause-bounds g c =
     let old : TopicNumbers = get_or topics t d in
     let within = subst (λ m. t < m) (sym c.requires.count) c.requires.topic in
     let own : AreTopicNumbers n old = c.requires.sizes t d within in
-    let few = subst (λ m. m ≤ TOPIC_LIMIT) (sym c.requires.count) c.run_count-runs.ensures.desk.topics in
+    let few = subst (λ m. m ≤ TOPIC_LIMIT) (sym c.requires.count) c.valid.ensures.topics in
     let sizes = c.requires.sizes in
     subst BoundsCanGrow (sym (c.take_back.ensures.bounds ∙ ap (λ s. each_with without_span s old.bounds) c.requires.bounds)) (less_bounds_can_grow n topics sizes few old own)
 

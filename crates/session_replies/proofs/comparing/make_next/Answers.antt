@@ -10,7 +10,7 @@ use Rattle.session_replies.proofs.comparing.make_next.Goals as goal
 pub next_text-requires-clause-marks : goal.next_text-requires-clause-marks
 next_text-requires-clause-marks g c =
     let s = setting_of c.args.given.now in
-    subst (AreMarksOf s.desk) (sym c.in_ok-prepare.ensures.ready.marked) (marks_of_desk s c.prepare.new.judging.session c.topic_count-topics.ensures.desk)
+    subst (AreMarksOf s.desk) (sym c.in_ok-prepare.ensures.ready.marked) (marks_of_desk s c.prepare.new.judging.session c.valid.ensures)
 
 pub returns-clause-told : goal.returns-clause-told
 returns-clause-told g c =
@@ -19,5 +19,5 @@ returns-clause-told g c =
     let kept = c.in_ok-prepare.ensures in
     IfOk-weaker c.next_text.result _ _
     (λ text told. told (subject_after s before) (sym (kept.ready.marked ∙ ap (marks_after s) kept.session))
-    (subject_ready _ s c.prepare.new.judging c.in-Some.table before c.topic_count-topics.ensures.desk kept.ready c.in-Some.is kept.session))
+    (subject_ready _ s c.prepare.new.judging c.in-Some.table before c.valid.ensures kept.ready c.in-Some.is kept.session))
     c.next_text.ensures.text

@@ -12,6 +12,6 @@ returns-clause-text g c =
     let M = g.M.Measure in
     IfOk-weaker c.kept_next_report.result _ _
     (λ text told s marked of. told s of.over marked
-    (weights_ready (M.measured table.measure) (M.cell_of table.measure) (M.bounds_of table.measure) desk marks table c.in-Some.weights s c.run_count-runs.ensures.desk
+    (weights_ready (M.measured table.measure) (M.cell_of table.measure) (M.bounds_of table.measure) desk marks table c.in-Some.weights s c.valid.ensures
     (subst (λ o. AreWeightsFor (record { name = M.measured; cell = M.cell_of; bound = M.bounds_of }) desk marks o (Some table)) c.in-Some.is c.weigh.ensures.totals) marked of))
     c.kept_next_report.ensures

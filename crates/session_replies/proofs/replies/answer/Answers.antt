@@ -19,7 +19,7 @@ use Rattle.session_replies.proofs.replies.answer.Goals as goal
 pub pool-requires : goal.pool-requires
 pool-requires g c =
     let s = setting_of c.args.given.now in
-    record { marks = subst (AreMarksOf s.desk) (sym c.requires.ready.marked) (marks_of_desk s c.args.judging.now.session c.topic_count-topics.ensures.desk) }
+    record { marks = subst (AreMarksOf s.desk) (sym c.requires.ready.marked) (marks_of_desk s c.args.judging.now.session c.valid.ensures) }
 
 pub returns-in-Undo-clause-answers : goal.returns-in-Undo-clause-answers
 returns-in-Undo-clause-answers g c =

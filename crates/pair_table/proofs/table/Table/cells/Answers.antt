@@ -35,6 +35,6 @@ loop-topic-preserved g c =
     let before : AllZip (IsCellOf table.runs i j) cells (take t table.topics.items) = subst (λ (k : Kept _). AllZip (IsCellOf k.runs i j) cells (take t k.topics)) (sym c.self.view_is) c.loop-topic.invariant.beside in
     let after = cells_more table.runs i j t cells table.topics.items c.cell_of_runs-cell.result kept before there c.cell_of_runs-cell.ensures in
     record {
-      beside = subst (λ l. AllZip (IsCellOf c.args.self.now.runs i j) l (take (t + 1) c.args.self.now.topics)) (sym c.in-Ok.ensures.items)
+      beside = subst (λ l. AllZip (IsCellOf c.args.self.now.runs i j) l (take (t + 1) c.args.self.now.topics)) (sym c.in_ok-push.ensures.items)
           (subst (λ (k : Kept _). AllZip (IsCellOf k.runs i j) (cells ++ c.cell_of_runs-cell.result ∷ []) (take (t + 1) k.topics)) c.self.view_is after);
     }

@@ -30,8 +30,8 @@ returns-in-Close-clause-answer g c =
     let marks = c.args.marks.now in
     let valid : IsMeasure name = subst IsMeasure (c.name-name.ensures.name ∙ ap g.M.Measure.measured c.measure-measure.ensures) c.name-name.ensures.built in
     let laws = g.met.M.Measure.laws table.measure valid in
-    let told = standing_sums name cell bounds desk marks c.args.i c.args.j c.totals.result table laws c.run_count-runs.ensures.desk c.requires.marks c.requires.stands c.totals.ensures in
-    let judged = standing_sums name cell bounds desk marks c.args.i c.args.j c.verdict.ensures.0 table laws c.run_count-runs.ensures.desk c.requires.marks c.requires.stands c.verdict.ensures.1 in
+    let told = standing_sums name cell bounds desk marks c.args.i c.args.j c.totals.result table laws c.valid.ensures c.requires.marks c.requires.stands c.totals.ensures in
+    let judged = standing_sums name cell bounds desk marks c.args.i c.args.j c.verdict.ensures.0 table laws c.valid.ensures c.requires.marks c.requires.stands c.verdict.ensures.1 in
     (summed_cells cell (topics_under desk marks) c.args.i c.args.j c.totals.result told, ap verdict (told ∙ sym judged) ∙ sym c.verdict.ensures.2 ∙ c.in-Close.is)
 
 pub returns-in-Ok-clause-answer : goal.returns-in-Ok-clause-answer
@@ -49,7 +49,7 @@ returns-in-Ok-clause-answer g c =
     let valid : IsMeasure name = subst IsMeasure (c.name-name.ensures.name ∙ ap g.M.Measure.measured c.measure-measure.ensures) c.name-name.ensures.built in
     let laws = g.met.M.Measure.laws table.measure valid in
     let sums = c.verdict.ensures.0 in
-    let told = standing_sums name cell bounds desk marks i j sums table laws c.run_count-runs.ensures.desk c.requires.marks c.requires.stands c.verdict.ensures.1 in
+    let told = standing_sums name cell bounds desk marks i j sums table laws c.valid.ensures c.requires.marks c.requires.stands c.verdict.ensures.1 in
     elim c.match-verdict.branch [
       | in-Above w ↦ answered_by cell name desk marks level i j made sums Above told (sym w.in-Above.is ∙ c.verdict.ensures.2)
           (IfOk-at_ok _ (sym w.made-is ∙ c.in-Ok.is) w.above-made.ensures marks c.requires.marks c.requires.stands)
@@ -69,5 +69,5 @@ returns-in-Ok-clause-certificate g c =
     let bounds = g.M.Measure.bounds_of table.measure in
     let runs = c.requires.stands.runs in
     let valid : IsMeasure name = subst IsMeasure (c.name-name.ensures.name ∙ ap g.M.Measure.measured c.measure-measure.ensures) c.name-name.ensures.built in
-    cells_certificate name cell bounds c.args.desk.now c.args.marks.now c.args.level c.args.i c.args.j c.in-Ok.certificate valid (g.met.M.Measure.laws table.measure valid) c.run_count-runs.ensures.desk c.requires.marks c.requires.level
+    cells_certificate name cell bounds c.args.desk.now c.args.marks.now c.args.level c.args.i c.args.j c.in-Ok.certificate valid (g.met.M.Measure.laws table.measure valid) c.valid.ensures c.requires.marks c.requires.level
     (subst (λ n. c.args.i < n) runs c.requires.first) (subst (λ n. c.args.j < n) runs c.requires.second) (returns-in-Ok-clause-answer g c)

@@ -13,15 +13,15 @@ use Rattle.session_replies.proofs.Following.{ok_with, table_made, table_stands, 
 use Rattle.session_replies.proofs.state.Judging.judge.Goals as goal
 
 pub follow-requires-clause-topic : goal.follow-requires-clause-topic
-follow-requires-clause-topic g c = topic_there (setting_of c.args.given.now) c.topic_count-topics.ensures.desk c.args.self.now.marks c.args.self.now.session c.requires.ready.marked c.in-Ok.changed c.in-Ok.ensures.document
+follow-requires-clause-topic g c = topic_there (setting_of c.args.given.now) c.valid.ensures c.args.self.now.marks c.args.self.now.session c.requires.ready.marked c.in-Ok.changed c.in-Ok.ensures.document
 
 pub follow-requires-clause-doc : goal.follow-requires-clause-doc
-follow-requires-clause-doc g c = doc_there (setting_of c.args.given.now) c.topic_count-topics.ensures.desk c.args.self.now.marks c.args.self.now.session c.requires.ready.marked c.in-Ok.changed c.in-Ok.ensures.document
+follow-requires-clause-doc g c = doc_there (setting_of c.args.given.now) c.valid.ensures c.args.self.now.marks c.args.self.now.session c.requires.ready.marked c.in-Ok.changed c.in-Ok.ensures.document
 
 pub follow-requires-clause-marks : goal.follow-requires-clause-marks
 follow-requires-clause-marks g c =
     let s = setting_of c.args.given.now in
-    subst (AreMarksOf s.desk) (sym c.requires.ready.marked) (marks_of_desk s c.args.self.now.session c.topic_count-topics.ensures.desk)
+    subst (AreMarksOf s.desk) (sym c.requires.ready.marked) (marks_of_desk s c.args.self.now.session c.valid.ensures)
 
 pub follow-requires-clause-table : goal.follow-requires-clause-table
 follow-requires-clause-table g c =
@@ -43,7 +43,7 @@ returns-in-Ok-clause-answers g c =
     let changes : now ≡ changes_after s.desk heard old.session = list ∙ sym (ap (after_judging who grade old.session) said.place) in
     ok_with c.follow.result _ _ _ _
     (λ text line marks table.
-    followed _ s c.topic_count-topics.ensures.desk heard old c.follow.new.self now told c.requires.ready.marked c.in-Ok.ensures.document c.in-Ok.ensures.desk said.in_force
+    followed _ s c.valid.ensures heard old c.follow.new.self now told c.requires.ready.marked c.in-Ok.ensures.document c.in-Ok.ensures.desk said.in_force
     (λ file t d apart. ap (grade_after file t d) list ∙ judged_elsewhere who told.topic told.doc grade old.session file t d (not_both told.topic t told.doc d apart))
     c.follow.ensures.session marks table c.follow.ensures.totals (table_made _ s (marks_after s old.session) old.table c.requires.ready.table) changes (codes "judged") text.items
     (λ is. is ∙ ap (change_reply s.desk (codes "judged") told.topic told.doc) changes ∙ sym (ap (judge_reply s.desk (changes_after s.desk heard old.session)) said.place))

@@ -13,15 +13,15 @@ use Rattle.session_replies.proofs.Following.{ok_with, table_made, table_stands, 
 use Rattle.session_replies.proofs.state.Judging.undo.Goals as goal
 
 pub follow-requires-clause-topic : goal.follow-requires-clause-topic
-follow-requires-clause-topic g c = topic_there (setting_of c.args.given.now) c.topic_count-topics.ensures.desk c.args.self.now.marks c.args.self.now.session c.requires.marked c.in-Ok.changed c.in-Ok.ensures.document
+follow-requires-clause-topic g c = topic_there (setting_of c.args.given.now) c.valid.ensures c.args.self.now.marks c.args.self.now.session c.requires.marked c.in-Ok.changed c.in-Ok.ensures.document
 
 pub follow-requires-clause-doc : goal.follow-requires-clause-doc
-follow-requires-clause-doc g c = doc_there (setting_of c.args.given.now) c.topic_count-topics.ensures.desk c.args.self.now.marks c.args.self.now.session c.requires.marked c.in-Ok.changed c.in-Ok.ensures.document
+follow-requires-clause-doc g c = doc_there (setting_of c.args.given.now) c.valid.ensures c.args.self.now.marks c.args.self.now.session c.requires.marked c.in-Ok.changed c.in-Ok.ensures.document
 
 pub follow-requires-clause-marks : goal.follow-requires-clause-marks
 follow-requires-clause-marks g c =
     let s = setting_of c.args.given.now in
-    subst (AreMarksOf s.desk) (sym c.requires.marked) (marks_of_desk s c.args.self.now.session c.topic_count-topics.ensures.desk)
+    subst (AreMarksOf s.desk) (sym c.requires.marked) (marks_of_desk s c.args.self.now.session c.valid.ensures)
 
 pub follow-requires-clause-table : goal.follow-requires-clause-table
 follow-requires-clause-table g c =
@@ -46,7 +46,7 @@ returns-in-Ok-clause-answers g c =
     let changes : now ≡ undone who old.session = c.in-Ok.ensures.undone in
     ok_with c.follow.result _ _ _ _
     (λ text line marks table.
-    followed _ s c.topic_count-topics.ensures.desk heard old c.follow.new.self now told c.requires.marked c.in-Ok.ensures.document c.in-Ok.ensures.desk grade
+    followed _ s c.valid.ensures heard old c.follow.new.self now told c.requires.marked c.in-Ok.ensures.document c.in-Ok.ensures.desk grade
     (λ file t d apart. ap (grade_after file t d) changes ∙ undone_elsewhere t d change (not_both change.topic t change.doc d (λ e f. apart (sym topic ∙ e) (sym doc ∙ f))) who old.session file found.1)
     c.follow.ensures.session marks table c.follow.ensures.totals (table_made _ s (marks_after s old.session) old.table c.requires.table) changes (codes "undone") text.items
     (λ is. is
