@@ -13,8 +13,8 @@ use Rattle.desk_text.proofs.Digits.{own}
 use Rattle.desk_model.specs.Name.{is_field_byte}
 use Rattle.desk_text.specs.declared.score.ScoreFault.{ScoreFault}
 use Rattle.desk_text.specs.declared.score.ScoreFault.TheVariants.{BadScore, ScoreTooLong, ScoreExponent}
-use Rattle.desk_text.specs.Text.{Parts, HasParts}
-use Rattle.desk_text.specs.Value.{number_of, ReadsAs, StandsFor}
+use Rattle.desk_text.specs.Text.{ScoreParts, HasParts}
+use Rattle.desk_text.specs.Value.{number_of, ReadsAs, StandsForDigits}
 use Rattle.desk_text.specs.Reading.{score_of}
 use Rattle.desk_text.proofs.Spellings.{one_spelling}
 use Rattle.desk_text.proofs.Answer.{reads_as-score_of}
@@ -65,7 +65,7 @@ module _ (s : ℕ) (h : s < 100000) where
   pub score_short : length (score_text s) ≤ 6
   score_short = let w = whole_short in omega (arith, ap length (score_is s), length-append whole (46 ∷ thousandths s), w)
 
-  abbrev parts : Parts
+  abbrev parts : ScoreParts
   parts = record { is_negative = false; whole = whole; fraction = thousandths s; exponent = pos 0 }
 
   spelled : HasParts (score_text s) parts
@@ -91,13 +91,13 @@ module _ (s : ℕ) (h : s < 100000) where
       omega (arith, lt, most)
 
   -- a number that it stands for
-  stands : (n : Bool) (digits : ℕ) (place : ℤ) (is : StandsFor (score_text s) n digits place) → (digits * 10 ^ is.zeros < 10 ^ 5) × (place +ℤ pos 3 ≡ pos is.zeros)
+  stands : (n : Bool) (digits : ℕ) (place : ℤ) (is : StandsForDigits (score_text s) n digits place) → (digits * 10 ^ is.zeros < 10 ^ 5) × (place +ℤ pos 3 ≡ pos is.zeros)
   stands n digits place is =
       let same : is.parts ≡ parts = one_spelling (score_text s) is.parts parts is.written spelled in
       let number : digits * 10 ^ is.zeros ≡ number_of parts = sym is.number ∙ ap number_of same in
       let point : place +ℤ pos (length is.parts.fraction) ≡ is.parts.exponent +ℤ pos is.zeros = is.point in
-      let fraction : length is.parts.fraction ≡ 3 = ap (λ (p : Parts). length p.fraction) same in
-      let exponent : is.parts.exponent ≡ pos 0 = ap (λ (p : Parts). p.exponent) same in
+      let fraction : length is.parts.fraction ≡ 3 = ap (λ (p : ScoreParts). length p.fraction) same in
+      let exponent : is.parts.exponent ≡ pos 0 = ap (λ (p : ScoreParts). p.exponent) same in
       let moved : place +ℤ pos 3 ≡ pos 0 +ℤ pos is.zeros = ap (λ n. place +ℤ pos n) (sym fraction) ∙ point ∙ ap (λ e. e +ℤ pos is.zeros) exponent in
       (let lt = small in omega (arith, lt, number), omega (arith, ints, moved))
 

@@ -82,10 +82,8 @@ fn read_ranking(
 fn push_run(runs: &mut Vec<RunRows>, run: RunRows) -> Result<(), Memory>
     ensures { OnOk result (runs.new.items ≡ runs.old.items ++ run ∷ []) }
 {
-    match runs.push(run) {
-        Ok(()) => Ok(()),
-        Err(_) => Err(Memory),
-    }
+    runs.push(run)?;
+    Ok(())
 }
 
 // The runs of the first so many texts that are made next, each beside the judgements and what the texts before it used.

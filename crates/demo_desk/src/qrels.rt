@@ -85,8 +85,6 @@ pub fn qrels_text(alloc: Global, generator: &mut Generator) -> Result<Vec<u8>, M
     ensures state { OnOk result (generator.new ≡ state_after generator.old (DOCUMENTS * TOPICS)) }
 {
     let mut out = Vec::new(alloc);
-    match push_judgements(&mut out, generator, DOCUMENTS, TOPICS) {
-        Ok(()) => Ok(out),
-        Err(_) => Err(Memory),
-    }
+    push_judgements(&mut out, generator, DOCUMENTS, TOPICS)?;
+    Ok(out)
 }

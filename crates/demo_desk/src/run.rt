@@ -107,8 +107,6 @@ pub fn run_text(alloc: Global, generator: &mut Generator, run: u32) -> Result<Ve
     ensures state { OnOk result (generator.new ≡ state_after generator.old ((1 + PLACES) * TOPICS)) }
 {
     let mut out = Vec::new(alloc);
-    match push_places(&mut out, generator, run, PLACES, TOPICS) {
-        Ok(()) => Ok(out),
-        Err(_) => Err(Memory),
-    }
+    push_places(&mut out, generator, run, PLACES, TOPICS)?;
+    Ok(out)
 }

@@ -107,8 +107,6 @@ pub fn summary_text(
     ensures { IfOk result (λ text. text.items ≡ summary_text seed rows marks.now verdicts.now) }
 {
     let mut out = Vec::new(alloc);
-    match push_summary(&mut out, seed, rows, judged(desk, marks), verdicts) {
-        Ok(()) => Ok(out),
-        Err(_) => Err(Memory),
-    }
+    push_summary(&mut out, seed, rows, judged(desk, marks), verdicts)?;
+    Ok(out)
 }

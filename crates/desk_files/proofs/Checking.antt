@@ -3,7 +3,7 @@ use Rattle.std.proofs.Common.{◌≡◌, ℕ, List, [], ◌∷◌, ◌++◌, ref
 use Rattle.std.specs.Prelude.{Option, Some, None, Result, Ok, Err}
 use Rattle.desk_outside.specs.Outside.{Files}
 use Rattle.desk_words.specs.declared.command.Check.{Check}
-use Rattle.order_certificate.specs.Form.{IsFirstBad}
+use Rattle.line_forms.specs.Form.{IsFirstBad}
 use Rattle.order_certificate.specs.Places.{certificate_places, IsText}
 use Rattle.order_certificate.specs.declared.certificate.Certificate.{Certificate}
 use Rattle.desk_files.specs.Files.{Halt, Refused, BadCertificate, whole_file}

@@ -1,7 +1,7 @@
 -- What the file of a certificate says.
 use Rattle.std.specs.Prelude.{◌≡◌, ◌⊎◌, ℕ, List, Option, Result, Ok, Err, IfSome}
 use Rattle.desk_outside.specs.Outside.{Files}
-use Rattle.order_certificate.specs.Form.{IsFirstBad}
+use Rattle.line_forms.specs.Form.{IsFirstBad}
 use Rattle.order_certificate.specs.Places.{certificate_places, IsText}
 use Rattle.order_certificate.specs.declared.certificate.Certificate.{Certificate}
 use Rattle.desk_files.specs.declared.stop.Stop.{Stop}

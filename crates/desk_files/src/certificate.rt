@@ -17,11 +17,11 @@ pub fn load_certificate<'a, F: Shelf>(
     files: &mut F,
     path: &'a Path,
 ) -> Result<Certificate, Stop<'a>>
-    ensures reads { ReadsCertificate (F.files files.old) (F.faults files.old) (F.faults files.new) path.now result }
+    ensures reads { ReadsCertificate (F.state files.old).files (F.state files.old).faults (F.state files.new).faults path.now result }
     ensures certificate { IfOk result IsCertificate }
-    ensures files { F.files files.new ≡ F.files files.old }
-    ensures opened { F.opened files.new ≡ F.opened files.old ++ path.now ∷ [] }
-    ensures later { F.faults files.old ≤ F.faults files.new }
+    ensures files { (F.state files.new).files ≡ (F.state files.old).files }
+    ensures opened { (F.state files.new).opened ≡ (F.state files.old).opened ++ path.now ∷ [] }
+    ensures later { (F.state files.old).faults ≤ (F.state files.new).faults }
 {
     certificates_have_texts();
     let path = path.as_str();

@@ -19,11 +19,11 @@ pub fn load_check<'a, F: Shelf>(
     files: &mut F,
     check: &'a Check,
 ) -> Result<(Desk, Certificate), Stop<'a>>
-    ensures makes { MakesCheck (F.files files.old) (F.faults files.old) (F.faults files.new) check.now result }
+    ensures makes { MakesCheck (F.state files.old).files (F.state files.old).faults (F.state files.new).faults check.now result }
     ensures certificate { IfOk result (λ made. IsCertificate made.1) }
-    ensures files { F.files files.new ≡ F.files files.old }
-    ensures opened { Opens (CheckMayOpen (F.files files.old) check.now) (F.opened files.old) (F.opened files.new) }
-    ensures later { F.faults files.old ≤ F.faults files.new }
+    ensures files { (F.state files.new).files ≡ (F.state files.old).files }
+    ensures opened { Opens (CheckMayOpen (F.state files.old).files check.now) (F.state files.old).opened (F.state files.new).opened }
+    ensures later { (F.state files.old).faults ≤ (F.state files.new).faults }
 {
     let desk = load_desk(alloc, files, &check.qrels, &check.runs)?;
     let certificate = load_certificate(alloc, files, &check.cert)?;

@@ -53,12 +53,12 @@ pub fn load_desk<'a, F: Shelf>(
     qrels: &'a Path,
     runs: &'a RunWords,
 ) -> Result<Desk, Stop<'a>>
-    ensures makes { Makes (F.files files.old) (F.faults files.old) (F.faults files.new) (sources qrels.now runs.now) result }
+    ensures makes { Makes (F.state files.old).files (F.state files.old).faults (F.state files.new).faults (sources qrels.now runs.now) result }
     ensures runs { IfOk result (λ desk. length desk.runs ≡ length runs.now) }
-    ensures files { F.files files.new ≡ F.files files.old }
-    ensures opened { Opens (DeskMayOpen (F.files files.old) (sources qrels.now runs.now)) (F.opened files.old) (F.opened files.new) }
-    ensures all { OnOk result (F.opened files.new ≡ F.opened files.old ++ qrels.now ∷ paths_of runs.now) }
-    ensures later { F.faults files.old ≤ F.faults files.new }
+    ensures files { (F.state files.new).files ≡ (F.state files.old).files }
+    ensures opened { Opens (DeskMayOpen (F.state files.old).files (sources qrels.now runs.now)) (F.state files.old).opened (F.state files.new).opened }
+    ensures all { OnOk result ((F.state files.new).opened ≡ (F.state files.old).opened ++ qrels.now ∷ paths_of runs.now) }
+    ensures later { (F.state files.old).faults ≤ (F.state files.new).faults }
 {
     let judged = load_qrels(alloc, files, qrels.as_str())?;
     let ranked = load_runs(alloc, files, runs.as_slice(), &judged)?;

@@ -14,12 +14,12 @@ const ROOM: usize = 65_536;
 
 /// Opens a file, to be fed from its first byte on.
 pub fn open_file<'a, F: Shelf>(files: &mut F, path: &'a str) -> Result<(), Stop<'a>>
-    ensures stops { IfErr result (λ stop. Stops (F.files files.old) (F.faults files.old) (F.faults files.new) stop (λ held. whole_file path.now (held path.now))) }
-    ensures open { OnOk result (F.is_open files.new ≡ true) }
-    ensures content { OnOk result (Opens (F.files files.old) path.now (F.rest files.new)) }
-    ensures files { F.files files.new ≡ F.files files.old }
-    ensures opened { F.opened files.new ≡ F.opened files.old ++ path.now ∷ [] }
-    ensures later { F.faults files.old ≤ F.faults files.new }
+    ensures stops { IfErr result (λ stop. Stops (F.state files.old).files (F.state files.old).faults (F.state files.new).faults stop (λ held. whole_file path.now (held path.now))) }
+    ensures open { OnOk result ((F.state files.new).is_open ≡ true) }
+    ensures content { OnOk result (Opens (F.state files.old).files path.now (F.state files.new).rest) }
+    ensures files { (F.state files.new).files ≡ (F.state files.old).files }
+    ensures opened { (F.state files.new).opened ≡ (F.state files.old).opened ++ path.now ∷ [] }
+    ensures later { (F.state files.old).faults ≤ (F.state files.new).faults }
 {
     let Ok(()) = files.open(path) else {
         return Err(Stop::Outside);
@@ -34,14 +34,14 @@ pub fn feed_file<'a, F: Shelf, T: Taker>(
     path: &'a str,
     taker: &mut T,
 ) -> Result<(), Stop<'a>>
-    requires open { F.is_open files.old ≡ true }
-    requires content { Opens (F.files files.old) path.now (F.rest files.old) }
+    requires open { (F.state files.old).is_open ≡ true }
+    requires content { Opens (F.state files.old).files path.now (F.state files.old).rest }
     requires none { T.taken taker.old ≡ [] }
-    ensures gives { Gives (F.files files.old) (F.faults files.old) (F.faults files.new) (λ _. T.taken taker.new) result (λ held. whole_file path.now (held path.now)) }
+    ensures gives { Gives (F.state files.old).files (F.state files.old).faults (F.state files.new).faults (λ _. T.taken taker.new) result (λ held. whole_file path.now (held path.now)) }
     ensures beside { T.beside taker.new ≡ T.beside taker.old }
-    ensures files { F.files files.new ≡ F.files files.old }
-    ensures opened { F.opened files.new ≡ F.opened files.old }
-    ensures later { F.faults files.old ≤ F.faults files.new }
+    ensures files { (F.state files.new).files ≡ (F.state files.old).files }
+    ensures opened { (F.state files.new).opened ≡ (F.state files.old).opened }
+    ensures later { (F.state files.old).faults ≤ (F.state files.new).faults }
 {
     let mut count = 0;
     let mut room = [0u8; ROOM];
@@ -65,10 +65,10 @@ pub fn read_file<'a, F: Shelf>(
     files: &mut F,
     path: &'a str,
 ) -> Result<Vec<u8>, Stop<'a>>
-    ensures gives { Gives (F.files files.old) (F.faults files.old) (F.faults files.new) (λ v. v.items) result (λ held. whole_file path.now (held path.now)) }
-    ensures files { F.files files.new ≡ F.files files.old }
-    ensures opened { F.opened files.new ≡ F.opened files.old ++ path.now ∷ [] }
-    ensures later { F.faults files.old ≤ F.faults files.new }
+    ensures gives { Gives (F.state files.old).files (F.state files.old).faults (F.state files.new).faults (λ v. v.items) result (λ held. whole_file path.now (held path.now)) }
+    ensures files { (F.state files.new).files ≡ (F.state files.old).files }
+    ensures opened { (F.state files.new).opened ≡ (F.state files.old).opened ++ path.now ∷ [] }
+    ensures later { (F.state files.old).faults ≤ (F.state files.new).faults }
 {
     open_file(files, path)?;
     let mut bytes = Vec::new(alloc);

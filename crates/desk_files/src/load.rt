@@ -38,10 +38,10 @@ pub fn load_qrels<'a, F: Shelf>(
     files: &mut F,
     path: &'a str,
 ) -> Result<Qrels, Stop<'a>>
-    ensures gives { Gives (F.files files.old) (F.faults files.old) (F.faults files.new) (λ qrels. qrels) result (λ held. file_as qrels_of held path.now) }
-    ensures files { F.files files.new ≡ F.files files.old }
-    ensures opened { F.opened files.new ≡ F.opened files.old ++ path.now ∷ [] }
-    ensures later { F.faults files.old ≤ F.faults files.new }
+    ensures gives { Gives (F.state files.old).files (F.state files.old).faults (F.state files.new).faults (λ qrels. qrels) result (λ held. file_as qrels_of held path.now) }
+    ensures files { (F.state files.new).files ≡ (F.state files.old).files }
+    ensures opened { (F.state files.new).opened ≡ (F.state files.old).opened ++ path.now ∷ [] }
+    ensures later { (F.state files.old).faults ≤ (F.state files.new).faults }
 {
     open_file(files, path)?;
     let mut reader = QrelsReader::new(alloc)?;
@@ -72,11 +72,11 @@ pub fn load_run<'a, F: Shelf>(
     used: Used,
 ) -> Result<RunRows, Stop<'a>>
     requires { IsWithinLimits used }
-    ensures gives { Gives (F.files files.old) (F.faults files.old) (F.faults files.new) (λ run. run) result (λ held. file_as (run_of word.now.name qrels.now used) held word.now.path) }
+    ensures gives { Gives (F.state files.old).files (F.state files.old).faults (F.state files.new).faults (λ run. run) result (λ held. file_as (run_of word.now.name qrels.now used) held word.now.path) }
     ensures rows { IfOk result (λ run. run.used.rows ≡ used.rows + row_count run.topics) }
-    ensures files { F.files files.new ≡ F.files files.old }
-    ensures opened { F.opened files.new ≡ F.opened files.old ++ word.now.path ∷ [] }
-    ensures later { F.faults files.old ≤ F.faults files.new }
+    ensures files { (F.state files.new).files ≡ (F.state files.old).files }
+    ensures opened { (F.state files.new).opened ≡ (F.state files.old).opened ++ word.now.path ∷ [] }
+    ensures later { (F.state files.old).faults ≤ (F.state files.new).faults }
 {
     let path = word.path.as_str();
     open_file(files, path)?;
@@ -95,13 +95,13 @@ pub fn load_runs<'a, F: Shelf>(
     words: &'a [RunWord],
     qrels: &Qrels,
 ) -> Result<Vec<RunRows>, Stop<'a>>
-    ensures gives { Gives (F.files files.old) (F.faults files.old) (F.faults files.new) (λ runs. runs.items) result (λ held. runs_of held qrels.now (used_by qrels.now) words.now) }
+    ensures gives { Gives (F.state files.old).files (F.state files.old).faults (F.state files.new).faults (λ runs. runs.items) result (λ held. runs_of held qrels.now (used_by qrels.now) words.now) }
     ensures count { IfOk result (λ runs. vec_len runs ≡ length words.now) }
     ensures rows { IfOk result (λ runs. total_rows runs.items ≤ MOST_RUN_ROWS) }
-    ensures files { F.files files.new ≡ F.files files.old }
-    ensures opened { Opens (MayOpen (F.files files.old) (λ held. runs_to_open held qrels.now (used_by qrels.now) words.now) (paths_of words.now)) (F.opened files.old) (F.opened files.new) }
-    ensures all { OnOk result (F.opened files.new ≡ F.opened files.old ++ paths_of words.now) }
-    ensures later { F.faults files.old ≤ F.faults files.new }
+    ensures files { (F.state files.new).files ≡ (F.state files.old).files }
+    ensures opened { Opens (MayOpen (F.state files.old).files (λ held. runs_to_open held qrels.now (used_by qrels.now) words.now) (paths_of words.now)) (F.state files.old).opened (F.state files.new).opened }
+    ensures all { OnOk result ((F.state files.new).opened ≡ (F.state files.old).opened ++ paths_of words.now) }
+    ensures later { (F.state files.old).faults ≤ (F.state files.new).faults }
 {
     let mut runs = Vec::new(alloc);
     let mut used = Used {

@@ -38,25 +38,25 @@ held_in [] name = None
 held_in (e ∷ es) name = if pointwise nat_eq e.0 name then Some e.1 else held_in es name
 
 -- a shelf in memory: its files, what is left of the open one, its calls, and the names that were opened
-pub record ShelfState : Type 0 where
+pub record MemoryShelf : Type 0 where
   pub entries : List (List ℕ × List ℕ)
   pub rest : Option (List ℕ)
   pub calls : CallState
   pub opened : List (List ℕ)
 
 -- a source in memory: what is left, the most bytes that a call gives, and its calls
-pub record SourceState : Type 0 where
+pub record MemorySource : Type 0 where
   pub rest : List ℕ
   pub piece : ℕ
   pub calls : CallState
 
 -- a sink in memory: what it received, its room, the most bytes that a call takes, and its calls
-pub record SinkState : Type 0 where
+pub record MemorySink : Type 0 where
   pub received : List ℕ
   pub room : ℕ
   pub piece : ℕ
   pub calls : CallState
 
 -- the next call of the sink fails, by the list or since the sink is full
-abbrev pub FailsNext : SinkState → Type 0
+abbrev pub FailsNext : MemorySink → Type 0
 FailsNext sink = IsTrue (is_listed sink.calls) ⊎ (length sink.received ≡ sink.room)

@@ -1,4 +1,5 @@
 pub mod Outside
+pub mod State
 pub mod InMemory
 pub mod Names
 pub mod Seen

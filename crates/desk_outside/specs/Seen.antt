@@ -2,6 +2,7 @@
 use Rattle.std.specs.Prelude.{◌≡◌, ℕ, List, Option}
 use Rattle.std.specs.Io.KnownBytes.{append_known}
 use Rattle.desk_outside.specs.Outside.{Files, AppendsPrefix}
+use Rattle.desk_outside.specs.State.{ShelfState, SourceState, SinkState}
 
 -- a shelf: its files, where they are known, the names that had been opened and those that have, and its two counts of failures
 pub record Shelf : Type 0 where
@@ -25,14 +26,17 @@ pub record Sink : Type 0 where
   pub before : ℕ
   pub after : ℕ
 
-abbrev pub shelf : Option Files → List (List ℕ) → List (List ℕ) → ℕ → ℕ → Shelf
-shelf files had has before after = record { files = files; had = had; has = has; before = before; after = after }
+-- a shelf by its states before a call and after it
+abbrev pub shelf : ShelfState → ShelfState → Shelf
+shelf old new = record { files = old.files; had = old.opened; has = new.opened; before = old.faults; after = new.faults }
 
-abbrev pub source : Option (List ℕ) → Option (List ℕ) → ℕ → ℕ → Source
-source rest left before after = record { rest = rest; left = left; before = before; after = after }
+-- an input by its states before a call and after it
+abbrev pub source : SourceState → SourceState → Source
+source old new = record { rest = old.rest; left = new.rest; before = old.faults; after = new.faults }
 
-abbrev pub sink : Option (List ℕ) → Option (List ℕ) → ℕ → ℕ → Sink
-sink had has before after = record { had = had; has = has; before = before; after = after }
+-- an output by its states before a call and after it
+abbrev pub sink : SinkState → SinkState → Sink
+sink old new = record { had = old.received; has = new.received; before = old.faults; after = new.faults }
 
 -- an output received nothing
 abbrev pub ReceivedNothing : Sink → Type 0

@@ -30,11 +30,7 @@ pub struct HostShelf<'r, R: Files> {
 impl<'r, R: Files> HostShelf<'r, R> {
     /// A shelf with no file open.
     pub fn new(rt: &'r R) -> HostShelf<'r, R>
-        ensures files { ⟦<HostShelf<'r, R> as Shelf>⟧.files result ≡ None }
-        ensures rest { ⟦<HostShelf<'r, R> as Shelf>⟧.rest result ≡ None }
-        ensures closed { ⟦<HostShelf<'r, R> as Shelf>⟧.is_open result ≡ false }
-        ensures faults { ⟦<HostShelf<'r, R> as Shelf>⟧.faults result ≡ 0 }
-        ensures opened { ⟦<HostShelf<'r, R> as Shelf>⟧.opened result ≡ [] }
+        ensures { ⟦<HostShelf<'r, R> as Shelf>⟧.state result ≡ record { files = None; rest = None; is_open = false; faults = 0; opened = [] } }
     {
         HostShelf {
             rt,
@@ -46,15 +42,13 @@ impl<'r, R: Files> HostShelf<'r, R> {
 }
 
 impl<R: Files> Shelf for HostShelf<'_, R> {
-    ghost files = { λ _. None };
-
-    ghost rest = { λ _. None };
-
-    ghost is_open = { λ s. is_some s.file };
-
-    ghost faults = { λ s. s.faults };
-
-    ghost opened = { λ s. names_in s.opened };
+    ghost state = { λ s. record {
+      files = None;
+      rest = None;
+      is_open = is_some s.file;
+      faults = s.faults;
+      opened = names_in s.opened;
+    } };
 
     fn open(&mut self, name: &str) -> Result<(), Failed> {
         add(&mut self.opened, name);
@@ -88,17 +82,14 @@ pub struct HostSource<I> {
 impl<I: Read> HostSource<I> {
     /// A source that reads from the reader's place on.
     pub fn new(reader: I) -> HostSource<I>
-        ensures rest { ⟦<HostSource<I> as Source>⟧.rest result ≡ None }
-        ensures faults { ⟦<HostSource<I> as Source>⟧.faults result ≡ 0 }
+        ensures { ⟦<HostSource<I> as Source>⟧.state result ≡ record { rest = None; faults = 0 } }
     {
         HostSource { reader, faults: 0 }
     }
 }
 
 impl<I: Read> Source for HostSource<I> {
-    ghost rest = { λ _. None };
-
-    ghost faults = { λ s. s.faults };
+    ghost state = { λ s. record { rest = None; faults = s.faults } };
 
     fn read(&mut self, room: &mut [u8]) -> Result<usize, Failed> {
         match self.reader.read(room) {
@@ -118,17 +109,14 @@ pub struct HostSink<W> {
 impl<W: Write> HostSink<W> {
     /// A sink that writes from the writer's place on.
     pub fn new(writer: W) -> HostSink<W>
-        ensures received { ⟦<HostSink<W> as Sink>⟧.received result ≡ None }
-        ensures faults { ⟦<HostSink<W> as Sink>⟧.faults result ≡ 0 }
+        ensures { ⟦<HostSink<W> as Sink>⟧.state result ≡ record { received = None; faults = 0 } }
     {
         HostSink { writer, faults: 0 }
     }
 }
 
 impl<W: Write> Sink for HostSink<W> {
-    ghost received = { λ _. None };
-
-    ghost faults = { λ s. s.faults };
+    ghost state = { λ s. record { received = None; faults = s.faults } };
 
     fn put(&mut self, piece: &[u8]) -> Result<usize, Failed> {
         match self.writer.write(piece) {

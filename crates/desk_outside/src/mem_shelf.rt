@@ -30,10 +30,10 @@ pub struct MemShelf {
 
 impl Model for MemShelf {
     ghost use Rattle.std.specs.Prelude.{drop, option_map, option_and_then, slice_get};
-    ghost use Rattle.desk_outside.specs.InMemory.{ShelfState, entries_of};
+    ghost use Rattle.desk_outside.specs.InMemory.{MemoryShelf, entries_of};
     ghost use Rattle.desk_outside.specs.Names.{names_in};
 
-    ghost Value = { ShelfState };
+    ghost Value = { MemoryShelf };
 
     ghost view = { λ s. record {
       entries = entries_of s.files.items;
@@ -87,15 +87,13 @@ fn left_of(files: &[(String, Vec<u8>)], place: usize, at: usize) -> &[u8]
 }
 
 impl Shelf for MemShelf {
-    ghost files = { λ s. Some (held_in s.entries) };
-
-    ghost rest = { λ s. s.rest };
-
-    ghost is_open = { λ s. is_some s.rest };
-
-    ghost faults = { λ s. s.calls.faults };
-
-    ghost opened = { λ s. s.opened };
+    ghost state = { λ s. record {
+      files = Some (held_in s.entries);
+      rest = s.rest;
+      is_open = is_some s.rest;
+      faults = s.calls.faults;
+      opened = s.opened;
+    } };
 
     /// Fails exactly at a listed call, which is counted, and at a name that is not held, which alone is not.
     fn open(&mut self, name: &str) -> Result<(), Failed>

@@ -19,9 +19,9 @@ pub struct MemSink {
 
 impl Model for MemSink {
     ghost use Rattle.std.specs.Prelude.{◌<◌, ◌≤◌, vec_len, vec_capacity};
-    ghost use Rattle.desk_outside.specs.InMemory.{SinkState};
+    ghost use Rattle.desk_outside.specs.InMemory.{MemorySink};
 
-    ghost Value = { SinkState };
+    ghost Value = { MemorySink };
 
     ghost view = { λ s. record { received = s.received.items; room = s.room; piece = s.piece; calls = s.calls } };
 
@@ -46,7 +46,7 @@ impl MemSink {
         ensures piece { IfOk result (λ s. s.piece ≡ piece) }
         ensures calls { IfOk result (λ s. s.calls ≡ no_calls failing.items) }
     {
-        let received = Vec::with_capacity(alloc, room).map_err(|_| Memory)?;
+        let received = Vec::with_capacity(alloc, room)?;
         Ok(MemSink {
             received,
             room,
@@ -64,9 +64,7 @@ impl MemSink {
 }
 
 impl Sink for MemSink {
-    ghost received = { λ s. Some s.received };
-
-    ghost faults = { λ s. s.calls.faults };
+    ghost state = { λ s. record { received = Some s.received; faults = s.calls.faults } };
 
     /// Fails exactly at a listed call and where the sink is full, and else takes as much as `piece` and the room allow.
     fn put(&mut self, piece: &[u8]) -> Result<usize, Failed>

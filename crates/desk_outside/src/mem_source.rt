@@ -20,9 +20,9 @@ pub struct MemSource {
 
 impl Model for MemSource {
     ghost use Rattle.std.specs.Prelude.{◌<◌, ◌≤◌, drop, length};
-    ghost use Rattle.desk_outside.specs.InMemory.{SourceState};
+    ghost use Rattle.desk_outside.specs.InMemory.{MemorySource};
 
-    ghost Value = { SourceState };
+    ghost Value = { MemorySource };
 
     ghost view = { λ s. record { rest = drop s.at s.bytes.items; piece = s.piece; calls = s.calls } };
 
@@ -47,9 +47,7 @@ impl MemSource {
 }
 
 impl Source for MemSource {
-    ghost rest = { λ s. Some s.rest };
-
-    ghost faults = { λ s. s.calls.faults };
+    ghost state = { λ s. record { rest = Some s.rest; faults = s.calls.faults } };
 
     /// Fails exactly at a listed call, and else gives as much as the room, `piece` and what is left allow.
     fn read(&mut self, room: &mut [u8]) -> Result<usize, Failed>

@@ -23,7 +23,7 @@ pub use laws::{a_cut_changes_no_line, a_cut_changes_no_row};
 pub use limits::MOST_NAME_BYTES;
 pub use name_index::NameIndex;
 pub use name_set::NameSet;
-pub use names::Names;
+pub use names::NumberedNames;
 pub use pieces::{LineReader, Pieces};
 pub use seen_names::SeenNames;
 pub use value::RowValue;

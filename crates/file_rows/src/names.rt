@@ -7,12 +7,12 @@ use std::marker::Model;
 
 /// A list of names, kept one behind the other in one row of bytes. Names are numbered from 0.
 #[derive(Drop)]
-pub struct Names {
+pub struct NumberedNames {
     bytes: Vec<u8>,
     ends: Vec<u32>,
 }
 
-impl Model for Names {
+impl Model for NumberedNames {
     ghost use Rattle.std.specs.Prelude.{List, ℕ};
     ghost use Rattle.file_rows.specs.Names.{cut, IsCut};
 
@@ -23,22 +23,26 @@ impl Model for Names {
     ghost invariant = { λ n. IsCut 0 n.ends.items n.bytes.items };
 }
 
-impl Names {
+impl NumberedNames {
     /// No name. It takes no memory.
-    pub fn new(alloc: Global) -> Names
+    pub fn new(alloc: Global) -> NumberedNames
         ensures { result ≡ [] }
     {
-        Names {
+        NumberedNames {
             bytes: Vec::new(alloc),
             ends: Vec::new(alloc),
         }
     }
 
     /// No name, and room for some names of so many bytes together. It fails only where memory runs out.
-    pub fn with_room(alloc: Global, names: usize, name_bytes: usize) -> Result<Names, AllocError>
+    pub fn with_room(
+        alloc: Global,
+        names: usize,
+        name_bytes: usize,
+    ) -> Result<NumberedNames, AllocError>
         ensures { IfOk result (λ names. names ≡ []) }
     {
-        Ok(Names {
+        Ok(NumberedNames {
             bytes: Vec::with_capacity(alloc, name_bytes)?,
             ends: Vec::with_capacity(alloc, names)?,
         })
@@ -52,10 +56,10 @@ impl Names {
     }
 
     /// A copy, in no more room than the names take. It fails only where memory runs out.
-    pub fn packed(&self, alloc: Global) -> Result<Names, AllocError>
+    pub fn packed(&self, alloc: Global) -> Result<NumberedNames, AllocError>
         ensures { IfOk result (λ packed. packed ≡ self.now) }
     {
-        Ok(Names {
+        Ok(NumberedNames {
             bytes: Vec::from_slice(alloc, &self.bytes)?,
             ends: Vec::from_slice(alloc, &self.ends)?,
         })

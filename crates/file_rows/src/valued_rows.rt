@@ -2,7 +2,7 @@
 ghost use Rattle.std.specs.Prelude.{◌≡◌, ◌+◌, ◌^◌, ◌<◌, [], ◌∷◌, ◌++◌, length, option_map, slice_get, Some, IfOk, OnOk, OnErr};
 ghost use Rattle.file_rows.specs.Grouped.{bytes_in};
 
-use crate::names::Names;
+use crate::names::NumberedNames;
 use crate::value::RowValue;
 use std::alloc::{AllocError, Global};
 use std::marker::Model;
@@ -10,7 +10,7 @@ use std::marker::Model;
 /// Documents with their values, in the order of the file. They are numbered from 0.
 #[derive(Drop)]
 pub struct ValuedRows<V: RowValue> {
-    documents: Names,
+    documents: NumberedNames,
     values: Vec<V>,
 }
 
@@ -32,7 +32,7 @@ impl<V: RowValue> ValuedRows<V> {
         ensures { result ≡ [] }
     {
         ValuedRows {
-            documents: Names::new(alloc),
+            documents: NumberedNames::new(alloc),
             values: Vec::new(alloc),
         }
     }
@@ -42,7 +42,7 @@ impl<V: RowValue> ValuedRows<V> {
         ensures { IfOk result (λ rows. rows ≡ []) }
     {
         Ok(ValuedRows {
-            documents: Names::with_room(alloc, other.len(), other.name_bytes())?,
+            documents: NumberedNames::with_room(alloc, other.len(), other.name_bytes())?,
             values: Vec::with_capacity(alloc, other.len())?,
         })
     }

@@ -59,10 +59,10 @@ impl QrelsReader {
         Ok(())
     }
 
-    /// The rows of the bytes that it was fed, as `read_qrels` answers for them.
+    /// The rows that the bytes fed say, taken as one file.
     ///
     /// # Errors
-    /// Those of `read_qrels`.
+    /// The first refusal of these bytes; or `Memory`, which may come in the place of any answer.
     pub fn finish(self) -> Result<Qrels, FileFault>
         ensures { IsUnlessMemory result (qrels_of self) }
     {

@@ -53,7 +53,7 @@ pub record IsFormed (line : List ℕ) (row : Row) : Type 0 where
   pub named : IsNamed row
   pub tag : is_name (tag_of line) ≡ true
 
-named_form : (line : List ℕ) (row : Row) → formed line ≡ Ok row → IsFormed line row
+pub named_form : (line : List ℕ) (row : Row) → formed line ≡ Ok row → IsFormed line row
 named_form line row e =
     let made = parted (checked (form_faults line)) (λ done. row_of line) row e in
     let fine = none_holds (form_faults line) (tt {0}) made.value made.found in

@@ -22,7 +22,7 @@ row_said row = record { topic = row.topic.now; document = row.document.now; valu
 
 -- the name that is given
 abbrev pub given_in : Beside → Option (List ℕ)
-given_in beside = option_map (λ name. name.items) beside.given
+given_in beside = beside.given
 
 -- the name that is given, else the tag
 abbrev pub given_or : Option (List ℕ) → Option (List ℕ) → Option (List ℕ)
@@ -31,7 +31,7 @@ given_or None tag = tag
 
 -- the name that the reader has
 abbrev pub name_in : RowReader → Option (List ℕ)
-name_in reader = given_or (given_in reader.beside) (option_map (λ tag. tag.items) reader.tag)
+name_in reader = given_or (given_in reader.beside) reader.tag
 
 -- the documents that were seen are those of the topics, and the place of the topic that was looked up last is known
 pub record IsTracked (gathered : Gathered) : Type 0 where

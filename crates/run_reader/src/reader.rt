@@ -9,7 +9,7 @@ ghost use Rattle.run_reader.specs.Run.{run_of, IsWithinLimits};
 use crate::row_reader::{Beside, RowReader};
 use crate::run_rows::RunRows;
 use crate::used::Used;
-use desk_model::Memory;
+use desk_model::{Memory, Name};
 use file_rows::{Fed, FileFault, Pieces};
 use qrels_reader::Qrels;
 use std::alloc::Global;
@@ -75,10 +75,10 @@ impl<'q> RunReader<'q> {
         Ok(())
     }
 
-    /// The run of the bytes that it was fed, as `read_run` answers for them.
+    /// The run that the bytes fed say, taken as one file.
     ///
     /// # Errors
-    /// Those of `read_run`.
+    /// The first refusal of these bytes; or `Memory`, which may come in the place of any answer.
     pub fn finish(self) -> Result<RunRows, FileFault>
         ensures run { IsUnlessMemory result (run_of self.entry.given self.entry.qrels self.entry.used self.entry.fed) }
         ensures known { IfOk result (λ run. All (λ topic. is_topic topic self.entry.qrels ≡ true) (names_of run.topics)) }
@@ -88,14 +88,12 @@ impl<'q> RunReader<'q> {
     }
 }
 
-fn copied(alloc: Global, name: Option<&[u8]>) -> Result<Option<Vec<u8>>, Memory>
-    ensures { IfOk result (λ copy. option_map (λ v. v.items) copy ≡ option_copied name.entry) }
+fn copied(alloc: Global, name: Option<&[u8]>) -> Result<Option<Name>, Memory>
+    requires { IfSome name (λ n. is_name n.now ≡ true) }
+    ensures { IfOk result (λ copy. copy ≡ option_copied name.entry) }
 {
     match name {
-        Some(name) => match Vec::from_slice(alloc, name) {
-            Ok(copy) => Ok(Some(copy)),
-            Err(_) => Err(Memory),
-        },
+        Some(name) => Ok(Some(Name::copy_of(alloc, name)?)),
         None => Ok(None),
     }
 }

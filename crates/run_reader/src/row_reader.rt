@@ -14,17 +14,18 @@ use crate::limits::{MOST_RANKS, MOST_RUN_ROWS};
 use crate::line::{RowText, row_text};
 use crate::run_rows::RunRows;
 use crate::used::Used;
+use desk_model::{Memory, Name};
 use desk_text::is_blank;
 use file_rows::{Fed, FileFault, LineFault, LineReader, MOST_NAME_BYTES};
 use qrels_reader::Qrels;
-use std::alloc::{AllocError, Global};
+use std::alloc::Global;
 
 /// What a run file is read beside: the name that is given, what earlier files used, and the qrels.
 #[derive(Drop)]
 pub struct Beside<'q> {
     pub qrels: &'q Qrels,
     pub used: Used,
-    pub given: Option<Vec<u8>>,
+    pub given: Option<Name>,
 }
 
 /// Reads a run file line by line. A first fault is kept, and the lines after it are passed over.
@@ -32,7 +33,7 @@ pub struct Beside<'q> {
 pub struct RowReader<'q> {
     pub beside: Beside<'q>,
     // The tag of the first line, where no name is given.
-    tag: Option<Vec<u8>>,
+    tag: Option<Name>,
     gathered: Gathered,
     lines: u64,
     fault: Option<FileFault>,
@@ -190,7 +191,8 @@ impl<'q> RowReader<'q> {
     }
 
     // The tag of the first line, where no name was given.
-    fn take_name(&mut self, tag: &[u8]) -> Result<(), AllocError>
+    fn take_name(&mut self, tag: &[u8]) -> Result<(), Memory>
+        requires { is_name tag.now ≡ true }
         ensures name { OnOk result (name_in self.new ≡ Some (unwrap_or (name_in self.old) tag.now)) }
         ensures beside { self.new.beside ≡ self.old.beside }
         ensures gathered { OnOk result (self.new.gathered ≡ self.old.gathered) }
@@ -198,7 +200,7 @@ impl<'q> RowReader<'q> {
         ensures fault { self.new.fault ≡ self.old.fault }
     {
         if self.beside.given.is_none() && self.tag.is_none() {
-            self.tag = Some(Vec::from_slice(self.gathered.alloc, tag)?);
+            self.tag = Some(Name::copy_of(self.gathered.alloc, tag)?);
         }
         Ok(())
     }
@@ -271,8 +273,8 @@ impl<'q> RowReader<'q> {
 }
 
 // The name that is given, else the tag.
-fn given_or(given: Option<Vec<u8>>, tag: Option<Vec<u8>>) -> Option<Vec<u8>>
-    ensures { option_map (λ name. name.items) result ≡ given_or (option_map (λ name. name.items) given) (option_map (λ tag. tag.items) tag) }
+fn given_or(given: Option<Name>, tag: Option<Name>) -> Option<Name>
+    ensures { result ≡ given_or given tag }
 {
     given.or(tag)
 }

@@ -8,6 +8,7 @@ ghost use Rattle.run_reader.specs.Run.{IsRun, IsWithinLimits, rows_on_topic};
 
 use crate::limits::MOST_RANKS;
 use crate::used::Used;
+use desk_model::Name;
 use desk_text::Score;
 use file_rows::{GroupedRows, ValuedRows};
 use std::alloc::Global;
@@ -16,7 +17,7 @@ use std::marker::Model;
 /// A run: its name and its kept rows, which are those on topics of the qrels.
 #[derive(Drop)]
 pub struct RunRows {
-    name: Vec<u8>,
+    name: Name,
     kept: GroupedRows<Score>,
     used: Used,
 }
@@ -28,17 +29,17 @@ impl Model for RunRows {
 
     ghost Value = { Run };
 
-    ghost view = { λ r. record { name = r.name.items; topics = r.kept; used = r.used } };
+    ghost view = { λ r. record { name = r.name; topics = r.kept; used = r.used } };
 
-    ghost invariant = { λ r. (is_name r.name.items ≡ true) × IsRun r.kept × IsWithinLimits r.used };
+    ghost invariant = { λ r. (is_name r.name ≡ true) × IsRun r.kept × IsWithinLimits r.used };
 }
 
 impl RunRows {
-    pub(crate) fn new(name: Vec<u8>, kept: GroupedRows<Score>, used: Used) -> RunRows
-        requires name { is_name name.items ≡ true }
+    pub(crate) fn new(name: Name, kept: GroupedRows<Score>, used: Used) -> RunRows
+        requires name { is_name name ≡ true }
         requires kept { IsRun kept }
         requires used { IsWithinLimits used }
-        ensures { result ≡ record { name = name.items; topics = kept; used = used } }
+        ensures { result ≡ record { name = name; topics = kept; used = used } }
     {
         RunRows { name, kept, used }
     }
@@ -61,7 +62,7 @@ impl RunRows {
         ensures name { is_name self.now.name ≡ true }
         ensures topics { IsRun self.now.topics }
     {
-        self.name.as_slice()
+        self.name.as_bytes()
     }
 
     /// What this and the earlier files used.

@@ -12,7 +12,7 @@ use Rattle.judge_session.specs.declared.change.Change.{Change}
 use Rattle.judge_session.specs.Request.{Heard, Blank, TooLong, Bad, Asked, Judge, Undo, Redo, Table, Pair, Certify, Pool, Next as NextLine, Qrels, Quit, heard_of}
 use Rattle.pair_table.specs.Kept.{Kept}
 use Rattle.session_replies.specs.Replies.{Setting, IsReply, changes_after, accepted, refusal}
-use Rattle.session_replies.specs.State.{Numbers, IsReady, IsAnswered, CountsLine, owed, pairs_in}
+use Rattle.session_replies.specs.State.{Numbers, IsReadyForLine, IsReplied, CountsLine, owed, pairs_in}
 use Rattle.session_replies.specs.declared.replies.Reply.{Reply}
 use Rattle.session_replies.specs.declared.replies.Reply.TheVariants as replies
 use Rattle.session_replies.specs.declared.state.Judging.{Judging}
@@ -84,23 +84,23 @@ answers_too_long s line changes out result long put =
     let heard = too_long line long in
     answers_put s line changes changes out (refusal (codes "LineTooLong")) result (ap is_quit heard) (subst (λ (h : Heard). IsReply s changes h (refusal (codes "LineTooLong"))) (sym heard) refl) (subst (λ (h : Heard). changes ≡ changes_after s.desk h changes) (sym heard) refl) put
 
-module _ {M : Type 0} (n : Numbers M) (s : Setting) (kept : List ℕ) (old new : Judging M) (reply : Reply) (answered : IsAnswered n s (heard_of kept) old new reply) where
+module _ {M : Type 0} (n : Numbers M) (s : Setting) (kept : List ℕ) (old new : Judging M) (reply : Reply) (answered : IsReplied n s (heard_of kept) old new reply) where
   -- what the text of a reply comes to
   pub answers_text : (line shown : List ℕ) (out : Sink) (result : Result Next Fault) (text : Vec ℕ Global) → reply ≡ replies.Text text → kept ≡ line → shown ≡ text.items → IsPut out shown result → AnswersLine s line old.session new.session out result
   answers_text line shown out result text is same shows put =
-      let told = subst (IsAnswered n s (heard_of kept) old new) is answered in
+      let told = subst (IsReplied n s (heard_of kept) old new) is answered in
       subst (λ (l : List ℕ). AnswersLine s l old.session new.session out result) same
       (answers_put s kept old.session new.session out text.items result (not_quit (heard_of kept) told.1) told.0.is told.0.changes (subst (λ (t : List ℕ). IsPut out t result) shows put))
 
-  pub text_ready : (text : Vec ℕ Global) → reply ≡ replies.Text text → IsReady n s new
-  text_ready text is = (subst (IsAnswered n s (heard_of kept) old new) is answered).0.ready
+  pub text_ready : (text : Vec ℕ Global) → reply ≡ replies.Text text → IsReadyForLine n s new
+  text_ready text is = (subst (IsReplied n s (heard_of kept) old new) is answered).0.ready
 
   -- `quit`
   pub quit_ends : (line : List ℕ) → reply ≡ replies.Quit → kept ≡ line → ends line ≡ true
-  quit_ends line is same = ap ends (sym same) ∙ ap is_quit (subst (IsAnswered n s (heard_of kept) old new) is answered).0
+  quit_ends line is same = ap ends (sym same) ∙ ap is_quit (subst (IsReplied n s (heard_of kept) old new) is answered).0
 
-  pub quit_ready : reply ≡ replies.Quit → IsReady n s new
-  quit_ready is = (subst (IsAnswered n s (heard_of kept) old new) is answered).1
+  pub quit_ready : reply ≡ replies.Quit → IsReadyForLine n s new
+  quit_ready is = (subst (IsReplied n s (heard_of kept) old new) is answered).1
 
 -- the steps at a line
 pub steps_counted : {M : Type 0} (s : Setting) (kept line : List ℕ) (old new : Judging M) (before after : ℕ) → kept ≡ line → CountsLine s (heard_of kept) old new before after →

@@ -2,7 +2,7 @@
 ghost use Rattle.std.specs.Prelude.{◌≡◌, ◌≤◌, ◌+◌, ◌++◌, [], List, ℕ, Option, OnOk, IfOk, length};
 ghost use Rattle.desk_outside.specs.Seen.{source, sink};
 ghost use Rattle.desk_text.specs.Lines.{kept_line, unended};
-ghost use Rattle.session_replies.specs.State.{setting_of, IsSetting, IsReady, cells_of, owed};
+ghost use Rattle.session_replies.specs.State.{setting_of, IsSetting, IsReadyForLine, cells_of, owed};
 ghost use Rattle.session_stream.specs.Held.{Talks, IsPut, TakesSteps, AnswersLine, AnswersPiece};
 ghost use Rattle.session_stream.specs.Text.{EndsSession, EvaluatesWithin};
 
@@ -51,8 +51,8 @@ pub enum Next {
 
 // Puts the reply to a line, if it has one.
 fn put_reply<K: Sink>(out: &mut K, text: &[u8]) -> Result<Next, Fault>
-    ensures put { IsPut (sink (K.received out.old) (K.received out.new) (K.faults out.old) (K.faults out.new)) text.now result }
-    ensures later { K.faults out.old ≤ K.faults out.new }
+    ensures put { IsPut (sink (K.state out.old) (K.state out.new)) text.now result }
+    ensures later { (K.state out.old).faults ≤ (K.state out.new).faults }
 {
     match put_all(out, text) {
         Ok(()) => Ok(Next::More),
@@ -71,14 +71,14 @@ fn answer_line<K: Sink, P: Maker, L: Ledger>(
     steps: &mut Steps<L>,
 ) -> Result<Next, Fault>
     requires setting { IsSetting (setting_of given.now) }
-    requires ready { IsReady (record { name = P.Made.measured; cell = P.Made.cell_of; bound = P.Made.bounds_of }) (setting_of given.now) judging.old }
+    requires ready { IsReadyForLine (record { name = P.Made.measured; cell = P.Made.cell_of; bound = P.Made.bounds_of }) (setting_of given.now) judging.old }
     ensures answered { (line : List ℕ) → lines.now ≡ kept_line line →
         AnswersLine (setting_of given.now) line judging.old.session judging.new.session
-        (sink (K.received out.old) (K.received out.new) (K.faults out.old) (K.faults out.new)) result }
-    ensures ready { OnOk result (IsReady (record { name = P.Made.measured; cell = P.Made.cell_of; bound = P.Made.bounds_of }) (setting_of given.now) judging.new) }
+        (sink (K.state out.old) (K.state out.new)) result }
+    ensures ready { OnOk result (IsReadyForLine (record { name = P.Made.measured; cell = P.Made.cell_of; bound = P.Made.bounds_of }) (setting_of given.now) judging.new) }
     ensures steps { (line : List ℕ) → lines.now ≡ kept_line line →
         TakesSteps given.now.desk.now line judging.old.session judging.old.table judging.new.table steps.old steps.new result }
-    ensures later { K.faults out.old ≤ K.faults out.new }
+    ensures later { (K.state out.old).faults ≤ (K.state out.new).faults }
 {
     let Some(line) = lines.line() else {
         return put_reply(out, TOO_LONG);
@@ -102,14 +102,14 @@ fn answer_piece<K: Sink, P: Maker, L: Ledger>(
     steps: &mut Steps<L>,
 ) -> Result<Next, Fault>
     requires setting { IsSetting (setting_of given.now) }
-    requires ready { IsReady (record { name = P.Made.measured; cell = P.Made.cell_of; bound = P.Made.bounds_of }) (setting_of given.now) judging.old }
+    requires ready { IsReadyForLine (record { name = P.Made.measured; cell = P.Made.cell_of; bound = P.Made.bounds_of }) (setting_of given.now) judging.old }
     ensures answered { (had : Option (List ℕ)) (first : ℕ) (taken : List ℕ) → lines.old ≡ kept_line (unended taken) →
-        Talks (setting_of given.now) had (K.received out.old) first (steps.old + owed given.now.desk.now judging.old.table) taken judging.old.session →
-        AnswersPiece (setting_of given.now) had (sink (K.received out.old) (K.received out.new) (K.faults out.old) (K.faults out.new)) first steps.new
+        Talks (setting_of given.now) had (K.state out.old).received first (steps.old + owed given.now.desk.now judging.old.table) taken judging.old.session →
+        AnswersPiece (setting_of given.now) had (sink (K.state out.old) (K.state out.new)) first steps.new
         (steps.new + owed given.now.desk.now judging.new.table) (taken ++ piece.now) judging.new.session result }
     ensures line { (taken : List ℕ) → lines.old ≡ kept_line (unended taken) → result ≡ Ok Next.More → lines.new ≡ kept_line (unended (taken ++ piece.now)) }
-    ensures ready { result ≡ Ok Next.More → IsReady (record { name = P.Made.measured; cell = P.Made.cell_of; bound = P.Made.bounds_of }) (setting_of given.now) judging.new }
-    ensures later { K.faults out.old ≤ K.faults out.new }
+    ensures ready { result ≡ Ok Next.More → IsReadyForLine (record { name = P.Made.measured; cell = P.Made.cell_of; bound = P.Made.bounds_of }) (setting_of given.now) judging.new }
+    ensures later { (K.state out.old).faults ≤ (K.state out.new).faults }
 {
     let mut at = 0;
     while at < piece.len() {
@@ -141,12 +141,12 @@ fn answer_input<S: Source, K: Sink, P: Maker, L: Ledger>(
     requires line { lines.old ≡ kept_line [] }
     requires none { judging.old.session ≡ [] }
     requires owes { owed given.now.desk.now judging.old.table ≡ cells_of given.now.desk.now }
-    requires ready { IsReady (record { name = P.Made.measured; cell = P.Made.cell_of; bound = P.Made.bounds_of }) (setting_of given.now) judging.old }
+    requires ready { IsReadyForLine (record { name = P.Made.measured; cell = P.Made.cell_of; bound = P.Made.bounds_of }) (setting_of given.now) judging.old }
     ensures ends { EndsSession (setting_of given.now)
-        (source (S.rest input.old) (S.rest input.new) (S.faults input.old) (S.faults input.new))
-        (sink (K.received out.old) (K.received out.new) (K.faults out.old) (K.faults out.new)) result }
+        (source (S.state input.old) (S.state input.new))
+        (sink (K.state out.old) (K.state out.new)) result }
     ensures cells { EvaluatesWithin (setting_of given.now)
-        (source (S.rest input.old) (S.rest input.new) (S.faults input.old) (S.faults input.new)) steps.old steps.new }
+        (source (S.state input.old) (S.state input.new)) steps.old steps.new }
 {
     let mut room = [0u8; ROOM];
     let mut taken = 0;
@@ -191,10 +191,10 @@ pub fn hold_session<S: Source, K: Sink, P: Maker, L: Ledger>(
 ) -> Result<Ended, Fault>
     requires { IsSetting (setting_of given.now) }
     ensures ends { EndsSession (setting_of given.now)
-        (source (S.rest input.old) (S.rest input.new) (S.faults input.old) (S.faults input.new))
-        (sink (K.received out.old) (K.received out.new) (K.faults out.old) (K.faults out.new)) result }
+        (source (S.state input.old) (S.state input.new))
+        (sink (K.state out.old) (K.state out.new)) result }
     ensures cells { EvaluatesWithin (setting_of given.now)
-        (source (S.rest input.old) (S.rest input.new) (S.faults input.old) (S.faults input.new)) steps.old steps.new }
+        (source (S.state input.old) (S.state input.new)) steps.old steps.new }
 {
     let Ok(mut lines) = Lines::new(alloc) else {
         return Err(Fault::Memory);

@@ -14,7 +14,7 @@ use Rattle.std.proofs.lemmas.Map.Keys.{IsDistinct-IsPermutation, any_passes_from
 use Rattle.std.proofs.lemmas.Option.{slice_get-get_or}
 use Rattle.desk_model.specs.Name.{name_cmp, is_name}
 use Rattle.file_rows.proofs.Seen.{laws}
-use Rattle.topic_universe.specs.Names.{AreNames}
+use Rattle.topic_universe.specs.Names.{AreDistinctNames}
 use Rattle.topic_universe.specs.Sorted.{Numbered, AreSorted, IsPlaceOf}
 use Rattle.topic_universe.proofs.Sorting.{ascends}
 
@@ -42,7 +42,7 @@ linked names pairs named numbered = λ k d lt.
     let number : (get_or pairs k d).1 ≡ k = sym (get_or-map number_of pairs k d 0 lt) ∙ ap (λ ns. get_or ns k 0) numbered ∙ get_or-range_with_len 0 (length names) k 0 (omega (arith, lt, long, same)) ∙ start in
     ap (λ n. get_or names n []) number ∙ ap (λ ns. get_or ns k []) (sym named) ∙ get_or-map name_of pairs k d [] lt
 
-pub are_sorted : (names : List (List ℕ)) (pairs sorted : List Numbered) → AreNames names → map name_of pairs ≡ names → map number_of pairs ≡ range_with_len 0 (length names) → IsPermutation pairs sorted →
+pub are_sorted : (names : List (List ℕ)) (pairs sorted : List Numbered) → AreDistinctNames names → map name_of pairs ≡ names → map number_of pairs ≡ range_with_len 0 (length names) → IsPermutation pairs sorted →
     IsSortedBy (λ x y. is_lt (name_cmp (name_of x) (name_of y))) sorted → AreSorted names sorted
 are_sorted names pairs sorted are named numbered moved up =
     let names_moved = subst (λ ns. IsPermutation ns (map name_of sorted)) named (IsPermutation-map name_of pairs sorted moved) in
@@ -114,7 +114,7 @@ stands_there names pairs n place are is =
 pub same_count : (names : List (List ℕ)) (pairs : List Numbered) → AreSorted names pairs → length names ≡ length pairs
 same_count names pairs are = sym (length_permutation names (map name_of pairs) are.moved) ∙ length-map pairs name_of
 
-pub sorted_are_named : (names : List (List ℕ)) (pairs : List Numbered) → AreSorted names pairs → AreNames names → All (λ pair. is_name pair.0.now ≡ true) pairs
+pub sorted_are_named : (names : List (List ℕ)) (pairs : List Numbered) → AreSorted names pairs → AreDistinctNames names → All (λ pair. is_name pair.0.now ≡ true) pairs
 sorted_are_named names pairs are named = λ k d lt.
     let long = length-map pairs name_of in
     sym (ap is_name (get_or-map name_of pairs k d [] lt)) ∙ All-permutation (λ name. is_name name ≡ true) names (map name_of pairs) are.moved named.named k [] (omega (arith, lt, long))

@@ -17,7 +17,7 @@ use Rattle.std.proofs.lemmas.Map.Steps.{list_any_congr}
 use Rattle.desk_model.specs.Name.{is_name}
 use Rattle.desk_model.proofs.Names.{same_name}
 use Rattle.file_rows.proofs.Seen.{laws}
-use Rattle.topic_universe.specs.Names.{with_name, with_names, AreNames, Gathers, numbered_names}
+use Rattle.topic_universe.specs.Names.{with_name, with_names, AreDistinctNames, AddsNames, numbered_names}
 
 pub with_names-append : (names xs ys : List (List ℕ)) → with_names names (xs ++ ys) ≡ with_names (with_names names xs) ys
 with_names-append names [] ys = refl
@@ -52,14 +52,14 @@ any-with_names names (n ∷ more) m =
     ∙ or-assoc (list_any (bytes_eq m) names) (bytes_eq m n) (list_any (bytes_eq m) more)
 
 -- ---- gathered names differ
-pub AreNames-nil : AreNames []
+pub AreNames-nil : AreDistinctNames []
 unfolding IsDistinct
 AreNames-nil = record { named = λ k d lt. absurd (omega arith); distinct = tt }
 
-pub AreNames-with_name : (names : List (List ℕ)) (n : List ℕ) → AreNames names → is_name n ≡ true → AreNames (with_name names n)
+pub AreNames-with_name : (names : List (List ℕ)) (n : List ℕ) → AreDistinctNames names → is_name n ≡ true → AreDistinctNames (with_name names n)
 AreNames-with_name names n are is = go (list_any (bytes_eq n) names) refl
   where
-    go : (b : Bool) → list_any (bytes_eq n) names ≡ b → AreNames (cond b names (names ++ n ∷ []))
+    go : (b : Bool) → list_any (bytes_eq n) names ≡ b → AreDistinctNames (cond b names (names ++ n ∷ []))
     go true e = are
     go false e = record { named = All-push (λ name. is_name name ≡ true) names n are.named is; distinct = IsDistinct-push laws names n are.distinct e }
 
@@ -101,7 +101,7 @@ added-whole names (x ∷ xs) distinct apart =
     in
     ap (λ s. with_names s xs) new ∙ added-whole (names ++ x ∷ []) xs (IsDistinct-tail bytes_eq x xs distinct) later ∙ append_assoc names (x ∷ []) xs
 
-pub AreNames-with_names : (names more : List (List ℕ)) → AreNames names → All (λ name. is_name name ≡ true) more → AreNames (with_names names more)
+pub AreNames-with_names : (names more : List (List ℕ)) → AreDistinctNames names → All (λ name. is_name name ≡ true) more → AreDistinctNames (with_names names more)
 AreNames-with_names names [] are all = are
 AreNames-with_names names (n ∷ more) are all =
     AreNames-with_names (with_name names n) more (AreNames-with_name names n are (All-head (λ name. is_name name ≡ true) n more all)) (All-tail (λ name. is_name name ≡ true) n more all)
@@ -168,7 +168,7 @@ number_step names names' ranked numbers numbers' i n name added within so_far go
     )
 
 -- ---- gathering
-pub Gathers-none : (names : List (List ℕ)) → AreNames names → Gathers names [] names
+pub Gathers-none : (names : List (List ℕ)) → AreDistinctNames names → AddsNames names [] names
 Gathers-none names are = record {
   names = are;
   same = λ m. ap (list_any (bytes_eq m)) (sym (append-nil names));
@@ -177,7 +177,7 @@ Gathers-none names are = record {
   kept = λ n lt. refl;
 }
 
-pub Gathers-then : (a b c xs ys : List (List ℕ)) → Gathers a xs b → Gathers b ys c → Gathers a (xs ++ ys) c
+pub Gathers-then : (a b c xs ys : List (List ℕ)) → AddsNames a xs b → AddsNames b ys c → AddsNames a (xs ++ ys) c
 Gathers-then a b c xs ys first then = record {
   names = then.names;
   same = λ m.
@@ -189,8 +189,8 @@ Gathers-then a b c xs ys first then = record {
 }
 
 -- names that are added in another order gather the same
-pub Gathers-moved : (old ranked more new : List (List ℕ)) → AreNames old → All (λ name. is_name name ≡ true) more → IsPermutation more ranked → new ≡ with_names old ranked → Gathers old more new
-Gathers-moved old ranked more new are all moved is = subst (Gathers old more) (sym is) (record {
+pub Gathers-moved : (old ranked more new : List (List ℕ)) → AreDistinctNames old → All (λ name. is_name name ≡ true) more → IsPermutation more ranked → new ≡ with_names old ranked → AddsNames old more new
+Gathers-moved old ranked more new are all moved is = subst (AddsNames old more) (sym is) (record {
   names = AreNames-with_names old ranked are (All-permutation (λ name. is_name name ≡ true) more ranked moved all);
   same = λ m.
       any-with_names old ranked m ∙ ap (λ b. list_any (bytes_eq m) old || b) (sym (list_any-IsPermutation (bytes_eq m) more ranked moved)) ∙ sym (list_any-append (bytes_eq m) old more);

@@ -22,7 +22,7 @@ abbrev pub AreAmong : List (List ℕ) → List (List ℕ) → Type 0
 AreAmong names others = (name : List ℕ) → list_any (bytes_eq name) names ≡ true → list_any (bytes_eq name) others ≡ true
 
 -- names that differ
-pub record AreNames (names : List (List ℕ)) : Type 0 where
+pub record AreDistinctNames (names : List (List ℕ)) : Type 0 where
   pub named : All (λ name. is_name name ≡ true) names
   pub distinct : IsDistinct bytes_eq names
 
@@ -31,8 +31,8 @@ abbrev pub numbered_names : List (List ℕ) → List ℕ → List (List ℕ)
 numbered_names names numbers = map (λ n. slice_index_or names n []) numbers
 
 -- names to which more are added, each where it is not there yet: those that were there keep their numbers
-pub record Gathers (old more new : List (List ℕ)) : Type 0 where
-  pub names : AreNames new
+pub record AddsNames (old more new : List (List ℕ)) : Type 0 where
+  pub names : AreDistinctNames new
   pub same : HaveSameNames new (old ++ more)
   pub longer : length old ≤ length new
   pub few : length new ≤ length old + length more

@@ -4,7 +4,7 @@ use Rattle.std.specs.List.{AllZip}
 use Rattle.file_rows.specs.Grouped.{Valued, TopicRows, rows_at}
 use Rattle.run_reader.specs.Run.{Run, rows_on_topic}
 use Rattle.topic_universe.specs.Order.{IsTrecOrder}
-use Rattle.topic_universe.specs.Names.{numbered_names, Gathers}
+use Rattle.topic_universe.specs.Names.{numbered_names, AddsNames}
 use Rattle.topic_universe.specs.Sorted.{Numbered, AreSorted}
 
 -- the documents that the qrels list of a topic
@@ -24,6 +24,6 @@ pub record AreRankedNumbers (names : List (List ℕ)) (rows : List Valued) (numb
 -- those that it retrieves, in the order of its rows
 pub record IsUniverseOf (qrels : List TopicRows) (t : ℕ) (runs : List Run) (topic : List ℕ) (pairs : List Numbered) (numbers : List (List ℕ)) : Type 0 where
   pub names : List (List ℕ)
-  pub gathered : Gathers (listed (rows_at qrels t)) (flat_map (retrieved topic) runs) names
+  pub gathered : AddsNames (listed (rows_at qrels t)) (flat_map (retrieved topic) runs) names
   pub sorted : AreSorted names pairs
   pub ranked : AllZip (λ run each. AreRankedNumbers names (rows_on_topic run topic) each) runs numbers

@@ -1,16 +1,14 @@
 //! The rankings of a run in the order of trec_eval, and the universe of a topic: the names of the documents that the
-//! qrels list and the runs retrieve, each once, in ascending order.
+//! qrels list and the runs retrieve, each once, in ascending order. `topics_pool` alone uses this crate.
 #![tactic(auto)]
 
 mod entry;
-mod memory;
 mod names;
 mod numbered;
 mod ranked;
 mod universe;
 
-pub use memory::OutOfMemory;
-pub use names::{ascending, copied, named, places};
+pub use names::{ascending, copied, places};
 pub use numbered::Numbered;
 pub use ranked::{RankedNames, order_is_one, ranking};
 pub use universe::{Universe, universe_of};

@@ -3,26 +3,13 @@ ghost use Rattle.std.specs.Prelude.{◌≡◌, ◌≤◌, ◌<◌, ℕ, true, Al
 ghost use Rattle.std.specs.List.{range_with_len};
 ghost use Rattle.desk_model.specs.Limits.{DOCUMENT_LIMIT};
 ghost use Rattle.desk_model.specs.Name.{is_name, AreAscending};
-ghost use Rattle.topic_universe.specs.Names.{AreNames};
+ghost use Rattle.topic_universe.specs.Names.{AreDistinctNames};
 ghost use Rattle.topic_universe.specs.Sorted.{AreSorted, IsPlaceOf};
 
-use crate::memory::OutOfMemory;
 use crate::numbered::Numbered;
-use desk_model::{Name, NameFault};
+use desk_model::{Memory, Name};
 use file_rows::NameIndex;
 use std::alloc::{AllocError, Global};
-
-/// The name of these bytes.
-pub fn named(alloc: Global, bytes: &[u8]) -> Result<Name, OutOfMemory>
-    requires { is_name bytes.now ≡ true }
-    ensures { IfOk result (λ name. name ≡ bytes.now) }
-{
-    match Name::new(alloc, bytes) {
-        Ok(name) => Ok(name),
-        Err(NameFault::Memory) => Err(OutOfMemory),
-        Err(NameFault::BadName) => unreachable!(),
-    }
-}
 
 fn numbered<'n>(alloc: Global, names: &NameIndex<'n>) -> Result<Vec<Numbered<'n>>, AllocError>
     ensures names { IfOk result (λ pairs. map (λ pair. pair.0.now) pairs.items ≡ names.now) }
@@ -40,7 +27,7 @@ pub(crate) fn sorted<'n>(
     alloc: Global,
     names: &NameIndex<'n>,
 ) -> Result<Vec<Numbered<'n>>, AllocError>
-    requires { AreNames names.now }
+    requires { AreDistinctNames names.now }
     ensures { IfOk result (λ pairs. AreSorted names.now pairs.items) }
 {
     let mut pairs = numbered(alloc, names)?;
@@ -49,20 +36,20 @@ pub(crate) fn sorted<'n>(
 }
 
 /// Copies of the names, in their order.
-pub fn copied(alloc: Global, pairs: &[Numbered<'_>]) -> Result<Vec<Name>, OutOfMemory>
+pub fn copied(alloc: Global, pairs: &[Numbered<'_>]) -> Result<Vec<Name>, Memory>
     requires { All (λ pair. is_name pair.0.now ≡ true) pairs.now }
     ensures { IfOk result (λ copies. copies.items ≡ map (λ pair. pair.0.now) pairs.now) }
 {
     let mut copies = Vec::with_capacity(alloc, pairs.len())?;
     for i in 0..pairs.len() {
-        copies.push(named(alloc, pairs[i].name())?)?;
+        copies.push(Name::copy_of(alloc, pairs[i].name())?)?;
     }
     Ok(copies)
 }
 
 /// Copies of the names in ascending order.
-pub fn ascending(alloc: Global, names: &NameIndex<'_>) -> Result<Vec<Name>, OutOfMemory>
-    requires { AreNames names.now }
+pub fn ascending(alloc: Global, names: &NameIndex<'_>) -> Result<Vec<Name>, Memory>
+    requires { AreDistinctNames names.now }
     ensures ascending { IfOk result (λ sorted. AreAscending sorted.items) }
     ensures moved { IfOk result (λ sorted. IsPermutation names.now sorted.items) }
 {

@@ -3,13 +3,13 @@ ghost use Rattle.std.specs.Prelude.{◌≡◌, ◌<◌, [], true, All, length, m
 ghost use Rattle.std.specs.List.{AllZip};
 ghost use Rattle.file_rows.specs.Grouped.{rows_at};
 ghost use Rattle.run_reader.specs.Run.{rows_on_topic};
-ghost use Rattle.topic_universe.specs.Names.{with_names, AreNames, Gathers, numbered_names};
+ghost use Rattle.topic_universe.specs.Names.{with_names, AreDistinctNames, AddsNames, numbered_names};
 ghost use Rattle.topic_universe.specs.Universe.{listed, retrieved, AreRankedNumbers, IsUniverseOf};
 
-use crate::memory::OutOfMemory;
 use crate::names::sorted;
 use crate::numbered::Numbered;
 use crate::{RankedNames, ranking};
+use desk_model::Memory;
 use file_rows::NameIndex;
 use qrels_reader::Qrels;
 use run_reader::RunRows;
@@ -29,7 +29,7 @@ pub struct Universe<'n> {
 fn listed_names(alloc: Global, qrels: &Qrels, t: usize) -> Result<NameIndex<'_>, AllocError>
     requires { t < length qrels.now }
     ensures documents { IfOk result (λ names. names ≡ listed (rows_at qrels.now t)) }
-    ensures names { IfOk result (λ names. AreNames names) }
+    ensures names { IfOk result (λ names. AreDistinctNames names) }
 {
     let mut names = NameIndex::new(alloc);
     for i in 0..qrels.doc_count(t) {
@@ -61,9 +61,9 @@ fn add_run<'n>(
     names: &mut NameIndex<'n>,
     run: &'n RunRows,
     topic: &[u8],
-) -> Result<Vec<usize>, OutOfMemory>
-    requires { AreNames names.old }
-    ensures names { OnOk result (Gathers names.old (retrieved topic.now run.now) names.new) }
+) -> Result<Vec<usize>, Memory>
+    requires { AreDistinctNames names.old }
+    ensures names { OnOk result (AddsNames names.old (retrieved topic.now run.now) names.new) }
     ensures numbers { IfOk result (λ numbers. AreRankedNumbers names.new (rows_on_topic run.now topic.now) numbers.items) }
 {
     // The documents of the rows are names.
@@ -78,9 +78,9 @@ fn add_runs<'n>(
     names: &mut NameIndex<'n>,
     runs: &'n [RunRows],
     topic: &[u8],
-) -> Result<Vec<Vec<usize>>, OutOfMemory>
-    requires { AreNames names.old }
-    ensures names { OnOk result (Gathers names.old (flat_map (retrieved topic.now) runs.now) names.new) }
+) -> Result<Vec<Vec<usize>>, Memory>
+    requires { AreDistinctNames names.old }
+    ensures names { OnOk result (AddsNames names.old (flat_map (retrieved topic.now) runs.now) names.new) }
     ensures numbers { IfOk result (λ numbers. AllZip (λ run each. AreRankedNumbers names.new (rows_on_topic run topic.now) each) runs.now (map (λ each. each.items) numbers.items)) }
 {
     let mut numbers = Vec::with_capacity(alloc, runs.len())?;
@@ -97,7 +97,7 @@ pub fn universe_of<'n>(
     t: usize,
     runs: &'n [RunRows],
     topic: &[u8],
-) -> Result<Universe<'n>, OutOfMemory>
+) -> Result<Universe<'n>, Memory>
     requires { t < length qrels.now }
     ensures { IfOk result (λ universe. IsUniverseOf qrels.now t runs.now topic.now universe.pairs.items (map (λ each. each.items) universe.numbers.items)) }
 {

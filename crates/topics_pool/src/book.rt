@@ -6,18 +6,18 @@ ghost use Rattle.desk_model.specs.Name.{is_name};
 ghost use Rattle.desk_model.specs.Book.{IsBook};
 ghost use Rattle.file_rows.specs.Grouped.{rows_at, names_of};
 ghost use Rattle.run_reader.specs.declared.limits.TheConstants.{MOST_RUN_ROWS};
-ghost use Rattle.topic_universe.specs.Names.{AreNames, AreAmong};
+ghost use Rattle.topic_universe.specs.Names.{AreDistinctNames, AreAmong};
 ghost use Rattle.topics_pool.specs.Rows.{grade_in, total_rows, topic_names, IsBookOf};
 ghost use Rattle.topics_pool.specs.Made.{AreBooksOf, AreRankingsOf, HaveOneMore, IsNumberedAfter, book_over};
 
 use crate::rankings::rank_topic;
 use crate::runs::forget_topic;
-use desk_model::{Name, Ranking, TopicBook};
+use desk_model::{Memory, Name, Ranking, TopicBook};
 use file_rows::NameIndex;
 use qrels_reader::Qrels;
 use run_reader::RunRows;
 use std::alloc::{AllocError, Global};
-use topic_universe::{Numbered, OutOfMemory, ascending, copied, named, places, universe_of};
+use topic_universe::{Numbered, ascending, copied, places, universe_of};
 
 // The grade that topic `t` of the qrels gives a document, where it lists it: its documents have the first numbers.
 fn listed_grade(qrels: &Qrels, t: usize, doc: &Numbered<'_>) -> Option<i32>
@@ -57,7 +57,7 @@ fn graded_book(
     t: usize,
     name: &[u8],
     pairs: &[Numbered<'_>],
-) -> Result<TopicBook, OutOfMemory>
+) -> Result<TopicBook, Memory>
     requires topic { t < length qrels.now }
     requires names { All (λ pair. is_name pair.0.now ≡ true) pairs.now }
     requires numbers { All (λ pair. IsNumberedAfter (rows_at qrels.now t) pair.0.now pair.1) pairs.now }
@@ -66,7 +66,7 @@ fn graded_book(
 {
     let docs = copied(alloc, pairs)?;
     let grades = listed_grades(alloc, qrels, t, pairs)?;
-    Ok(TopicBook::new(named(alloc, name)?, docs, grades))
+    Ok(TopicBook::new(Name::copy_of(alloc, name)?, docs, grades))
 }
 
 // The topic of this name, which is topic `t` of the qrels. Each run gets its ranking.
@@ -77,7 +77,7 @@ fn topic_book(
     name: &[u8],
     runs: &[RunRows],
     rankings: &mut [Vec<Ranking>],
-) -> Result<TopicBook, OutOfMemory>
+) -> Result<TopicBook, Memory>
     requires place { position (bytes_eq name.now) (names_of qrels.now) ≡ Some t }
     requires named { is_name name.now ≡ true }
     requires rows { total_rows runs.now ≤ MOST_RUN_ROWS }
@@ -98,7 +98,7 @@ fn topic_book(
 
 fn qrels_topics(alloc: Global, qrels: &Qrels) -> Result<NameIndex<'_>, AllocError>
     ensures topics { IfOk result (λ names. names ≡ names_of qrels.now) }
-    ensures names { IfOk result (λ names. AreNames names) }
+    ensures names { IfOk result (λ names. AreDistinctNames names) }
 {
     let mut names = NameIndex::new(alloc);
     for t in 0..qrels.topics() {
@@ -115,7 +115,7 @@ fn books_of(
     names: &[Name],
     runs: &mut [RunRows],
     rankings: &mut [Vec<Ranking>],
-) -> Result<Vec<TopicBook>, OutOfMemory>
+) -> Result<Vec<TopicBook>, Memory>
     requires topics { topics.now ≡ names_of qrels.now }
     requires names { AreAmong names.now topics.now }
     requires distinct { IsDistinct bytes_eq names.now }
@@ -144,7 +144,7 @@ pub fn topic_books(
     qrels: &Qrels,
     runs: &mut [RunRows],
     rankings: &mut [Vec<Ranking>],
-) -> Result<Vec<TopicBook>, OutOfMemory>
+) -> Result<Vec<TopicBook>, Memory>
     requires rows { total_rows runs.old ≤ MOST_RUN_ROWS }
     requires none { AllZip (AreRankingsOf []) runs.old (map (λ each. each.items) rankings.old) }
     ensures books { IfOk result (λ books. AreBooksOf qrels.now runs.old books.items) }

@@ -1,5 +1,6 @@
 // The desk of rows.
 ghost use Rattle.std.specs.Prelude.{◌≡◌, ◌<◌, ◌≤◌, IfOk, IfErr, OnOk, vec_len, length};
+ghost use Rattle.desk_model.specs.Limits.{RUN_LIMIT};
 ghost use Rattle.run_reader.specs.declared.limits.TheConstants.{MOST_RUN_ROWS};
 ghost use Rattle.topics_pool.specs.Rows.{IsDeskOf, IsNoFault, IsFaultOf, total_rows};
 
@@ -8,16 +9,15 @@ use crate::fault::DeskFault;
 use crate::limits::MOST_CELLS;
 use crate::rankings::no_rankings;
 use crate::runs::{cell_count, names_of_runs, repeated_run};
-use desk_model::Desk;
+use desk_model::{Desk, Memory};
 use qrels_reader::Qrels;
 use run_reader::RunRows;
 use std::alloc::Global;
-use topic_universe::OutOfMemory;
 
 // The desk of rows that have no fault. The runs give back their rows.
-fn desk_of(alloc: Global, qrels: &Qrels, runs: &mut [RunRows]) -> Result<Desk, OutOfMemory>
+fn desk_of(alloc: Global, qrels: &Qrels, runs: &mut [RunRows]) -> Result<Desk, Memory>
     requires some { 0 < length runs.old }
-    requires few { length runs.old ≤ 256 }
+    requires few { length runs.old ≤ RUN_LIMIT }
     requires rows { total_rows runs.old ≤ MOST_RUN_ROWS }
     requires right { IsNoFault qrels.now runs.old }
     ensures { IfOk result (λ desk. IsDeskOf qrels.now runs.old desk) }
@@ -33,7 +33,7 @@ fn desk_of(alloc: Global, qrels: &Qrels, runs: &mut [RunRows]) -> Result<Desk, O
 // Looks for the first fault of rows.
 fn check_rows(qrels: &Qrels, runs: &[RunRows]) -> Result<(), DeskFault>
     requires some { 0 < length runs.now }
-    requires few { length runs.now ≤ 256 }
+    requires few { length runs.now ≤ RUN_LIMIT }
     ensures right { OnOk result (IsNoFault qrels.now runs.now) }
     ensures fault { IfErr result (IsFaultOf qrels.now runs.now) }
 {
@@ -53,7 +53,7 @@ fn check_rows(qrels: &Qrels, runs: &[RunRows]) -> Result<(), DeskFault>
 /// where pairs times topics exceed the limit.
 pub fn build_desk(alloc: Global, qrels: Qrels, mut runs: Vec<RunRows>) -> Result<Desk, DeskFault>
     requires some { 0 < vec_len runs }
-    requires few { vec_len runs ≤ 256 }
+    requires few { vec_len runs ≤ RUN_LIMIT }
     requires rows { total_rows runs.items ≤ MOST_RUN_ROWS }
     ensures desk { IfOk result (IsDeskOf qrels runs.items) }
     ensures right { IfOk result (λ _. IsNoFault qrels runs.items) }

@@ -2,8 +2,8 @@
 ghost use Rattle.std.specs.Prelude.{◌≡◌};
 ghost use Rattle.topics_pool.specs.declared.fault.DeskFault.TheVariants.{Memory as NoMemory};
 
+use desk_model::Memory;
 use thiserror::Error;
-use topic_universe::OutOfMemory;
 
 /// Why rows make no desk.
 #[derive(Clone, Copy, Debug, PartialEq, Eq, Error)]
@@ -25,10 +25,10 @@ pub enum DeskFault {
     Memory,
 }
 
-impl From<OutOfMemory> for DeskFault {
+impl From<Memory> for DeskFault {
     ghost from_gives = { λ _ e. e ≡ NoMemory };
 
-    fn from(_: OutOfMemory) -> DeskFault {
+    fn from(_: Memory) -> DeskFault {
         DeskFault::Memory
     }
 }

@@ -1,4 +1,4 @@
-//! The desk of the rows of files, and the pool of a depth.
+//! The desk of the rows of files.
 #![tactic(auto)]
 
 mod book;
@@ -10,7 +10,7 @@ mod rankings;
 mod runs;
 
 pub use build::build_desk;
-pub use desk_model::{PoolCount, pool_count};
 pub use fault::DeskFault;
 pub use laws::{desk_is_one, rows_add_up};
 pub use limits::{MOST_CELLS, MOST_RUNS};
+pub use runs::repeated_run;

@@ -3,10 +3,9 @@ ghost use Rattle.std.specs.Prelude.{◌≡◌, ◌<◌, [], ◌∷◌, ◌++◌,
 ghost use Rattle.std.specs.List.{AllZip};
 ghost use Rattle.topics_pool.specs.Made.{AreDocsOf, IsRankingOf, AreRankingsOf, HaveOneMore};
 
-use desk_model::{Ranking, TopicBook};
+use desk_model::{Memory, Ranking, TopicBook};
 use run_reader::RunRows;
 use std::alloc::{AllocError, Global};
-use topic_universe::OutOfMemory;
 
 // The places of numbers.
 fn placed(alloc: Global, numbers: &[usize], places: &[u32]) -> Result<Vec<u32>, AllocError>
@@ -26,7 +25,7 @@ fn topic_ranking(
     book: &TopicBook,
     numbers: &[usize],
     places: &[u32],
-) -> Result<Ranking, OutOfMemory>
+) -> Result<Ranking, Memory>
     requires { AreDocsOf run.now book.now places.now numbers.now }
     ensures { IfOk result (λ ranking. IsRankingOf run.now book.now ranking) }
 {
@@ -57,7 +56,7 @@ pub fn rank_topic(
     numbers: &[Vec<usize>],
     places: &[u32],
     rankings: &mut [Vec<Ranking>],
-) -> Result<(), OutOfMemory>
+) -> Result<(), Memory>
     requires docs { AllZip (λ run each. AreDocsOf run book.now places.now each) runs.now (map (λ each. each.items) numbers.now) }
     requires each { length rankings.old ≡ length runs.now }
     ensures { OnOk result (HaveOneMore runs.now book.now (map (λ each. each.items) rankings.old) (map (λ each. each.items) rankings.new)) }

@@ -1,15 +1,15 @@
 // The names, the number and the rows of runs.
 ghost use Rattle.std.specs.Prelude.{◌≡◌, ◌<◌, ◌≤◌, true, All, IfOk, IfSome, length};
 ghost use Rattle.std.specs.List.{AllZip};
+ghost use Rattle.desk_model.specs.Limits.{RUN_LIMIT};
 ghost use Rattle.desk_model.specs.Name.{is_name};
 ghost use Rattle.topics_pool.specs.Rows.{run_names, is_repeated, first_repeated, cells_of};
 ghost use Rattle.topics_pool.specs.Made.{Forgets};
 
-use desk_model::Name;
+use desk_model::{Memory, Name};
 use qrels_reader::Qrels;
 use run_reader::RunRows;
 use std::alloc::Global;
-use topic_universe::{OutOfMemory, named};
 
 // Whether an earlier run has the name of run `r`.
 fn has_earlier_name(runs: &[RunRows], r: usize) -> bool
@@ -41,7 +41,7 @@ pub fn repeated_run(runs: &[RunRows]) -> Option<usize>
 /// Pairs of runs times topics.
 pub fn cell_count(qrels: &Qrels, runs: &[RunRows]) -> u64
     requires some { 0 < length runs.now }
-    requires few { length runs.now ≤ 256 }
+    requires few { length runs.now ≤ RUN_LIMIT }
     ensures { result ≡ cells_of qrels.now runs.now }
 {
     let count = runs.len() as u64;
@@ -49,13 +49,13 @@ pub fn cell_count(qrels: &Qrels, runs: &[RunRows]) -> u64
 }
 
 /// The names of runs, in their order.
-pub fn names_of_runs(alloc: Global, runs: &[RunRows]) -> Result<Vec<Name>, OutOfMemory>
+pub fn names_of_runs(alloc: Global, runs: &[RunRows]) -> Result<Vec<Name>, Memory>
     ensures names { IfOk result (λ names. names.items ≡ run_names runs.now) }
     ensures named { IfOk result (λ _. All (λ name. is_name name ≡ true) (run_names runs.now)) }
 {
     let mut names = Vec::with_capacity(alloc, runs.len())?;
     for run in runs {
-        names.push(named(alloc, run.name())?)?;
+        names.push(Name::copy_of(alloc, run.name())?)?;
     }
     Ok(names)
 }

@@ -2,7 +2,7 @@ use Rattle.std.proofs.Common.{◌≡◌, ℕ, List, ap, inl, inr}
 use Rattle.std.specs.Prelude.{Option, Some, None, Result, Ok, Err, IfSome, IsErrAnd}
 use Rattle.std.proofs.lemmas.Result.{IfOk-from_err}
 use Rattle.std.proofs.Math.Nat.{le_refl}
-use Rattle.order_certificate.specs.Form.{IsFirstBad}
+use Rattle.line_forms.specs.Form.{IsFirstBad}
 use Rattle.order_certificate.specs.Places.{certificate_places, IsText}
 use Rattle.order_certificate.specs.declared.certificate.Certificate.{Certificate}
 use Rattle.desk_outside.specs.Outside.{Files}
@@ -32,20 +32,20 @@ has_bad_line (Some files) there path bytes line same fed bad = inr (bytes, fed, 
 
 pub returns-in_err-bytes-clause-reads : goal.returns-in_err-bytes-clause-reads
 returns-in_err-bytes-clause-reads g c =
-    stops_with_file (g.F.Shelf.files c.args.files.now) (g.F.Shelf.faults c.args.files.now) (g.F.Shelf.faults c.read_file.new.files) c.args.path.now c.from_residual.result c.in_err-bytes.field-0.0 c.from_residual.ensures.1 (rw c.as_str-path.ensures at c.in_err-bytes.ensures.gives)
+    stops_with_file (g.F.Shelf.state c.args.files.now).files (g.F.Shelf.state c.args.files.now).faults (g.F.Shelf.state c.read_file.new.files).faults c.args.path.now c.from_residual.result c.in_err-bytes.field-0.0 c.from_residual.ensures.1 (rw c.as_str-path.ensures at c.in_err-bytes.ensures.gives)
 
 pub returns-in_err-bytes-clause-certificate : goal.returns-in_err-bytes-clause-certificate
 returns-in_err-bytes-clause-certificate g c = IfOk-from_err c.from_residual.result _ c.from_residual.ensures.0
 
 pub returns-in-Ok-clause-reads : goal.returns-in-Ok-clause-reads
 returns-in-Ok-clause-reads g c =
-    let whole : IsFedWhole (g.F.Shelf.files c.args.files.now) c.args.path.now c.in_ok-bytes.bytes.items = rw c.as_str-path.ensures at c.in_ok-bytes.ensures.gives in
-    is_of_file (g.F.Shelf.files c.args.files.now) c.args.path.now c.in_ok-bytes.bytes.items c.in-Ok.certificate whole (rw c.deref.ensures.value at c.in-Ok.ensures)
+    let whole : IsFedWhole (g.F.Shelf.state c.args.files.now).files c.args.path.now c.in_ok-bytes.bytes.items = rw c.as_str-path.ensures at c.in_ok-bytes.ensures.gives in
+    is_of_file (g.F.Shelf.state c.args.files.now).files c.args.path.now c.in_ok-bytes.bytes.items c.in-Ok.certificate whole (rw c.deref.ensures.value at c.in-Ok.ensures)
 
 pub returns-in-Err-BadLine-clause-reads : goal.returns-in-Err-BadLine-clause-reads
 returns-in-Err-BadLine-clause-reads g c =
-    let whole : IsFedWhole (g.F.Shelf.files c.args.files.now) c.args.path.now c.in_ok-bytes.bytes.items = rw c.as_str-path.ensures at c.in_ok-bytes.ensures.gives in
-    has_bad_line (g.F.Shelf.files c.args.files.now) c.as_str-path.result.now c.args.path.now c.in_ok-bytes.bytes.items c.in-Err-BadLine.line c.as_str-path.ensures whole (rw (c.in-Err-BadLine.field-0-is, c.deref.ensures.value) at c.in-Err-BadLine.ensures)
+    let whole : IsFedWhole (g.F.Shelf.state c.args.files.now).files c.args.path.now c.in_ok-bytes.bytes.items = rw c.as_str-path.ensures at c.in_ok-bytes.ensures.gives in
+    has_bad_line (g.F.Shelf.state c.args.files.now).files c.as_str-path.result.now c.args.path.now c.in_ok-bytes.bytes.items c.in-Err-BadLine.line c.as_str-path.ensures whole (rw (c.in-Err-BadLine.field-0-is, c.deref.ensures.value) at c.in-Err-BadLine.ensures)
 
 pub returns-in_err-bytes-clause-opened : goal.returns-in_err-bytes-clause-opened
 returns-in_err-bytes-clause-opened g c = rw c.as_str-path.ensures at c.read_file.ensures.opened

@@ -20,9 +20,9 @@ comes_to_both (Some files) check rows c read text = (read, text)
 
 pub returns-in_err-desk-clause-makes : goal.returns-in_err-desk-clause-makes
 returns-in_err-desk-clause-makes g c =
-    let known = g.F.Shelf.files c.args.files.now in
-    let before = g.F.Shelf.faults c.args.files.now in
-    let now = g.F.Shelf.faults c.load_desk.new.files in
+    let known = (g.F.Shelf.state c.args.files.now).files in
+    let before = (g.F.Shelf.state c.args.files.now).faults in
+    let now = (g.F.Shelf.state c.load_desk.new.files).faults in
     let check = c.args.check.now in
     let stop = c.in_err-desk.field-0.0 in
     handed_on (λ r. MakesCheck known before now check r) c.from_residual.result stop c.from_residual.ensures.1
@@ -30,10 +30,10 @@ returns-in_err-desk-clause-makes g c =
 
 pub returns-in_err-certificate-clause-makes : goal.returns-in_err-certificate-clause-makes
 returns-in_err-certificate-clause-makes g c =
-    let known = g.F.Shelf.files c.args.files.now in
-    let before = g.F.Shelf.faults c.args.files.now in
-    let between = g.F.Shelf.faults c.load_desk.new.files in
-    let now = g.F.Shelf.faults c.load_certificate.new.files in
+    let known = (g.F.Shelf.state c.args.files.now).files in
+    let before = (g.F.Shelf.state c.args.files.now).faults in
+    let between = (g.F.Shelf.state c.load_desk.new.files).faults in
+    let now = (g.F.Shelf.state c.load_certificate.new.files).faults in
     let check = c.args.check.now in
     let stop = c.in_err-certificate.field-0.0 in
     let made = c.in_ok-desk.ensures.makes in
@@ -44,7 +44,7 @@ returns-in_err-certificate-clause-makes g c =
 
 pub returns-clause-makes : goal.returns-clause-makes
 returns-clause-makes g c =
-    let known = g.F.Shelf.files c.args.files.now in
+    let known = (g.F.Shelf.state c.args.files.now).files in
     let check = c.args.check.now in
     let made = c.in_ok-desk.ensures.makes in
     let certificate = c.in_ok-certificate.certificate in
@@ -70,17 +70,17 @@ pub returns-clause-later : goal.returns-clause-later
 returns-clause-later g c = le_trans c.load_desk.ensures.later c.load_certificate.ensures.later
 
 pub returns-in_err-desk-clause-opened : goal.returns-in_err-desk-clause-opened
-returns-in_err-desk-clause-opened g c = opens_for_desk (g.F.Shelf.files c.args.files.now) c.args.check.now _ _ c.load_desk.ensures.opened
+returns-in_err-desk-clause-opened g c = opens_for_desk (g.F.Shelf.state c.args.files.now).files c.args.check.now _ _ c.load_desk.ensures.opened
 
 pub returns-in_err-certificate-clause-opened : goal.returns-in_err-certificate-clause-opened
 returns-in_err-certificate-clause-opened g c =
     let made = c.in_ok-desk.ensures.makes in
-    opens_all_and_certificate (g.F.Shelf.files c.args.files.now) c.args.check.now made.0 _ _ _ made.1 c.in_ok-desk.ensures.all c.load_certificate.ensures.opened
+    opens_all_and_certificate (g.F.Shelf.state c.args.files.now).files c.args.check.now made.0 _ _ _ made.1 c.in_ok-desk.ensures.all c.load_certificate.ensures.opened
 
 pub returns-clause-opened : goal.returns-clause-opened
 returns-clause-opened g c =
     let made = c.in_ok-desk.ensures.makes in
-    opens_all_and_certificate (g.F.Shelf.files c.args.files.now) c.args.check.now made.0 _ _ _ made.1 c.in_ok-desk.ensures.all c.load_certificate.ensures.opened
+    opens_all_and_certificate (g.F.Shelf.state c.args.files.now).files c.args.check.now made.0 _ _ _ made.1 c.in_ok-desk.ensures.all c.load_certificate.ensures.opened
 
 pub returns-in_err-desk-clause-files : goal.returns-in_err-desk-clause-files
 returns-in_err-desk-clause-files g c = c.load_desk.ensures.files

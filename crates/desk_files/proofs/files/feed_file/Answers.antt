@@ -11,7 +11,7 @@ returns-in_default-clause-gives g c = inl (omega (arith, c.in_default.ensures.ca
 
 pub returns-then-read-eq0-clause-gives : goal.returns-then-read-eq0-clause-gives
 returns-then-read-eq0-clause-gives g c =
-    reads_whole (g.F.Shelf.files c.args.files.now) c.args.path.now (g.F.Shelf.rest c.pieces.files) (g.F.Shelf.rest c.read.new.self) (g.T.Taker.taken c.pieces.taker)
+    reads_whole (g.F.Shelf.state c.args.files.now).files c.args.path.now (g.F.Shelf.state c.pieces.files).rest (g.F.Shelf.state c.read.new.self).rest (g.T.Taker.taken c.pieces.taker)
     (omega (arith, c.pieces-test.true, c.pieces.invariant.counted)) c.pieces.invariant.reads (rw c.if-read-eq0.true at c.in-Ok.ensures.bytes) (c.in-Ok.ensures.end c.if-read-eq0.true)
 
 pub pieces-preserved : goal.pieces-preserved
@@ -31,7 +31,7 @@ pieces-preserved g c =
       within = omega (arith, c.read.auto.room, length-take c.min-most.result c.pieces.room);
       counted = counted_piece old (g.T.Taker.taken c.take.new.self) room beyond c.pieces.count n read.bound.0 read.bound.1 taken kept.counted;
       beside = c.in_ok-take.ensures.beside ∙ kept.beside;
-      reads = reads_piece (g.F.Shelf.files c.args.files.now) c.args.path.now (g.F.Shelf.rest c.pieces.files) (g.F.Shelf.rest c.read.new.self) old (g.T.Taker.taken c.take.new.self) room beyond n read.bound.0 taken kept.reads read.bytes;
+      reads = reads_piece (g.F.Shelf.state c.args.files.now).files c.args.path.now (g.F.Shelf.state c.pieces.files).rest (g.F.Shelf.state c.read.new.self).rest old (g.T.Taker.taken c.take.new.self) room beyond n read.bound.0 taken kept.reads read.bytes;
     }
 
 -- a bound stays where the list grows
@@ -69,7 +69,7 @@ pub returns-in_err-take-clause-beside : goal.returns-in_err-take-clause-beside
 returns-in_err-take-clause-beside g c = c.in_err-take.ensures.beside ∙ c.pieces.invariant.beside
 
 pub returns-in_err-take-clause-gives : goal.returns-in_err-take-clause-gives
-returns-in_err-take-clause-gives g c = gives_memory (g.F.Shelf.files c.args.files.now) (g.F.Shelf.faults c.args.files.now) (g.F.Shelf.faults c.read.new.self) _ c.from_residual.result (λ held. whole_file c.args.path.now (held c.args.path.now)) c.from_residual.ensures.1
+returns-in_err-take-clause-gives g c = gives_memory (g.F.Shelf.state c.args.files.now).files (g.F.Shelf.state c.args.files.now).faults (g.F.Shelf.state c.read.new.self).faults _ c.from_residual.result (λ held. whole_file c.args.path.now (held c.args.path.now)) c.from_residual.ensures.1
 
 pub slice_bounds-room-end-in-pieces : goal.slice_bounds-room-end-in-pieces
 slice_bounds-room-end-in-pieces g c = at_more c.in-Ok.read c.read.new.room (drop c.min-most.result c.pieces.room) c.in-Ok.ensures.bound.0
@@ -93,14 +93,14 @@ pieces-smaller g c = omega (arith, c.if-read-eq0.false, c.pieces-test.true)
 
 pub pieces-init : goal.pieces-init
 pieces-init g c =
-    let told = g.F.Shelf.files c.args.files.now in
+    let told = (g.F.Shelf.state c.args.files.now).files in
     let path = c.args.path.now in
-    let rest = g.F.Shelf.rest c.args.files.now in
+    let rest = (g.F.Shelf.state c.args.files.now).rest in
     record {
       files = refl;
       names = refl;
       opened = c.requires.open;
-      later = le_refl (g.F.Shelf.faults c.args.files.now);
+      later = le_refl (g.F.Shelf.state c.args.files.now).faults;
       within = omega arith;
       counted = sym (ap length c.requires.none);
       beside = refl;
@@ -115,7 +115,7 @@ read-requires-clause-open g c = c.pieces.invariant.opened
 
 pub returns-clause-gives : goal.returns-clause-gives
 returns-clause-gives g c =
-    reads_too_long (g.F.Shelf.files c.args.files.now) c.args.path.now (g.F.Shelf.rest c.pieces.files) (g.T.Taker.taken c.pieces.taker) (omega (arith, c.pieces-test.false, c.pieces.invariant.counted)) c.pieces.invariant.reads
+    reads_too_long (g.F.Shelf.state c.args.files.now).files c.args.path.now (g.F.Shelf.state c.pieces.files).rest (g.T.Taker.taken c.pieces.taker) (omega (arith, c.pieces-test.false, c.pieces.invariant.counted)) c.pieces.invariant.reads
 
 pub returns-clause-beside : goal.returns-clause-beside
 returns-clause-beside g c = c.pieces.invariant.beside

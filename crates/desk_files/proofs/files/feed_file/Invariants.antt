@@ -4,14 +4,14 @@ use Rattle.desk_files.proofs.files.feed_file.Given as goal
 
 abbrev pub invariant-pieces : goal.invariant-pieces
 invariant-pieces g l = record {
-  files : g.F.Shelf.files l.files ≡ g.F.Shelf.files l.fn.files;
-  names : g.F.Shelf.opened l.files ≡ g.F.Shelf.opened l.fn.files;
-  opened : g.F.Shelf.is_open l.files ≡ true;
-  later : g.F.Shelf.faults l.fn.files ≤ g.F.Shelf.faults l.files;
+  files : (g.F.Shelf.state l.files).files ≡ (g.F.Shelf.state l.fn.files).files;
+  names : (g.F.Shelf.state l.files).opened ≡ (g.F.Shelf.state l.fn.files).opened;
+  opened : (g.F.Shelf.state l.files).is_open ≡ true;
+  later : (g.F.Shelf.state l.fn.files).faults ≤ (g.F.Shelf.state l.files).faults;
   within : l.count ≤ 1073741825;
   counted : l.count ≡ length (g.T.Taker.taken l.taker);
   beside : g.T.Taker.beside l.taker ≡ g.T.Taker.beside l.fn.taker;
-  reads : Reads (g.F.Shelf.files l.fn.files) l.path (g.F.Shelf.rest l.files) (g.T.Taker.taken l.taker);
+  reads : Reads (g.F.Shelf.state l.fn.files).files l.path (g.F.Shelf.state l.files).rest (g.T.Taker.taken l.taker);
 }
 
 abbrev pub decreases-pieces : goal.decreases-pieces

@@ -8,17 +8,17 @@ use Rattle.desk_files.proofs.files.read_file.Goals as goal
 
 pub returns-in_err-open_file-clause-gives : goal.returns-in_err-open_file-clause-gives
 returns-in_err-open_file-clause-gives g c =
-    let told = g.F.Shelf.files c.args.files.now in
-    let faults = g.F.Shelf.faults c.args.files.now in
+    let told = (g.F.Shelf.state c.args.files.now).files in
+    let faults = (g.F.Shelf.state c.args.files.now).faults in
     let path = c.args.path.now in
-    gives_handed_on told told faults faults (g.F.Shelf.faults c.open_file.new.files) (λ v. v.items) c.from_residual.result c.in_err-open_file.field-0.0 (λ held. whole_file path (held path)) (λ held. whole_file path (held path))
+    gives_handed_on told told faults faults (g.F.Shelf.state c.open_file.new.files).faults (λ v. v.items) c.from_residual.result c.in_err-open_file.field-0.0 (λ held. whole_file path (held path)) (λ held. whole_file path (held path))
     refl c.from_residual.ensures.1 (omega arith) c.in_err-open_file.ensures.stops (λ files halt t stop. stop)
 
 pub returns-in_err-feed_file-clause-gives : goal.returns-in_err-feed_file-clause-gives
 returns-in_err-feed_file-clause-gives g c =
     let opened = c.open_file.new.files in
     let path = c.args.path.now in
-    gives_handed_on (g.F.Shelf.files c.args.files.now) (g.F.Shelf.files opened) (g.F.Shelf.faults c.args.files.now) (g.F.Shelf.faults opened) (g.F.Shelf.faults c.feed_file.new.files) (λ v. v.items) c.from_residual-in_err-feed_file.result c.in_err-feed_file.field-0.0
+    gives_handed_on (g.F.Shelf.state c.args.files.now).files (g.F.Shelf.state opened).files (g.F.Shelf.state c.args.files.now).faults (g.F.Shelf.state opened).faults (g.F.Shelf.state c.feed_file.new.files).faults (λ v. v.items) c.from_residual-in_err-feed_file.result c.in_err-feed_file.field-0.0
     (λ held. whole_file path (held path)) (λ held. whole_file path (held path)) c.open_file.ensures.files c.from_residual-in_err-feed_file.ensures.1 c.open_file.ensures.later c.in_err-feed_file.ensures.gives (λ files halt t stop. stop)
 
 pub returns-clause-gives : goal.returns-clause-gives
@@ -26,7 +26,7 @@ returns-clause-gives g c = subst (λ told. IsFedWhole told c.args.path.now c.fee
 
 pub feed_file-requires-clause-content : goal.feed_file-requires-clause-content
 feed_file-requires-clause-content g c =
-    subst (λ told. Opens told c.args.path.now (g.F.Shelf.rest c.open_file.new.files)) (sym c.open_file.ensures.files) c.in_ok-open_file.ensures.content
+    subst (λ told. Opens told c.args.path.now (g.F.Shelf.state c.open_file.new.files).rest) (sym c.open_file.ensures.files) c.in_ok-open_file.ensures.content
 
 pub returns-in_err-feed_file-clause-files : goal.returns-in_err-feed_file-clause-files
 returns-in_err-feed_file-clause-files g c = c.feed_file.ensures.files ∙ c.open_file.ensures.files

@@ -9,34 +9,34 @@ use Rattle.desk_files.proofs.load.load_qrels.Goals as goal
 
 pub returns-in_err-open_file-clause-gives : goal.returns-in_err-open_file-clause-gives
 returns-in_err-open_file-clause-gives g c =
-    let told = g.F.Shelf.files c.args.files.now in
-    let faults = g.F.Shelf.faults c.args.files.now in
-    stops_file qrels_of c.args.path.now told told faults faults (g.F.Shelf.faults c.open_file.new.files) (λ qrels. qrels) c.from_residual.result c.in_err-open_file.field-0.0 refl c.from_residual.ensures.1 (omega arith) c.in_err-open_file.ensures.stops
+    let told = (g.F.Shelf.state c.args.files.now).files in
+    let faults = (g.F.Shelf.state c.args.files.now).faults in
+    stops_file qrels_of c.args.path.now told told faults faults (g.F.Shelf.state c.open_file.new.files).faults (λ qrels. qrels) c.from_residual.result c.in_err-open_file.field-0.0 refl c.from_residual.ensures.1 (omega arith) c.in_err-open_file.ensures.stops
 
 pub returns-in_err-reader-clause-gives : goal.returns-in_err-reader-clause-gives
 returns-in_err-reader-clause-gives g c =
-    gives_memory (g.F.Shelf.files c.args.files.now) (g.F.Shelf.faults c.args.files.now) (g.F.Shelf.faults c.open_file.new.files) (λ qrels. qrels) c.from_residual-in_err-reader.result (λ held. file_as qrels_of held c.args.path.now) c.from_residual-in_err-reader.ensures.1
+    gives_memory (g.F.Shelf.state c.args.files.now).files (g.F.Shelf.state c.args.files.now).faults (g.F.Shelf.state c.open_file.new.files).faults (λ qrels. qrels) c.from_residual-in_err-reader.result (λ held. file_as qrels_of held c.args.path.now) c.from_residual-in_err-reader.ensures.1
 
 pub returns-in_err-feed_file-clause-gives : goal.returns-in_err-feed_file-clause-gives
 returns-in_err-feed_file-clause-gives g c =
-    let told = g.F.Shelf.files c.args.files.now in
-    let faults = g.F.Shelf.faults c.args.files.now in
+    let told = (g.F.Shelf.state c.args.files.now).files in
+    let faults = (g.F.Shelf.state c.args.files.now).faults in
     let opened = c.open_file.new.files in
-    stops_file qrels_of c.args.path.now told (g.F.Shelf.files opened) faults (g.F.Shelf.faults opened) (g.F.Shelf.faults c.feed_file.new.files) (λ qrels. qrels) c.from_residual-in_err-feed_file.result c.in_err-feed_file.field-0.0
+    stops_file qrels_of c.args.path.now told (g.F.Shelf.state opened).files faults (g.F.Shelf.state opened).faults (g.F.Shelf.state c.feed_file.new.files).faults (λ qrels. qrels) c.from_residual-in_err-feed_file.result c.in_err-feed_file.field-0.0
     c.open_file.ensures.files c.from_residual-in_err-feed_file.ensures.1 c.open_file.ensures.later c.in_err-feed_file.ensures.gives
 
 pub returns-in-Ok-clause-gives : goal.returns-in-Ok-clause-gives
 returns-in-Ok-clause-gives g c =
-    reads_file qrels_of c.args.path.now (g.F.Shelf.files c.args.files.now) (g.F.Shelf.files c.open_file.new.files) c.feed_file.new.taker c.in-Ok.qrels c.open_file.ensures.files c.in_ok-feed_file.ensures.gives c.in-Ok.ensures
+    reads_file qrels_of c.args.path.now (g.F.Shelf.state c.args.files.now).files (g.F.Shelf.state c.open_file.new.files).files c.feed_file.new.taker c.in-Ok.qrels c.open_file.ensures.files c.in_ok-feed_file.ensures.gives c.in-Ok.ensures
 
 pub returns-in-Err-clause-gives : goal.returns-in-Err-clause-gives
 returns-in-Err-clause-gives g c =
-    file_is_faulty qrels_of c.args.path.now (g.F.Shelf.files c.args.files.now) (g.F.Shelf.files c.open_file.new.files) (g.F.Shelf.faults c.args.files.now) (g.F.Shelf.faults c.feed_file.new.files) c.feed_file.new.taker c.in-Err.fault c.stop_of.result
+    file_is_faulty qrels_of c.args.path.now (g.F.Shelf.state c.args.files.now).files (g.F.Shelf.state c.open_file.new.files).files (g.F.Shelf.state c.args.files.now).faults (g.F.Shelf.state c.feed_file.new.files).faults c.feed_file.new.taker c.in-Err.fault c.stop_of.result
     c.open_file.ensures.files c.in_ok-feed_file.ensures.gives c.in-Err.ensures c.stop_of.ensures
 
 pub feed_file-requires-clause-content : goal.feed_file-requires-clause-content
 feed_file-requires-clause-content g c =
-    subst (λ told. Opens told c.args.path.now (g.F.Shelf.rest c.open_file.new.files)) (sym c.open_file.ensures.files) c.in_ok-open_file.ensures.content
+    subst (λ told. Opens told c.args.path.now (g.F.Shelf.state c.open_file.new.files).rest) (sym c.open_file.ensures.files) c.in_ok-open_file.ensures.content
 
 pub returns-in_err-feed_file-clause-files : goal.returns-in_err-feed_file-clause-files
 returns-in_err-feed_file-clause-files g c = c.feed_file.ensures.files ∙ c.open_file.ensures.files

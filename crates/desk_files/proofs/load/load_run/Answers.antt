@@ -29,50 +29,50 @@ returns-in-Ok-clause-rows g c =
 
 pub returns-in_err-open_file-clause-gives : goal.returns-in_err-open_file-clause-gives
 returns-in_err-open_file-clause-gives g c =
-    let told = g.F.Shelf.files c.args.files.now in
-    let faults = g.F.Shelf.faults c.args.files.now in
+    let told = (g.F.Shelf.state c.args.files.now).files in
+    let faults = (g.F.Shelf.state c.args.files.now).faults in
     let word = c.args.word.now in
-    stops_file (run_of word.name c.args.qrels.now c.args.used) word.path told told faults faults (g.F.Shelf.faults c.open_file.new.files) (λ run. run) c.from_residual.result c.in_err-open_file.field-0.0
+    stops_file (run_of word.name c.args.qrels.now c.args.used) word.path told told faults faults (g.F.Shelf.state c.open_file.new.files).faults (λ run. run) c.from_residual.result c.in_err-open_file.field-0.0
     refl c.from_residual.ensures.1 (omega arith) (rw c.as_str-path.ensures at c.in_err-open_file.ensures.stops)
 
 pub returns-in_err-reader-clause-gives : goal.returns-in_err-reader-clause-gives
 returns-in_err-reader-clause-gives g c =
     let word = c.args.word.now in
-    gives_memory (g.F.Shelf.files c.args.files.now) (g.F.Shelf.faults c.args.files.now) (g.F.Shelf.faults c.open_file.new.files) (λ run. run) c.from_residual-in_err-reader.result
+    gives_memory (g.F.Shelf.state c.args.files.now).files (g.F.Shelf.state c.args.files.now).faults (g.F.Shelf.state c.open_file.new.files).faults (λ run. run) c.from_residual-in_err-reader.result
     (λ held. file_as (run_of word.name c.args.qrels.now c.args.used) held word.path) c.from_residual-in_err-reader.ensures.1
 
 pub returns-in_err-feed_file-clause-gives : goal.returns-in_err-feed_file-clause-gives
 returns-in_err-feed_file-clause-gives g c =
-    let told = g.F.Shelf.files c.args.files.now in
-    let faults = g.F.Shelf.faults c.args.files.now in
+    let told = (g.F.Shelf.state c.args.files.now).files in
+    let faults = (g.F.Shelf.state c.args.files.now).faults in
     let opened = c.open_file.new.files in
     let word = c.args.word.now in
-    stops_file (run_of word.name c.args.qrels.now c.args.used) word.path told (g.F.Shelf.files opened) faults (g.F.Shelf.faults opened) (g.F.Shelf.faults c.feed_file.new.files) (λ run. run) c.from_residual-in_err-feed_file.result c.in_err-feed_file.field-0.0
+    stops_file (run_of word.name c.args.qrels.now c.args.used) word.path told (g.F.Shelf.state opened).files faults (g.F.Shelf.state opened).faults (g.F.Shelf.state c.feed_file.new.files).faults (λ run. run) c.from_residual-in_err-feed_file.result c.in_err-feed_file.field-0.0
     c.open_file.ensures.files c.from_residual-in_err-feed_file.ensures.1 c.open_file.ensures.later (rw c.as_str-path.ensures at c.in_err-feed_file.ensures.gives)
 
 pub returns-in-Ok-clause-gives : goal.returns-in-Ok-clause-gives
 returns-in-Ok-clause-gives g c =
     let word = c.args.word.now in
     let fed = c.feed_file.new.taker in
-    let opened = g.F.Shelf.files c.open_file.new.files in
+    let opened = (g.F.Shelf.state c.open_file.new.files).files in
     let whole : IsFedWhole opened word.path fed.fed = rw c.as_str-path.ensures at c.in_ok-feed_file.ensures.gives in
     let same = reads_as_given fed c.in_ok-reader.reader _ word.name c.args.used c.args.qrels.now c.feed_file.ensures.beside c.in_ok-reader.ensures c.given_name.ensures.name in
-    reads_file (run_of word.name c.args.qrels.now c.args.used) word.path (g.F.Shelf.files c.args.files.now) opened fed.fed c.in-Ok.run' c.open_file.ensures.files whole
+    reads_file (run_of word.name c.args.qrels.now c.args.used) word.path (g.F.Shelf.state c.args.files.now).files opened fed.fed c.in-Ok.run' c.open_file.ensures.files whole
     (subst (λ read. IsUnlessMemory (Ok c.in-Ok.run') (read fed.fed)) same c.in-Ok.ensures.run)
 
 pub returns-in-Err-clause-gives : goal.returns-in-Err-clause-gives
 returns-in-Err-clause-gives g c =
     let word = c.args.word.now in
     let fed = c.feed_file.new.taker in
-    let opened = g.F.Shelf.files c.open_file.new.files in
+    let opened = (g.F.Shelf.state c.open_file.new.files).files in
     let whole : IsFedWhole opened word.path fed.fed = rw c.as_str-path.ensures at c.in_ok-feed_file.ensures.gives in
     let same = reads_as_given fed c.in_ok-reader.reader _ word.name c.args.used c.args.qrels.now c.feed_file.ensures.beside c.in_ok-reader.ensures c.given_name.ensures.name in
-    file_is_faulty (run_of word.name c.args.qrels.now c.args.used) word.path (g.F.Shelf.files c.args.files.now) opened (g.F.Shelf.faults c.args.files.now) (g.F.Shelf.faults c.feed_file.new.files) fed.fed c.in-Err.fault c.stop_of.result
+    file_is_faulty (run_of word.name c.args.qrels.now c.args.used) word.path (g.F.Shelf.state c.args.files.now).files opened (g.F.Shelf.state c.args.files.now).faults (g.F.Shelf.state c.feed_file.new.files).faults fed.fed c.in-Err.fault c.stop_of.result
     c.open_file.ensures.files whole (subst (λ read. IsUnlessMemory (Err c.in-Err.fault) (read fed.fed)) same c.in-Err.ensures.run) (rw c.as_str-path.ensures at c.stop_of.ensures)
 
 pub feed_file-requires-clause-content : goal.feed_file-requires-clause-content
 feed_file-requires-clause-content g c =
-    subst (λ told. Opens told c.as_str-path.result.now (g.F.Shelf.rest c.open_file.new.files)) (sym c.open_file.ensures.files) c.in_ok-open_file.ensures.content
+    subst (λ told. Opens told c.as_str-path.result.now (g.F.Shelf.state c.open_file.new.files).rest) (sym c.open_file.ensures.files) c.in_ok-open_file.ensures.content
 
 pub feed_file-requires-clause-none : goal.feed_file-requires-clause-none
 feed_file-requires-clause-none g c = ap (λ (r : FedRun). r.fed) c.in_ok-reader.ensures

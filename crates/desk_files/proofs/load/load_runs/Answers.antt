@@ -20,7 +20,7 @@ loop-word-preserved g c =
     let i = c.loop-word.word-index in
     let word = c.word-item.result in
     let kept = c.loop-word.invariant in
-    let told = g.F.Shelf.files c.args.files.now in
+    let told = (g.F.Shelf.state c.args.files.now).files in
     let split : drop i words ≡ word ∷ drop (i + 1) words = drop_more words i word (omega arith) ∙ ap (λ w. w ∷ drop (i + 1) words) (sym c.word-item.is) in
     let left = rw split at kept.left in
     let gives = rw kept.files at c.in_ok-run.ensures.gives in
@@ -42,7 +42,7 @@ returns-in_err-run-clause-opened g c =
     let i = c.loop-word.word-index in
     let word = c.word-item.result in
     let split : drop i words ≡ word ∷ drop (i + 1) words = drop_more words i word (omega arith) ∙ ap (λ w. w ∷ drop (i + 1) words) (sym c.word-item.is) in
-    opens_last c.args.qrels.now (used_by c.args.qrels.now) words c.loop-word.used word (drop (i + 1) words) _ _ _ (g.F.Shelf.files c.args.files.now) (rw split at c.loop-word.invariant.opened) c.load_run.ensures.opened
+    opens_last c.args.qrels.now (used_by c.args.qrels.now) words c.loop-word.used word (drop (i + 1) words) _ _ _ (g.F.Shelf.state c.args.files.now).files (rw split at c.loop-word.invariant.opened) c.load_run.ensures.opened
 
 pub returns-in_err-push_run-clause-opened : goal.returns-in_err-push_run-clause-opened
 returns-in_err-push_run-clause-opened g c =
@@ -50,17 +50,17 @@ returns-in_err-push_run-clause-opened g c =
     let i = c.loop-word.word-index in
     let word = c.word-item.result in
     let split : drop i words ≡ word ∷ drop (i + 1) words = drop_more words i word (omega arith) ∙ ap (λ w. w ∷ drop (i + 1) words) (sym c.word-item.is) in
-    opens_last c.args.qrels.now (used_by c.args.qrels.now) words c.loop-word.used word (drop (i + 1) words) _ _ _ (g.F.Shelf.files c.args.files.now) (rw split at c.loop-word.invariant.opened) c.load_run.ensures.opened
+    opens_last c.args.qrels.now (used_by c.args.qrels.now) words c.loop-word.used word (drop (i + 1) words) _ _ _ (g.F.Shelf.state c.args.files.now).files (rw split at c.loop-word.invariant.opened) c.load_run.ensures.opened
 
 pub returns-clause-opened : goal.returns-clause-opened
 returns-clause-opened g c =
     let words = c.args.words.now in
-    opens_all (g.F.Shelf.files c.args.files.now) c.args.qrels.now (used_by c.args.qrels.now) words c.loop-word.used _ _ (rw (drop_all c.loop-word.word-index words (omega arith)) at c.loop-word.invariant.opened)
+    opens_all (g.F.Shelf.state c.args.files.now).files c.args.qrels.now (used_by c.args.qrels.now) words c.loop-word.used _ _ (rw (drop_all c.loop-word.word-index words (omega arith)) at c.loop-word.invariant.opened)
 
 pub returns-clause-all : goal.returns-clause-all
 returns-clause-all g c =
     let words = c.args.words.now in
-    opened_all (g.F.Shelf.files c.args.files.now) c.args.qrels.now (used_by c.args.qrels.now) words c.loop-word.used _ _ (rw (drop_all c.loop-word.word-index words (omega arith)) at c.loop-word.invariant.opened)
+    opened_all (g.F.Shelf.state c.args.files.now).files c.args.qrels.now (used_by c.args.qrels.now) words c.loop-word.used _ _ (rw (drop_all c.loop-word.word-index words (omega arith)) at c.loop-word.invariant.opened)
 
 pub returns-in_err-run-clause-gives : goal.returns-in_err-run-clause-gives
 returns-in_err-run-clause-gives g c =
@@ -69,13 +69,13 @@ returns-in_err-run-clause-gives g c =
     let i = c.loop-word.word-index in
     let word = c.word-item.result in
     let kept = c.loop-word.invariant in
-    let told = g.F.Shelf.files c.args.files.now in
+    let told = (g.F.Shelf.state c.args.files.now).files in
     let used = c.loop-word.used in
     let done = c.loop-word.runs.items in
     let before = c.loop-word.files in
     let split : drop i words ≡ word ∷ drop (i + 1) words = drop_more words i word (omega arith) ∙ ap (λ w. w ∷ drop (i + 1) words) (sym c.word-item.is) in
     let left : Reaches told qrels (used_by qrels) words used done (word ∷ drop (i + 1) words) = rw split at kept.left in
-    gives_handed_on told (g.F.Shelf.files before) (g.F.Shelf.faults c.args.files.now) (g.F.Shelf.faults before) (g.F.Shelf.faults c.load_run.new.files) (λ runs. runs.items) c.from_residual.result c.in_err-run.field-0.0
+    gives_handed_on told (g.F.Shelf.state before).files (g.F.Shelf.state c.args.files.now).faults (g.F.Shelf.state before).faults (g.F.Shelf.state c.load_run.new.files).faults (λ runs. runs.items) c.from_residual.result c.in_err-run.field-0.0
     (λ held. file_as (run_of word.name qrels used) held word.path) (λ held. runs_of held qrels (used_by qrels) words) kept.files c.from_residual.ensures.1 kept.later c.in_err-run.ensures.gives
     (λ held halt is stop. stops_all qrels (used_by qrels) words used done word (drop (i + 1) words) held halt
     (if_some_at told (λ held. runs_of held qrels (used_by qrels) words ≡ with_rest held qrels used done (word ∷ drop (i + 1) words)) held left is) stop)
@@ -83,13 +83,13 @@ returns-in_err-run-clause-gives g c =
 pub returns-in_err-push_run-clause-gives : goal.returns-in_err-push_run-clause-gives
 returns-in_err-push_run-clause-gives g c =
     let qrels = c.args.qrels.now in
-    gives_memory (g.F.Shelf.files c.args.files.now) (g.F.Shelf.faults c.args.files.now) (g.F.Shelf.faults c.load_run.new.files) (λ runs. runs.items) c.from_residual-in_err-push_run.result (λ held. runs_of held qrels (used_by qrels) c.args.words.now) c.from_residual-in_err-push_run.ensures.1
+    gives_memory (g.F.Shelf.state c.args.files.now).files (g.F.Shelf.state c.args.files.now).faults (g.F.Shelf.state c.load_run.new.files).faults (λ runs. runs.items) c.from_residual-in_err-push_run.result (λ held. runs_of held qrels (used_by qrels) c.args.words.now) c.from_residual-in_err-push_run.ensures.1
 
 pub returns-clause-gives : goal.returns-clause-gives
 returns-clause-gives g c =
     let words = c.args.words.now in
     let qrels = c.args.qrels.now in
-    reaches_all (g.F.Shelf.files c.args.files.now) qrels (used_by qrels) words c.loop-word.used c.loop-word.runs.items (rw (drop_all c.loop-word.word-index words (omega arith)) at c.loop-word.invariant.left)
+    reaches_all (g.F.Shelf.state c.args.files.now).files qrels (used_by qrels) words c.loop-word.used c.loop-word.runs.items (rw (drop_all c.loop-word.word-index words (omega arith)) at c.loop-word.invariant.left)
 
 pub returns-in_err-run-clause-count : goal.returns-in_err-run-clause-count
 returns-in_err-run-clause-count g c = IfOk-from_err c.from_residual.result _ c.from_residual.ensures.0
@@ -138,8 +138,8 @@ load_run-requires g c = c.loop-word.invariant.within
 
 pub loop-word-init : goal.loop-word-init
 loop-word-init g c =
-    let told = g.F.Shelf.files c.args.files.now in
-    let had = g.F.Shelf.opened c.args.files.now in
+    let told = (g.F.Shelf.state c.args.files.now).files in
+    let had = (g.F.Shelf.state c.args.files.now).opened in
     let words = c.args.words.now in
     let qrels = c.args.qrels.now in
     let used : Used = record { rows = 0; name_bytes = c.name_bytes.result } in
@@ -147,7 +147,7 @@ loop-word-init g c =
     let left = subst (λ u. Reaches told qrels (used_by qrels) words u [] words) (sym same) (reaches_first told qrels (used_by qrels) words) in
     record {
       files = refl;
-      later = le_refl (g.F.Shelf.faults c.args.files.now);
+      later = le_refl (g.F.Shelf.state c.args.files.now).faults;
       within = record { rows = omega arith; name_bytes = c.name_bytes.ensures.most };
       count = c.new-runs.ensures.len;
       rows = sym (ap total_rows c.new-runs.ensures.items);

@@ -8,11 +8,11 @@ use Rattle.desk_files.proofs.load.load_runs.Given as goal
 
 abbrev pub invariant-loop-word : goal.invariant-loop-word
 invariant-loop-word g l = record {
-  files : g.F.Shelf.files l.files ≡ g.F.Shelf.files l.fn.files;
-  later : g.F.Shelf.faults l.fn.files ≤ g.F.Shelf.faults l.files;
+  files : (g.F.Shelf.state l.files).files ≡ (g.F.Shelf.state l.fn.files).files;
+  later : (g.F.Shelf.state l.fn.files).faults ≤ (g.F.Shelf.state l.files).faults;
   within : IsWithinLimits l.used;
   count : vec_len l.runs ≡ l.word-index;
   rows : l.used.rows ≡ total_rows l.runs.items;
-  opened : OpensSoFar (g.F.Shelf.files l.fn.files) l.qrels (used_by l.qrels) l.words l.used (drop l.word-index l.words) (g.F.Shelf.opened l.fn.files) (g.F.Shelf.opened l.files);
-  left : Reaches (g.F.Shelf.files l.fn.files) l.qrels (used_by l.qrels) l.words l.used l.runs.items (drop l.word-index l.words);
+  opened : OpensSoFar (g.F.Shelf.state l.fn.files).files l.qrels (used_by l.qrels) l.words l.used (drop l.word-index l.words) (g.F.Shelf.state l.fn.files).opened (g.F.Shelf.state l.files).opened;
+  left : Reaches (g.F.Shelf.state l.fn.files).files l.qrels (used_by l.qrels) l.words l.used l.runs.items (drop l.word-index l.words);
 }

@@ -25,7 +25,7 @@ loop-at-preserved g c =
       within = used_within piece at old new used push c.loop-at.invariant.within;
       line = λ taken held. line_on piece taken at old new used push c.if-pushed.false (c.loop-at.invariant.line taken held);
       talks = λ had first taken held before.
-          talks_on s had (g.K.Sink.received c.loop-at.out) first (c.loop-at.steps + owed c.args.given.now.desk.now state.table) (taken ++ take at piece) push.line (taken ++ take (at + used.used) piece) state.session
+          talks_on s had (g.K.Sink.state c.loop-at.out).received first (c.loop-at.steps + owed c.args.given.now.desk.now state.table) (taken ++ take at piece) push.line (taken ++ take (at + used.used) piece) state.session
           (taken_on piece taken at old new used push c.if-pushed.false) push.in_line (c.loop-at.invariant.talks had first taken held before);
       ready = c.loop-at.invariant.ready;
       later = c.loop-at.invariant.later;
@@ -47,7 +47,7 @@ loop-at-preserved-in-Ok-More g c =
       line = λ taken held. line_cleared piece taken at old new used push c.clear.new.self c.if-pushed.true c.clear.ensures;
       talks = λ had first taken held before.
           let line_is = line_so_far piece taken at old new used push (c.loop-at.invariant.line taken held) in
-          line_goes s had (sink (g.K.Sink.received c.loop-at.out) (g.K.Sink.received c.answer_line.new.out) (g.K.Sink.faults c.loop-at.out) (g.K.Sink.faults c.answer_line.new.out)) first c.loop-at.steps c.answer_line.new.steps piece taken at old new used
+          line_goes s had (sink (g.K.Sink.state c.loop-at.out) (g.K.Sink.state c.answer_line.new.out)) first c.loop-at.steps c.answer_line.new.steps piece taken at old new used
           state.session now.session state.table now.table push c.if-pushed.true (c.loop-at.invariant.talks had first taken held before)
           (rw c.in-Ok-More.field-0-is at c.in-Ok-More.ensures.answered (unended (taken ++ take at piece) ++ push.line) line_is) (c.in-Ok-More.ensures.steps (unended (taken ++ take at piece) ++ push.line) line_is);
       ready = c.in-Ok-More.ensures.ready;
@@ -66,8 +66,8 @@ returns-in-Ok-Quit-clause-answered g c had first taken held before =
     let now = c.answer_line.new.judging in
     let s = setting_of c.args.given.now in
     let line_is = line_so_far piece taken at old new used push (c.loop-at.invariant.line taken held) in
-    line_stops s had (sink (g.K.Sink.received c.loop-at.out) (g.K.Sink.received c.answer_line.new.out) (g.K.Sink.faults c.loop-at.out) (g.K.Sink.faults c.answer_line.new.out))
-    (sink (g.K.Sink.received c.args.out.now) (g.K.Sink.received c.answer_line.new.out) (g.K.Sink.faults c.args.out.now) (g.K.Sink.faults c.answer_line.new.out)) first c.loop-at.steps c.answer_line.new.steps piece taken at old new used
+    line_stops s had (sink (g.K.Sink.state c.loop-at.out) (g.K.Sink.state c.answer_line.new.out))
+    (sink (g.K.Sink.state c.args.out.now) (g.K.Sink.state c.answer_line.new.out)) first c.loop-at.steps c.answer_line.new.steps piece taken at old new used
     state.session now.session state.table now.table (c.answer_line.new.steps + owed c.args.given.now.desk.now now.table) push c.if-pushed.true (c.loop-at.invariant.talks had first taken held before) refl refl c.loop-at.invariant.later
     (Ok next.Quit) (λ e. quit_not_more e) (rw c.in-Ok-Quit.field-0-is at c.in-Ok-Quit.ensures.answered (unended (taken ++ take at piece) ++ push.line) line_is) (c.in-Ok-Quit.ensures.steps (unended (taken ++ take at piece) ++ push.line) line_is)
 
@@ -83,8 +83,8 @@ returns-in-Err-clause-answered g c had first taken held before =
     let now = c.answer_line.new.judging in
     let s = setting_of c.args.given.now in
     let line_is = line_so_far piece taken at old new used push (c.loop-at.invariant.line taken held) in
-    line_stops s had (sink (g.K.Sink.received c.loop-at.out) (g.K.Sink.received c.answer_line.new.out) (g.K.Sink.faults c.loop-at.out) (g.K.Sink.faults c.answer_line.new.out))
-    (sink (g.K.Sink.received c.args.out.now) (g.K.Sink.received c.answer_line.new.out) (g.K.Sink.faults c.args.out.now) (g.K.Sink.faults c.answer_line.new.out)) first c.loop-at.steps c.answer_line.new.steps piece taken at old new used
+    line_stops s had (sink (g.K.Sink.state c.loop-at.out) (g.K.Sink.state c.answer_line.new.out))
+    (sink (g.K.Sink.state c.args.out.now) (g.K.Sink.state c.answer_line.new.out)) first c.loop-at.steps c.answer_line.new.steps piece taken at old new used
     state.session now.session state.table now.table (c.answer_line.new.steps + owed c.args.given.now.desk.now now.table) push c.if-pushed.true (c.loop-at.invariant.talks had first taken held before) refl refl c.loop-at.invariant.later
     (Err c.in-Err.fault) (λ e. err_not_more e) (c.in-Err.ensures.answered (unended (taken ++ take at piece) ++ push.line) line_is) (c.in-Err.ensures.steps (unended (taken ++ take at piece) ++ push.line) line_is)
 
@@ -98,9 +98,9 @@ loop-at-init g c =
       within = none_yet (length c.args.piece.now);
       line = λ taken held. held ∙ ap (λ (xs : List ℕ). kept_line (unended xs)) (sym (append-nil taken));
       talks = λ had first taken held before.
-          subst (λ (xs : List ℕ). Talks s had (g.K.Sink.received c.args.out.now) first (c.args.steps.now + owed c.args.given.now.desk.now c.args.judging.now.table) xs c.args.judging.now.session) (sym (append-nil taken)) before;
+          subst (λ (xs : List ℕ). Talks s had (g.K.Sink.state c.args.out.now).received first (c.args.steps.now + owed c.args.given.now.desk.now c.args.judging.now.table) xs c.args.judging.now.session) (sym (append-nil taken)) before;
       ready = c.requires.ready;
-      later = le_refl (g.K.Sink.faults c.args.out.now);
+      later = le_refl (g.K.Sink.state c.args.out.now).faults;
     }
 
 -- what is left of a piece grows smaller
@@ -124,7 +124,7 @@ pub returns-clause-answered : goal.returns-clause-answered
 returns-clause-answered g c had first taken held before =
     let s = setting_of c.args.given.now in
     let state = c.loop-at.judging in
-    subst (λ (xs : List ℕ). Talks s had (g.K.Sink.received c.loop-at.out) first (c.loop-at.steps + owed c.args.given.now.desk.now state.table) (taken ++ xs) state.session) (take_all c.loop-at.at c.args.piece.now c.loop-at-test.false)
+    subst (λ (xs : List ℕ). Talks s had (g.K.Sink.state c.loop-at.out).received first (c.loop-at.steps + owed c.args.given.now.desk.now state.table) (taken ++ xs) state.session) (take_all c.loop-at.at c.args.piece.now c.loop-at-test.false)
     (c.loop-at.invariant.talks had first taken held before)
 
 pub returns-clause-line : goal.returns-clause-line

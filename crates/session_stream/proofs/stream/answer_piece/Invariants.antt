@@ -1,6 +1,6 @@
 use Rattle.std.proofs.Common.{◌≡◌, ◌≤◌, ◌+◌, ◌-◌, ◌++◌, List, ℕ, Option, length, take}
 use Rattle.desk_text.specs.Lines.{kept_line, unended}
-use Rattle.session_replies.specs.State.{setting_of, IsReady, owed}
+use Rattle.session_replies.specs.State.{setting_of, IsReadyForLine, owed}
 use Rattle.session_stream.specs.Held.{Talks}
 use Rattle.session_stream.proofs.stream.answer_piece.Given as goal
 
@@ -9,10 +9,10 @@ invariant-loop-at g l = record {
   within : l.at ≤ length l.piece;
   line : (taken : List ℕ) → l.fn.lines ≡ kept_line (unended taken) → l.lines ≡ kept_line (unended (taken ++ take l.at l.piece));
   talks : (had : Option (List ℕ)) (first : ℕ) (taken : List ℕ) → l.fn.lines ≡ kept_line (unended taken) →
-      Talks (setting_of l.given) had (g.K.Sink.received l.fn.out) first (l.fn.steps + owed l.given.desk.now l.fn.judging.table) taken l.fn.judging.session →
-      Talks (setting_of l.given) had (g.K.Sink.received l.out) first (l.steps + owed l.given.desk.now l.judging.table) (taken ++ take l.at l.piece) l.judging.session;
-  ready : IsReady (record { name = g.P.Made.Measure.measured; cell = g.P.Made.Measure.cell_of; bound = g.P.Made.Measure.bounds_of }) (setting_of l.given) l.judging;
-  later : g.K.Sink.faults l.fn.out ≤ g.K.Sink.faults l.out;
+      Talks (setting_of l.given) had (g.K.Sink.state l.fn.out).received first (l.fn.steps + owed l.given.desk.now l.fn.judging.table) taken l.fn.judging.session →
+      Talks (setting_of l.given) had (g.K.Sink.state l.out).received first (l.steps + owed l.given.desk.now l.judging.table) (taken ++ take l.at l.piece) l.judging.session;
+  ready : IsReadyForLine (record { name = g.P.Made.Measure.measured; cell = g.P.Made.Measure.cell_of; bound = g.P.Made.Measure.bounds_of }) (setting_of l.given) l.judging;
+  later : (g.K.Sink.state l.fn.out).faults ≤ (g.K.Sink.state l.out).faults;
 }
 
 abbrev pub decreases-loop-at : goal.decreases-loop-at

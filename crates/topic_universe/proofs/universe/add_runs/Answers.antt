@@ -4,7 +4,7 @@ use Rattle.std.specs.List.{AllZip}
 use Rattle.std.specs.declared.alloc.Global.{Global}
 use Rattle.std.proofs.lemmas.List.{map-append}
 use Rattle.run_reader.specs.Run.{Run, rows_on_topic}
-use Rattle.topic_universe.specs.Names.{Gathers}
+use Rattle.topic_universe.specs.Names.{AddsNames}
 use Rattle.topic_universe.specs.Universe.{retrieved, AreRankedNumbers}
 use Rattle.topic_universe.proofs.Sets.{Gathers-none, Gathers-then, flat_more}
 use Rattle.topic_universe.proofs.Zips.{zip_step, zip-weaker}
@@ -30,7 +30,7 @@ loop-run-preserved c =
     let still = zip-weaker (λ (run : Run) (each : List ℕ). AreRankedNumbers old (rows_on_topic run topic) each) (λ run each. AreRankedNumbers new (rows_on_topic run topic) each) before (map items c.loop-run.numbers.items)
     (λ run each are. still_numbers old _ new (rows_on_topic run topic) each c.in_ok-add_run.ensures.names are) c.loop-run.invariant.numbers in
     record {
-      names = subst (λ flat. Gathers c.args.names.now flat new) (sym (flat_more (retrieved topic) c.args.runs.now c.loop-run.run-index run c.loop-run-test.true c.run-item.is))
+      names = subst (λ flat. AddsNames c.args.names.now flat new) (sym (flat_more (retrieved topic) c.args.runs.now c.loop-run.run-index run c.loop-run-test.true c.run-item.is))
           (Gathers-then c.args.names.now old new _ (retrieved topic run) c.loop-run.invariant.names c.in_ok-add_run.ensures.names);
       numbers = zip_step (λ (run : Run) (each : List ℕ). AreRankedNumbers new (rows_on_topic run topic) each) c.args.runs.now (map items c.loop-run.numbers.items) _ c.loop-run.run-index run each.items c.loop-run-test.true c.run-item.is still c.in_ok-add_run.ensures.numbers pushed;
     }

@@ -3,13 +3,13 @@ use Rattle.std.specs.Prelude.{slice_get, Some}
 use Rattle.std.proofs.lemmas.List.{take_all, length-map}
 use Rattle.std.proofs.lemmas.Option.{slice_get-map}
 use Rattle.file_rows.specs.Grouped.{Valued, rows_at}
-use Rattle.topic_universe.specs.Names.{with_names, AreNames}
+use Rattle.topic_universe.specs.Names.{with_names, AreDistinctNames}
 use Rattle.topic_universe.specs.Universe.{listed}
 use Rattle.topic_universe.proofs.Sets.{AreNames-nil, AreNames-with_name, gather_step, added-whole}
 use Rattle.topic_universe.proofs.universe.listed_names.Goals as goal
 
 pub loop-i-init : goal.loop-i-init
-loop-i-init c = record { documents = c.new-names.ensures; names = subst AreNames (sym c.new-names.ensures) AreNames-nil }
+loop-i-init c = record { documents = c.new-names.ensures; names = subst AreDistinctNames (sym c.new-names.ensures) AreNames-nil }
 
 pub loop-i-preserved : goal.loop-i-preserved
 loop-i-preserved c =
@@ -17,7 +17,7 @@ loop-i-preserved c =
     let got : slice_get (listed docs) c.loop-i.i ≡ Some c.doc_name.result.now = slice_get-map (λ (d : Valued). d.document) docs c.loop-i.i ∙ c.doc_name.ensures.bytes in
     record {
       documents = gather_step [] (listed docs) c.loop-i.i c.doc_name.result.now _ _ got c.loop-i.invariant.documents c.in_ok-add.ensures.names;
-      names = subst AreNames (sym c.in_ok-add.ensures.names) (AreNames-with_name _ c.doc_name.result.now c.loop-i.invariant.names c.doc_name.ensures.name);
+      names = subst AreDistinctNames (sym c.in_ok-add.ensures.names) (AreNames-with_name _ c.doc_name.result.now c.loop-i.invariant.names c.doc_name.ensures.name);
     }
 
 pub returns-clause-documents : goal.returns-clause-documents

@@ -15,7 +15,7 @@ same_book qrels t name pairs book named has graded =
 
 pub new-requires : goal.new-requires
 new-requires c =
-    subst IsBook (sym (same_book c.args.qrels.now c.args.t c.args.name.now c.args.pairs.now _ c.in_ok-named.ensures c.in_ok-docs.ensures c.in_ok-grades.ensures)) c.requires.book
+    subst IsBook (sym (same_book c.args.qrels.now c.args.t c.args.name.now c.args.pairs.now _ c.in_ok-copy_of.ensures c.in_ok-docs.ensures c.in_ok-grades.ensures)) c.requires.book
 
 pub returns : goal.returns
-returns c = c.new.ensures ∙ same_book c.args.qrels.now c.args.t c.args.name.now c.args.pairs.now _ c.in_ok-named.ensures c.in_ok-docs.ensures c.in_ok-grades.ensures
+returns c = c.new.ensures ∙ same_book c.args.qrels.now c.args.t c.args.name.now c.args.pairs.now _ c.in_ok-copy_of.ensures c.in_ok-docs.ensures c.in_ok-grades.ensures

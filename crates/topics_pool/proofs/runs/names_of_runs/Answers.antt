@@ -18,6 +18,6 @@ loop-run-preserved c =
     let i = c.loop-run.run-index in
     let taken = mapped_step (λ (run : Run). run.name) runs i c.run-item.result c.loop-run-test.true c.run-item.is in
     record {
-      names = ◌∙◌ {A = List (List ℕ)} c.in_ok-push.ensures.items (ap₂ (λ xs x. xs ++ x ∷ []) c.loop-run.invariant.names (c.in_ok-named.ensures ∙ c.name.ensures.value) ∙ sym taken);
+      names = ◌∙◌ {A = List (List ℕ)} c.in_ok-push.ensures.items (ap₂ (λ xs x. xs ++ x ∷ []) c.loop-run.invariant.names (c.in_ok-copy_of.ensures ∙ c.name.ensures.value) ∙ sym taken);
       named = subst (All (λ name. is_name name ≡ true)) (sym taken) (All-push (λ name. is_name name ≡ true) (take i (run_names runs)) c.run-item.result.name c.loop-run.invariant.named c.name.ensures.name);
     }

@@ -10,6 +10,8 @@ use Rattle.run_reader.specs.declared.used.Used.{Used}
 use Rattle.run_reader.specs.declared.row_reader.RowReader.{RowReader}
 use Rattle.run_reader.specs.Rows.{tag_of}
 use Rattle.run_reader.specs.Reader.{row_said, given_in, given_or, name_in, name_after, IsTracked, IsSound, ReadsLine}
+use Rattle.desk_model.specs.Name.{is_name}
+use Rattle.run_reader.proofs.Right.{named_form}
 use Rattle.run_reader.proofs.Chains.{read_blank, read_misformed, read_said}
 use Rattle.run_reader.proofs.row_reader.RowReader.read_next.Goals as goal
 
@@ -101,6 +103,9 @@ returns-in_err-take_name-in-Ok-clause-fault c = IfOk-from_err c.from_residual.re
 pub returns-in_err-take_name-in-Ok-clause-beside : goal.returns-in_err-take_name-in-Ok-clause-beside
 returns-in_err-take_name-in-Ok-clause-beside c = c.take_name.ensures.beside
 
+pub take_name-requires : goal.take_name-requires
+take_name-requires c = subst (λ tag. is_name tag ≡ true) (sym c.in-Ok.ensures.tag) (named_form c.args.line.now (row_said c.in-Ok.row) (sym c.in-Ok.ensures.row)).tag
+
 pub add-requires : goal.add-requires
 add-requires c = sound_as c.args.self.now c.take_name.new.self c.in_ok-take_name-in-Ok.ensures.beside c.in_ok-take_name-in-Ok.ensures.gathered c.requires
 
@@ -114,7 +119,7 @@ pub returns-in_ok-take_name-in-Ok-clause-name : goal.returns-in_ok-take_name-in-
 returns-in_ok-take_name-in-Ok-clause-name c =
     let taken = c.take_name.new.self in
     let read = c.add.new.self in
-    let same : name_in read ≡ name_in taken = ap₂ (λ beside tag. given_or (given_in beside) (option_map (λ tag. tag.items) tag)) c.add.ensures.beside c.add.ensures.tag in
+    let same : name_in read ≡ name_in taken = ap₂ (λ beside tag. given_or (given_in beside) tag) c.add.ensures.beside c.add.ensures.tag in
     anyway c.add.result (name_in read ≡ name_after (name_in c.args.self.now) c.args.line.now)
     (same ∙ c.in_ok-take_name-in-Ok.ensures.name ∙ name_after_row (name_in c.args.self.now) c.args.line.now c.in-Ok.row.tag.now (sym c.is_blank.ensures ∙ c.if-is_blank.false) c.in-Ok.ensures.tag)
 

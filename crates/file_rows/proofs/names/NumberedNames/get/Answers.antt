@@ -3,7 +3,7 @@ use Rattle.std.specs.Prelude.{slice_get, slice_range, Some}
 use Rattle.std.proofs.lemmas.Grind.{get_or_default_zero}
 use Rattle.file_rows.specs.Names.{start_at}
 use Rattle.file_rows.proofs.Cutting.{length-cut, piece_within, slice_get-cut}
-use Rattle.file_rows.proofs.names.Names.get.Goals as goal
+use Rattle.file_rows.proofs.names.NumberedNames.get.Goals as goal
 
 pub start_of-start-requires : goal.start_of-start-requires
 start_of-start-requires c =

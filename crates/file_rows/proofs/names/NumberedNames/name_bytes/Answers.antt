@@ -1,7 +1,7 @@
 use Rattle.std.proofs.Common.{ap, arith}
 use Rattle.std.specs.Prelude.{length, sum_by}
 use Rattle.file_rows.proofs.Cutting.{sum_by-cut}
-use Rattle.file_rows.proofs.names.Names.name_bytes.Goals as goal
+use Rattle.file_rows.proofs.names.NumberedNames.name_bytes.Goals as goal
 
 pub returns : goal.returns
 returns c =

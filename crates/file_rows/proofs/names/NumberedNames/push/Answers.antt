@@ -2,7 +2,7 @@ use Rattle.std.proofs.Common.{◌≡◌, ◌+◌, [], ◌∷◌, ◌++◌, lengt
 use Rattle.std.specs.Prelude.{sum_by}
 use Rattle.file_rows.specs.Names.{cut}
 use Rattle.file_rows.proofs.Cutting.{sum_by-cut, pushed, Pushed}
-use Rattle.file_rows.proofs.names.Names.push.Goals as goal
+use Rattle.file_rows.proofs.names.NumberedNames.push.Goals as goal
 
 pub overflow_cast-end : goal.overflow_cast-end
 overflow_cast-end c =
