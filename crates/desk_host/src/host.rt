@@ -1,12 +1,14 @@
 ghost use Rattle.std.specs.Prelude.{◌≡◌, ◌<◌, ◌≤◌, map, string_bytes, None, Err, IfOk};
 ghost use Rattle.std.specs.Process.{exit_status};
-ghost use Rattle.desk_top.specs.Told.{Writes, status_line};
-ghost use Rattle.desk_top.specs.Meaning.{words_meaning};
+ghost use Rattle.desk_outside.specs.Seen.{sink};
+ghost use Rattle.desk_top.specs.Status.{IsStatus, status_line};
+ghost use Rattle.desk_top.specs.Told.{WritesLine};
+ghost use Rattle.desk_top.specs.Meaning.{Means};
 ghost use Rattle.desk_top.specs.Meets.{CanEnd};
 
 use any_measure::Common;
 use desk_outside::{HostShelf, HostSink, HostSource, Sink};
-use desk_top::{run_desk, tell_memory, tell_outside};
+use desk_top::{Status, run_desk, tell_memory, tell_outside};
 use measure_core::Steps;
 use std::env;
 use std::io::ErrorKind;
@@ -28,7 +30,7 @@ fn run<L: Ledger>(rt: &HostRuntime, words: &[String], blank: Blank) -> u8
     requires parts { blank.parts ≡ L.parts }
     requires some { 0 < blank.parts }
     ensures known { result ≤ 6 }
-    ensures ends { CanEnd (words_meaning (map string_bytes words.now)) None result }
+    ensures ends { IsStatus result (λ status. Means (map string_bytes words.now) (λ meaning. CanEnd meaning None status)) }
 {
     let mut files = HostShelf::new(rt);
     let mut input = HostSource::new(rt.reader());
@@ -60,11 +62,10 @@ fn words(rt: &HostRuntime) -> Result<Vec<String>, NoWords> {
 }
 
 // Ends a call for which there are no words: the line of its status, and that.
-fn end_without_words<K: Sink>(err: &mut K, fault: NoWords) -> u8
-    ensures outside { fault ≡ NoWords.Outside → result ≡ 3 }
-    ensures memory { fault ≡ NoWords.Memory → result ≡ 4 }
-    ensures known { result ≤ 4 }
-    ensures line { Writes (K.received err.old) (K.received err.new) (K.faults err.old) (K.faults err.new) (status_line result) }
+fn end_without_words<K: Sink>(err: &mut K, fault: NoWords) -> Status
+    ensures outside { fault ≡ NoWords.Outside → result ≡ Status.Outside }
+    ensures memory { fault ≡ NoWords.Memory → result ≡ Status.Memory }
+    ensures line { WritesLine (sink (K.state err.old) (K.state err.new)) (status_line result) }
 {
     match fault {
         NoWords::Outside => tell_outside(err),
@@ -77,11 +78,11 @@ fn status(rt: &HostRuntime, words: Result<Vec<String>, NoWords>) -> u8
     ensures known { result ≤ 6 }
     ensures outside { words ≡ Err NoWords.Outside → result ≡ 3 }
     ensures memory { words ≡ Err NoWords.Memory → result ≡ 4 }
-    ensures ends { IfOk words (λ words. CanEnd (words_meaning (map string_bytes words.items)) None result) }
+    ensures ends { IfOk words (λ words. IsStatus result (λ status. Means (map string_bytes words.items) (λ meaning. CanEnd meaning None status))) }
 {
     match words {
         Ok(words) => run::<Brand>(rt, &words, Blank::new(1)),
-        Err(fault) => end_without_words(&mut HostSink::new(rt.stderr()), fault),
+        Err(fault) => end_without_words(&mut HostSink::new(rt.stderr()), fault).into(),
     }
 }
 

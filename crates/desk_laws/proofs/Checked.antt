@@ -14,7 +14,7 @@ use Rattle.order_certificate.specs.Places.{IsText}
 use Rattle.order_certificate.specs.declared.certificate.Certificate.{Certificate}
 use Rattle.order_certificate.proofs.Whole.{has_text}
 use Rattle.measure_core.specs.Made.{HasEnds}
-use Rattle.pair_table.specs.Evidence.{Says}
+use Rattle.pair_table.specs.Evidence.{SaysOfVerdict}
 use Rattle.pair_table.proofs.Evident.{answered_evidence}
 use Rattle.judge_session.specs.declared.change.Change.{Change}
 use Rattle.order_verifier.specs.Verified.{IsVerified}
@@ -62,7 +62,7 @@ evidence_again c desk again grades level is h =
     })
 
 -- ---- the level of a certificate
-level_said : (s : Setting) (changes : List Change) (a b : ℕ) (c : Certificate) (v : Verdict) → Says (HasEnds s.measure) s.measure s.desk (marks_after s changes) s.level a b c v → c.level ≡ s.level
+level_said : (s : Setting) (changes : List Change) (a b : ℕ) (c : Certificate) (v : Verdict) → SaysOfVerdict (HasEnds s.measure) s.measure s.desk (marks_after s changes) s.level a b c v → c.level ≡ s.level
 level_said s changes a b c Above h = h.compares.at_level
 level_said s changes a b c Below h = h.compares.at_level
 level_said s changes a b c Equal h = h.compares.at_level

@@ -29,7 +29,7 @@ use Rattle.run_reader.specs.Run.{Run}
 use Rattle.topics_pool.specs.Rows.{IsBookOf, grade_in}
 use Rattle.qrels_round_trip.specs.RoundTrip.{IsGradeInForce, AreGradesOf}
 use Rattle.judge_session.specs.Request.{Judge, Undo, Redo, Heard, Asked, heard_of}
-use Rattle.judge_session.specs.Forms.{AreWithin}
+use Rattle.judge_session.specs.Forms.{IsHeardWithin}
 use Rattle.judge_session.proofs.Lines.{within}
 use Rattle.session_replies.specs.Replies.{changes_after, after_judging}
 use Rattle.session_replies.proofs.Marks.{length-in_force}
@@ -140,7 +140,7 @@ redone_small who (c ∷ changes) h = by (is_undone_by who c) (redone_small who c
     by true k = h
     by false k = (h.0, k)
 
-step_small : (desk : Desk) (heard : Heard) (changes : List Change) → AreWithin heard → AllByRecursion SmallChange changes → AllByRecursion SmallChange (changes_after desk heard changes)
+step_small : (desk : Desk) (heard : Heard) (changes : List Change) → IsHeardWithin heard → AllByRecursion SmallChange changes → AllByRecursion SmallChange (changes_after desk heard changes)
 step_small desk (Asked (Judge who topic doc grade)) changes is h = by (judgeable desk who topic doc changes)
   where
     by : (r : Result (ℕ × ℕ) JudgeFault) → AllByRecursion SmallChange (after_judging who grade changes r)

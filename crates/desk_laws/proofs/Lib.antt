@@ -1,4 +1,8 @@
+pub mod LineEnds
 pub mod Statuses
+pub mod Answering
+pub mod Commands
+pub mod Answered
 pub mod Beside
 pub mod Unjudged
 pub mod PairTexts
@@ -8,6 +12,7 @@ pub mod Loading
 pub mod Again
 pub mod Grading
 pub mod Checked
+pub mod Passing
 pub mod Names
 pub mod Desks
 pub mod Completions

@@ -2,14 +2,14 @@
 use Rattle.std.proofs.Common.{◌≡◌, ℕ, ◌*◌, ◌^◌, true, false, List, [], refl, pos, negsuc, neg_ℤ, arith, inl, inr, lit<, lit≤}
 use Rattle.std.proofs.lemmas.Int.{ints}
 use Rattle.std.specs.Prelude.{codes, ◌<ℤ◌, Ok, Err}
-use Rattle.desk_text.specs.Text.{IsScoreText, Parts}
-use Rattle.desk_text.specs.Value.{StandsFor, scaled, ReadsAs}
+use Rattle.desk_text.specs.Text.{IsScoreText, ScoreParts}
+use Rattle.desk_text.specs.Value.{StandsForDigits, scaled, ReadsAs}
 use Rattle.desk_text.specs.Reading.{score_of}
 use Rattle.desk_text.specs.declared.score.ScoreFault.TheVariants.{BadScore, ScoreTooLong, ScoreExponent}
 use Rattle.desk_text.proofs.Answer.{reads_as-score_of}
 
 -- the parts of a text with no sign and no exponent
-abbrev plain_parts : List ℕ → List ℕ → Parts
+abbrev plain_parts : List ℕ → List ℕ → ScoreParts
 plain_parts whole fraction = record { is_negative = false; whole = whole; fraction = fraction; exponent = pos 0 }
 
 -- ---- digits on one side of the point are enough
@@ -48,7 +48,7 @@ point_after_the_digits = (
 )
 
 -- ---- 1.0, 1.00, 1 and 10e-1 are 1 * 10^0
-pub one : StandsFor (codes "1") false 1 (pos 0)
+pub one : StandsForDigits (codes "1") false 1 (pos 0)
 one = record {
   parts = plain_parts (codes "1") [];
   zeros = 0;
@@ -70,7 +70,7 @@ one = record {
   point = refl;
 }
 
-pub one_with_two_zeros : StandsFor (codes "1.00") false 1 (pos 0)
+pub one_with_two_zeros : StandsForDigits (codes "1.00") false 1 (pos 0)
 one_with_two_zeros = record {
   parts = plain_parts (codes "1") (codes "00");
   zeros = 2;
@@ -92,7 +92,7 @@ one_with_two_zeros = record {
   point = refl;
 }
 
-pub ten_tenths : StandsFor (codes "10e-1") false 1 (pos 0)
+pub ten_tenths : StandsForDigits (codes "10e-1") false 1 (pos 0)
 ten_tenths = record {
   parts = record { is_negative = false; whole = codes "10"; fraction = []; exponent = negsuc 0 };
   zeros = 1;

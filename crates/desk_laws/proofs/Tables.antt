@@ -183,6 +183,7 @@ head_line_is_true = record {
   above = λ first second low high h. absurd (cc);
   below = λ first second low high h. absurd (cc);
   equal = λ first second low high h. absurd (cc);
+  undecided = λ first second low high h. absurd (cc);
   exact = λ k e first word second low high h. absurd (cc);
   pair_bounds = λ first word second low high h. absurd (cc);
   run_bounds = λ run low high h. let fields = h.0 in absurd (cc);
@@ -230,6 +231,7 @@ pair_line_is_true = record {
   above = λ first second low high h. by_names _ first (codes "above") second low high (of_line first (codes "above") second low high h) a_is_always_above_b;
   below = λ first second low high h. absurd (different (codes "above") (codes "below") refl refl (of_line first (codes "below") second low high h).1);
   equal = λ first second low high h. absurd (different (codes "above") (codes "equal") refl refl (of_line first (codes "equal") second low high h).1);
+  undecided = λ first second low high h. absurd (different (codes "above") (codes "open") refl refl (of_line first (codes "open") second low high h).1);
   exact = λ k e first word second low high h. let w = of_line first word second low high h in
       by_names _ first word second low high w (subst (λ x. SaysExactly (Precision 2) one_topic x 0 1) w.1 above_says_exactly);
   pair_bounds = λ first word second low high h. let w = of_line first word second low high h in by_names _ first word second low high w (half_encloses low high w.3 w.4);

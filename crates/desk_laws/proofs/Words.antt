@@ -1,14 +1,18 @@
 -- Command lines, and what objects of the outside tell.
-use Rattle.std.proofs.Common.{◌≡◌, ◌-◌, ◌^◌, List, [], ◌∷◌, refl, Some, None, arith, lit<, lit≤, inl, inr}
+use Rattle.std.proofs.Common.{◌≡◌, ◌-◌, ◌^◌, List, [], ◌∷◌, length, ap, refl, Some, None, arith, lit<, lit≤, inl, inr}
 use Rattle.std.specs.Prelude.{codes}
 use Rattle.std.specs.Fmt.{digits}
+use Rattle.std.proofs.lemmas.List.Elements.{All-from_recursion, All-nil}
 use Rattle.desk_model.specs.declared.types.MeasureName.TheVariants.{Precision}
 use Rattle.desk_words.specs.declared.command.Job.{Job}
 use Rattle.desk_words.specs.declared.command.Command.TheVariants.{Table, Demo}
 use Rattle.desk_words.specs.Words.{IsCommandOf, IsLevelOf, run_word_of}
-use Rattle.desk_words.specs.Parts.{Part, spaced, joined, alone, line_of, values_of, words_alone}
-use Rattle.desk_words.specs.Laws.{SaysCommand}
-use Rattle.desk_words.proofs.Saying.{says_to}
+use Rattle.command_line.specs.Given.{Values, Allows, IsOne, IsOneAtMost}
+use Rattle.command_line.specs.Parts.{Part, spaced, joined, alone, given_by, line_of, values_of, words_alone}
+use Rattle.desk_words.specs.Verbs.{takes}
+use Rattle.desk_words.specs.declared.verb.Verb.TheVariants as verb
+use Rattle.desk_words.specs.Laws.{PartsSay}
+use Rattle.desk_words.proofs.Lines.{says_to}
 use Rattle.desk_outside.specs.Outside.{Rose, Lacks, Opens}
 
 -- ---- RUN words
@@ -61,47 +65,68 @@ values_of_the_level = refl
 pub words_of_runs : words_alone mixed ≡ codes "a" ∷ codes "b" ∷ []
 words_of_runs = refl
 
-pub mixed_parts_say_the_job : SaysCommand (codes "table") mixed None (Table job)
-unfolding digits
-mixed_parts_say_the_job = (
-  refl,
-  record {
-    qrels = (refl, lit< tt);
-    measure = (codes "P_5", refl, (lit≤ tt, lit≤ tt), refl);
-    level = inr (refl, lit≤ tt, lit≤ tt);
-    runs = record { each = refl; enough = lit≤ tt; few = lit≤ tt };
-  },
-)
+-- judgements, a measure, a level and two runs are what a table takes
+allowed : (values : Values) → values (codes "qrels") ≡ codes "q" ∷ [] → values (codes "measure") ≡ codes "P_5" ∷ [] → values (codes "level") ≡ codes "2" ∷ [] → values (codes "RUN") ≡ codes "a" ∷ codes "b" ∷ [] → Allows (takes verb.Table) values
+allowed values qrels measure level runs =
+    let count : length (values (codes "RUN")) ≡ 2 = ap length runs in
+    record {
+      needed = All-from_recursion (λ name. IsOne (values name)) (takes verb.Table).needed ((codes "q", qrels, lit< tt), ((codes "P_5", measure, lit< tt), tt));
+      optional = All-from_recursion (λ name. IsOneAtMost (values name)) (takes verb.Table).optional (inr (codes "2", level, lit< tt), tt);
+      flags = All-from_recursion (λ name. IsOneAtMost (values name)) [] tt;
+      enough = omega (arith, count);
+      few = omega (arith, count);
+    }
 
-pub parts_in_order_say_the_job : SaysCommand (codes "table") in_order None (Table job)
+pub mixed_parts_say_the_job : PartsSay verb.Table mixed None (Table job)
 unfolding digits
-parts_in_order_say_the_job = (
-  refl,
-  record {
-    qrels = (refl, lit< tt);
-    measure = (codes "P_5", refl, (lit≤ tt, lit≤ tt), refl);
-    level = inr (refl, lit≤ tt, lit≤ tt);
-    runs = record { each = refl; enough = lit≤ tt; few = lit≤ tt };
-  },
-)
+mixed_parts_say_the_job = record {
+  allowed = allowed (given_by (takes verb.Table) mixed None) refl refl refl refl;
+  said = record {
+    of_verb = refl;
+    says = record {
+      qrels = (refl, lit< tt);
+      measure = (codes "P_5", refl, (lit≤ tt, lit≤ tt), refl);
+      level = inr (refl, lit≤ tt, lit≤ tt);
+      runs = record { each = refl; some = lit< tt; few = lit≤ tt };
+    };
+  };
+}
+
+pub parts_in_order_say_the_job : PartsSay verb.Table in_order None (Table job)
+unfolding digits
+parts_in_order_say_the_job = record {
+  allowed = allowed (given_by (takes verb.Table) in_order None) refl refl refl refl;
+  said = record {
+    of_verb = refl;
+    says = record {
+      qrels = (refl, lit< tt);
+      measure = (codes "P_5", refl, (lit≤ tt, lit≤ tt), refl);
+      level = inr (refl, lit≤ tt, lit≤ tt);
+      runs = record { each = refl; some = lit< tt; few = lit≤ tt };
+    };
+  };
+}
 
 -- so they are one command
 pub one_command_of_mixed_words : IsCommandOf (codes "table" ∷ codes "a" ∷ codes "--level=2" ∷ codes "--measure" ∷ codes "P_5" ∷ codes "b" ∷ codes "--qrels" ∷ codes "q" ∷ []) (Table job)
-one_command_of_mixed_words = says_to (codes "table") mixed None (Table job)
+one_command_of_mixed_words = says_to (codes "table") verb.Table refl mixed None (Table job)
     (refl, ((2, lit< tt, refl), ((1, lit< tt, refl), refl, (refl, ((0, lit< tt, refl), refl, tt))))) mixed_parts_say_the_job
 
 pub one_command_of_words_in_order : IsCommandOf (codes "table" ∷ codes "--qrels" ∷ codes "q" ∷ codes "--measure" ∷ codes "P_5" ∷ codes "--level" ∷ codes "2" ∷ codes "a" ∷ codes "b" ∷ []) (Table job)
-one_command_of_words_in_order = says_to (codes "table") in_order None (Table job)
+one_command_of_words_in_order = says_to (codes "table") verb.Table refl in_order None (Table job)
     ((0, lit< tt, refl), refl, ((1, lit< tt, refl), refl, ((2, lit< tt, refl), refl, (refl, (refl, tt))))) parts_in_order_say_the_job
 
 -- one seed
 pub demo_of_a_seed : IsCommandOf (codes "demo" ∷ codes "7" ∷ []) (Demo 7)
 unfolding digits
-demo_of_a_seed = says_to (codes "demo") (alone (codes "7") ∷ []) None (Demo 7) (refl, tt) (refl, refl, lit< tt)
+demo_of_a_seed = says_to (codes "demo") verb.Demo refl (alone (codes "7") ∷ []) None (Demo 7) (refl, tt) (record {
+  allowed = record { needed = All-nil _; optional = All-nil _; flags = All-nil _; enough = lit≤ tt; few = lit≤ tt };
+  said = record { of_verb = refl; says = (refl, lit< tt) };
+})
 
 -- two are none
-pub demo_of_two_seeds : SaysCommand (codes "demo") (alone (codes "7") ∷ alone (codes "8") ∷ []) None (Demo 7) → ⊥
-demo_of_two_seeds h = let e = h.1 in absurd (cc)
+pub demo_of_two_seeds : PartsSay verb.Demo (alone (codes "7") ∷ alone (codes "8") ∷ []) None (Demo 7) → ⊥
+demo_of_two_seeds h = let e = h.said.says.0 in absurd (cc)
 
 pub no_command_of_no_words : IsCommandOf [] (Demo 1) → ⊥
 no_command_of_no_words h = h

@@ -1,6 +1,9 @@
 -- A certificate of a session, checked with the judgements in force of the same moment.
-use Rattle.std.specs.Prelude.{◌≡◌, ℕ, List, [], map, Result, Ok}
-use Rattle.desk_outside.specs.Outside.{Files}
+use Rattle.std.specs.Prelude.{◌≡◌, ◌⊎◌, ℕ, ◌≤◌, List, [], length, map, Some, Result, Ok, codes}
+use Rattle.desk_outside.specs.Outside.{Files, Rose}
+use Rattle.desk_outside.specs.Seen.{ReceivedAll}
+use Rattle.desk_words.specs.declared.command.Check.{Check}
+use Rattle.desk_words.specs.declared.command.Command.TheVariants.{Verify}
 use Rattle.desk_model.specs.Desk.{Desk, file_marks}
 use Rattle.order_certificate.specs.Places.{IsText}
 use Rattle.order_certificate.specs.declared.certificate.Certificate.{Certificate}
@@ -13,6 +16,12 @@ use Rattle.session_stream.specs.Text.{changes_over}
 use Rattle.order_verifier.specs.Verified.{IsVerified}
 use Rattle.order_verifier.specs.declared.rejected.Rejected.{Rejected}
 use Rattle.desk_files.specs.Load.{Sources, sources, Loaded, loaded}
+use Rattle.desk_files.specs.Checks.{sources_of}
+use Rattle.desk_files.specs.declared.limits.TheConstants.{LONGEST_FILE}
+use Rattle.desk_top.specs.declared.status.Status.{Status}
+use Rattle.desk_top.specs.declared.status.Status.TheVariants.{Done, Memory}
+use Rattle.desk_top.specs.Meets.{Call}
+use Rattle.desk_laws.specs.Laws.{IsCallOver}
 use Rattle.desk_laws.specs.Replaced.{AreFilesWith}
 
 -- a session over the desk of files, after its first lines: its reply to `qrels`, the files again with that text as their judgements file, and their desk
@@ -33,3 +42,32 @@ CertificatesAreAccepted =
     (s : Setting) (lines : List (List ℕ)) (files again : Files) (from : Sources) (path : List ℕ) (desk : Desk) (a b : ℕ) (text : List ℕ) (c : Certificate) (answer : Result (Unit {0}) Rejected) →
     IsSetting s → IsTakenUp s lines files again from path desk → IsCertificateText (subject_after s (changes_over s.desk lines [])) a b text → IsText text c →
     IsVerified c desk (map (file_marks c.level) desk.topics) answer → answer ≡ Ok tt
+
+-- a call of `verify` over such files: the judgements file is the session's reply to `qrels`, the runs are the same, and the certificate's file is a certificate
+-- of the session of the same moment; all are within the limits, and nothing failed
+pub record IsCheckOfSession (s : Setting) (lines : List (List ℕ)) (files again : Files) (from : Sources) (check : Check) (words : List (List ℕ)) (call : Call) (status : Status) : Type 0 where
+  pub rows : Loaded
+  pub loads : loaded files from ≡ Ok rows
+  pub of_rows : IsDeskOf rows.qrels rows.runs s.desk
+  pub judgements : List ℕ
+  pub replied : IsReply s (changes_over s.desk lines []) (Asked Qrels) judgements
+  pub with_judgements : AreFilesWith files again check.qrels judgements from.runs
+  pub same_runs : check.runs ≡ from.runs
+  pub a : ℕ
+  pub b : ℕ
+  pub certificate : List ℕ
+  pub shown : IsCertificateText (subject_after s (changes_over s.desk lines [])) a b certificate
+  pub held : again check.cert ≡ Some certificate
+  pub short : length certificate ≤ LONGEST_FILE
+  pub later : Loaded
+  pub loads_again : loaded again (sources_of check) ≡ Ok later
+  pub over : IsCallOver words (Verify check) again call status
+  pub calm : Rose call.files.before call.files.after → ⊥
+  pub still : Rose call.out.before call.out.after → ⊥
+
+-- it says `accepted`, or memory ran out
+abbrev pub ChecksAccept : Type 0
+ChecksAccept =
+    (s : Setting) (lines : List (List ℕ)) (files again : Files) (from : Sources) (check : Check) (words : List (List ℕ)) (call : Call) (status : Status) →
+    IsSetting s → IsCheckOfSession s lines files again from check words call status →
+    ((status ≡ Done) × ReceivedAll call.out (codes "accepted\n")) ⊎ (status ≡ Memory)

@@ -1,4 +1,6 @@
 pub mod Laws
+pub mod Answered
+pub mod Fixed
 pub mod Settled
 pub mod Replaced
 pub mod Accepted

@@ -9,9 +9,10 @@ pub mod cases;
 pub mod sessions;
 
 pub use answers::{
-    good_files_are_answered, missing_file_is_outside, other_words_are_usage, refusal_is_told,
-    statuses_are_few,
+    answer_is_one, good_files_are_answered, missing_file_is_outside, other_words_are_usage,
+    refusal_is_told, statuses_are_few, texts_end_their_lines,
 };
 pub use sessions::{
-    certificates_are_accepted, files_come_again, grades_are_in_force, settled_words_stay,
+    certificates_are_accepted, checks_accept, files_come_again, grades_are_in_force,
+    settled_words_stay,
 };

@@ -1,9 +1,11 @@
 //! Laws of sessions, each the contract of a function that does nothing.
 ghost use Rattle.desk_laws.specs.Settled.{SettledWordsStay, SwappedWordsFollow};
 ghost use Rattle.desk_laws.specs.Replaced.{FilesComeAgain, GradesAreInForce};
-ghost use Rattle.desk_laws.specs.Accepted.{CertificatesAreAccepted};
+ghost use Rattle.desk_laws.specs.Accepted.{CertificatesAreAccepted, ChecksAccept};
 
-use order_certificate::text_and_certificate_are_one;
+use order_certificate::{
+    certificates_have_texts, first_bad_line_is_unique, text_and_certificate_are_one,
+};
 
 /// Where a session replied to `pair FIRST SECOND` with the word `above`, `below` or `equal`, it replies to each later
 /// such line with the same word, and to `pair SECOND FIRST` with the swapped one, as long as each change between that
@@ -31,4 +33,15 @@ pub fn certificates_are_accepted()
     ensures { CertificatesAreAccepted }
 {
     text_and_certificate_are_one();
+}
+
+/// The command `verify` over the files of a session, with the session's reply to `qrels` as the judgements file and a
+/// certificate that it replied at the same moment: where all are within the limits and nothing failed, the output received
+/// the line `accepted` and the status is `Done`, or it is `Memory`, where memory ran out.
+pub fn checks_accept()
+    ensures { ChecksAccept }
+{
+    certificates_have_texts();
+    text_and_certificate_are_one();
+    first_bad_line_is_unique();
 }

@@ -1,5 +1,5 @@
 -- The meaning of a check.
-use Rattle.std.proofs.Common.{◌≡◌, ℕ, zero, suc, ◌<◌, ◌≤◌, true, rules, List, [], ◌∷◌, ◌++◌, length, refl, ap, sym, subst, ◌∙◌, arith, inl, inr}
+use Rattle.std.proofs.Common.{◌≡◌, ℕ, zero, suc, ◌<◌, ◌≤◌, true, rules, List, [], ◌∷◌, ◌++◌, length, refl, ap, ap₂, sym, subst, ◌∙◌, arith, inl}
 use Rattle.std.specs.Prelude.{Result, Ok, Err, IfErr, slice_get, unwrap_or, Some, codes, decimal, slice_index_or}
 use Rattle.std.specs.List.{AllByRecursion, zip}
 use Rattle.std.proofs.Math.Nat.{min-le_left, min-le_right}
@@ -28,43 +28,61 @@ use Rattle.order_certificate.specs.declared.certificate.Evidence.{Evidence}
 use Rattle.order_certificate.specs.declared.certificate.Evidence.TheVariants.{Above, Equal, Open}
 use Rattle.order_verifier.specs.Refusal.{Compared, topics_in, HasBoundTooGreat}
 use Rattle.order_verifier.specs.Verified.{IsVerified}
-use Rattle.desk_files.specs.Checks.{CheckMayOpen}
+use Rattle.order_certificate.specs.Certificate.{IsCertificate}
+use Rattle.topics_pool.specs.Rows.{IsDeskOf}
+use Rattle.desk_files.specs.Checks.{CheckComes, MakesCheck}
+use Rattle.desk_files.specs.Load.{Loaded}
+use Rattle.desk_files.specs.Outcome.{StopsAt}
 use Rattle.desk_files.specs.declared.stop.Stop.{Stop}
-use Rattle.desk_files.specs.Load.{Opens}
-use Rattle.desk_files.proofs.Checking.{check_opens_qrels}
-use Rattle.desk_top.specs.Verification.{IsReasonOn, reason_text, verification_text, verification_status, IsVerificationOf}
-use Rattle.desk_top.specs.Told.{TellsStop, Writes}
-use Rattle.desk_outside.specs.Seen.{Shelf, Source, Sink}
-use Rattle.desk_top.specs.Printing.{IsPrinted, IsStopped}
-use Rattle.desk_top.specs.Meaning.{check_printing, check_meaning}
-use Rattle.desk_top.specs.Meets.{Meets}
-use Rattle.desk_top.proofs.Printed.{Answers, meets_printed, meets_stopped}
+use Rattle.desk_files.specs.declared.stop.Stop.TheVariants as stops
+use Rattle.desk_outside.specs.Seen.{Shelf}
+use Rattle.desk_top.specs.declared.outcome.Outcome.{Outcome as Made}
+use Rattle.desk_top.specs.declared.outcome.Outcome.TheVariants as made
+use Rattle.desk_top.specs.declared.status.Status.{Status}
+use Rattle.desk_top.specs.Status.{GoesWithText}
+use Rattle.desk_top.specs.Answer.{OfCheck}
+use Rattle.desk_top.specs.Outcome.{Prints}
+use Rattle.desk_top.specs.Loading.{check_loading}
+use Rattle.desk_top.specs.Meaning.{check_meaning}
+use Rattle.desk_top.specs.Verification.{IsReasonOn, reason_text, verification_status, IsChecked}
+use Rattle.desk_top.specs.Works.{MakesOutcome, StopsLoading, Works}
+use Rattle.desk_top.proofs.Reporting.{found_may_come, check_stops, makes_one_text}
 
--- a check has some text
-some_text : (desk : Desk) (answer : Result (Unit {0}) Rejected) → 0 < length (verification_text desk answer)
-some_text desk (Ok _) = omega arith
-some_text desk (Err why) = omega arith
+-- ---- what was made
+made_as : (check : Check) (cells : ℕ) (found : Loaded × Certificate) (desk : Desk) → IsDeskOf found.0.qrels found.0.runs desk → IsCertificate found.1 → (outcome : Made) → IsChecked found.1 desk outcome → MakesOutcome (check_meaning check) cells cells found outcome
+made_as check cells found desk ranked within (made.Prints text status) is =
+    let goes : GoesWithText status = subst GoesWithText (sym is.text.1) (goes_with is.answer) in (
+      makes_one_text (check_meaning check) found (OfCheck found.1 desk) text.items status goes (λ input. (
+        Prints status (record { about = OfCheck found.1 desk; text = text.items } ∷ []),
+        record {
+          desk = desk;
+          ranked = ranked;
+          within = within;
+          answer = is.answer;
+          verified = is.verified;
+          is = ap₂ (λ s t. Prints s (record { about = OfCheck found.1 desk; text = t } ∷ [])) is.text.1 is.text.0;
+        },
+        refl,
+      )),
+      (0, λ taken. refl, omega arith),
+    )
+  where
+    goes_with : (answer : Result (Unit {0}) Rejected) → GoesWithText (verification_status answer)
+    goes_with (Ok _) = tt
+    goes_with (Err why) = tt
+made_as check cells found desk ranked within (made.Refuses line) is = absurd is.text
+made_as check cells found desk ranked within (made.Holds other measure level) is = absurd is.text
 
-pub verification_is_some : (c : Certificate) (desk : Desk) (status : ℕ) (text : List ℕ) → IsVerificationOf c desk status text → 0 < length text
-verification_is_some c desk status text is = subst (λ t. 0 < length t) (sym is.is) (some_text desk is.answer)
+pub check_works : (check : Check) (shelf : Shelf) (cells : ℕ) (made : Desk × Certificate) (outcome : Made) → MakesCheck shelf.files shelf.before shelf.after check (Ok made) → IsCertificate made.1 → IsChecked made.1 made.0 outcome → Works (check_meaning check) shelf cells cells (Ok outcome)
+check_works check shelf cells made outcome makes within is =
+    ((makes.0, made.1), found_may_come (λ files found. CheckComes files check found) shelf.files (makes.0, made.1) makes.1, made_as check cells (makes.0, made.1) made.0 makes.2 within outcome is)
 
-neither : (answer : Result (Unit {0}) Rejected) (status : ℕ) → status ≡ verification_status answer → (status ≡ 3 → ⊥) × (status ≡ 4 → ⊥)
-neither (Ok _) status is = (λ three. omega (arith, is, three), λ four. omega (arith, is, four))
-neither (Err why) status is = (λ three. omega (arith, is, three), λ four. omega (arith, is, four))
+-- why nothing was made
+pub check_stopped : (check : Check) (shelf : Shelf) (cells : ℕ) (stop : Stop) → StopsAt shelf.files shelf.before shelf.after stop (λ files halt. CheckComes files check (Err halt)) → Works (check_meaning check) shelf cells cells (Err stop)
+check_stopped check shelf cells stop stops = (check_stops check shelf stop stops, inl refl)
 
-check_answers : (check : Check) → Answers (check_printing check) (check_meaning check)
-check_answers check = record {
-  answers = λ known input answer is. is;
-  opens_one = λ known. (check.qrels, check_opens_qrels known check);
-  status = λ found moment status text is. neither is.printed.answer status is.printed.ends;
-}
-
-module _ (check : Check) (shelf : Shelf) (input : Source) (out err : Sink) where
-  pub check_printed : (steps status : ℕ) → IsPrinted (check_printing check) shelf out status → Writes err.had err.has err.before err.after [] → Opens (CheckMayOpen shelf.files check) shelf.had shelf.has → Meets (check_meaning check) shelf input out err steps steps status
-  check_printed steps status has line opened = meets_printed (check_printing check) (check_meaning check) (check_answers check) shelf input out err steps steps status has line (inl refl) (inr opened)
-
-  pub check_stopped : (steps status : ℕ) (stop : Stop) → IsStopped (check_printing check) shelf out stop → TellsStop stop err status → Opens (CheckMayOpen shelf.files check) shelf.had shelf.has → Meets (check_meaning check) shelf input out err steps steps status
-  check_stopped steps status stop stopped told opened = meets_stopped (check_printing check) (check_meaning check) (check_answers check) shelf input out err steps steps status stop stopped told (inl refl) (inr opened)
+pub check_memory : (check : Check) (shelf : Shelf) (cells : ℕ) (stop : Stop) → stop ≡ stops.Memory → Works (check_meaning check) shelf cells cells (Err stop)
+check_memory check shelf cells stop is = (subst (StopsLoading (check_loading check) shelf) (sym is) tt, inl refl)
 
 -- ---- a reason in a line
 name_there : (names : List (List ℕ)) (i : ℕ) → AllByRecursion (λ name. is_name name ≡ true) names → IsInLine (slice_index_or names i [])

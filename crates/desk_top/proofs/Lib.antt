@@ -1,13 +1,11 @@
 pub mod Marking
-pub mod Asking
 pub mod Telling
-pub mod Nonempty
 pub mod Meeting
-pub mod Printed
 pub mod Reporting
 pub mod Checks
 pub mod Conversing
 pub mod Truth
 pub mod Replying
 pub mod Showing
-pub mod Truthful
+pub mod Commands
+pub mod Calling

@@ -1,18 +1,25 @@
 -- Ways to meet a meaning.
-use Rattle.std.proofs.Common.{◌≡◌, ℕ, ◌<◌, List, [], ◌∷◌, ◌++◌, length, refl, ap, sym, subst, ◌∙◌, arith, inl, inr}
+use Rattle.std.proofs.Common.{◌≡◌, ℕ, ◌<◌, List, [], ◌∷◌, ◌++◌, length, refl, ap, sym, subst, ◌∙◌, inl, inr}
 use Rattle.std.proofs.lemmas.List.{append_cancel_left}
-use Rattle.std.specs.Prelude.{Option, Some, None, IfSome, ◌⊎◌}
+use Rattle.std.specs.Prelude.{Option, Some, None, Ok, Err, IfSome, ◌⊎◌}
 use Rattle.std.specs.Io.KnownBytes.{append_known}
 use Rattle.desk_outside.specs.Outside.{Files}
-use Rattle.desk_outside.proofs.Told.{append_known-nil}
-use Rattle.desk_words.specs.Words.{IsCommandOf}
-use Rattle.desk_words.specs.declared.command.Command.{Command}
-use Rattle.desk_top.specs.Told.{Writes, status_line}
-use Rattle.desk_outside.specs.Seen.{Shelf, Source, Sink, ReceivedNothing, ReceivedAll}
-use Rattle.desk_top.specs.Answer.{Answer, text_of, usage}
-use Rattle.desk_outside.specs.Inputs.{Input, Whole, IsInput}
-use Rattle.desk_top.specs.Meaning.{Meaning, meaning_of, usage_meaning, words_meaning}
-use Rattle.desk_top.specs.Meets.{OpensWithin, HasAnswer, IsGiven, Gives, OutputFailed, FilesFailed, Stopped, EvaluatesWithin, Meets, CanEnd}
+use Rattle.desk_outside.specs.Inputs.{Input, Whole, Cut, IsInput, IsPart}
+use Rattle.desk_outside.specs.Seen.{Sink, ReceivedNothing, ReceivedAll, ReceivedPrefix}
+use Rattle.desk_outside.proofs.Told.{append_known-nil, prepend_known-nil}
+use Rattle.desk_files.specs.Files.{Missing, Refused}
+use Rattle.desk_files.specs.Views.{refusal_of}
+use Rattle.desk_files.specs.declared.stop.Stop.{Stop}
+use Rattle.desk_files.specs.declared.stop.Stop.TheVariants as stops
+use Rattle.desk_top.specs.declared.status.Status.{Status}
+use Rattle.desk_top.specs.declared.status.Status.TheVariants as statuses
+use Rattle.desk_top.specs.Status.{status_line, GoesWithText}
+use Rattle.desk_top.specs.Told.{WritesLine, TellsStop}
+use Rattle.desk_top.specs.Answer.{Answer, text_of, said_with, told_with, halted}
+use Rattle.desk_top.specs.Loading.{OpensWithin}
+use Rattle.desk_top.specs.Meaning.{Meaning, IsAnswer}
+use Rattle.desk_top.specs.Works.{CountsFor, MakesText, StopsLoading, CountsStop, PutsText}
+use Rattle.desk_top.specs.Meets.{Call, HasAnswer, IsGiven, GivesAnswer, OutputFailed, FilesFailed, Stopped, CountsCells, Meets, CanEnd}
 
 -- an input's bytes, where they are known
 abbrev bytes_of : Option (List ℕ) → List ℕ
@@ -32,131 +39,134 @@ sent_is old new had sent text o e is =
     append_cancel_left had sent text (some_same (had ++ sent) (had ++ text) (sym e ∙ is ∙ ap (λ known. append_known known text) o))
 
 -- a sink that received nothing received the whole of no text
-pub no_text : (out : Sink) → ReceivedNothing out → ReceivedAll out []
+no_text : (out : Sink) → ReceivedNothing out → ReceivedAll out []
 no_text out same = same ∙ sym (append_known-nil out.had)
 
-pub writes_nothing : (old : Option (List ℕ)) (before : ℕ) → Writes old old before before []
-writes_nothing old before = record { prefix = (0, sym (append_known-nil old)); whole = λ calm. sym (append_known-nil old); later = omega arith }
-
-module _ (meaning : Meaning) (shelf : Shelf) (input : Source) (out err : Sink) where
+module _ (meaning : Meaning) (call : Call) where
   -- an answer that does not hang on the input was given
-  pub given : (status : ℕ) (answer : Answer) → ((i : Input) → meaning.answers shelf.files i answer) → status ≡ answer.status → ReceivedAll out (text_of answer) → Writes err.had err.has err.before err.after answer.told → Gives meaning shelf input out err status
+  pub given : (status : Status) (answer : Answer) → ((i : Input) → IsAnswer meaning call.files.files i answer) → status ≡ answer.status → ReceivedAll call.out (text_of answer.said) → WritesLine call.err answer.told → GivesAnswer meaning call status
   given status answer is ended text line = record {
-    input = Whole (bytes_of input.rest);
-    met = bytes_known input.rest;
+    input = Whole (bytes_of call.input.rest);
+    met = bytes_known call.input.rest;
     answer = answer;
-    is = is (Whole (bytes_of input.rest));
+    is = is (Whole (bytes_of call.input.rest));
     holds = record { ended = ended; text = text; line = line };
   }
 
-  -- the answer was given, at a status other than 3 and 4
-  pub meets_given : (before after status : ℕ) → (status ≡ 3 → ⊥) → (status ≡ 4 → ⊥) → Gives meaning shelf input out err status → EvaluatesWithin meaning shelf input before after → OpensWithin meaning shelf → Meets meaning shelf input out err before after status
-  meets_given before after status not_three not_four gives cells opened = record {
+  -- it is an answer over any part of the input
+  at_part : (answer : Answer) (fact : Answer → Type 0) → ((i : Input) → IsAnswer meaning call.files.files i answer) → fact answer → HasAnswer meaning call.files.files (IsPart call.input) fact
+  at_part answer fact is holds = record { input = Cut []; met = (call.input.rest, prepend_known-nil call.input.rest); answer = answer; is = is (Cut []); holds = holds }
+
+  -- the answer was given, and neither failed the outside nor ran memory out
+  pub meets_given : (status : Status) → (status ≡ statuses.Outside → ⊥) → (status ≡ statuses.Memory → ⊥) → GivesAnswer meaning call status → CountsCells meaning call → OpensWithin meaning.loading call.files → Meets meaning call status
+  meets_given status not_outside not_memory gives cells opened = record {
     answered = inl gives;
-    outside = λ three. absurd (not_three three);
-    memory = λ four. absurd (not_four four);
-    told = (elim [ inl three ↦ absurd (not_three three) | inr four ↦ absurd (not_four four) ]);
+    outside = λ outside. absurd (not_outside outside);
+    memory = λ memory. absurd (not_memory memory);
+    told = (elim [ inl outside ↦ absurd (not_outside outside) | inr memory ↦ absurd (not_memory memory) ]);
     cells = cells;
     opened = opened;
   }
 
   -- an object outside failed
-  pub meets_outside : (before after status : ℕ) → status ≡ 3 → Gives meaning shelf input out err status ⊎ OutputFailed meaning shelf input out ⊎ FilesFailed meaning shelf out → Writes err.had err.has err.before err.after (status_line 3) → EvaluatesWithin meaning shelf input before after → OpensWithin meaning shelf → Meets meaning shelf input out err before after status
-  meets_outside before after status three why line cells opened = record {
-    answered = inr (inl three);
+  pub meets_outside : (status : Status) → status ≡ statuses.Outside → GivesAnswer meaning call status ⊎ OutputFailed meaning call ⊎ FilesFailed meaning call → WritesLine call.err (status_line statuses.Outside) → CountsCells meaning call → OpensWithin meaning.loading call.files → Meets meaning call status
+  meets_outside status is why line cells opened = record {
+    answered = inr (inl is);
     outside = λ _. why;
-    memory = λ four. absurd (omega (arith, three, four));
-    told = λ _. subst (λ n. Writes err.had err.has err.before err.after (status_line n)) (sym three) line;
+    memory = λ memory. absurd (let other : statuses.Outside ≡ statuses.Memory = sym is ∙ memory in cc);
+    told = λ _. subst (λ s. WritesLine call.err (status_line s)) (sym is) line;
     cells = cells;
     opened = opened;
   }
 
-  -- memory ran out before anything was received
-  pub meets_memory : (before after status : ℕ) → status ≡ 4 → ReceivedNothing out → Writes err.had err.has err.before err.after (status_line 4) → EvaluatesWithin meaning shelf input before after → OpensWithin meaning shelf → Meets meaning shelf input out err before after status
-  meets_memory before after status four nothing line cells opened = record {
-    answered = inr (inr four);
-    outside = λ three. absurd (omega (arith, three, four));
-    memory = λ _. inl nothing;
-    told = λ _. subst (λ n. Writes err.had err.has err.before err.after (status_line n)) (sym four) line;
+  -- memory ran out
+  pub meets_memory : (status : Status) → status ≡ statuses.Memory → Stopped meaning call → WritesLine call.err (status_line statuses.Memory) → CountsCells meaning call → OpensWithin meaning.loading call.files → Meets meaning call status
+  meets_memory status is stopped line cells opened = record {
+    answered = inr (inr is);
+    outside = λ outside. absurd (let other : statuses.Memory ≡ statuses.Outside = sym is ∙ outside in cc);
+    memory = λ _. stopped;
+    told = λ _. subst (λ s. WritesLine call.err (status_line s)) (sym is) line;
     cells = cells;
     opened = opened;
   }
 
--- usage was answered
-pub meets_usage : (shelf : Shelf) (input : Source) (out err : Sink) (before status : ℕ) → status ≡ 2 → shelf.has ≡ shelf.had → ReceivedNothing out → Writes err.had err.has err.before err.after (status_line 2) → Meets usage_meaning shelf input out err before before status
-meets_usage shelf input out err before status two same nothing line =
-    meets_given usage_meaning shelf input out err before before status (λ three. omega (arith, two, three)) (λ four. omega (arith, two, four))
-    (given usage_meaning shelf input out err status usage (λ i. refl) two (no_text out nothing) line) (inl refl) (inl same)
+  -- the answer is that of a refusal, or of usage
+  meets_told : (status told : Status) (line : List ℕ) → status ≡ told → (told ≡ statuses.Outside → ⊥) → (told ≡ statuses.Memory → ⊥) → ((i : Input) → IsAnswer meaning call.files.files i (told_with told line)) → ReceivedNothing call.out → WritesLine call.err line → CountsCells meaning call → OpensWithin meaning.loading call.files → Meets meaning call status
+  meets_told status told line is not_outside not_memory answers nothing writes cells opened =
+      meets_given status (λ e. not_outside (sym is ∙ e)) (λ e. not_memory (sym is ∙ e)) (given status (told_with told line) answers is (no_text call.out nothing) writes) cells opened
 
--- an answer by another meaning
-answer_too : (meaning wider : Meaning) (known : Option Files) (P : Input → Type 0) (fact : Answer → Type 0) → ((i : Input) (answer : Answer) → meaning.answers known i answer → wider.answers known i answer) → HasAnswer meaning known P fact → HasAnswer wider known P fact
-answer_too meaning wider known P fact more has = record { input = has.input; met = has.met; answer = has.answer; is = more has.input has.answer has.is; holds = has.holds }
+  pub meets_refusal : (status : Status) (line : List ℕ) → status ≡ statuses.Refused → ((i : Input) → IsAnswer meaning call.files.files i (told_with statuses.Refused line)) → ReceivedNothing call.out → WritesLine call.err line → CountsCells meaning call → OpensWithin meaning.loading call.files → Meets meaning call status
+  meets_refusal status line is answers nothing writes cells opened = meets_told status statuses.Refused line is (λ e. cc) (λ e. cc) answers nothing writes cells opened
 
--- a meaning is met by what meets a narrower one
-meets_wider : (meaning wider : Meaning) (shelf : Shelf) (input : Source) (out err : Sink) (before after status : ℕ) → ((known : Option Files) (names : List (List ℕ)) → meaning.opens known names → wider.opens known names) → (meaning.reads → wider.reads) → ((known : Option Files) (i : Input) (answer : Answer) → meaning.answers known i answer → wider.answers known i answer) → ((known : Option Files) (taken : Input) (most : ℕ) → meaning.cells known taken most → wider.cells known taken most) →
-    Meets meaning shelf input out err before after status → Meets wider shelf input out err before after status
-meets_wider meaning wider shelf input out err before after status opens reads answers cells meets = record {
-  answered = gives_too meets.answered;
-  outside = λ three. outside_too (meets.outside three);
-  memory = λ four. memory_too (meets.memory four);
-  told = meets.told;
-  cells = cells_too meets.cells;
-  opened = opened_too meets.opened;
-}
-  where
-    too : (P : Input → Type 0) (fact : Answer → Type 0) → HasAnswer meaning shelf.files P fact → HasAnswer wider shelf.files P fact
-    too P fact = answer_too meaning wider shelf.files P fact (answers shelf.files)
+  pub meets_usage : (status : Status) → status ≡ statuses.Usage → ((i : Input) → IsAnswer meaning call.files.files i (told_with statuses.Usage (status_line statuses.Usage))) → ReceivedNothing call.out → WritesLine call.err (status_line statuses.Usage) → CountsCells meaning call → OpensWithin meaning.loading call.files → Meets meaning call status
+  meets_usage status is answers nothing writes cells opened = meets_told status statuses.Usage (status_line statuses.Usage) is (λ e. cc) (λ e. cc) answers nothing writes cells opened
 
-    gives_too : Gives meaning shelf input out err status ⊎ (status ≡ 3) ⊎ (status ≡ 4) → Gives wider shelf input out err status ⊎ (status ≡ 3) ⊎ (status ≡ 4)
-    gives_too (inl gives) = inl (too _ _ gives)
-    gives_too (inr other) = inr other
+  -- ---- by what was made of the files, where the input was not read
+  module _ (same : call.input.rest ≡ call.input.left) where
+    counts_for : (found : meaning.loading.Found) → meaning.loading.comes call.files.files (Ok found) → CountsFor meaning call.had_cells call.has_cells found → CountsCells meaning call
+    counts_for found comes counts = inr (found, comes, Cut [], same ∙ prepend_known-nil call.input.left, counts.0, counts.1 (Cut []), counts.2)
 
-    outside_too : Gives meaning shelf input out err status ⊎ OutputFailed meaning shelf input out ⊎ FilesFailed meaning shelf out → Gives wider shelf input out err status ⊎ OutputFailed wider shelf input out ⊎ FilesFailed wider shelf out
-    outside_too (inl gives) = inl (too _ _ gives)
-    outside_too (inr (inl failed)) = inr (inl (failed.0, too _ _ failed.1))
-    outside_too (inr (inr failed)) = inr (inr ((failed.0.0, opens shelf.files (failed.0.0 ∷ []) failed.0.1), failed.1, failed.2))
+    counts_stop : (stop : Stop) → CountsStop meaning call.files.files call.had_cells call.has_cells stop → CountsCells meaning call
+    counts_stop stop (inl none) = inl none
+    counts_stop stop (inr some) = counts_for some.1 some.2 some.3
 
-    memory_too : Stopped meaning shelf input out → Stopped wider shelf input out
-    memory_too (inl nothing) = inl nothing
-    memory_too (inr part) = inr (reads part.0, too _ _ part.1)
+    -- a text was made, and put
+    pub meets_put : (found : meaning.loading.Found) → meaning.loading.comes call.files.files (Ok found) → (text : List ℕ) (status ended : Status) → MakesText meaning found text status → CountsFor meaning call.had_cells call.has_cells found →
+        PutsText call.out call.err text status ended → OpensWithin meaning.loading call.files → Meets meaning call ended
+    meets_put found comes text status ended makes counts put opened = at put
+      where
+        answer : Answer
+        answer = said_with status makes.said
 
-    opened_too : OpensWithin meaning shelf → OpensWithin wider shelf
-    opened_too (inl same) = inl same
-    opened_too (inr opened) = inr (record { names = opened.names; allowed = opens shelf.files opened.names opened.allowed; added = opened.added })
+        its : (i : Input) → IsAnswer meaning call.files.files i answer
+        its i = record { found = Ok found; comes = comes; is = makes.answers i }
 
-    cells_too : EvaluatesWithin meaning shelf input before after → EvaluatesWithin wider shelf input before after
-    cells_too (inl same) = inl same
-    cells_too (inr within) = inr (within.0, within.1, within.2, cells shelf.files within.0 within.2 within.3, within.4)
+        at : PutsText call.out call.err text status ended → Meets meaning call ended
+        at (inl whole) =
+            meets_given ended (λ e. subst GoesWithText (sym whole.0 ∙ e) makes.goes) (λ e. subst GoesWithText (sym whole.0 ∙ e) makes.goes)
+            (given ended answer its whole.0 (subst (ReceivedAll call.out) makes.is whole.1) whole.2) (counts_for found comes counts) opened
+        at (inr broken) =
+            meets_outside ended broken.0
+            (inr (inl (broken.1, at_part answer (λ a. (0 < length (text_of a.said)) × ReceivedPrefix call.out (text_of a.said)) its (subst (λ t. (0 < length t) × ReceivedPrefix call.out t) makes.is (broken.2, broken.3)))))
+            broken.4 (counts_for found comes counts) opened
 
--- what meets the meaning of the command meets that of its words
-pub meets_words : (words : List (List ℕ)) (command : Command) (shelf : Shelf) (input : Source) (out err : Sink) (before after status : ℕ) → IsCommandOf words command → Meets (meaning_of command) shelf input out err before after status → Meets (words_meaning words) shelf input out err before after status
-meets_words words command shelf input out err before after status said =
-    meets_wider (meaning_of command) (words_meaning words) shelf input out err before after status
-    (λ known names may. inl (command, said, may)) (λ reads. inl (command, said, reads)) (λ known i answer is. inl (command, said, is)) (λ known taken most is. inl (command, said, is))
+    -- a refusal was made, and told
+    pub meets_refused : (found : meaning.loading.Found) → meaning.loading.comes call.files.files (Ok found) → (line : List ℕ) (status : Status) → ((i : Input) → meaning.answers found i (told_with statuses.Refused line)) → CountsFor meaning call.had_cells call.has_cells found →
+        status ≡ statuses.Refused → ReceivedNothing call.out → WritesLine call.err line → OpensWithin meaning.loading call.files → Meets meaning call status
+    meets_refused found comes line status answers counts is nothing writes opened =
+        meets_refusal status line is (λ i. record { found = Ok found; comes = comes; is = answers i }) nothing writes (counts_for found comes counts) opened
 
--- words of no command mean usage
-pub meets_no_command : (words : List (List ℕ)) (shelf : Shelf) (input : Source) (out err : Sink) (before after status : ℕ) → ((command : Command) → IsCommandOf words command → ⊥) → Meets usage_meaning shelf input out err before after status → Meets (words_meaning words) shelf input out err before after status
-meets_no_command words shelf input out err before after status none =
-    meets_wider usage_meaning (words_meaning words) shelf input out err before after status
-    (λ known names may. inr (none, may)) (λ reads. inr (none, reads)) (λ known i answer is. inr (none, is)) (λ known taken most is. inr (none, is))
+    -- the command stopped, and told why
+    pub meets_stopped : (stop : Stop) (status : Status) → StopsLoading meaning.loading call.files stop → CountsStop meaning call.files.files call.had_cells call.has_cells stop → TellsStop stop call.err status → ReceivedNothing call.out → OpensWithin meaning.loading call.files →
+        Meets meaning call status
+    meets_stopped (stops.Refused refusal) status stopped counts (inl refused) nothing opened =
+        meets_refusal status _ refused.0 (λ i. record { found = Err (Refused (refusal_of refusal)); comes = stopped; is = refl }) nothing refused.1 (counts_stop (stops.Refused refusal) counts) opened
+    meets_stopped (stops.Refused refusal) status stopped counts (inr memory) nothing opened = meets_memory status memory.0 (inl nothing) memory.1 (counts_stop (stops.Refused refusal) counts) opened
+    meets_stopped stops.Outside status stopped counts told nothing opened = meets_outside status told.0 (why stopped counts) told.1 (counts_stop stops.Outside counts) opened
+      where
+        why : StopsLoading meaning.loading call.files stops.Outside → CountsStop meaning call.files.files call.had_cells call.has_cells stops.Outside → GivesAnswer meaning call status ⊎ OutputFailed meaning call ⊎ FilesFailed meaning call
+        why (inl failed) (inl none) = inr (inr (failed.0, failed.1, nothing, none))
+        why (inl failed) (inr some) = let other : stops.Outside ≡ stops.Memory = some.0 in absurd (cc)
+        why (inr missing) counted = inl (given status (halted Missing) (λ i. record { found = Err Missing; comes = missing; is = refl }) told.0 (no_text call.out nothing) told.1)
+    meets_stopped stops.Memory status stopped counts told nothing opened = meets_memory status told.0 (inl nothing) told.1 (counts_stop stops.Memory counts) opened
 
 -- an answer of which something weaker holds, over any input
 any_answer : (meaning : Meaning) (known : Option Files) (P : Input → Type 0) (fact weaker : Answer → Type 0) → ((answer : Answer) → fact answer → weaker answer) → HasAnswer meaning known P fact → HasAnswer meaning known (λ input. Unit {0}) weaker
 any_answer meaning known P fact weaker f has = record { input = has.input; met = tt; answer = has.answer; is = has.is; holds = f has.answer has.holds }
 
 -- how a call that meets a meaning can end
-pub can_end : (meaning : Meaning) (shelf : Shelf) (input : Source) (out err : Sink) (before after status : ℕ) → Meets meaning shelf input out err before after status → CanEnd meaning shelf.files status
-can_end meaning shelf input out err before after status meets = at meets.answered
+pub can_end : (meaning : Meaning) (call : Call) (status : Status) → Meets meaning call status → CanEnd meaning call.files.files status
+can_end meaning call status meets = at meets.answered
   where
-    given_end : Gives meaning shelf input out err status → CanEnd meaning shelf.files status
-    given_end gives = inl (any_answer meaning shelf.files (IsInput input) (IsGiven status out err) (λ answer. status ≡ answer.status) (λ answer is. is.ended) gives)
+    given_end : GivesAnswer meaning call status → CanEnd meaning call.files.files status
+    given_end gives = inl (any_answer meaning call.files.files (IsInput call.input) (IsGiven call status) (λ answer. status ≡ answer.status) (λ answer is. is.ended) gives)
 
-    failed_end : status ≡ 3 → Gives meaning shelf input out err status ⊎ OutputFailed meaning shelf input out ⊎ FilesFailed meaning shelf out → CanEnd meaning shelf.files status
-    failed_end three (inl gives) = given_end gives
-    failed_end three (inr (inl failed)) = inr (inl (three, inr (any_answer meaning shelf.files _ _ (λ answer. 0 < length (text_of answer)) (λ answer is. is.0) failed.1)))
-    failed_end three (inr (inr failed)) = inr (inl (three, inl failed.0))
+    failed_end : status ≡ statuses.Outside → GivesAnswer meaning call status ⊎ OutputFailed meaning call ⊎ FilesFailed meaning call → CanEnd meaning call.files.files status
+    failed_end is (inl gives) = given_end gives
+    failed_end is (inr (inl failed)) = inr (inl (is, inr (any_answer meaning call.files.files _ _ (λ answer. 0 < length (text_of answer.said)) (λ answer holds. holds.0) failed.1)))
+    failed_end is (inr (inr failed)) = inr (inl (is, inl failed.0))
 
-    at : Gives meaning shelf input out err status ⊎ (status ≡ 3) ⊎ (status ≡ 4) → CanEnd meaning shelf.files status
+    at : GivesAnswer meaning call status ⊎ (status ≡ statuses.Outside) ⊎ (status ≡ statuses.Memory) → CanEnd meaning call.files.files status
     at (inl gives) = given_end gives
-    at (inr (inl three)) = failed_end three (meets.outside three)
-    at (inr (inr four)) = inr (inr four)
+    at (inr (inl outside)) = failed_end outside (meets.outside outside)
+    at (inr (inr memory)) = inr (inr memory)

@@ -22,11 +22,14 @@ use Rattle.desk_report.proofs.Spelling.{AreInLine, in_line-spaced, ink_in_line}
 use Rattle.desk_model.proofs.Words.{name_word}
 use Rattle.desk_report.proofs.Texts.{decimal_ink}
 use Rattle.desk_report.proofs.Others.{in_line_back, other_word}
-use Rattle.judge_session.specs.Request.{Judge, Undo, Redo, Table, Pair, Certify, Pool, Next, Qrels, Quit, Heard, Blank, TooLong, Bad, Asked}
+use Rattle.judge_session.specs.Request.{Judge, Undo, Redo, Table, Pair, Certify, Pool, Next, Qrels, Quit, Heard, Blank, TooLong, Bad, Asked, heard_of}
 use Rattle.session_replies.specs.Replies.{Setting, IsReply, IsCertified, IsPoolReply, OnNumbers, refusal, fault_word, judge_reply, undo_reply, redo_reply, marks_after, subject_after, changes_after, all_in_force}
 use Rattle.session_replies.proofs.Marks.{marks_of_desk}
-use Rattle.desk_top.specs.Conversation.{asks_next}
-use Rattle.desk_top.proofs.Truth.{PrintsTruth, table_is_true, certificate_is_true, close_is_true}
+use Rattle.desk_top.specs.Answer.{IsTrueOf, AreAlwaysTrue}
+use Rattle.desk_top.specs.Conversation.{about_reply, sayings}
+use Rattle.desk_top.specs.Truths.{PrintsTruth}
+use Rattle.session_stream.specs.Text.{AreReplies}
+use Rattle.desk_top.proofs.Truth.{table_is_true, certificate_is_true, close_is_true}
 
 -- ---- what stands in a reply ends no line
 signed_in_line : (z : ℤ) → AreInLine (signed_decimal z)
@@ -134,7 +137,8 @@ module _ (laws : PrintsTruth) (s : Setting) (changes : List Change) (m : IsMeasu
       subst (λ t. ReplyIsTrue n t × IsTrueProposal s.measure s.desk (marks_after s changes) (take n t)) (sym is.is)
       (laws.next s.measure s.desk (marks_after s changes) is.totals is.proposal n valid (marks_of_desk s changes valid) is.summed is.next)
 
-  pub reply_is_true : (heard : Heard) (text : List ℕ) (n : ℕ) → IsReply s changes heard text → ReplyIsTrue n text
+  -- each reply is true of what it speaks of
+  pub reply_is_true : (heard : Heard) (text : List ℕ) (n : ℕ) → IsReply s changes heard text → IsTrueOf (about_reply s changes heard) (take n text)
   reply_is_true Blank text n is = subst (ReplyIsTrue n) (sym is) (laws.no_text s.measure s.desk (marks_after s changes) n)
   reply_is_true TooLong text n is = subst (ReplyIsTrue n) (sym is) (refusal_true n (codes "LineTooLong") (search rules))
   reply_is_true Bad text n is = subst (ReplyIsTrue n) (sym is) (refusal_true n (codes "BadLine") (search rules))
@@ -146,22 +150,13 @@ module _ (laws : PrintsTruth) (s : Setting) (changes : List Change) (m : IsMeasu
   reply_is_true (Asked (Pair first second)) text n is = runs_true n (number_of s.desk.runs first) (number_of s.desk.runs second) (IsPairText (subject_after s changes)) text (λ a b. pair_true n a b text) is
   reply_is_true (Asked (Certify first second)) text n is = runs_true n (number_of s.desk.runs first) (number_of s.desk.runs second) (IsCertified (subject_after s changes)) text (λ a b. certified_true n a b text) is
   reply_is_true (Asked (Pool topic depth)) text n is = pool_true n depth (number_of (map (λ (book : Book). book.name) s.desk.topics) topic) text is
-  reply_is_true (Asked Next) text n is = (next_true n text is).0
+  reply_is_true (Asked Next) text n is = next_true n text is
   reply_is_true (Asked Qrels) text n is = subst (ReplyIsTrue n) (sym is) (laws.qrels s.measure s.desk (marks_after s changes) (all_in_force s.desk changes) n valid)
   reply_is_true (Asked Quit) text n is = subst (ReplyIsTrue n) (sym is) (laws.no_text s.measure s.desk (marks_after s changes) n)
 
-  -- a prefix of the reply to `next` tells the proposal
-  pub proposal_is_true : (heard : Heard) (text : List ℕ) (n : ℕ) → IsReply s changes heard text → asks_next heard ≡ true → IsTrueProposal s.measure s.desk (marks_after s changes) (take n text)
-  proposal_is_true (Asked Next) text n is e = (next_true n text is).1
-  proposal_is_true Blank text n is e = absurd (cc)
-  proposal_is_true TooLong text n is e = absurd (cc)
-  proposal_is_true Bad text n is e = absurd (cc)
-  proposal_is_true (Asked (Judge who topic doc grade)) text n is e = absurd (cc)
-  proposal_is_true (Asked (Undo who)) text n is e = absurd (cc)
-  proposal_is_true (Asked (Redo who)) text n is e = absurd (cc)
-  proposal_is_true (Asked Table) text n is e = absurd (cc)
-  proposal_is_true (Asked (Pair first second)) text n is e = absurd (cc)
-  proposal_is_true (Asked (Certify first second)) text n is e = absurd (cc)
-  proposal_is_true (Asked (Pool topic depth)) text n is e = absurd (cc)
-  proposal_is_true (Asked Qrels) text n is e = absurd (cc)
-  proposal_is_true (Asked Quit) text n is e = absurd (cc)
+-- the replies of a session are true, each of the judgements in force before its line
+pub replies_are_true : PrintsTruth → (s : Setting) → IsMeasure s.measure → IsDesk s.desk → (c : List Change) (ls texts : List (List ℕ)) → AreReplies s c ls texts → AreAlwaysTrue (sayings s c ls texts)
+replies_are_true laws s m valid c [] texts are = tt
+replies_are_true laws s m valid c (l ∷ ls) [] are = absurd are
+replies_are_true laws s m valid c (l ∷ ls) (t ∷ ts) are =
+    (λ n. reply_is_true laws s c m valid (heard_of l) t n are.0, replies_are_true laws s m valid (changes_after s.desk (heard_of l) c) ls ts are.1)

@@ -1,54 +1,121 @@
--- The meaning of a report.
-use Rattle.std.proofs.Common.{◌≡◌, ℕ, List, [], refl, ◌∙◌, arith, inl, inr}
-use Rattle.std.specs.Prelude.{◌⊎◌}
+-- What is made of the files of a command.
+use Rattle.std.proofs.Common.{◌≡◌, ℕ, ◌+◌, ◌≤◌, List, [], ◌∷◌, refl, sym, subst, ◌∙◌, arith, append-nil, inl, inr}
+use Rattle.std.specs.Result.{IsErrAnd}
+use Rattle.std.specs.Prelude.{Option, Some, None, Result, Ok, Err, IfSome, IsSomeAnd, ◌⊎◌}
+use Rattle.desk_outside.specs.Outside.{Files}
+use Rattle.desk_outside.specs.Seen.{Shelf}
+use Rattle.desk_words.specs.declared.command.Check.{Check}
 use Rattle.desk_words.specs.declared.command.Job.{Job}
-use Rattle.desk_model.specs.Desk.{Desk}
-use Rattle.desk_files.specs.Load.{DeskMayOpen, Opens}
+use Rattle.desk_model.specs.Desk.{Desk, AreMarksOf}
+use Rattle.desk_model.specs.declared.types.Mark.{Mark}
+use Rattle.desk_model.specs.declared.types.MeasureName.{MeasureName}
+use Rattle.topic_counts.specs.declared.span.Span.{Span}
+use Rattle.measure_core.specs.declared.cell.Cell.{Cell}
+use Rattle.topics_pool.specs.Rows.{IsDeskOf}
+use Rattle.desk_files.specs.Files.{Halt, Missing, Refused, Refusal}
+use Rattle.desk_files.specs.Load.{Loaded, loaded, Reads}
+use Rattle.desk_files.specs.Outcome.{StopsAt, Stops}
+use Rattle.desk_files.specs.Checks.{CheckComes}
+use Rattle.desk_files.specs.Views.{refusal_of}
 use Rattle.desk_files.specs.declared.stop.Stop.{Stop}
+use Rattle.desk_files.specs.declared.stop.Stop.TheVariants as stops
 use Rattle.desk_files.proofs.Opening.{may_open_qrels}
-use Rattle.desk_top.specs.declared.report.Report.{Report}
-use Rattle.desk_top.specs.declared.report.Report.TheVariants.{Table, Certificate}
-use Rattle.desk_report.specs.Reports.{cells_of}
-use Rattle.desk_top.specs.Report.{IsReportOf, CountsSteps, sources_of}
-use Rattle.desk_top.specs.Told.{TellsStop, Writes}
-use Rattle.desk_outside.specs.Seen.{Shelf, Source, Sink}
-use Rattle.desk_top.specs.Printing.{IsPrinted, IsStopped}
-use Rattle.desk_outside.specs.Inputs.{Cut}
-use Rattle.desk_top.specs.Meaning.{report_printing, report_meaning}
-use Rattle.desk_top.specs.Meets.{EvaluatesWithin, Meets}
-use Rattle.desk_outside.proofs.Told.{prepend_known-nil}
-use Rattle.desk_top.proofs.Printed.{Answers, meets_printed, meets_stopped}
+use Rattle.desk_files.proofs.Checking.{check_opens_qrels}
+use Rattle.desk_report.specs.Reports.{Subject, cells_of, IsSubjectOf, IsCertifiedAs}
+use Rattle.desk_report.specs.declared.reports.Certified.{Certified}
+use Rattle.desk_report.specs.declared.reports.Certified.TheVariants as certified
+use Rattle.desk_top.specs.declared.status.Status.{Status}
+use Rattle.desk_top.specs.declared.status.Status.TheVariants.{Done, Close}
+use Rattle.desk_top.specs.Status.{GoesWithText}
+use Rattle.desk_top.specs.Answer.{About, OfRuns}
+use Rattle.desk_top.specs.Outcome.{Outcome, Prints, PrintsText}
+use Rattle.desk_top.specs.Report.{sources_of, subject_of, PrintsCertificate, shown_as, IsTabled}
+use Rattle.desk_top.specs.declared.report.DeskTable.{DeskTable}
+use Rattle.desk_top.specs.Loading.{Loading, MayCome, OpensFiles, desk_loading, check_loading}
+use Rattle.desk_top.specs.Meaning.{Meaning, desk_meaning}
+use Rattle.desk_top.specs.Works.{CountsFor, MakesText, MakesOutcome, StopsLoading, Works}
+use Rattle.desk_top.proofs.Marking.{marks_known}
 
--- a report comes with status 0 or 6
-report_status : (report : Report) (job : Job) (desk : Desk) (status : ℕ) (text : List ℕ) → IsReportOf report job desk status text → (status ≡ 0) ⊎ (status ≡ 6)
-report_status Table job desk status text is = inl is.0
-report_status Certificate job desk status text (inl certified) = inl certified.0
-report_status Certificate job desk status text (inr close) = inr close.0
+-- what holds of a stop holds of the answer that hands it on
+pub handed_on : {X : Type 0} (fact : Result X Stop → Type 0) (result : Result X Stop) (stop : Stop) → IsErrAnd result (λ e. e ≡ stop) → fact (Err stop) → fact result
+handed_on fact (Ok x) stop is holds = absurd is
+handed_on fact (Err e) stop is holds = subst (λ s. fact (Err s)) (sym is) holds
 
-neither : (status : ℕ) → (status ≡ 0) ⊎ (status ≡ 6) → (status ≡ 3 → ⊥) × (status ≡ 4 → ⊥)
-neither status (inl zero) = (λ three. omega (arith, zero, three), λ four. omega (arith, zero, four))
-neither status (inr six) = (λ three. omega (arith, six, three), λ four. omega (arith, six, four))
+-- ---- what files come to
+module _ {X : Type 0} (comes : Files → Result X Halt → Type 0) where
+  pub found_may_come : (known : Option Files) (found : X) → IfSome known (λ files. comes files (Ok found)) → MayCome known comes (Ok found)
+  found_may_come None found read = tt
+  found_may_come (Some files) found read = read
 
-pub report_answers : (report : Report) (job : Job) → Answers (report_printing report job) (report_meaning report job)
-report_answers report job = record {
-  answers = λ known input answer is. is;
-  opens_one = λ known. (job.qrels, may_open_qrels known (sources_of job));
-  status = λ found moment status text is. neither status (report_status report job is.desk status text is.printed);
-}
+  refusal_may_come : (known : Option Files) (refusal : Refusal) → IfSome known (λ files. comes files (Err (Refused refusal))) → MayCome known comes (Err (Refused refusal))
+  refusal_may_come None refusal read = tt
+  refusal_may_come (Some files) refusal read = read
 
--- the steps of a report, where nothing of the input was taken
-report_cells : (report : Report) (job : Job) (shelf : Shelf) (input : Source) (before after : ℕ) → input.rest ≡ input.left → CountsSteps shelf.files job before after → EvaluatesWithin (report_meaning report job) shelf input before after
-report_cells report job shelf input before after same (inl none) = inl none
-report_cells report job shelf input before after same (inr has) =
-    inr (Cut [], same ∙ prepend_known-nil input.left, cells_of has.desk, record { rows = has.rows; read = has.read; desk = has.desk; ranked = has.ranked; holds = refl }, has.holds)
+  missing_may_come : (known : Option Files) → IsSomeAnd known (λ files. comes files (Err Missing)) → MayCome known comes (Err Missing)
+  missing_may_come None is = is
+  missing_may_come (Some files) is = is
 
-module _ (report : Report) (job : Job) (shelf : Shelf) (input : Source) (out err : Sink) where
-  pub report_printed : (before after status : ℕ) → input.rest ≡ input.left → IsPrinted (report_printing report job) shelf out status → Writes err.had err.has err.before err.after [] → CountsSteps shelf.files job before after → Opens (DeskMayOpen shelf.files (sources_of job)) shelf.had shelf.has →
-      Meets (report_meaning report job) shelf input out err before after status
-  report_printed before after status same has line steps opened =
-      meets_printed (report_printing report job) (report_meaning report job) (report_answers report job) shelf input out err before after status has line (report_cells report job shelf input before after same steps) (inr opened)
+  -- files of which one at least may be opened
+  abbrev loading_by : (Option Files → List (List ℕ) → Type 0) → Loading
+  loading_by opens = record { Found = X; comes = λ known found. MayCome known comes found; opens = opens }
 
-  pub report_stopped : (before after status : ℕ) (stop : Stop) → input.rest ≡ input.left → IsStopped (report_printing report job) shelf out stop → TellsStop stop err status → CountsSteps shelf.files job before after → Opens (DeskMayOpen shelf.files (sources_of job)) shelf.had shelf.has →
-      Meets (report_meaning report job) shelf input out err before after status
-  report_stopped before after status stop same stopped told steps opened =
-      meets_stopped (report_printing report job) (report_meaning report job) (report_answers report job) shelf input out err before after status stop stopped told (report_cells report job shelf input before after same steps) (inr opened)
+  stops_loading : (opens : Option Files → List (List ℕ) → Type 0) (shelf : Shelf) (stop : Stop) → OpensFiles (loading_by opens) shelf.files → StopsAt shelf.files shelf.before shelf.after stop (λ files halt. comes files (Err halt)) → StopsLoading (loading_by opens) shelf stop
+  stops_loading opens shelf (stops.Refused refusal) one stops = refusal_may_come shelf.files (refusal_of refusal) stops
+  stops_loading opens shelf stops.Outside one (inl rose) = inl (one, rose)
+  stops_loading opens shelf stops.Outside one (inr missing) = inr (missing_may_come shelf.files missing)
+  stops_loading opens shelf stops.Memory one stops = tt
+
+-- why there is no desk
+pub desk_stops : (job : Job) (shelf : Shelf) (stop : Stop) → Stops shelf.files shelf.before shelf.after stop (λ held. loaded held (sources_of job)) → StopsLoading (desk_loading job) shelf stop
+desk_stops job shelf stop stops =
+    stops_loading (λ files found. loaded files (sources_of job) ≡ found) (desk_loading job).opens shelf stop (job.qrels, may_open_qrels shelf.files (sources_of job)) stops
+
+-- why there is no desk or no certificate
+pub check_stops : (check : Check) (shelf : Shelf) (stop : Stop) → StopsAt shelf.files shelf.before shelf.after stop (λ files halt. CheckComes files check (Err halt)) → StopsLoading (check_loading check) shelf stop
+check_stops check shelf stop stops =
+    stops_loading (λ files found. CheckComes files check found) (check_loading check).opens shelf stop (check.qrels, check_opens_qrels shelf.files check) stops
+
+-- ---- a text on a desk
+-- a text that was made is one text of an outcome
+pub makes_one_text : (meaning : Meaning) (found : meaning.loading.Found) (about : About) (text : List ℕ) (status : Status) → GoesWithText status → ((input : _) → meaning.answers found input (record { status = status; said = record { about = about; text = text } ∷ []; told = [] })) → MakesText meaning found text status
+makes_one_text meaning found about text status goes answers = record { said = record { about = about; text = text } ∷ []; is = sym (append-nil text); goes = goes; answers = answers }
+
+module _ (job : Job) (least : ℕ) (ends : List Status) (makes : Subject → Outcome → Type 0) (rows : Loaded) (desk : Desk) (ranked : IsDeskOf rows.qrels rows.runs desk) where
+  abbrev on_desk : Meaning
+  on_desk = desk_meaning job least ends makes
+
+  -- the cells of its table
+  pub desk_counts : (before after : ℕ) → after ≡ before + cells_of desk → CountsFor on_desk before after rows
+  desk_counts before after is = (cells_of desk, λ taken. record { desk = desk; ranked = ranked; holds = refl }, omega (arith, is))
+
+  -- a text of its runs
+  pub desk_makes : (text : List ℕ) (status : Status) → GoesWithText status → makes (subject_of job desk) (Prints status (record { about = OfRuns (subject_of job desk); text = text } ∷ [])) → MakesText on_desk rows text status
+  desk_makes text status goes holds =
+      makes_one_text on_desk rows (OfRuns (subject_of job desk)) text status goes (λ input. (Prints status (record { about = OfRuns (subject_of job desk); text = text } ∷ []), record { desk = desk; ranked = ranked; holds = holds }, refl))
+
+  -- it was made, or memory for it ran out
+  module _ (shelf : Shelf) (read : Reads shelf.files (sources_of job) rows) (before after : ℕ) (counted : after ≡ before + cells_of desk) where
+    desk_comes : (desk_loading job).comes shelf.files (Ok rows)
+    desk_comes = found_may_come (λ files found. loaded files (sources_of job) ≡ found) shelf.files rows read
+
+    pub desk_works : (made : _) → MakesOutcome on_desk before after rows made → Works on_desk shelf before after (Ok made)
+    desk_works made is = (rows, desk_comes, is)
+
+    pub desk_memory : (stop : Stop) → stop ≡ stops.Memory → Works on_desk shelf before after (Err stop)
+    desk_memory stop is = (subst (StopsLoading (desk_loading job) shelf) (sym is) tt, inr (is, rows, desk_comes, desk_counts before after counted))
+
+-- the certificate of two runs, or their close line
+pub shown_makes : (job : Job) (rows : Loaded) (desk : Desk) → IsDeskOf rows.qrels rows.runs desk → (before after : ℕ) → after ≡ before + cells_of desk → (answer : Certified) → IsCertifiedAs (subject_of job desk) 0 1 answer →
+    MakesOutcome (desk_meaning job 2 (Done ∷ Close ∷ []) PrintsCertificate) before after rows (shown_as answer)
+shown_makes job rows desk ranked before after counted (certified.Certificate text) is =
+    (desk_makes job 2 (Done ∷ Close ∷ []) PrintsCertificate rows desk ranked text.items Done tt (inl (text.items, is, refl)), desk_counts job 2 (Done ∷ Close ∷ []) PrintsCertificate rows desk ranked before after counted)
+shown_makes job rows desk ranked before after counted (certified.Close text) is =
+    (desk_makes job 2 (Done ∷ Close ∷ []) PrintsCertificate rows desk ranked text.items Close tt (inr (text.items, is, refl)), desk_counts job 2 (Done ∷ Close ∷ []) PrintsCertificate rows desk ranked before after counted)
+
+-- what a desk with its table speaks of
+module _ {M : Type 0} (measured : MeasureName) (cell : List Mark → List ℕ → List ℕ → Cell) (bound : List Mark → List ℕ → Span) (job : Job) (known : Option Files) (on : DeskTable M) (is : IsTabled measured cell bound job known on) where
+  pub tabled_subject : IsSubjectOf measured cell bound on.desk on.table (subject_of job on.desk)
+  tabled_subject = record { over = refl; marked = marks_known job.level on.desk is.ranked.valid; on = is.table }
+
+  pub tabled_marks : AreMarksOf on.desk on.marks
+  tabled_marks = subst (AreMarksOf on.desk) (sym is.marked) (marks_known job.level on.desk is.ranked.valid)

@@ -1,9 +1,8 @@
 -- The meaning of a demo.
-use Rattle.std.proofs.Common.{◌≡◌, ℕ, ◌<◌, true, false, List, [], ◌∷◌, ◌++◌, length, take, flat_map, refl, ap, sym, subst, ◌∙◌, arith, inl, inr, append-nil, append_assoc}
-use Rattle.std.specs.Prelude.{codes, decimal, map}
-use Rattle.desk_outside.specs.Inputs.{Cut}
-use Rattle.desk_outside.specs.Seen.{Shelf, Source, Sink, ReceivedNothing, ReceivedAll, ReceivedPrefix}
-use Rattle.desk_outside.proofs.Told.{prepend_known-nil}
+use Rattle.std.proofs.Common.{◌≡◌, ℕ, List, [], ◌∷◌, ◌++◌, take, flat_map, refl, ap, sym, subst, ◌∙◌, arith, inl, inr, append-nil, append_assoc}
+use Rattle.std.specs.Prelude.{codes, decimal, map, Ok, Err, Vec}
+use Rattle.std.specs.declared.alloc.Global.{Global}
+use Rattle.desk_outside.specs.Seen.{Shelf}
 use Rattle.desk_model.specs.Desk.{Desk}
 use Rattle.desk_model.specs.declared.types.Verdict.{Verdict}
 use Rattle.desk_model.specs.Verdict.{verdict}
@@ -14,31 +13,32 @@ use Rattle.desk_report.specs.Claims.{IsTrueText, IsTrueProposal, IsOtherWord}
 use Rattle.desk_report.proofs.Spelling.{ink_in_line}
 use Rattle.desk_report.proofs.Texts.{decimal_ink}
 use Rattle.desk_report.proofs.Others.{in_line_back, other_word}
-use Rattle.desk_top.specs.Answer.{Answer, Saying, said_with, text_of, IsTrueOf, AreAlwaysTrue}
+use Rattle.desk_files.specs.declared.stop.Stop.{Stop}
+use Rattle.desk_files.specs.declared.stop.Stop.TheVariants as stops
+use Rattle.desk_top.specs.declared.outcome.Outcome.TheVariants as made
+use Rattle.desk_top.specs.declared.status.Status.TheVariants.{Done}
+use Rattle.desk_top.specs.Answer.{OfNothing, OfProposal, text_of, IsTrueOf, AreAlwaysTrue}
+use Rattle.desk_top.specs.Outcome.{Outcome, Prints}
+use Rattle.desk_top.specs.Loading.{no_loading}
 use Rattle.desk_top.specs.Meaning.{demo_meaning}
-use Rattle.desk_top.specs.Meets.{EvaluatesWithin, Meets, IsTruthful}
-use Rattle.desk_top.specs.Showing.{demo_subject, demo_moment, demo_sayings, IsDemoText, IsDemoAnswer, CountsDemo, IsPutWhole}
-use Rattle.desk_top.specs.Told.{Writes, status_line}
+use Rattle.desk_top.specs.Works.{CountsFor, CountsStop, StopsLoading, Works}
+use Rattle.desk_top.specs.Meets.{IsTruthful}
+use Rattle.desk_top.specs.Showing.{demo_subject, demo_sayings, IsDemoText, PrintsDemo, CountsDemo}
+use Rattle.desk_top.specs.Truths.{PrintsTruth}
 use Rattle.desk_top.proofs.Marking.{marks_known}
-use Rattle.desk_top.proofs.Meeting.{given, meets_given, meets_outside, meets_memory}
-use Rattle.desk_top.proofs.Truth.{PrintsTruth}
+use Rattle.desk_top.proofs.Truth.{IsTrueOutcome, outcome_is_true}
 
 -- ---- what is said is true
 module _ (laws : PrintsTruth) (desk : Desk) where
-  -- a line of the summary claims nothing of the runs
-  number_true : (word : List ℕ) (number : ℕ) → IsOtherWord word → (n : ℕ) → IsTrueOf (demo_moment desk false) (take n (ended (number_line word number)))
-  number_true word number other n = record {
-    text = laws.others (demo_subject desk).measure desk (demo_subject desk).marks word (decimal number) n other (in_line_back (decimal number) (ink_in_line (decimal number) (decimal_ink number)));
-    accepted = λ c more none e. absurd (cc);
-    proposed = λ e. absurd (cc);
-  }
+  -- a line of the summary claims nothing of any desk
+  number_true : (word : List ℕ) (number : ℕ) → IsOtherWord word → (n : ℕ) → IsTrueOf OfNothing (take n (ended (number_line word number)))
+  number_true word number other n = λ measure desk marks. laws.others measure desk marks word (decimal number) n other (in_line_back (decimal number) (ink_in_line (decimal number) (decimal_ink number)))
 
-  next_true : (next : List ℕ) → IsNextText (demo_subject desk) next → (n : ℕ) → IsTrueOf (demo_moment desk true) (take n next)
+  next_true : (next : List ℕ) → IsNextText (demo_subject desk) next → (n : ℕ) → IsTrueOf (OfProposal (demo_subject desk)) (take n next)
   next_true next is n =
       let s : Subject = demo_subject desk in
-      let both = subst (λ t. IsTrueText s.measure s.desk s.marks (take n t) × IsTrueProposal s.measure s.desk s.marks (take n t)) (sym is.is)
-      (laws.next s.measure s.desk s.marks is.totals is.proposal n is.valid (marks_known 1 desk is.valid) is.summed is.next) in
-      record { text = both.0; accepted = λ c more none e. absurd (cc); proposed = λ e. both.1 }
+      subst (λ t. IsTrueText s.measure s.desk s.marks (take n t) × IsTrueProposal s.measure s.desk s.marks (take n t)) (sym is.is)
+      (laws.next s.measure s.desk s.marks is.totals is.proposal n is.valid (marks_known 1 desk is.valid) is.summed is.next)
 
   demo_true : (seed rows : ℕ) (verdicts : List Verdict) (next : List ℕ) → IsNextText (demo_subject desk) next → AreAlwaysTrue (demo_sayings desk (summary_lines seed rows (demo_subject desk).marks verdicts) next)
   demo_true seed rows verdicts next is = (
@@ -68,51 +68,46 @@ module _ (laws : PrintsTruth) (desk : Desk) where
   )
 
 pub demo_is_truthful : PrintsTruth → (seed : ℕ) → IsTruthful (demo_meaning seed)
-demo_is_truthful laws seed known input answer is =
-    subst (λ (a : Answer). AreAlwaysTrue a.said) (sym is.is)
-    (subst (λ lines. AreAlwaysTrue (demo_sayings is.desk lines is.next)) (sym is.texts.summary) (demo_true laws is.desk seed is.rows (map verdict is.texts.totals) is.next is.texts.proposal))
+demo_is_truthful laws seed found input answer is = outcome_is_true (PrintsDemo seed) true answer is
+  where
+    true : (outcome : Outcome) → PrintsDemo seed outcome → IsTrueOutcome outcome
+    true outcome is =
+        subst IsTrueOutcome (sym is.is)
+        (subst (λ lines. AreAlwaysTrue (demo_sayings is.desk lines is.next)) (sym is.texts.summary) (demo_true laws is.desk seed is.rows (map verdict is.texts.totals) is.next is.texts.proposal))
 
--- ---- what became of the text meets the meaning
-said_text : (desk : Desk) (lines : List (List ℕ)) (next : List ℕ) → flat_map (λ (one : Saying). one.text) (demo_sayings desk lines next) ≡ flat_map ended lines ++ next
+-- ---- what was made
+said_text : (desk : Desk) (lines : List (List ℕ)) (next : List ℕ) → text_of (demo_sayings desk lines next) ≡ flat_map ended lines ++ next
 said_text desk [] next = append-nil next
 said_text desk (line ∷ lines) next = ap (λ more. ended line ++ more) (said_text desk lines next) ∙ sym (append_assoc (ended line) (flat_map ended lines) next)
 
-demo_cells : (seed : ℕ) (shelf : Shelf) (input : Source) (before after : ℕ) → input.rest ≡ input.left → CountsDemo seed before after → EvaluatesWithin (demo_meaning seed) shelf input before after
-demo_cells seed shelf input before after same (inl none) = inl none
-demo_cells seed shelf input before after same (inr has) =
-    inr (Cut [], same ∙ prepend_known-nil input.left, cells_of has.desk, record { desk = has.desk; rows = has.rows; made = has.made; holds = refl }, has.holds)
+module _ (seed : ℕ) (files : Shelf) (before after : ℕ) where
+  -- no cell is a bound as well
+  demo_counts : (text : List ℕ) → IsDemoText seed text → CountsDemo seed before after → CountsFor (demo_meaning seed) before after tt
+  demo_counts text is (inl none) = (cells_of is.desk, λ taken. record { desk = is.desk; rows = is.rows; made = is.made; holds = refl }, omega (arith, none))
+  demo_counts text is (inr has) = (cells_of has.desk, λ taken. record { desk = has.desk; rows = has.rows; made = has.made; holds = refl }, has.holds)
 
-module _ (seed : ℕ) (shelf : Shelf) (input : Source) (out err : Sink) (before after status : ℕ) (opened : shelf.has ≡ shelf.had) (same : input.rest ≡ input.left) (counts : CountsDemo seed before after) where
-  -- the text was put, or the output failed at it
-  pub demo_put : (text : List ℕ) → IsDemoText seed text → IsPutWhole out err text status → Meets (demo_meaning seed) shelf input out err before after status
-  demo_put text is put = at put
+  pub demo_works : (text : Vec ℕ Global) → IsDemoText seed text.items → CountsDemo seed before after → Works (demo_meaning seed) files before after (Ok (made.Prints text Done))
+  demo_works text is counts = (
+    tt,
+    refl,
+    (
+      record {
+        said = demo_sayings is.desk is.shown.lines is.shown.next;
+        is = is.shown.is ∙ sym (said_text is.desk is.shown.lines is.shown.next);
+        goes = tt;
+        answers = λ input. (
+          Prints Done (demo_sayings is.desk is.shown.lines is.shown.next),
+          record { desk = is.desk; rows = is.rows; made = is.made; lines = is.shown.lines; next = is.shown.next; texts = is.shown.texts; is = refl },
+          refl,
+        );
+      },
+      demo_counts text.items is counts,
+    ),
+  )
+
+  pub demo_memory : (stop : Stop) → stop ≡ stops.Memory → CountsDemo seed before after → Works (demo_meaning seed) files before after (Err stop)
+  demo_memory stop is counts = (subst (StopsLoading no_loading files) (sym is) tt, at counts)
     where
-      answer : Answer
-      answer = said_with 0 (demo_sayings is.desk is.shown.lines is.shown.next)
-
-      its_answer : IsDemoAnswer seed answer
-      its_answer = record { desk = is.desk; rows = is.rows; made = is.made; lines = is.shown.lines; next = is.shown.next; texts = is.shown.texts; is = refl }
-
-      its_text : text_of answer ≡ text
-      its_text = said_text is.desk is.shown.lines is.shown.next ∙ sym is.shown.is
-
-      at : IsPutWhole out err text status → Meets (demo_meaning seed) shelf input out err before after status
-      at (inl whole) =
-          meets_given (demo_meaning seed) shelf input out err before after status (λ three. omega (arith, whole.0, three)) (λ four. omega (arith, whole.0, four))
-          (given (demo_meaning seed) shelf input out err status answer (λ i. its_answer) whole.0 (subst (ReceivedAll out) (sym its_text) whole.1) whole.2) (demo_cells seed shelf input before after same counts) (inl opened)
-      at (inr broken) =
-          meets_outside (demo_meaning seed) shelf input out err before after status broken.0
-          (inr (inl (
-            broken.1,
-            record {
-              input = Cut [];
-              met = (input.rest, prepend_known-nil input.rest);
-              answer = answer;
-              is = its_answer;
-              holds = subst (λ t. (0 < length t) × ReceivedPrefix out t) (sym its_text) (broken.2, broken.3);
-            },
-          ))) broken.4 (demo_cells seed shelf input before after same counts) (inl opened)
-
-  -- memory ran out
-  pub demo_no_memory : status ≡ 4 → ReceivedNothing out → Writes err.had err.has err.before err.after (status_line 4) → Meets (demo_meaning seed) shelf input out err before after status
-  demo_no_memory four nothing line = meets_memory (demo_meaning seed) shelf input out err before after status four nothing line (demo_cells seed shelf input before after same counts) (inl opened)
+      at : CountsDemo seed before after → CountsStop (demo_meaning seed) files.files before after stop
+      at (inl none) = inl none
+      at (inr has) = inr (is, tt, refl, (cells_of has.desk, λ taken. record { desk = has.desk; rows = has.rows; made = has.made; holds = refl }, has.holds))

@@ -3,9 +3,11 @@ use Rattle.std.proofs.Common.{◌≡◌, ◌≢◌, ℕ, ◌<◌, ◌≤◌, ◌
 use Rattle.std.proofs.Math.Seq.{take-append-add, take-append_seam, drop-append_seam}
 use Rattle.std.proofs.lemmas.List.{take_all, drop_all, take-append-le}
 use Rattle.std.proofs.lemmas.Bool.{cases_lt}
-use Rattle.std.specs.Prelude.{Option, Result, codes, Ok, Err, Some, ◌⊎◌}
+use Rattle.std.specs.Prelude.{Option, Result, codes, Ok, Err, ◌⊎◌}
 use Rattle.desk_outside.proofs.Told.{append_known-nil, prefix_whole}
 use Rattle.desk_outside.specs.Outside.{Files}
+use Rattle.desk_outside.specs.Inputs.{Input, Whole, Cut, IsInput, IsPart}
+use Rattle.desk_outside.specs.Seen.{ReceivedAll, ReceivedPrefix}
 use Rattle.desk_words.specs.declared.command.Check.{Check}
 use Rattle.desk_words.specs.declared.command.Job.{Job}
 use Rattle.desk_model.specs.MeasureText.{IsMeasure}
@@ -15,28 +17,27 @@ use Rattle.desk_model.specs.declared.types.Mark.{Mark}
 use Rattle.desk_model.specs.declared.types.MeasureName.{MeasureName}
 use Rattle.desk_model.specs.declared.types.Verdict.{Verdict}
 use Rattle.desk_model.specs.declared.types.Verdict.TheVariants as verdicts
-use Rattle.measure_laws.specs.Ends.{HasEnds}
+use Rattle.measure_core.specs.Made.{HasEnds}
 use Rattle.order_certificate.specs.Certificate.{certificate_text}
-use Rattle.order_certificate.specs.Claim.{ClaimHolds}
-use Rattle.order_certificate.specs.Evidence.{IsEvidence, ForEvidence}
+use Rattle.order_certificate.specs.Evidence.{IsEvidence}
+use Rattle.order_certificate.specs.declared.certificate.Certificate.{Certificate}
 use Rattle.order_verifier.specs.Verified.{IsVerified}
 use Rattle.order_verifier.specs.declared.rejected.Rejected.{Rejected}
-use Rattle.order_certificate.specs.declared.certificate.Certificate.{Certificate}
 use Rattle.pair_table.specs.Numbers.{HaveEnds}
-use Rattle.pair_table.specs.Evidence.{Says, IsCertificateOf}
-use Rattle.desk_report.specs.Claims.{IsTrueText, TablesAreTrue, CertificatesAreTrue, CloseLinesAreTrue, AnswerLinesAreTrue, PairLinesAreTrue, OtherLinesAreTrue, NextLinesAreTrue, QrelsTextsAreTrue, NoTextIsTrue}
-use Rattle.desk_files.specs.Files.{Missing, NoMemory, Refused}
-use Rattle.desk_top.specs.declared.report.Report.{Report}
-use Rattle.desk_top.specs.declared.report.Report.TheVariants as reports
+use Rattle.pair_table.specs.Evidence.{SaysOfVerdict}
+use Rattle.desk_report.specs.Claims.{IsTrueText}
 use Rattle.desk_report.specs.Reports.{Subject, IsTableText, IsCertificateText, IsCloseText, run_name}
-use Rattle.desk_top.specs.Report.{IsReportOf, marks_in, subject_of}
-use Rattle.desk_outside.specs.Seen.{Shelf, Source, Sink, ReceivedPrefix}
-use Rattle.desk_top.specs.Answer.{Answer, Saying, Moment, text_of, IsTrueOf, AreTrue, AreAlwaysTrue}
-use Rattle.desk_top.specs.Verification.{reason_text, verification_text, marks_for}
-use Rattle.desk_top.specs.Printing.{Printing}
-use Rattle.desk_outside.specs.Inputs.{Input, Whole, Cut, IsInput, IsPart}
-use Rattle.desk_top.specs.Meaning.{Meaning, AnswersFiles, report_printing, check_printing}
-use Rattle.desk_top.specs.Meets.{HasAnswer, Gives, OutputFailed, FilesFailed, Stopped, Meets, ReceivesPart, SaysTruth, IsTruthful}
+use Rattle.desk_files.specs.Files.{Halt}
+use Rattle.desk_files.specs.Load.{Loaded}
+use Rattle.desk_top.specs.declared.status.Status.{Status}
+use Rattle.desk_top.specs.declared.status.Status.TheVariants.{Done, Outside, Memory, Close}
+use Rattle.desk_top.specs.Answer.{Answer, Saying, About, OfRuns, OfCheck, text_of, marks_for, IsTrueOfRuns, IsTrueOf, AreTrue, AreAlwaysTrue}
+use Rattle.desk_top.specs.Outcome.{Outcome, Prints, Refuses, answer_of, IsOutcome, PrintsText}
+use Rattle.desk_top.specs.Report.{subject_of, HasDeskOf, PrintsTable, PrintsCertificate}
+use Rattle.desk_top.specs.Verification.{reason_text, verification_text, PrintsCheck}
+use Rattle.desk_top.specs.Meaning.{Meaning, AnswersOn, IsAnswer, desk_meaning, check_meaning}
+use Rattle.desk_top.specs.Meets.{Call, HasAnswer, IsGiven, GivesAnswer, OutputFailed, FilesFailed, Stopped, Meets, ReceivesPart, SaysTruth, IsTruthful}
+use Rattle.desk_top.specs.Truths.{PrintsTruth}
 use Rattle.desk_top.proofs.Marking.{marks_known}
 use Rattle.desk_top.proofs.Checks.{reason_in_line}
 use Rattle.desk_top.proofs.Meeting.{sent_is}
@@ -56,7 +57,7 @@ true_so_far (saying ∷ more) always n = elim (cases_lt (length saying.text) n) 
         let split : take n (t ++ r) ≡ t ++ take m r = ap (λ k. take k (t ++ r)) e ∙ take-append-add t r m in
         let first : take (length t) (take n (t ++ r)) ≡ take (length t) t = ap (take (length t)) split ∙ take-append_seam t (take m r) ∙ sym (take_all (length t) t (omega arith)) in
         let second : drop (length t) (take n (t ++ r)) ≡ take m r = ap (drop (length t)) split ∙ drop-append_seam t (take m r) in
-        (subst (IsTrueOf saying.moment) (sym first) (always.0 (length t)), subst (AreTrue more) (sym second) next)
+        (subst (IsTrueOf saying.about) (sym first) (always.0 (length t)), subst (AreTrue more) (sym second) next)
 
     within : n ≤ length saying.text → AreTrue more [] → AreTrue (saying ∷ more) (take n (saying.text ++ flat_map (λ (one : Saying). one.text) more))
     within le next =
@@ -66,93 +67,85 @@ true_so_far (saying ∷ more) always n = elim (cases_lt (length saying.text) n) 
         let short : length (take n t) ≤ length t = omega (arith, length-take n t) in
         let first : take (length t) (take n (t ++ r)) ≡ take n t = ap (take (length t)) same ∙ take_all (length t) (take n t) short in
         let second : drop (length t) (take n (t ++ r)) ≡ [] = ap (drop (length t)) same ∙ drop_all (length t) (take n t) short in
-        (subst (IsTrueOf saying.moment) (sym first) (always.0 n), subst (AreTrue more) (sym second) next)
+        (subst (IsTrueOf saying.about) (sym first) (always.0 n), subst (AreTrue more) (sym second) next)
 
-module _ (meaning : Meaning) (shelf : Shelf) (input : Source) (out err : Sink) (before after status : ℕ) where
-  part_of_input : (i : Input) → IsInput input i → IsPart input i
+module _ (meaning : Meaning) (call : Call) where
+  part_of_input : (i : Input) → IsInput call.input i → IsPart call.input i
   part_of_input (Whole bytes) is = is
-  part_of_input (Cut bytes) is = (input.left, is.0)
+  part_of_input (Cut bytes) is = (call.input.left, is.0)
 
-  given_part : Gives meaning shelf input out err status → ReceivesPart meaning shelf input out
-  given_part gives = inr (record { input = gives.input; met = part_of_input gives.input gives.met; answer = gives.answer; is = gives.is; holds = prefix_whole out.had out.has (text_of gives.answer) gives.holds.text })
+  whole_part : (P : Input → Type 0) → ((i : Input) → P i → IsPart call.input i) → (fact : Answer → Type 0) → ((answer : Answer) → fact answer → ReceivedAll call.out (text_of answer.said)) → HasAnswer meaning call.files.files P fact → ReceivesPart meaning call
+  whole_part P part fact whole has = inr (record { input = has.input; met = part has.input has.met; answer = has.answer; is = has.is; holds = prefix_whole call.out.had call.out.has (text_of has.answer.said) (whole has.answer has.holds) })
+
+  given_part : (status : Status) → GivesAnswer meaning call status → ReceivesPart meaning call
+  given_part status gives = whole_part (IsInput call.input) part_of_input (IsGiven call status) (λ answer is. is.text) gives
 
   -- a call received nothing, or a prefix of an answer
-  pub receives_part : Meets meaning shelf input out err before after status → ReceivesPart meaning shelf input out
-  receives_part meets = at meets.answered
+  receives_part : (status : Status) → Meets meaning call status → ReceivesPart meaning call
+  receives_part status meets = at meets.answered
     where
-      failed : Gives meaning shelf input out err status ⊎ OutputFailed meaning shelf input out ⊎ FilesFailed meaning shelf out → ReceivesPart meaning shelf input out
-      failed (inl gives) = given_part gives
+      failed : GivesAnswer meaning call status ⊎ OutputFailed meaning call ⊎ FilesFailed meaning call → ReceivesPart meaning call
+      failed (inl gives) = given_part status gives
       failed (inr (inl broken)) = let has = broken.1 in inr (record { input = has.input; met = has.met; answer = has.answer; is = has.is; holds = has.holds.1 })
       failed (inr (inr files)) = inl files.2
 
-      stopped : Stopped meaning shelf input out → ReceivesPart meaning shelf input out
+      stopped : Stopped meaning call → ReceivesPart meaning call
       stopped (inl nothing) = inl nothing
-      stopped (inr part) = let has = part.1 in inr (record { input = has.input; met = has.met; answer = has.answer; is = has.is; holds = prefix_whole out.had out.has (text_of has.answer) has.holds })
+      stopped (inr part) = whole_part (IsPart call.input) (λ i is. is) (λ answer. ReceivedAll call.out (text_of answer.said)) (λ answer is. is) part.1
 
-      at : Gives meaning shelf input out err status ⊎ (status ≡ 3) ⊎ (status ≡ 4) → ReceivesPart meaning shelf input out
-      at (inl gives) = given_part gives
-      at (inr (inl three)) = failed (meets.outside three)
-      at (inr (inr four)) = stopped (meets.memory four)
+      at : GivesAnswer meaning call status ⊎ (status ≡ Outside) ⊎ (status ≡ Memory) → ReceivesPart meaning call
+      at (inl gives) = given_part status gives
+      at (inr (inl outside)) = failed (meets.outside outside)
+      at (inr (inr memory)) = stopped (meets.memory memory)
+
+  answer_is_true : IsTruthful meaning → (known : Option Files) (input : Input) (answer : Answer) → IsAnswer meaning known input answer → AreAlwaysTrue answer.said
+  answer_is_true truthful known input answer is = at is.found is.is
+    where
+      at : (found : Result meaning.loading.Found Halt) → AnswersOn meaning input found answer → AreAlwaysTrue answer.said
+      at (Ok found) own = truthful found input answer own
+      at (Err halt) own = subst (λ (a : Answer). AreAlwaysTrue a.said) (sym own) tt
 
   -- what a call put is true, where the answers are
-  pub says_truth : IsTruthful meaning → Meets meaning shelf input out err before after status → SaysTruth meaning shelf input out
-  says_truth truthful meets had sent o e lt = at (receives_part meets)
+  pub says_truth : (status : Status) → IsTruthful meaning → Meets meaning call status → SaysTruth meaning call
+  says_truth status truthful meets had sent o e lt = at (receives_part status meets)
     where
-      at : ReceivesPart meaning shelf input out → HasAnswer meaning shelf.files (IsPart input) (λ answer. ReceivedPrefix out (text_of answer) × AreTrue answer.said sent)
-      at (inl nothing) = absurd (omega (arith, lt, ap length (sent_is out.had out.has had sent [] o e (nothing ∙ sym (append_known-nil out.had)))))
+      at : ReceivesPart meaning call → HasAnswer meaning call.files.files (IsPart call.input) (λ answer. ReceivedPrefix call.out (text_of answer.said) × AreTrue answer.said sent)
+      at (inl nothing) = absurd (omega (arith, lt, ap length (sent_is call.out.had call.out.has had sent [] o e (nothing ∙ sym (append_known-nil call.out.had)))))
       at (inr has) =
           let count = has.holds.0 in
-          let same : sent ≡ take count (text_of has.answer) = sent_is out.had out.has had sent (take count (text_of has.answer)) o e has.holds.1 in
+          let same : sent ≡ take count (text_of has.answer.said) = sent_is call.out.had call.out.has had sent (take count (text_of has.answer.said)) o e has.holds.1 in
           record {
             input = has.input;
             met = has.met;
             answer = has.answer;
             is = has.is;
-            holds = (has.holds, subst (AreTrue has.answer.said) (sym same) (true_so_far has.answer.said (truthful shelf.files has.input has.answer has.is) count));
+            holds = (has.holds, subst (AreTrue has.answer.said) (sym same) (true_so_far has.answer.said (answer_is_true truthful call.files.files has.input has.answer has.is) count));
           }
 
--- whatever a command prints is true of what it speaks of
-abbrev pub PrintsOnlyTruth : {X : Type 0} → Printing X → Type 0
-PrintsOnlyTruth {X} command = (found : X) (moment : Moment) (status : ℕ) (text : List ℕ) → command.prints found moment status text → (n : ℕ) → IsTrueOf moment (take n text)
+-- ---- commands on files
+-- an outcome says only what is true
+abbrev pub IsTrueOutcome : Outcome → Type 0
+IsTrueOutcome (Prints status said) = AreAlwaysTrue said
+IsTrueOutcome (Refuses line) = Unit {0}
 
--- then all its answers are
-pub answers_are_true : {X : Type 0} (command : Printing X) → PrintsOnlyTruth command → (known : Option Files) (answer : Answer) → AnswersFiles command known answer → AreAlwaysTrue answer.said
-answers_are_true command truth known answer (Err Missing, come, is) = subst (λ (a : Answer). AreAlwaysTrue a.said) (sym is) tt
-answers_are_true command truth known answer (Err NoMemory, come, is) = subst (λ (a : Answer). AreAlwaysTrue a.said) (sym is) tt
-answers_are_true command truth known answer (Err (Refused refusal), come, is) = subst (λ (a : Answer). AreAlwaysTrue a.said) (sym is) tt
-answers_are_true command truth known answer (Ok found, come, is) = subst (λ (a : Answer). AreAlwaysTrue a.said) (sym is.is) (truth found is.moment is.status is.text is.printed, tt)
+pub outcome_is_true : (fact : Outcome → Type 0) → ((outcome : Outcome) → fact outcome → IsTrueOutcome outcome) → (answer : Answer) → IsOutcome fact answer → AreAlwaysTrue answer.said
+outcome_is_true fact true answer (outcome, holds, is) = subst (λ (a : Answer). AreAlwaysTrue a.said) (sym is) (at outcome (true outcome holds))
+  where
+    at : (outcome : Outcome) → IsTrueOutcome outcome → AreAlwaysTrue (answer_of outcome).said
+    at (Prints status said) h = h
+    at (Refuses line) h = tt
 
--- certificates of two runs are evidence
-abbrev pub CertificatesAreEvidence : Type 0
-CertificatesAreEvidence =
-    (name : MeasureName) (desk : Desk) (marks : List (List Mark)) (level a b : ℕ) (c : Certificate) → IsMeasure name → IsDesk desk → AreMarksOf desk marks → a ≢ b → a < length desk.runs → b < length desk.runs →
-    IsCertificateOf (HasEnds name) name desk marks level a b c → IsEvidence c desk marks
-
--- what is printed is true
-pub record PrintsTruth : Type 0 where
-  pub tables : TablesAreTrue
-  pub certificates : CertificatesAreTrue
-  pub close_lines : CloseLinesAreTrue
-  pub evidence : CertificatesAreEvidence
-  pub answers : AnswerLinesAreTrue
-  pub claims : ForEvidence (λ c desk marks. ClaimHolds c desk marks)
-  pub pair_lines : PairLinesAreTrue
-  pub others : OtherLinesAreTrue
-  pub next : NextLinesAreTrue
-  pub qrels : QrelsTextsAreTrue
-  pub no_text : NoTextIsTrue
+-- one text
+pub one_text_is_true : (status : Status) (about : About) (fact : List ℕ → Type 0) → ((text : List ℕ) (n : ℕ) → fact text → IsTrueOf about (take n text)) → (outcome : Outcome) → PrintsText status about fact outcome → IsTrueOutcome outcome
+one_text_is_true status about fact true outcome (text, holds, is) = subst IsTrueOutcome (sym is) (λ n. true text n holds, tt)
 
 module _ (laws : PrintsTruth) where
-  measure_answered : (Has : HaveEnds) (name : MeasureName) (desk : Desk) (marks : List (List Mark)) (level a b : ℕ) (c : Certificate) (v : Verdict) → Says Has name desk marks level a b c v → c.measure ≡ name
+  measure_answered : (Has : HaveEnds) (name : MeasureName) (desk : Desk) (marks : List (List Mark)) (level a b : ℕ) (c : Certificate) (v : Verdict) → SaysOfVerdict Has name desk marks level a b c v → c.measure ≡ name
   measure_answered Has name desk marks level a b c verdicts.Above says = says.compares.by_measure
   measure_answered Has name desk marks level a b c verdicts.Below says = says.compares.by_measure
   measure_answered Has name desk marks level a b c verdicts.Equal says = says.compares.by_measure
   measure_answered Has name desk marks level a b c verdicts.Open says = says.compares.by_measure
   measure_answered Has name desk marks level a b c verdicts.Close says = absurd says
-
-  -- a prefix of a report's text
-  abbrev ReportIsTrue : Job → Desk → ℕ → List ℕ → Type 0
-  ReportIsTrue job desk n text = IsTrueText job.measure desk (marks_in job desk) (take n text)
 
   -- a prefix of a text of a table
   abbrev SubjectIsTrue : Subject → ℕ → List ℕ → Type 0
@@ -174,19 +167,6 @@ module _ (laws : PrintsTruth) where
       subst (SubjectIsTrue s n) (sym is.is)
       (laws.close_lines s.measure s.desk s.marks (run_name s.desk a) (run_name s.desk b) is.totals n (is.valid.named a [] is.runs.first) (is.valid.named b [] is.runs.second))
 
-  report_is_true : (report : Report) (job : Job) (desk : Desk) (status : ℕ) (text : List ℕ) (n : ℕ) → IsMeasure job.measure → IsReportOf report job desk status text → ReportIsTrue job desk n text
-  report_is_true reports.Table job desk status text n m is = table_is_true (subject_of job desk) text n m (marks_known job.level desk is.1.valid) is.1
-  report_is_true reports.Certificate job desk status text n m (inl certified) = certificate_is_true (subject_of job desk) 0 1 text n m (marks_known job.level desk certified.1.valid) certified.1
-  report_is_true reports.Certificate job desk status text n m (inr close) = close_is_true (subject_of job desk) 0 1 text n close.1
-
-  -- a report checks no certificate
-  pub report_says_truth : (report : Report) (job : Job) → IsMeasure job.measure → PrintsOnlyTruth (report_printing report job)
-  report_says_truth report job m found moment status text is n =
-      subst (λ at. IsTrueOf at (take n text)) (sym is.at) (record { text = report_is_true report job is.desk status text n m is.printed; accepted = λ c more none e. absurd (cc); proposed = λ e. absurd (cc) })
-
-  some_certificate : (c d : Certificate) → Some c ≡ Some d → c ≡ d
-  some_certificate c d e = cc
-
   -- no prefix of a rejection begins as an acceptance does
   accepted_is_evidence : (c : Certificate) (desk : Desk) (marks : List (List Mark)) (answer : Result (Unit {0}) Rejected) (n : ℕ) (more : List ℕ) → take n (verification_text desk answer) ≡ codes "accepted\n" ++ more → IsVerified c desk marks answer → IsEvidence c desk marks
   accepted_is_evidence c desk marks (Ok _) n more e is = is
@@ -197,18 +177,33 @@ module _ (laws : PrintsTruth) where
   answer_text (Ok _) name desk marks n valid = laws.answers name desk marks (codes "accepted") [] n (inl refl) tt
   answer_text (Err why) name desk marks n valid = laws.answers name desk marks (codes "rejected ") (reason_text desk why) n (inr refl) (reason_in_line desk valid why)
 
-  -- the line of a check says the truth: where it is `accepted`, the claim holds
-  pub check_says_truth : (check : Check) → PrintsOnlyTruth (check_printing check)
-  check_says_truth check found moment status text is n =
-      let c = found.1 in
-      let desk = is.desk in
-      let valid = is.printed.valid in
-      let marks = marks_for c desk in
-      let known = marks_known c.level desk valid in
-      let answer = is.printed.answer in
-      subst (λ at. IsTrueOf at (take n text)) (sym is.at) (record {
-        text = subst (λ t. IsTrueText c.measure desk marks (take n t)) (sym is.printed.is) (answer_text answer c.measure desk marks n valid);
-        accepted = λ d more same e. subst (λ z. ClaimHolds z desk marks) (some_certificate c d same)
-            (laws.claims c desk marks is.within.measure valid known (accepted_is_evidence c desk marks answer n more (sym (ap (take n) is.printed.is) ∙ e) is.printed.verified));
-        proposed = λ e. absurd (cc);
-      })
+  -- ---- each command's outcome is true
+  -- what is made of the desk of a job
+  pub on_desk_true : (job : Job) (least : ℕ) (ends : List Status) (makes : Subject → Outcome → Type 0) → ((s : Subject) (outcome : Outcome) → AreMarksOf s.desk s.marks → IsMeasure s.measure → makes s outcome → IsTrueOutcome outcome) → IsMeasure job.measure →
+      IsTruthful (desk_meaning job least ends makes)
+  on_desk_true job least ends makes true m rows input answer is =
+      outcome_is_true (λ outcome. HasDeskOf rows (λ desk. makes (subject_of job desk) outcome))
+      (λ outcome has. true (subject_of job has.desk) outcome (marks_known job.level has.desk has.ranked.valid) m has.holds) answer is
+
+  pub printed_table_true : (s : Subject) (outcome : Outcome) → AreMarksOf s.desk s.marks → IsMeasure s.measure → PrintsTable s outcome → IsTrueOutcome outcome
+  printed_table_true s outcome known m is = one_text_is_true Done (OfRuns s) (IsTableText s) (λ text n holds. table_is_true s text n m known holds) outcome is
+
+  pub printed_certificate_true : (s : Subject) (outcome : Outcome) → AreMarksOf s.desk s.marks → IsMeasure s.measure → PrintsCertificate s outcome → IsTrueOutcome outcome
+  printed_certificate_true s outcome known m (inl is) = one_text_is_true Done (OfRuns s) (IsCertificateText s 0 1) (λ text n holds. certificate_is_true s 0 1 text n m known holds) outcome is
+  printed_certificate_true s outcome known m (inr is) = one_text_is_true Close (OfRuns s) (IsCloseText s 0 1) (λ text n holds. close_is_true s 0 1 text n holds) outcome is
+
+  -- the line of a check: where it is `accepted`, the claim holds
+  check_true : (found : Loaded × Certificate) (outcome : Outcome) → PrintsCheck found outcome → IsTrueOutcome outcome
+  check_true found outcome is = subst IsTrueOutcome (sym is.is) (at, tt)
+    where
+      at : (n : ℕ) → IsTrueOf (OfCheck found.1 is.desk) (take n (verification_text is.desk is.answer))
+      at n =
+          let c = found.1 in
+          let marks = marks_for c is.desk in
+          let known = marks_known c.level is.desk is.ranked.valid in (
+            answer_text is.answer c.measure is.desk marks n is.ranked.valid,
+            λ more e. laws.claims c is.desk marks is.within.measure is.ranked.valid known (accepted_is_evidence c is.desk marks is.answer n more e is.verified),
+          )
+
+  pub check_is_truthful : (check : Check) → IsTruthful (check_meaning check)
+  check_is_truthful check found input answer is = outcome_is_true (PrintsCheck found) (check_true found) answer is

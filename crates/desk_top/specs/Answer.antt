@@ -1,65 +1,96 @@
--- What a call answers.
-use Rattle.std.specs.Prelude.{◌≡◌, ℕ, List, [], ◌∷◌, ◌++◌, flat_map, length, take, drop, Option, Some, codes, Bool, true}
-use Rattle.desk_model.specs.Desk.{Desk}
+-- What a call answers, and what its texts speak of.
+use Rattle.std.specs.Prelude.{◌≡◌, ℕ, List, [], ◌∷◌, ◌++◌, flat_map, length, take, drop, map, codes}
+use Rattle.desk_model.specs.Desk.{Desk, file_marks}
 use Rattle.desk_model.specs.declared.types.Mark.{Mark}
 use Rattle.desk_model.specs.declared.types.MeasureName.{MeasureName}
 use Rattle.order_certificate.specs.Claim.{ClaimHolds}
 use Rattle.order_certificate.specs.declared.certificate.Certificate.{Certificate}
 use Rattle.desk_report.specs.Claims.{IsTrueText, IsTrueProposal}
+use Rattle.desk_report.specs.Reports.{Subject}
 use Rattle.desk_files.specs.Files.{Halt, Missing, NoMemory, Refused}
-use Rattle.desk_top.specs.Told.{refusal_line, status_line}
+use Rattle.desk_top.specs.declared.status.Status.{Status}
+use Rattle.desk_top.specs.declared.status.Status.TheVariants as statuses
+use Rattle.desk_top.specs.Status.{status_line}
+use Rattle.desk_top.specs.Told.{refusal_line}
 
--- what a text speaks of: a desk under a measure, with the marks that its documents have at that time, the certificate that is checked, and whether it
--- tells what is to be judged next
-pub record Moment : Type 0 where
-  pub measure : MeasureName
-  pub desk : Desk
-  pub marks : List (List Mark)
-  pub checked : Option Certificate
-  pub proposes : Bool
+-- what a text speaks of
+pub data About : Type 0 where
+  -- the runs of a desk, under a measure and the marks that its documents have at that time
+  OfRuns : (subject : Subject) → About
+  -- the document to judge next on such a desk
+  OfProposal : (subject : Subject) → About
+  -- whether a certificate is accepted over a desk
+  OfCheck : (certificate : Certificate) → (desk : Desk) → About
+  -- nothing that hangs on a desk
+  OfNothing : About
 
 -- a text, and what it speaks of
 pub record Saying : Type 0 where
-  pub moment : Moment
+  pub about : About
   pub text : List ℕ
 
 -- a status, what is said on the output, and the line that is told on the error output
 pub record Answer : Type 0 where
-  pub status : ℕ
+  pub status : Status
   pub said : List Saying
   pub told : List ℕ
 
--- the whole text on the output
-abbrev pub text_of : Answer → List ℕ
-text_of answer = flat_map (λ (one : Saying). one.text) answer.said
+-- the texts, one after the other
+abbrev pub text_of : List Saying → List ℕ
+text_of said = flat_map (λ (one : Saying). one.text) said
 
 -- texts are said, and no line is told
-abbrev pub said_with : ℕ → List Saying → Answer
+abbrev pub said_with : Status → List Saying → Answer
 said_with status said = record { status = status; said = said; told = [] }
+
+-- nothing is said, and a line is told
+abbrev pub told_with : Status → List ℕ → Answer
+told_with status line = record { status = status; said = []; told = line }
 
 -- the words are of no command
 abbrev pub usage : Answer
-usage = record { status = 2; said = []; told = status_line 2 }
+usage = told_with statuses.Usage (status_line statuses.Usage)
 
--- a file is missing, or refused, or memory ran out
+-- the status and the line of a file that is missing or refused, or of memory that ran out
+abbrev pub halt_status : Halt → Status
+halt_status Missing = statuses.Outside
+halt_status NoMemory = statuses.Memory
+halt_status (Refused refusal) = statuses.Refused
+
+abbrev pub halt_line : Halt → List ℕ
+halt_line Missing = status_line statuses.Outside
+halt_line NoMemory = status_line statuses.Memory
+halt_line (Refused refusal) = refusal_line refusal
+
 abbrev pub halted : Halt → Answer
-halted Missing = record { status = 3; said = []; told = status_line 3 }
-halted NoMemory = record { status = 4; said = []; told = status_line 4 }
-halted (Refused refusal) = record { status = 1; said = []; told = refusal_line refusal }
+halted halt = told_with (halt_status halt) (halt_line halt)
 
--- what was received of a text is true of what it speaks of; where it begins with the line `accepted`, the checked certificate's claim holds; and where it
--- tells what is to be judged next, that is the proposal
-pub record IsTrueOf (moment : Moment) (received : List ℕ) : Type 0 where
-  pub text : IsTrueText moment.measure moment.desk moment.marks received
-  pub accepted : (c : Certificate) (more : List ℕ) → moment.checked ≡ Some c → received ≡ codes "accepted\n" ++ more → ClaimHolds c moment.desk moment.marks
-  pub proposed : moment.proposes ≡ true → IsTrueProposal moment.measure moment.desk moment.marks received
+-- the marks that the judgements file gives at the level of a certificate
+abbrev pub marks_for : Certificate → Desk → List (List Mark)
+marks_for c desk = map (file_marks c.level) desk.topics
+
+-- what was received of a text claims nothing false of the runs of a desk
+abbrev pub IsTrueOfRuns : Subject → List ℕ → Type 0
+IsTrueOfRuns s received = IsTrueText s.measure s.desk s.marks received
+
+-- where what was received begins with the line `accepted`, the claim of the certificate holds
+abbrev pub AcceptsTruly : Certificate → Desk → List ℕ → Type 0
+AcceptsTruly c desk received = (more : List ℕ) → received ≡ codes "accepted\n" ++ more → ClaimHolds c desk (marks_for c desk)
+
+-- what was received of a text is true of what it speaks of: it claims nothing false of the runs; it is the line of the proposal; it accepts only a certificate
+-- whose claim holds; and where it speaks of nothing, it claims nothing false of any desk
+abbrev pub IsTrueOf : About → List ℕ → Type 0
+IsTrueOf (OfRuns s) received = IsTrueOfRuns s received
+IsTrueOf (OfProposal s) received = IsTrueOfRuns s received × IsTrueProposal s.measure s.desk s.marks received
+IsTrueOf (OfCheck c desk) received = IsTrueText c.measure desk (marks_for c desk) received × AcceptsTruly c desk received
+IsTrueOf OfNothing received = (measure : MeasureName) (desk : Desk) (marks : List (List Mark)) → IsTrueText measure desk marks received
 
 -- what was received of each text is true
 abbrev pub AreTrue : List Saying → List ℕ → Type 0
 AreTrue [] received = Unit {0}
-AreTrue (one ∷ more) received = IsTrueOf one.moment (take (length one.text) received) × AreTrue more (drop (length one.text) received)
+AreTrue (one ∷ more) received = IsTrueOf one.about (take (length one.text) received) × AreTrue more (drop (length one.text) received)
 
 -- every prefix of each text is true of what the text speaks of
 abbrev pub AreAlwaysTrue : List Saying → Type 0
 AreAlwaysTrue [] = Unit {0}
-AreAlwaysTrue (one ∷ more) = ((n : ℕ) → IsTrueOf one.moment (take n one.text)) × AreAlwaysTrue more
+AreAlwaysTrue (one ∷ more) = ((n : ℕ) → IsTrueOf one.about (take n one.text)) × AreAlwaysTrue more

@@ -1,9 +1,13 @@
+pub mod Status
 pub mod Told
 pub mod Answer
+pub mod Outcome
 pub mod Report
 pub mod Verification
-pub mod Printing
 pub mod Conversation
 pub mod Showing
+pub mod Loading
 pub mod Meaning
+pub mod Works
 pub mod Meets
+pub mod Truths

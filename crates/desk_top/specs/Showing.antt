@@ -1,7 +1,5 @@
--- What `demo` answers.
-use Rattle.std.specs.Prelude.{◌≡◌, ◌⊎◌, ℕ, ◌+◌, ◌<◌, ◌≤◌, Bool, true, false, List, [], ◌∷◌, ◌++◌, length, map, flat_map, None}
-use Rattle.desk_outside.specs.Outside.{Rose}
-use Rattle.desk_outside.specs.Seen.{Sink, ReceivedAll, ReceivedPrefix}
+-- What `demo` makes.
+use Rattle.std.specs.Prelude.{◌≡◌, ◌⊎◌, ℕ, ◌+◌, ◌≤◌, List, [], ◌∷◌, ◌++◌, map, flat_map}
 use Rattle.desk_model.specs.Desk.{Desk, file_marks}
 use Rattle.desk_model.specs.Verdict.{verdict}
 use Rattle.desk_model.specs.declared.types.MeasureName.TheVariants.{Precision}
@@ -11,8 +9,9 @@ use Rattle.desk_report.specs.Table.{ended}
 use Rattle.desk_report.specs.Reports.{Subject, subject, IsNextText, cells_of}
 use Rattle.demo_desk.specs.Demo.{IsDemoDesk}
 use Rattle.demo_desk.specs.Summary.{summary_lines}
-use Rattle.desk_top.specs.Answer.{Answer, Moment, Saying, said_with}
-use Rattle.desk_top.specs.Told.{Writes, status_line}
+use Rattle.desk_top.specs.declared.status.Status.TheVariants.{Done}
+use Rattle.desk_top.specs.Answer.{OfProposal, OfNothing, Saying}
+use Rattle.desk_top.specs.Outcome.{Outcome, Prints}
 
 -- the demo is by precision at 10, and grades from 1 are relevant
 abbrev pub demo_subject : Desk → Subject
@@ -39,23 +38,19 @@ pub record IsDemoText (seed : ℕ) (text : List ℕ) : Type 0 where
   pub made : IsDemoDesk seed desk rows
   pub shown : IsShown seed desk rows text
 
--- what a text of a demo speaks of
-abbrev pub demo_moment : Desk → Bool → Moment
-demo_moment desk proposes = record { measure = (demo_subject desk).measure; desk = desk; marks = (demo_subject desk).marks; checked = None; proposes = proposes }
-
 -- the lines of the summary, and then that of what is to be judged next
 abbrev pub demo_sayings : Desk → List (List ℕ) → List ℕ → List Saying
-demo_sayings desk lines next = map (λ line. record { moment = demo_moment desk false; text = ended line }) lines ++ record { moment = demo_moment desk true; text = next } ∷ []
+demo_sayings desk lines next = map (λ line. record { about = OfNothing; text = ended line }) lines ++ record { about = OfProposal (demo_subject desk); text = next } ∷ []
 
--- the answer is a demo of a seed
-pub record IsDemoAnswer (seed : ℕ) (answer : Answer) : Type 0 where
+-- the texts of a demo of a seed
+pub record PrintsDemo (seed : ℕ) (outcome : Outcome) : Type 0 where
   pub desk : Desk
   pub rows : ℕ
   pub made : IsDemoDesk seed desk rows
   pub lines : List (List ℕ)
   pub next : List ℕ
   pub texts : AreDemoTexts seed desk rows lines next
-  pub is : answer ≡ said_with 0 (demo_sayings desk lines next)
+  pub is : outcome ≡ Prints Done (demo_sayings desk lines next)
 
 -- something holds of the desk of a seed
 pub record HasDemoDesk (seed : ℕ) (fact : Desk → Type 0) : Type 0 where
@@ -67,9 +62,3 @@ pub record HasDemoDesk (seed : ℕ) (fact : Desk → Type 0) : Type 0 where
 -- no step was taken, or at most pairs times topics were
 abbrev pub CountsDemo : ℕ → ℕ → ℕ → Type 0
 CountsDemo seed before after = (after ≡ before) ⊎ HasDemoDesk seed (λ desk. after ≤ before + cells_of desk)
-
--- a text was put on the output whole, and nothing told; or the output failed at it, and that was told
-abbrev pub IsPutWhole : Sink → Sink → List ℕ → ℕ → Type 0
-IsPutWhole out err text status =
-    ((status ≡ 0) × ReceivedAll out text × Writes err.had err.has err.before err.after [])
-    ⊎ ((status ≡ 3) × Rose out.before out.after × (0 < length text) × ReceivedPrefix out text × Writes err.had err.has err.before err.after (status_line 3))

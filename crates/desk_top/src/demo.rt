@@ -1,18 +1,21 @@
 // The command that shows a demo.
-ghost use Rattle.std.specs.Prelude.{◌≡◌, ◌≤◌, IfOk};
+ghost use Rattle.std.specs.Prelude.{◌≡◌, IfOk};
 ghost use Rattle.desk_model.specs.Desk.{IsDesk};
-ghost use Rattle.desk_outside.specs.Seen.{sink};
+ghost use Rattle.desk_outside.specs.Seen.{Shelf as SeenShelf};
 ghost use Rattle.desk_report.specs.Reports.{IsTableOn};
-ghost use Rattle.desk_top.specs.Showing.{demo_subject, IsShown, IsDemoText, CountsDemo, IsPutWhole};
+ghost use Rattle.desk_top.specs.Meaning.{demo_meaning};
+ghost use Rattle.desk_top.specs.Showing.{demo_subject, IsShown, IsDemoText, CountsDemo};
+ghost use Rattle.desk_top.specs.Works.{Works};
 
-use crate::output::DONE;
-use crate::tell::tell_outside;
+use crate::outcome::Outcome;
+use crate::status::Status;
+use crate::tools::Tools;
 use demo_desk::{DemoDesk, demo_desk, summary_text};
+use desk_files::Stop;
 use desk_model::{Marks, MeasureName, Memory};
-use desk_outside::{Sink, put_all};
-use desk_report::{next_report, table_on};
+use desk_report::next_report;
 use measure_core::{Maker, Measure, Steps};
-use pair_table::Table;
+use pair_table::{Table, table_on};
 use std::alloc::Global;
 use std::sync::ledger::Ledger;
 
@@ -35,45 +38,44 @@ fn texts_of<M: Measure>(
 {
     let mut text = summary_text(alloc, seed, demo.rows, &demo.desk, marks, table.verdicts())?;
     let next = next_report(alloc, &demo.desk, marks, table)?;
-    match text.extend_from_slice(&next) {
-        Ok(()) => Ok(text),
-        Err(_) => Err(Memory),
-    }
+    text.extend_from_slice(&next)?;
+    Ok(text)
 }
 
-/// What the demo of a seed prints: the summary of its desk under precision at 10, and what is to be judged next.
-pub fn demo_text<P: Maker, L: Ledger>(
-    alloc: Global,
+// What the demo of a seed prints: the summary of its desk under precision at 10, and what is to be judged next.
+fn demo_text<P: Maker, L: Ledger>(
+    tools: &Tools<'_, P>,
     seed: u32,
-    maker: &P,
     steps: &mut Steps<L>,
 ) -> Result<Vec<u8>, Memory>
     ensures text { IfOk result (λ text. IsDemoText seed text.items) }
     ensures steps { CountsDemo seed steps.old steps.new }
 {
-    let demo = demo_desk(alloc, seed)?;
-    // The marks of a valid desk are one for each document.
-    let _topics = demo.desk.topic_count();
-    let marks = Marks::of_file(alloc, &demo.desk, LEVEL)?;
+    let demo = demo_desk(tools.alloc, seed)?;
+    demo.desk.valid();
+    let marks = Marks::of_file(tools.alloc, &demo.desk, LEVEL)?;
     let table = table_on(
-        alloc,
+        tools.alloc,
         &demo.desk,
         &marks,
         MeasureName::Precision(DEPTH),
-        maker,
+        tools.maker,
         steps,
     )?;
-    texts_of(alloc, seed, &demo, &marks, &table)
+    texts_of(tools.alloc, seed, &demo, &marks, &table)
 }
 
-/// Puts the text of a demo, and answers the status.
-pub fn put_demo<K: Sink, E: Sink>(out: &mut K, err: &mut E, text: &[u8]) -> u8
-    ensures put { IsPutWhole (sink (K.received out.old) (K.received out.new) (K.faults out.old) (K.faults out.new))
-        (sink (E.received err.old) (E.received err.new) (E.faults err.old) (E.faults err.new)) text.now result }
-    ensures known { result ≤ 6 }
+/// The demo of a seed, for which no file is at hand.
+pub fn demo_outcome<'a, P: Maker, L: Ledger>(
+    tools: &Tools<'_, P>,
+    seed: u32,
+    steps: &mut Steps<L>,
+) -> Result<Outcome, Stop<'a>>
+    ensures { (files : SeenShelf) → Works (demo_meaning seed) files steps.old steps.new result }
 {
-    match put_all(out, text) {
-        Ok(()) => DONE,
-        Err(_) => tell_outside(err),
-    }
+    let text = demo_text(tools, seed, steps)?;
+    Ok(Outcome::Prints {
+        text,
+        status: Status::Done,
+    })
 }

@@ -2,13 +2,16 @@
 #![tactic(auto)]
 
 mod demo;
-mod output;
+mod laws;
+mod outcome;
 mod report;
 mod session;
+mod status;
 mod tell;
+mod tools;
 mod top;
 mod verify;
 
-pub use report::Report;
+pub use status::Status;
 pub use tell::{tell_memory, tell_outside};
 pub use top::run_desk;

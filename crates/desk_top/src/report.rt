@@ -1,93 +1,106 @@
-// The commands that print a report on the files of a job.
-ghost use Rattle.std.specs.Prelude.{◌≡◌, ◌≤◌, ◌+◌, length, IfOk};
-ghost use Rattle.desk_files.specs.Load.{DeskMayOpen, Opens};
-ghost use Rattle.desk_top.specs.Report.{IsAsked, IsPrintedAs, IsReportOf, CountsSteps, least_runs, sources_of};
+// The commands that make one text of a desk and its table.
+ghost use Rattle.std.specs.Prelude.{◌≡◌, ◌+◌, IfOk, IfErr, OnErr};
+ghost use Rattle.desk_model.specs.MeasureText.{IsMeasure};
+ghost use Rattle.desk_outside.specs.Seen.{shelf};
 ghost use Rattle.desk_report.specs.Reports.{cells_of};
-ghost use Rattle.desk_top.specs.Printing.{Ends};
-ghost use Rattle.desk_top.specs.Meaning.{report_printing};
-ghost use Rattle.desk_outside.specs.Seen.{shelf, sink};
+ghost use Rattle.desk_words.specs.declared.command.Command.TheVariants as commands;
+ghost use Rattle.desk_top.specs.Loading.{desk_loading, OpensWithin};
+ghost use Rattle.desk_top.specs.Meaning.{meaning_of};
+ghost use Rattle.desk_top.specs.Report.{IsAsked, IsTabled, shown_as};
+ghost use Rattle.desk_top.specs.Works.{StopsLoading, Works};
 
-use crate::output::{DONE, Printed, put_printed};
+use crate::outcome::Outcome;
+use crate::status::Status;
+use crate::tools::Tools;
 use desk_files::{Stop, load_desk};
-use desk_model::{Desk, Marks, Memory};
-use desk_outside::{Shelf, Sink};
-use desk_report::{Certified, certified_report, table_on, table_report};
+use desk_model::{Desk, Marks};
+use desk_outside::Shelf;
+use desk_report::{Certified, certified_report, table_report};
 use desk_words::Job;
-use measure_core::{Maker, Steps};
-use std::alloc::Global;
+use measure_core::{Maker, Measure, Steps};
+use pair_table::{Table, table_on};
 use std::sync::ledger::Ledger;
 
-/// What a command prints of a desk.
-#[derive(Clone, Copy)]
-pub enum Report {
-    /// The table of all pairs.
-    Table,
-    /// The certificate of the first two runs, or the line that says that their verdict is close.
-    Certificate,
+/// The desk of some files, the marks that they give its documents, and a table of these marks.
+#[derive(Drop)]
+pub struct DeskTable<M: Measure> {
+    pub desk: Desk,
+    pub marks: Marks,
+    pub table: Table<M>,
 }
 
-const CLOSE: u8 = 6;
+// The desk of a job with its table.
+fn tabled<'a, F: Shelf, P: Maker, L: Ledger>(
+    tools: &Tools<'_, P>,
+    job: &'a Job,
+    files: &mut F,
+    steps: &mut Steps<L>,
+) -> Result<DeskTable<P::Made>, Stop<'a>>
+    requires { IsMeasure job.now.measure }
+    ensures on { IfOk result (λ on. IsTabled (P.Made.measured on.table.measure) (P.Made.cell_of on.table.measure) (P.Made.bounds_of on.table.measure)
+        job.now (F.state files.old).files on) }
+    ensures stops { IfErr result (StopsLoading (desk_loading job.now) (shelf (F.state files.old) (F.state files.new))) }
+    ensures steps { IfOk result (λ on. steps.new ≡ steps.old + cells_of on.desk) }
+    ensures no_steps { OnErr result (steps.new ≡ steps.old) }
+    ensures opened { OpensWithin (desk_loading job.now) (shelf (F.state files.old) (F.state files.new)) }
+    ensures files { (F.state files.new).files ≡ (F.state files.old).files }
+{
+    let desk = load_desk(tools.alloc, files, &job.qrels, &job.runs)?;
+    desk.valid();
+    let marks = Marks::of_file(tools.alloc, &desk, job.level)?;
+    let table = table_on(tools.alloc, &desk, &marks, job.measure, tools.maker, steps)?;
+    Ok(DeskTable { desk, marks, table })
+}
 
-// The text of what shows the order of two runs, and its status.
-fn shown(answer: Certified) -> Printed
-    ensures { IsPrintedAs answer result.status result.text.items }
+/// The table of all pairs.
+pub fn table_outcome<'a, F: Shelf, P: Maker, L: Ledger>(
+    tools: &Tools<'_, P>,
+    job: &'a Job,
+    files: &mut F,
+    steps: &mut Steps<L>,
+) -> Result<Outcome, Stop<'a>>
+    requires { IsAsked 1 job.now }
+    ensures works { Works (meaning_of (commands.Table job.now)) (shelf (F.state files.old) (F.state files.new)) steps.old steps.new result }
+    ensures opened { OpensWithin (desk_loading job.now) (shelf (F.state files.old) (F.state files.new)) }
+    ensures files { (F.state files.new).files ≡ (F.state files.old).files }
+{
+    let on = tabled(tools, job, files, steps)?;
+    let text = table_report(tools.alloc, &on.desk, job.level, &on.table)?;
+    Ok(Outcome::Prints {
+        text,
+        status: Status::Done,
+    })
+}
+
+// What shows the order of two runs, with its status.
+fn shown(answer: Certified) -> Outcome
+    ensures { result ≡ shown_as answer }
 {
     match answer {
-        Certified::Certificate(text) => Printed { text, status: DONE },
-        Certified::Close(text) => Printed {
+        Certified::Certificate(text) => Outcome::Prints {
             text,
-            status: CLOSE,
+            status: Status::Done,
+        },
+        Certified::Close(text) => Outcome::Prints {
+            text,
+            status: Status::Close,
         },
     }
 }
 
-// The report on a desk.
-fn report_on<P: Maker, L: Ledger>(
-    alloc: Global,
-    desk: &Desk,
-    report: Report,
-    job: &Job,
-    maker: &P,
-    steps: &mut Steps<L>,
-) -> Result<Printed, Memory>
-    requires job { IsAsked report job.now }
-    requires runs { least_runs report ≤ length desk.now.runs }
-    ensures report { IfOk result (λ printed. IsReportOf report job.now desk.now printed.status printed.text.items) }
-    ensures steps { steps.new ≤ steps.old + cells_of desk.now }
-{
-    // A table speaks of a valid desk, which every desk is.
-    let _runs = desk.run_count();
-    let marks = Marks::of_file(alloc, desk, job.level)?;
-    let table = table_on(alloc, desk, &marks, job.measure, maker, steps)?;
-    match report {
-        Report::Table => {
-            let text = table_report(alloc, desk, job.level, &table)?;
-            Ok(Printed { text, status: DONE })
-        }
-        Report::Certificate => {
-            let answer = certified_report(alloc, desk, &marks, job.level, &table, 0, 1)?;
-            Ok(shown(answer))
-        }
-    }
-}
-
-/// Prints the report on the files of a job, and answers its status.
-pub fn print_report<'a, F: Shelf, K: Sink, P: Maker, L: Ledger>(
-    alloc: Global,
-    files: &mut F,
-    out: &mut K,
-    report: Report,
+/// The certificate of the first two runs, or their close line.
+pub fn certificate_outcome<'a, F: Shelf, P: Maker, L: Ledger>(
+    tools: &Tools<'_, P>,
     job: &'a Job,
-    maker: &P,
+    files: &mut F,
     steps: &mut Steps<L>,
-) -> Result<u8, Stop<'a>>
-    requires { IsAsked report job.now }
-    ensures ends { Ends (report_printing report job.now) (shelf (F.files files.old) (F.opened files.old) (F.opened files.new) (F.faults files.old) (F.faults files.new)) (sink (K.received out.old) (K.received out.new) (K.faults out.old) (K.faults out.new)) result }
-    ensures opened { Opens (DeskMayOpen (F.files files.old) (sources_of job.now)) (F.opened files.old) (F.opened files.new) }
-    ensures steps { CountsSteps (F.files files.old) job.now steps.old steps.new }
-    ensures files { F.files files.new ≡ F.files files.old }
+) -> Result<Outcome, Stop<'a>>
+    requires { IsAsked 2 job.now }
+    ensures works { Works (meaning_of (commands.Certify job.now)) (shelf (F.state files.old) (F.state files.new)) steps.old steps.new result }
+    ensures opened { OpensWithin (desk_loading job.now) (shelf (F.state files.old) (F.state files.new)) }
+    ensures files { (F.state files.new).files ≡ (F.state files.old).files }
 {
-    let desk = load_desk(alloc, files, &job.qrels, &job.runs)?;
-    let printed = report_on(alloc, &desk, report, job, maker, steps)?;
-    put_printed(out, &printed)
+    let on = tabled(tools, job, files, steps)?;
+    let answer = certified_report(tools.alloc, &on.desk, &on.marks, job.level, &on.table, 0, 1)?;
+    Ok(shown(answer))
 }

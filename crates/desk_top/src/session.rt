@@ -1,15 +1,20 @@
 // The command that holds a session.
-ghost use Rattle.std.specs.Prelude.{◌≤◌};
-ghost use Rattle.desk_model.specs.MeasureText.{IsMeasure};
-ghost use Rattle.order_certificate.specs.Certificate.{IsLevel};
-ghost use Rattle.desk_outside.specs.Seen.{source, sink};
+ghost use Rattle.std.specs.Prelude.{◌≡◌, ℕ};
+ghost use Rattle.desk_outside.specs.Seen.{shelf, source, sink};
+ghost use Rattle.session_replies.specs.State.{setting_of, IsSetting};
 ghost use Rattle.session_stream.specs.Text.{EvaluatesWithin};
-ghost use Rattle.desk_top.specs.Conversation.{AnswersSession, setting_on};
+ghost use Rattle.desk_top.specs.Conversation.{AnswersSession};
+ghost use Rattle.desk_top.specs.Loading.{desk_loading, OpensWithin};
+ghost use Rattle.desk_top.specs.Meaning.{session_meaning};
+ghost use Rattle.desk_top.specs.Report.{IsAsked};
+ghost use Rattle.desk_top.specs.Works.{Works};
 
-use crate::output::DONE;
+use crate::outcome::Outcome;
+use crate::status::Status;
 use crate::tell::{tell_long_input, tell_memory, tell_outside};
-use desk_model::Desk;
-use desk_outside::{Sink, Source};
+use crate::tools::Tools;
+use desk_files::{Stop, load_desk};
+use desk_outside::{Shelf, Sink, Source};
 use desk_words::Job;
 use measure_core::{Maker, Steps};
 use session_replies::Given;
@@ -17,34 +22,44 @@ use session_stream::{Ended, Fault, hold_session};
 use std::alloc::Global;
 use std::sync::ledger::Ledger;
 
-/// Answers the lines of the input over a desk, and answers the status that tells how the session ended.
-pub fn answer_session<S: Source, K: Sink, E: Sink, P: Maker, L: Ledger>(
+/// The desk on which the session of a job is held.
+pub fn session_outcome<'a, F: Shelf>(
     alloc: Global,
-    desk: &Desk,
-    job: &Job,
+    files: &mut F,
+    job: &'a Job,
+) -> Result<Outcome, Stop<'a>>
+    requires { IsAsked 1 job.now }
+    ensures works { (cells : ℕ) → Works (session_meaning job.now) (shelf (F.state files.old) (F.state files.new)) cells cells result }
+    ensures opened { OpensWithin (desk_loading job.now) (shelf (F.state files.old) (F.state files.new)) }
+    ensures files { (F.state files.new).files ≡ (F.state files.old).files }
+{
+    let desk = load_desk(alloc, files, &job.qrels, &job.runs)?;
+    Ok(Outcome::Holds {
+        desk,
+        measure: job.measure,
+        level: job.level,
+    })
+}
+
+/// Answers the lines of the input, and tells how the session ended.
+pub fn answer_session<S: Source, K: Sink, E: Sink, P: Maker, L: Ledger>(
+    tools: &Tools<'_, P>,
+    given: &Given<'_>,
     input: &mut S,
     out: &mut K,
     err: &mut E,
-    maker: &P,
     steps: &mut Steps<L>,
-) -> u8
-    requires measure { IsMeasure job.now.measure }
-    requires level { IsLevel job.now.level }
-    ensures known { result ≤ 4 }
-    ensures answered { AnswersSession (setting_on job.now desk.now)
-        (source (S.rest input.old) (S.rest input.new) (S.faults input.old) (S.faults input.new))
-        (sink (K.received out.old) (K.received out.new) (K.faults out.old) (K.faults out.new))
-        (sink (E.received err.old) (E.received err.new) (E.faults err.old) (E.faults err.new)) result }
-    ensures cells { EvaluatesWithin (setting_on job.now desk.now)
-        (source (S.rest input.old) (S.rest input.new) (S.faults input.old) (S.faults input.new)) steps.old steps.new }
+) -> Status
+    requires { IsSetting (setting_of given.now) }
+    ensures answered { AnswersSession (setting_of given.now)
+        (source (S.state input.old) (S.state input.new))
+        (sink (K.state out.old) (K.state out.new))
+        (sink (E.state err.old) (E.state err.new)) result }
+    ensures cells { EvaluatesWithin (setting_of given.now)
+        (source (S.state input.old) (S.state input.new)) steps.old steps.new }
 {
-    let given = Given {
-        desk,
-        measure: &job.measure,
-        level: job.level,
-    };
-    match hold_session(alloc, input, out, &given, maker, steps) {
-        Ok(Ended::Done) => DONE,
+    match hold_session(tools.alloc, input, out, given, tools.maker, steps) {
+        Ok(Ended::Done) => Status::Done,
         Ok(Ended::TooLong) => tell_long_input(err),
         Err(Fault::Input) => tell_outside(err),
         Err(Fault::Output) => tell_outside(err),

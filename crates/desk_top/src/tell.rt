@@ -1,66 +1,68 @@
 // What is told on the error output. A failure there changes nothing.
-ghost use Rattle.std.specs.Prelude.{◌≡◌, ◌≤◌, ◌⊎◌, ℕ, ◌++◌, OnOk, IfOk, codes, decimal};
-ghost use Rattle.desk_top.specs.Told.{TellsStop, Writes, fault_word, fault_text, refusal_text, refusal_line, long_input_line, status_line};
-ghost use Rattle.desk_outside.specs.Seen.{sink};
+ghost use Rattle.std.specs.Prelude.{◌≡◌, ◌++◌, OnOk, IfOk, decimal};
 ghost use Rattle.desk_files.specs.Views.{refusal_of};
+ghost use Rattle.desk_outside.specs.Seen.{sink};
+ghost use Rattle.desk_top.specs.Status.{status_line};
+ghost use Rattle.desk_top.specs.Told.{TellsRefusal, TellsStop, WritesLine, fault_word, fault_text, refusal_text, refusal_line, long_input_line};
 
+use crate::status::Status;
 use desk_files::{Refusal, Stop};
 use desk_outside::{Sink, put_all};
 use itoa::Buffer;
 use qrels_reader::LineFault;
 use std::alloc::{AllocError, Global};
 
-const REFUSED: u8 = 1;
-
-const USAGE: u8 = 2;
-
-const OUTSIDE: u8 = 3;
-
-const MEMORY: u8 = 4;
-
 fn tell<E: Sink>(err: &mut E, line: &[u8])
-    ensures { Writes (E.received err.old) (E.received err.new) (E.faults err.old) (E.faults err.new) line.now }
+    ensures { WritesLine (sink (E.state err.old) (E.state err.new)) line.now }
 {
     let _ = put_all(err, line);
 }
 
-/// The words are no command, and the status is 2.
-pub fn tell_usage<E: Sink>(err: &mut E) -> u8
-    ensures status { result ≡ 2 }
-    ensures line { Writes (E.received err.old) (E.received err.new) (E.faults err.old) (E.faults err.new) (status_line 2) }
+/// Tells that the words are of no command.
+pub fn tell_usage<E: Sink>(err: &mut E) -> Status
+    ensures status { result ≡ Status.Usage }
+    ensures line { WritesLine (sink (E.state err.old) (E.state err.new)) (status_line Status.Usage) }
 {
     tell(
         err,
         b"usage: desk COMMAND --qrels FILE --measure NAME [--level N] RUN...\n",
     );
-    USAGE
+    Status::Usage
 }
 
-/// The outside failed, and the status is 3.
-pub fn tell_outside<E: Sink>(err: &mut E) -> u8
-    ensures status { result ≡ 3 }
-    ensures line { Writes (E.received err.old) (E.received err.new) (E.faults err.old) (E.faults err.new) (status_line 3) }
+/// Tells that the outside failed.
+pub fn tell_outside<E: Sink>(err: &mut E) -> Status
+    ensures status { result ≡ Status.Outside }
+    ensures line { WritesLine (sink (E.state err.old) (E.state err.new)) (status_line Status.Outside) }
 {
     tell(err, b"fault: outside\n");
-    OUTSIDE
+    Status::Outside
 }
 
-/// A session's input is too long, and the status is 1.
-pub fn tell_long_input<E: Sink>(err: &mut E) -> u8
-    ensures status { result ≡ 1 }
-    ensures line { Writes (E.received err.old) (E.received err.new) (E.faults err.old) (E.faults err.new) long_input_line }
-{
-    tell(err, b"refused: input: InputTooLong\n");
-    REFUSED
-}
-
-/// Memory ran out, and the status is 4.
-pub fn tell_memory<E: Sink>(err: &mut E) -> u8
-    ensures status { result ≡ 4 }
-    ensures line { Writes (E.received err.old) (E.received err.new) (E.faults err.old) (E.faults err.new) (status_line 4) }
+/// Tells that memory ran out.
+pub fn tell_memory<E: Sink>(err: &mut E) -> Status
+    ensures status { result ≡ Status.Memory }
+    ensures line { WritesLine (sink (E.state err.old) (E.state err.new)) (status_line Status.Memory) }
 {
     tell(err, b"fault: memory\n");
-    MEMORY
+    Status::Memory
+}
+
+/// Tells the line of a refusal.
+pub fn tell_refusal<E: Sink>(err: &mut E, line: &[u8]) -> Status
+    ensures status { result ≡ Status.Refused }
+    ensures line { WritesLine (sink (E.state err.old) (E.state err.new)) line.now }
+{
+    tell(err, line);
+    Status::Refused
+}
+
+/// Tells that the input of a session is too long.
+pub fn tell_long_input<E: Sink>(err: &mut E) -> Status
+    ensures status { result ≡ Status.Refused }
+    ensures line { WritesLine (sink (E.state err.old) (E.state err.new)) long_input_line }
+{
+    tell_refusal(err, b"refused: input: InputTooLong\n")
 }
 
 fn word_of(fault: LineFault) -> &'static str
@@ -145,25 +147,19 @@ fn refusal_line(alloc: Global, refusal: &Refusal) -> Result<Vec<u8>, AllocError>
     Ok(line)
 }
 
-/// The files are refused, and the status is 1; or memory for the line ran out, and it is 4.
-pub fn tell_refused<E: Sink>(alloc: Global, err: &mut E, refusal: &Refusal) -> u8
-    ensures status { (result ≡ 1) ⊎ (result ≡ 4) }
-    ensures refused { result ≡ 1 → Writes (E.received err.old) (E.received err.new) (E.faults err.old) (E.faults err.new) (refusal_line (refusal_of refusal.now)) }
-    ensures memory { result ≡ 4 → Writes (E.received err.old) (E.received err.new) (E.faults err.old) (E.faults err.new) (status_line 4) }
+// Tells that the files are refused, or that memory for the line ran out.
+fn tell_refused<E: Sink>(alloc: Global, err: &mut E, refusal: &Refusal) -> Status
+    ensures { TellsRefusal (refusal_of refusal.now) (sink (E.state err.old) (E.state err.new)) result }
 {
     match refusal_line(alloc, refusal) {
-        Ok(line) => {
-            tell(err, &line);
-            REFUSED
-        }
+        Ok(line) => tell_refusal(err, &line),
         Err(_) => tell_memory(err),
     }
 }
 
-/// Tells why a command stopped, and answers its status: 1 for a refusal, 3 for a fault of the outside, and 4 where memory ran out.
-pub fn tell_stop<E: Sink>(alloc: Global, err: &mut E, stop: &Stop<'_>) -> u8
-    ensures known { result ≤ 4 }
-    ensures told { TellsStop stop.now (sink (E.received err.old) (E.received err.new) (E.faults err.old) (E.faults err.new)) result }
+/// Tells why a command stopped.
+pub fn tell_stop<E: Sink>(alloc: Global, err: &mut E, stop: &Stop<'_>) -> Status
+    ensures { TellsStop stop.now (sink (E.state err.old) (E.state err.new)) result }
 {
     match stop {
         Stop::Refused(refusal) => tell_refused(alloc, err, refusal),

@@ -1,24 +1,22 @@
 // The command that checks a certificate.
-ghost use Rattle.std.specs.Prelude.{◌≡◌, ◌++◌, IfOk, IfErr, OnOk, codes};
+ghost use Rattle.std.specs.Prelude.{◌≡◌, ◌++◌, ℕ, IfOk, IfErr, OnOk, codes};
 ghost use Rattle.order_certificate.specs.Certificate.{IsCertificate};
-ghost use Rattle.desk_files.specs.Checks.{CheckMayOpen};
-ghost use Rattle.desk_files.specs.Load.{Opens};
-ghost use Rattle.desk_top.specs.Verification.{IsReasonOn, reason_text, verification_text, IsVerificationOf};
-ghost use Rattle.desk_top.specs.Printing.{Ends};
-ghost use Rattle.desk_top.specs.Meaning.{check_printing};
-ghost use Rattle.desk_outside.specs.Seen.{shelf, sink};
+ghost use Rattle.desk_outside.specs.Seen.{shelf};
+ghost use Rattle.desk_top.specs.Loading.{check_loading, OpensWithin};
+ghost use Rattle.desk_top.specs.Meaning.{check_meaning};
+ghost use Rattle.desk_top.specs.Verification.{IsReasonOn, reason_text, verification_text, IsChecked};
+ghost use Rattle.desk_top.specs.Works.{Works};
 
-use crate::output::{DONE, Printed, put_printed};
+use crate::outcome::Outcome;
+use crate::status::Status;
 use crate::tell::push_number;
 use desk_files::{Stop, load_check};
 use desk_model::{Desk, Marks, Memory};
-use desk_outside::{Shelf, Sink};
+use desk_outside::Shelf;
 use desk_words::Check;
 use order_certificate::Certificate;
 use order_verifier::{Rejected, Verifier};
 use std::alloc::{AllocError, Global};
-
-const REJECTED: u8 = 5;
 
 // Why a certificate is rejected.
 fn push_reason(text: &mut Vec<u8>, desk: &Desk, why: Rejected) -> Result<(), AllocError>
@@ -65,35 +63,35 @@ fn line_of(alloc: Global, desk: &Desk, answer: Result<(), Rejected>) -> Result<V
     }
 }
 
-// What checking a certificate against a desk prints.
-fn verification(alloc: Global, desk: &Desk, certificate: &Certificate) -> Result<Printed, Memory>
+// What checking a certificate over a desk makes.
+fn verification(alloc: Global, desk: &Desk, certificate: &Certificate) -> Result<Outcome, Memory>
     requires { IsCertificate certificate.now }
-    ensures { IfOk result (λ printed. IsVerificationOf certificate.now desk.now printed.status printed.text.items) }
+    ensures { IfOk result (IsChecked certificate.now desk.now) }
 {
-    // The verifier speaks of a valid desk, which every desk is.
-    let _runs = desk.run_count();
+    desk.valid();
     let marks = Marks::of_file(alloc, desk, certificate.level)?;
     let verifier = Verifier::new(alloc, &certificate.measure)?;
     let answer = verifier.verify(desk, &marks, certificate);
-    let status = if answer.is_ok() { DONE } else { REJECTED };
-    match line_of(alloc, desk, answer) {
-        Ok(text) => Ok(Printed { text, status }),
-        Err(_) => Err(Memory),
-    }
+    let status = if answer.is_ok() {
+        Status::Done
+    } else {
+        Status::Rejected
+    };
+    let text = line_of(alloc, desk, answer)?;
+    Ok(Outcome::Prints { text, status })
 }
 
-/// Checks the certificate of a check against its desk, prints the answer, and answers its status.
-pub fn print_verification<'a, F: Shelf, K: Sink>(
+/// The answer of the verifier to the certificate of a check over its desk.
+pub fn check_outcome<'a, F: Shelf>(
     alloc: Global,
     files: &mut F,
-    out: &mut K,
     check: &'a Check,
-) -> Result<u8, Stop<'a>>
-    ensures ends { Ends (check_printing check.now) (shelf (F.files files.old) (F.opened files.old) (F.opened files.new) (F.faults files.old) (F.faults files.new)) (sink (K.received out.old) (K.received out.new) (K.faults out.old) (K.faults out.new)) result }
-    ensures opened { Opens (CheckMayOpen (F.files files.old) check.now) (F.opened files.old) (F.opened files.new) }
-    ensures files { F.files files.new ≡ F.files files.old }
+) -> Result<Outcome, Stop<'a>>
+    ensures works { (cells : ℕ) → Works (check_meaning check.now) (shelf (F.state files.old) (F.state files.new)) cells cells result }
+    ensures opened { OpensWithin (check_loading check.now) (shelf (F.state files.old) (F.state files.new)) }
+    ensures files { (F.state files.new).files ≡ (F.state files.old).files }
 {
     let (desk, certificate) = load_check(alloc, files, check)?;
-    let printed = verification(alloc, &desk, &certificate)?;
-    put_printed(out, &printed)
+    let outcome = verification(alloc, &desk, &certificate)?;
+    Ok(outcome)
 }

@@ -1,5 +1,5 @@
-use Rattle.desk_top.proofs.Meeting.{can_end}
+use Rattle.desk_top.proofs.Calling.{can_end_of}
 use Rattle.desk_host.proofs.host.run.Goals as goal
 
 pub returns-clause-ends : goal.returns-clause-ends
-returns-clause-ends g c = can_end _ _ _ _ _ _ _ _ c.run_desk.ensures.meets
+returns-clause-ends g c = can_end_of _ _ _ c.run_desk.ensures.ends

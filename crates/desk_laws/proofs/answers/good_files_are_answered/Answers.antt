@@ -1,6 +1,6 @@
-use Rattle.desk_files.proofs.Checking.{one_check}
+use Rattle.desk_laws.proofs.Commands.{command_is_lawful}
 use Rattle.desk_laws.proofs.Statuses.{good_files}
 use Rattle.desk_laws.proofs.answers.good_files_are_answered.Goals as goal
 
 pub returns : goal.returns
-returns c = good_files c.command_is_unique.ensures (one_check c.text_and_certificate_are_one.ensures.certificate c.first_bad_line_is_unique.ensures.unique c.first_bad_line_is_unique.ensures.none)
+returns c = good_files (λ command. (command_is_lawful c.answers_are_fixed.ensures command).loading) (λ command. (command_is_lawful c.answers_are_fixed.ensures command).ends)

@@ -1,6 +1,6 @@
-use Rattle.desk_files.proofs.Checking.{one_check}
+use Rattle.desk_laws.proofs.Commands.{command_is_lawful}
 use Rattle.desk_laws.proofs.Statuses.{missing_file}
 use Rattle.desk_laws.proofs.answers.missing_file_is_outside.Goals as goal
 
 pub returns : goal.returns
-returns c = missing_file c.command_is_unique.ensures (one_check c.text_and_certificate_are_one.ensures.certificate c.first_bad_line_is_unique.ensures.unique c.first_bad_line_is_unique.ensures.none)
+returns c = missing_file (λ command. (command_is_lawful c.answers_are_fixed.ensures command).loading)

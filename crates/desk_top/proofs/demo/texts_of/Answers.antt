@@ -14,8 +14,8 @@ summary_text-requires g c = let desk = c.args.demo.now.desk in subst (AreMarksOf
 pub next_report-requires-clause-marks : goal.next_report-requires-clause-marks
 next_report-requires-clause-marks g c = let desk = c.args.demo.now.desk in subst (AreMarksOf desk) (sym c.requires.marks) (marks_known 1 desk c.requires.valid)
 
-pub returns-in-Ok : goal.returns-in-Ok
-returns-in-Ok g c =
+pub returns : goal.returns
+returns g c =
     let demo = c.args.demo.now in
     let desk = demo.desk in
     let table = c.args.table.now in
@@ -32,6 +32,6 @@ returns-in-Ok g c =
         summary = refl;
         proposal = c.in_ok-next.ensures s (sym c.requires.marks) of;
       };
-      is = c.in-Ok.ensures.items ∙ ap (λ n. c.in_ok-text.text.items ++ n) c.deref.ensures.value
+      is = c.in_ok-extend_from_slice.ensures.items ∙ ap (λ n. c.in_ok-text.text.items ++ n) c.deref.ensures.value
           ∙ ap (λ t. t ++ c.in_ok-next.next.items) (c.in_ok-text.ensures ∙ ap (λ m. summary_text seed demo.rows m c.verdicts.result.now) c.requires.marks ∙ ap (summary_text seed demo.rows s.marks) c.verdicts.ensures);
     }

@@ -1,7 +1,7 @@
 use Rattle.std.proofs.Common.{refl}
 use Rattle.std.specs.Prelude.{Ok}
 use Rattle.session_stream.specs.declared.stream.Ended.TheVariants as ended
-use Rattle.desk_top.proofs.Meeting.{writes_nothing}
+use Rattle.desk_top.proofs.Telling.{writes_nothing}
 use Rattle.desk_top.proofs.session.answer_session.Goals as goal
 
 pub returns-in-Ok-Done-clause-answered : goal.returns-in-Ok-Done-clause-answered

@@ -1,10 +1,30 @@
-use Rattle.std.specs.Prelude.{map, string_bytes}
-use Rattle.desk_top.specs.Meaning.{words_meaning}
-use Rattle.desk_top.proofs.Truth.{says_truth}
-use Rattle.desk_top.proofs.Truthful.{words_are_truthful}
+use Rattle.std.proofs.Common.{refl, ap, inl, inr}
+use Rattle.std.specs.Prelude.{map, string_bytes, Err}
+use Rattle.desk_top.specs.Meets.{Meets, LeavesInput}
+use Rattle.desk_top.proofs.Calling.{means_command, usage_meets, memory_meets, call_meets}
 use Rattle.desk_top.proofs.top.run_desk.Goals as goal
 
-pub returns-clause-truth : goal.returns-clause-truth
-returns-clause-truth g c =
+pub returns-in-Ok-clause-ends : goal.returns-in-Ok-clause-ends
+returns-in-Ok-clause-ends g c =
     let words = map string_bytes c.args.words.now in
-    says_truth (words_meaning words) _ _ _ _ _ _ _ (words_are_truthful (record { tables = c.printed_tables_are_true.ensures; certificates = c.printed_certificates_are_true.ensures; close_lines = c.close_lines_are_true.ensures; evidence = c.certificates_are_evidence.ensures.evidence; answers = c.answer_lines_are_true.ensures; claims = c.evidence_implies_claim.ensures; pair_lines = c.printed_pair_lines_are_true.ensures; others = c.other_lines_are_true.ensures; next = c.next_lines_are_true.ensures; qrels = c.qrels_texts_are_true.ensures; no_text = c.no_text_is_true.ensures }) words) c.run_words.ensures.meets
+    let command = c.in-Ok.command in (
+      c.run_command.result,
+      c.into.ensures,
+      call_meets c.printed_texts_are_true.ensures words _ _ (inl (command, c.in-Ok.ensures.ok)) (means_command words (λ meaning. Meets meaning _ _) c.command_is_unique.ensures command c.in-Ok.ensures.ok c.run_command.ensures.meets),
+    )
+
+pub returns-in-Ok-clause-input : goal.returns-in-Ok-clause-input
+returns-in-Ok-clause-input g c =
+    let words = map string_bytes c.args.words.now in
+    means_command words (λ meaning. LeavesInput meaning _ _ _) c.command_is_unique.ensures c.in-Ok.command c.in-Ok.ensures.ok c.run_command.ensures.input
+
+pub returns-in-Err-Usage-clause-ends : goal.returns-in-Err-Usage-clause-ends
+returns-in-Err-Usage-clause-ends g c =
+    let words = map string_bytes c.args.words.now in
+    let none = c.in-Err-Usage.ensures.usage (ap Err c.in-Err-Usage.field-0-is) in
+    (c.tell_usage.result, c.into-in-Err-Usage.ensures, call_meets c.printed_texts_are_true.ensures words _ _ (inr (inl none)) (usage_meets words _ _ refl refl refl none c.tell_usage.ensures.status c.tell_usage.ensures.line))
+
+pub returns-in-Err-Memory-clause-ends : goal.returns-in-Err-Memory-clause-ends
+returns-in-Err-Memory-clause-ends g c =
+    let words = map string_bytes c.args.words.now in
+    (c.tell_memory.result, c.into-in-Err-Memory.ensures, call_meets c.printed_texts_are_true.ensures words _ _ (inr (inr (c.tell_memory.ensures.status, refl))) (memory_meets words _ _ refl refl refl c.tell_memory.ensures.status c.tell_memory.ensures.line))

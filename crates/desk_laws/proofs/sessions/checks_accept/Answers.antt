@@ -1,0 +1,9 @@
+use Rattle.desk_files.proofs.Checking.{one_check}
+use Rattle.desk_laws.proofs.Checked.{all_accepted}
+use Rattle.desk_laws.proofs.Passing.{all_pass}
+use Rattle.desk_laws.proofs.sessions.checks_accept.Goals as goal
+
+pub returns : goal.returns
+returns c =
+    all_pass (all_accepted c.text_and_certificate_are_one.ensures.certificate)
+    (one_check c.text_and_certificate_are_one.ensures.certificate c.first_bad_line_is_unique.ensures.unique c.first_bad_line_is_unique.ensures.none) c.certificates_have_texts.ensures.text

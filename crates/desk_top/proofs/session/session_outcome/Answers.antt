@@ -1,0 +1,15 @@
+use Rattle.desk_outside.specs.Seen.{shelf}
+use Rattle.desk_top.specs.Meaning.{session_meaning}
+use Rattle.desk_top.specs.Works.{Works}
+use Rattle.desk_top.proofs.Conversing.{session_holds, session_stopped}
+use Rattle.desk_top.proofs.Reporting.{handed_on}
+use Rattle.desk_top.proofs.session.session_outcome.Goals as goal
+
+pub returns-in_err-desk-clause-works : goal.returns-in_err-desk-clause-works
+returns-in_err-desk-clause-works g c =
+    let files = shelf (g.F.Shelf.state c.args.files.now) (g.F.Shelf.state c.load_desk.new.files) in
+    λ cells. handed_on (Works (session_meaning c.args.job.now) files cells cells) c.from_residual.result _ c.from_residual.ensures.1 (session_stopped c.args.job.now files cells _ c.in_err-desk.ensures.makes)
+
+pub returns-clause-works : goal.returns-clause-works
+returns-clause-works g c =
+    λ cells. session_holds c.args.job.now (shelf (g.F.Shelf.state c.args.files.now) (g.F.Shelf.state c.load_desk.new.files)) cells c.in_ok-desk.ensures.makes.0 c.in_ok-desk.desk c.requires c.in_ok-desk.ensures.makes.1 c.in_ok-desk.ensures.makes.2

@@ -1,0 +1,16 @@
+use Rattle.desk_outside.specs.Seen.{shelf}
+use Rattle.desk_top.specs.Meaning.{check_meaning}
+use Rattle.desk_top.specs.Works.{Works}
+use Rattle.desk_top.proofs.Checks.{check_works, check_stopped}
+use Rattle.desk_top.proofs.Reporting.{handed_on}
+use Rattle.desk_top.proofs.verify.check_outcome.Goals as goal
+
+pub returns-in_err-desk-clause-works : goal.returns-in_err-desk-clause-works
+returns-in_err-desk-clause-works g c =
+    let files = shelf (g.F.Shelf.state c.args.files.now) (g.F.Shelf.state c.load_check.new.files) in
+    λ cells. handed_on (Works (check_meaning c.args.check.now) files cells cells) c.from_residual.result _ c.from_residual.ensures.1 (check_stopped c.args.check.now files cells _ c.in_err-desk.ensures.makes)
+
+pub returns-clause-works : goal.returns-clause-works
+returns-clause-works g c =
+    let files = shelf (g.F.Shelf.state c.args.files.now) (g.F.Shelf.state c.load_check.new.files) in
+    λ cells. check_works c.args.check.now files cells (c.in_ok-desk.desk, c.in_ok-desk.certificate) c.in_ok-outcome.outcome c.in_ok-desk.ensures.makes c.in_ok-desk.ensures.certificate c.in_ok-outcome.ensures

@@ -1,0 +1,32 @@
+-- What is true of printed texts.
+use Rattle.std.specs.Prelude.{◌≢◌, ℕ, ◌<◌, List, length}
+use Rattle.desk_model.specs.Desk.{Desk, IsDesk, AreMarksOf}
+use Rattle.desk_model.specs.MeasureText.{IsMeasure}
+use Rattle.desk_model.specs.declared.types.Mark.{Mark}
+use Rattle.desk_model.specs.declared.types.MeasureName.{MeasureName}
+use Rattle.measure_core.specs.Made.{HasEnds}
+use Rattle.order_certificate.specs.Claim.{ClaimHolds}
+use Rattle.order_certificate.specs.Evidence.{IsEvidence, ForEvidence}
+use Rattle.order_certificate.specs.declared.certificate.Certificate.{Certificate}
+use Rattle.pair_table.specs.Evidence.{IsCertificateOf}
+use Rattle.desk_report.specs.Claims.{TablesAreTrue, CertificatesAreTrue, CloseLinesAreTrue, AnswerLinesAreTrue, PairLinesAreTrue, OtherLinesAreTrue, NextLinesAreTrue, QrelsTextsAreTrue, NoTextIsTrue}
+
+-- certificates of two runs are evidence
+abbrev pub CertificatesAreEvidence : Type 0
+CertificatesAreEvidence =
+    (name : MeasureName) (desk : Desk) (marks : List (List Mark)) (level a b : ℕ) (c : Certificate) → IsMeasure name → IsDesk desk → AreMarksOf desk marks → a ≢ b → a < length desk.runs → b < length desk.runs →
+    IsCertificateOf (HasEnds name) name desk marks level a b c → IsEvidence c desk marks
+
+-- what is printed is true
+pub record PrintsTruth : Type 0 where
+  pub tables : TablesAreTrue
+  pub certificates : CertificatesAreTrue
+  pub close_lines : CloseLinesAreTrue
+  pub evidence : CertificatesAreEvidence
+  pub answers : AnswerLinesAreTrue
+  pub claims : ForEvidence (λ c desk marks. ClaimHolds c desk marks)
+  pub pair_lines : PairLinesAreTrue
+  pub others : OtherLinesAreTrue
+  pub next : NextLinesAreTrue
+  pub qrels : QrelsTextsAreTrue
+  pub no_text : NoTextIsTrue
