@@ -1,6 +1,5 @@
 pub mod Cutting
 pub mod Mapped
-pub mod Numbering
 pub mod RowFiles
 pub mod Zipped
 pub mod Seen

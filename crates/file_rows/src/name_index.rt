@@ -5,7 +5,7 @@ ghost use Rattle.std.specs.Str.{bytes_eq};
 ghost use Rattle.indexmap.specs.IndexSet.{insert_key};
 
 use crate::keys::BorrowedKey;
-use indexmap::IndexSet;
+use name_table::NamedSet;
 use std::alloc::{AllocError, Global};
 use std::marker::Model;
 
@@ -13,15 +13,16 @@ use std::marker::Model;
 /// first added.
 #[derive(Drop)]
 pub struct NameIndex<'a> {
-    names: IndexSet<BorrowedKey<'a>>,
+    alloc: Global,
+    names: NamedSet<BorrowedKey<'a>>,
 }
 
 impl<'a> Model for NameIndex<'a> {
-    ghost use Rattle.std.specs.Prelude.{List, ℕ, map};
+    ghost use Rattle.std.specs.Prelude.{List, ℕ};
 
     ghost Value = { List (List ℕ) };
 
-    ghost view = { λ s. map (λ name. name.bytes.now) s.names.keys };
+    ghost view = { λ s. s.names };
 }
 
 impl<'a> NameIndex<'a> {
@@ -30,7 +31,8 @@ impl<'a> NameIndex<'a> {
         ensures { result ≡ [] }
     {
         NameIndex {
-            names: IndexSet::new(alloc),
+            alloc,
+            names: NamedSet::new(alloc),
         }
     }
 
@@ -46,7 +48,7 @@ impl<'a> NameIndex<'a> {
         ensures place { result ≡ position (bytes_eq name.now) self.now }
         ensures found { is_some result ≡ list_any (bytes_eq name.now) self.now }
     {
-        self.names.get_index_of(&BorrowedKey { bytes: name })
+        self.names.place(name)
     }
 
     /// Name `i`.
@@ -54,10 +56,7 @@ impl<'a> NameIndex<'a> {
         requires { i < length self.now }
         ensures { slice_get self.now i ≡ Some result.now }
     {
-        match self.names.get_index(i) {
-            Some(name) => name.bytes,
-            None => unreachable!(),
-        }
+        self.names.get(i).bytes
     }
 
     /// Puts a name at the end where it is not there yet, and answers whether it was not. It fails only where memory runs
@@ -67,7 +66,7 @@ impl<'a> NameIndex<'a> {
         ensures names { OnOk result (self.new ≡ insert_key bytes_eq self.old name.now) }
         ensures unchanged { OnErr result (self.new ≡ self.old) }
     {
-        let is_new = self.names.insert(BorrowedKey { bytes: name })?;
+        let (_, is_new) = self.names.insert(self.alloc, BorrowedKey { bytes: name })?;
         Ok(is_new)
     }
 
@@ -78,7 +77,7 @@ impl<'a> NameIndex<'a> {
         ensures names { OnOk result (self.new ≡ insert_key bytes_eq self.old name.now) }
         ensures unchanged { OnErr result (self.new ≡ self.old) }
     {
-        let (i, _) = self.names.insert_full(BorrowedKey { bytes: name })?;
+        let (i, _) = self.names.insert(self.alloc, BorrowedKey { bytes: name })?;
         Ok(i)
     }
 }

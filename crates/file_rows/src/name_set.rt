@@ -3,22 +3,23 @@ ghost use Rattle.std.specs.Prelude.{◌≡◌, ◌<◌, [], ◌∷◌, ◌++◌,
 ghost use Rattle.std.specs.List.{list_any};
 ghost use Rattle.std.specs.Str.{bytes_eq};
 
-use indexmap::IndexSet;
+use crate::keys::NameKey;
+use name_table::{Named, NamedSet};
 use std::alloc::{AllocError, Global};
 use std::marker::Model;
 
 /// A list of names that is searched by name. Names are numbered from 0 in the order in which they were added.
 #[derive(Drop)]
 pub struct NameSet {
-    names: IndexSet<Vec<u8>>,
+    names: NamedSet<NameKey>,
 }
 
 impl Model for NameSet {
-    ghost use Rattle.std.specs.Prelude.{List, ℕ, map};
+    ghost use Rattle.std.specs.Prelude.{List, ℕ};
 
     ghost Value = { List (List ℕ) };
 
-    ghost view = { λ s. map (λ name. name.items) s.names.keys };
+    ghost view = { λ s. s.names };
 }
 
 impl NameSet {
@@ -27,7 +28,7 @@ impl NameSet {
         ensures { result ≡ [] }
     {
         NameSet {
-            names: IndexSet::new(alloc),
+            names: NamedSet::new(alloc),
         }
     }
 
@@ -43,14 +44,14 @@ impl NameSet {
         ensures place { result ≡ position (bytes_eq name.now) self.now }
         ensures found { is_some result ≡ list_any (bytes_eq name.now) self.now }
     {
-        self.names.get_index_of(name)
+        self.names.place(name)
     }
 
     /// Whether a name is there.
     pub fn contains(&self, name: &[u8]) -> bool
         ensures { result ≡ list_any (bytes_eq name.now) self.now }
     {
-        self.names.contains(name)
+        self.names.place(name).is_some()
     }
 
     /// Name `i`.
@@ -58,10 +59,7 @@ impl NameSet {
         requires { i < length self.now }
         ensures { slice_get self.now i ≡ Some result.now }
     {
-        match self.names.get_index(i) {
-            Some(name) => name.as_slice(),
-            None => unreachable!(),
-        }
+        self.names.get(i).bytes()
     }
 
     /// Puts a copy of a name at the end. It fails only where memory runs out, and then changes nothing.
@@ -70,7 +68,6 @@ impl NameSet {
         ensures ok { OnOk result (self.new ≡ self.old ++ name.now ∷ []) }
         ensures err { OnErr result (self.new ≡ self.old) }
     {
-        self.names.insert(Vec::from_slice(alloc, name)?)?;
-        Ok(())
+        self.names.push(alloc, NameKey::new(alloc, name)?)
     }
 }

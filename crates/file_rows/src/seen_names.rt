@@ -5,14 +5,14 @@ ghost use Rattle.std.specs.List.{list_any};
 ghost use Rattle.std.specs.Str.{bytes_eq};
 
 use crate::keys::NameKey;
-use indexmap::IndexSet;
+use name_table::NamedSet;
 use std::alloc::{AllocError, Global};
 use std::marker::Model;
 
 /// Names that differ, in the order in which they came. It is quick to fill, and only the addition of a name finds it again.
 #[derive(Drop)]
 pub struct SeenNames {
-    names: IndexSet<NameKey>,
+    names: NamedSet<NameKey>,
 }
 
 impl Model for SeenNames {
@@ -20,7 +20,7 @@ impl Model for SeenNames {
 
     ghost Value = { List (List ℕ) };
 
-    ghost view = { λ s. s.names.keys };
+    ghost view = { λ s. s.names };
 }
 
 impl SeenNames {
@@ -29,7 +29,7 @@ impl SeenNames {
         ensures { result ≡ [] }
     {
         SeenNames {
-            names: IndexSet::new(alloc),
+            names: NamedSet::new(alloc),
         }
     }
 
@@ -38,7 +38,7 @@ impl SeenNames {
         ensures { IfOk result (λ seen. seen ≡ []) }
     {
         Ok(SeenNames {
-            names: IndexSet::with_capacity(alloc, names)?,
+            names: NamedSet::with_room(alloc, names)?,
         })
     }
 
@@ -49,7 +49,7 @@ impl SeenNames {
         ensures names { OnOk result (self.new ≡ insert_key bytes_eq self.old name.now) }
         ensures unchanged { OnErr result (self.new ≡ self.old) }
     {
-        let is_new = self.names.insert(NameKey::new(alloc, name)?)?;
+        let (_, is_new) = self.names.insert(alloc, NameKey::new(alloc, name)?)?;
         Ok(is_new)
     }
 }

@@ -84,6 +84,29 @@ fn keeps_lengths(rt: HostRuntime) -> Result<(), AllocError> {
     Ok(())
 }
 
+// Names of 32 bytes that start so have one hash, whatever the other eight bytes are.
+const ONE_HASH: &[u8] = b"collides&!!!!!!!1\xf9\x8a\xd1;9\x8d\xfe";
+
+fn add_row(text: &mut Vec<u8>, last: u8) -> Result<(), AllocError> {
+    text.extend_from_slice(b"1 0 ")?;
+    text.extend_from_slice(ONE_HASH)?;
+    text.extend_from_slice(b"number-")?;
+    text.push(last)?;
+    text.extend_from_slice(b" 1\n")
+}
+
+#[test]
+fn tells_names_of_one_hash_apart(rt: HostRuntime) -> Result<(), AllocError> {
+    let mut text = Vec::new(rt.alloc());
+    for last in b'A'..=b'z' {
+        add_row(&mut text, last)?;
+    }
+    assert!(rt; refusal(&rt, &text) == None);
+    add_row(&mut text, b'x')?;
+    assert!(rt; refusal(&rt, &text) == at_line(59, LineFault::RepeatedDocument));
+    Ok(())
+}
+
 #[test]
 fn survives_any_bytes(rt: HostRuntime) {
     let alphabet = b"0 1\n\t-+d\0\x7f";

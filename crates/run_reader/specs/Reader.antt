@@ -1,5 +1,5 @@
 -- What a reader of a run file has read.
-use Rattle.std.specs.Prelude.{◌≡◌, true, All, ◌⊎◌, ℕ, ◌+◌, ◌≤◌, List, [], length, Option, Some, None, option_map, unwrap_or, Result, Ok, Err, if◌then◌else◌}
+use Rattle.std.specs.Prelude.{◌≡◌, true, All, ◌⊎◌, ℕ, ◌+◌, ◌≤◌, List, [], length, Option, Some, None, unwrap_or, Result, Ok, Err, if◌then◌else◌}
 use Rattle.desk_text.specs.Lines.{is_blank}
 use Rattle.file_rows.specs.Reading.{read_line, with_row, rows_from, IsReadTo}
 use Rattle.file_rows.specs.Rows.{Row}

@@ -1,5 +1,5 @@
 use Rattle.std.proofs.Common.{◌≡◌, ℕ, ◌+◌, List, true, false, cond, refl, subst, sym, ap, ap₂, ◌∙◌, inl}
-use Rattle.std.specs.Prelude.{Option, Some, option_map, unwrap_or, Result, Ok, Err, OnOk, IsErrAnd}
+use Rattle.std.specs.Prelude.{Option, Some, unwrap_or, Result, Ok, Err, OnOk, IsErrAnd}
 use Rattle.std.proofs.lemmas.Result.{IfOk-from_err, on_ok_weaker}
 use Rattle.desk_text.specs.Lines.{is_blank}
 use Rattle.file_rows.specs.Rows.{Row}

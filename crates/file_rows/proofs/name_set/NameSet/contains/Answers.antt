@@ -1,9 +1,0 @@
-use Rattle.std.proofs.Common.{ap, ◌∙◌}
-use Rattle.std.specs.List.{list_any}
-use Rattle.std.specs.Str.{bytes_eq}
-use Rattle.file_rows.proofs.Mapped.{list_any-map}
-use Rattle.file_rows.proofs.name_set.NameSet.contains.Goals as goal
-
-pub returns : goal.returns
-returns c =
-    c.contains.ensures ∙ list_any-map (bytes_eq c.args.name.now) (λ v. v.items) c.self.inside.names.keys ∙ ap (list_any (bytes_eq c.args.name.now)) c.self.view_is

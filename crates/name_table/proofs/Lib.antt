@@ -1,0 +1,5 @@
+pub mod Positions
+pub mod Slots
+pub mod ByName
+pub mod Finding
+pub mod Entering
