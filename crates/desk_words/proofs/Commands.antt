@@ -1,16 +1,18 @@
 -- No words are of two commands.
-use Rattle.std.proofs.Common.{◌≡◌, ℕ, List, [], ◌∷◌, map, refl, ap, sym, subst, ◌∙◌, arith, decimal, inl, inr}
-use Rattle.std.specs.Prelude.{Some, unwrap_or}
+use Rattle.std.proofs.Common.{◌≡◌, ℕ, Bool, true, false, List, [], ◌∷◌, map, refl, ap, sym, subst, ◌∙◌, arith, decimal, inl, inr}
+use Rattle.std.specs.Prelude.{Some, None, find, if◌then◌else◌, unwrap_or}
+use Rattle.std.specs.List.{AllByRecursion}
+use Rattle.std.specs.Str.{bytes_eq}
+use Rattle.std.proofs.lemmas.Slice.Eq.{bytes_eq-Decides}
 use Rattle.std.proofs.lemmas.Fmt.{decimal_injective}
 use Rattle.clap.specs.Words.{Text}
 use Rattle.command_line.specs.Given.{Values}
 use Rattle.desk_model.specs.declared.types.MeasureName.{MeasureName}
 use Rattle.desk_model.specs.MeasureText.{IsTextOf}
 use Rattle.desk_model.proofs.Decimals.{unique}
-use Rattle.desk_words.specs.Verbs.{verb_of}
-use Rattle.desk_words.specs.Words.{IsCommandAfter, IsLevelOf, IsMeasureOf, Says, SaysCheck, SaysJob, verb_for}
+use Rattle.desk_words.specs.Words.{IsCommandAfter, IsLevelOf, IsMeasureOf, Says, SaysCheck, SaysJob, verb_for, verb_of, word_of}
 use Rattle.desk_words.specs.Laws.{CommandIsUnique}
-use Rattle.desk_words.specs.declared.verb.Verb.{Verb}
+use Rattle.desk_words.specs.declared.read.Verb.{Verb}
 use Rattle.desk_words.specs.declared.command.RunWord.{RunWord}
 use Rattle.desk_words.specs.declared.command.Job.{Job}
 use Rattle.desk_words.specs.declared.command.Check.{Check}
@@ -62,6 +64,15 @@ one_said values (Session a) (Session b) e h k = ap Session (one_job values a b h
 one_said values (Verify a) (Verify b) e h k = ap Verify (one_check values a b h k)
 one_said values (Demo a) (Demo b) e h k = ap Demo (decimal_injective a b (omega (arith, h.1)) (omega (arith, k.1)) (one_value _ (decimal a) (decimal b) h.0 k.0))
 one_said values a b e h k = absurd (cc)
+
+-- a word that is that of no verb has none
+pub no_verb : (word : Text) (verbs : List Verb) → AllByRecursion (λ v. word ≡ word_of v → ⊥) verbs → None ≡ find (λ v. bytes_eq (word_of v) word) verbs
+no_verb word [] h = refl
+no_verb word (v ∷ verbs) h = no_verb word verbs h.1 ∙ sym (ap (λ b. if b then Some v else find (λ w. bytes_eq (word_of w) word) verbs) (at (bytes_eq (word_of v) word) refl))
+  where
+    at : (b : Bool) → bytes_eq (word_of v) word ≡ b → bytes_eq (word_of v) word ≡ false
+    at true e = absurd (h.0 (sym ((bytes_eq-Decides (word_of v) word).0 e)))
+    at false e = e
 
 -- a word has one verb
 pub one_verb : (word : Text) (v w : Verb) → verb_of word ≡ Some v → verb_of word ≡ Some w → v ≡ w

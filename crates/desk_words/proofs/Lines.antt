@@ -12,10 +12,9 @@ use Rattle.command_line.specs.Parts.{Part, AreParts, given_by, whole_line}
 use Rattle.command_line.specs.Laws.{AreRefused, AreWordsOf, IsTaken}
 use Rattle.command_line.proofs.Names.{both, each_of, among_names}
 use Rattle.command_line.proofs.Lines as lines
-use Rattle.desk_words.specs.Verbs.{all_verbs, takes, verb_of, word_of}
-use Rattle.desk_words.specs.Words.{IsCommandAfter, IsCommandOf, IsSaid, verb_for}
+use Rattle.desk_words.specs.Words.{IsCommandAfter, IsCommandOf, IsSaid, verb_for, all_verbs, takes, verb_of, word_of}
 use Rattle.desk_words.specs.Laws.{AreUsage, PartsSay, PartsSayTheCommand, OrderIsFree, TwiceIsUsage, EmptyIsUsage, MissingIsUsage, FlagWithValueIsUsage, UnknownIsUsage, HelpIsUsage, EachLineIsOfParts}
-use Rattle.desk_words.specs.declared.verb.Verb.{Verb}
+use Rattle.desk_words.specs.declared.read.Verb.{Verb}
 use Rattle.desk_words.specs.declared.command.Command.{Command}
 use Rattle.desk_words.proofs.Commands.{one_verb}
 

@@ -6,9 +6,8 @@ use Rattle.command_line.specs.Takes.{options, is_long_name}
 use Rattle.command_line.specs.Given.{Allows}
 use Rattle.command_line.specs.Parts.{Part, AreParts, given_by, line_of, long_word, others_of, values_of, whole_line}
 use Rattle.command_line.specs.Laws.{HaveNoValue, IsTaken}
-use Rattle.desk_words.specs.Verbs.{takes, verb_of}
-use Rattle.desk_words.specs.Words.{IsCommandOf, IsSaid}
-use Rattle.desk_words.specs.declared.verb.Verb.{Verb}
+use Rattle.desk_words.specs.Words.{IsCommandOf, IsSaid, takes, verb_of}
+use Rattle.desk_words.specs.declared.read.Verb.{Verb}
 use Rattle.desk_words.specs.declared.command.Command.{Command}
 
 -- a command of the verb, by the values of its options, its flags and the other words

@@ -5,7 +5,6 @@ pub mod command;
 pub mod laws;
 mod read;
 mod value;
-mod verb;
 
 pub use command::{Check, Command, Job, Path, RunWord, RunWords};
 pub use command_line::WordsFault;

@@ -1,16 +1,79 @@
-//! The command of the words.
+//! The command of the words: its verb, what it takes, and what the values say.
 ghost use Rattle.std.specs.Prelude.{◌≡◌, ℕ, IfOk, Err, map, codes, string_bytes};
 ghost use Rattle.command_line.specs.Given.{values_held};
-ghost use Rattle.desk_words.specs.Words.{IsCommandOf, IsSaid, IsSeedOf, SaysJob, SaysCheck};
+ghost use Rattle.desk_words.specs.Words.{IsCommandOf, IsSaid, IsSeedOf, SaysJob, SaysCheck, verb_of, takes, takes_runs};
 ghost use Rattle.desk_words.specs.declared.command.Command.{Command};
 ghost use Rattle.desk_words.specs.declared.command.Job.{Job};
 ghost use Rattle.desk_words.specs.declared.command.Check.{Check};
 
-use crate::command::{Check, Command, Job};
+use crate::command::{Check, Command, Job, RunWords};
 use crate::value::{level, measure, path, runs, seed};
-use crate::verb::{Verb, row_of, verb_of};
-use command_line::{Given, WordsFault};
+use command_line::{Given, Row, WordsFault};
 use std::alloc::Global;
+
+/// What the first word asks for.
+#[derive(Clone, Copy, PartialEq, Eq)]
+pub enum Verb {
+    Table,
+    Certify,
+    Session,
+    Verify,
+    Demo,
+}
+
+// The verb of a word, and none where it is no command's.
+fn verb_of(word: &str) -> Option<Verb>
+    ensures { result ≡ verb_of word.now }
+{
+    match word {
+        "table" => Some(Verb::Table),
+        "certify" => Some(Verb::Certify),
+        "session" => Some(Verb::Session),
+        "verify" => Some(Verb::Verify),
+        "demo" => Some(Verb::Demo),
+        _ => None,
+    }
+}
+
+// What the command of a verb takes.
+fn row_of(verb: Verb) -> Row
+    ensures { result ≡ takes verb }
+{
+    match verb {
+        Verb::Table | Verb::Session => runs_from(1),
+        Verb::Certify => runs_from(2),
+        Verb::Verify => Row {
+            needed: &["qrels", "cert"],
+            optional: &[],
+            flags: &[],
+            other: "RUN",
+            least: 2,
+            most: RunWords::MOST,
+        },
+        Verb::Demo => Row {
+            needed: &[],
+            optional: &[],
+            flags: &[],
+            other: "SEED",
+            least: 1,
+            most: 1,
+        },
+    }
+}
+
+// Runs under a measure.
+fn runs_from(least: usize) -> Row
+    ensures { result ≡ takes_runs least }
+{
+    Row {
+        needed: &["qrels", "measure"],
+        optional: &["level"],
+        flags: &[],
+        other: "RUN",
+        least,
+        most: RunWords::MOST,
+    }
+}
 
 /// The command that the words say, which are those after the program's name. `Usage` comes exactly where the words are
 /// of no command, unless memory runs out; `Memory` may come at any words.
