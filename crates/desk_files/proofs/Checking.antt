@@ -6,7 +6,7 @@ use Rattle.desk_words.specs.declared.command.Check.{Check}
 use Rattle.line_forms.specs.Form.{IsFirstBad}
 use Rattle.order_certificate.specs.Places.{certificate_places, IsText}
 use Rattle.order_certificate.specs.declared.certificate.Certificate.{Certificate}
-use Rattle.desk_files.specs.Files.{Halt, Refused, BadCertificate, whole_file}
+use Rattle.desk_files.specs.Files.{Stop, Refused, BadLine, whole_file}
 use Rattle.desk_files.specs.Certificates.{CertificateComes}
 use Rattle.desk_files.specs.Load.{Loaded, Reads, loaded, paths_of, if_read, DeskMayOpen, Opens}
 use Rattle.desk_files.specs.Checks.{sources_of, CheckComes, CheckMayOpen}
@@ -63,37 +63,37 @@ OneBadLine = (bytes : List ℕ) (m n : ℕ) → IsFirstBad certificate_places by
 abbrev NoBadLine : Type 0
 NoBadLine = (bytes : List ℕ) (c : Certificate) (n : ℕ) → IsText bytes c → IsFirstBad certificate_places bytes n → ⊥
 
-same_halt : {X : Type 0} (h k : Halt) (r : Result X Halt) → r ≡ Err h → r ≡ Err k → h ≡ k
-same_halt {X} h k r e f = let both : ◌≡◌ {A = Result X Halt} (Err h) (Err k) = sym e ∙ f in cc
+same_stop : {X : Type 0} (h k : Stop) (r : Result X Stop) → r ≡ Err h → r ≡ Err k → h ≡ k
+same_stop {X} h k r e f = let both : ◌≡◌ {A = Result X Stop} (Err h) (Err k) = sym e ∙ f in cc
 
 module _ (one : OneCertificate) (one_line : OneBadLine) (none : NoBadLine) where
-  same_bytes : {r : Result (List ℕ) Halt} (a b : List ℕ) → r ≡ Ok a → r ≡ Ok b → a ≡ b
+  same_bytes : {r : Result (List ℕ) Stop} (a b : List ℕ) → r ≡ Ok a → r ≡ Ok b → a ≡ b
   same_bytes a b e f = let both : Ok a ≡ Ok b = sym e ∙ f in cc
 
-  one_file : (files : Files) (path : List ℕ) (x y : Result Certificate Halt) → CertificateComes files path x → CertificateComes files path y → x ≡ y
+  one_file : (files : Files) (path : List ℕ) (x y : Result Certificate Stop) → CertificateComes files path x → CertificateComes files path y → x ≡ y
   one_file files path (Ok c) (Ok d) (a, read, text) (b, again, other) = ap Ok (one b c d (subst (λ z. IsText z c) (same_bytes a b read again) text) other)
-  one_file files path (Ok c) (Err h) (a, read, text) (inl halts) = let bad : Ok a ≡ Err h = sym read ∙ halts in absurd (cc)
+  one_file files path (Ok c) (Err h) (a, read, text) (inl stops) = let bad : Ok a ≡ Err h = sym read ∙ stops in absurd (cc)
   one_file files path (Ok c) (Err h) (a, read, text) (inr (b, again, (line, bad, is))) = absurd (none b c line (subst (λ z. IsText z c) (same_bytes a b read again) text) bad)
-  one_file files path (Err h) (Ok d) (inl halts) (b, again, other) = let bad : Ok b ≡ Err h = sym again ∙ halts in absurd (cc)
+  one_file files path (Err h) (Ok d) (inl stops) (b, again, other) = let bad : Ok b ≡ Err h = sym again ∙ stops in absurd (cc)
   one_file files path (Err h) (Ok d) (inr (a, read, (line, bad, is))) (b, again, other) = absurd (none b d line other (subst (λ z. IsFirstBad certificate_places z line) (same_bytes a b read again) bad))
-  one_file files path (Err h) (Err k) (inl halts) (inl also) = ap Err (same_halt h k (whole_file path (files path)) halts also)
-  one_file files path (Err h) (Err k) (inl halts) (inr (b, again, (line, bad, is))) = let no : Ok b ≡ Err h = sym again ∙ halts in absurd (cc)
+  one_file files path (Err h) (Err k) (inl stops) (inl also) = ap Err (same_stop h k (whole_file path (files path)) stops also)
+  one_file files path (Err h) (Err k) (inl stops) (inr (b, again, (line, bad, is))) = let no : Ok b ≡ Err h = sym again ∙ stops in absurd (cc)
   one_file files path (Err h) (Err k) (inr (a, read, (line, bad, is))) (inl also) = let no : Ok a ≡ Err k = sym read ∙ also in absurd (cc)
   one_file files path (Err h) (Err k) (inr (a, read, (line, bad, is))) (inr (b, again, (number, other, also))) =
       let same : line ≡ number = one_line b line number (subst (λ z. IsFirstBad certificate_places z line) (same_bytes a b read again) bad) other in
-      ap Err (is ∙ ap (λ n. Refused (BadCertificate path n)) same ∙ sym also)
+      ap Err (is ∙ ap (λ n. Refused (BadLine path n)) same ∙ sym also)
 
   -- so do the files of a check
-  pub one_check : (check : Check) (files : Files) (x y : Result (Loaded × Certificate) Halt) → CheckComes files check x → CheckComes files check y → x ≡ y
+  pub one_check : (check : Check) (files : Files) (x y : Result (Loaded × Certificate) Stop) → CheckComes files check x → CheckComes files check y → x ≡ y
   one_check check files (Ok (p, c)) (Ok (q, d)) (read, text) (again, other) =
       let rows : Ok p ≡ Ok q = sym read ∙ again in
       let file : Ok c ≡ Ok d = one_file files check.cert (Ok c) (Ok d) text other in
       cc
-  one_check check files (Ok (p, c)) (Err h) (read, text) (inl halts) = let no : Ok p ≡ Err h = sym read ∙ halts in absurd (cc)
-  one_check check files (Ok (p, c)) (Err h) (read, text) (inr (rows, again, halts)) = let no : Ok c ≡ Err h = one_file files check.cert (Ok c) (Err h) text halts in absurd (cc)
-  one_check check files (Err h) (Ok (q, d)) (inl halts) (again, other) = let no : Ok q ≡ Err h = sym again ∙ halts in absurd (cc)
-  one_check check files (Err h) (Ok (q, d)) (inr (rows, read, halts)) (again, other) = let no : Err h ≡ Ok d = one_file files check.cert (Err h) (Ok d) halts other in absurd (cc)
-  one_check check files (Err h) (Err k) (inl halts) (inl also) = ap Err (same_halt h k (loaded files (sources_of check)) halts also)
-  one_check check files (Err h) (Err k) (inl halts) (inr (rows, read, also)) = let no : Ok rows ≡ Err h = sym read ∙ halts in absurd (cc)
-  one_check check files (Err h) (Err k) (inr (rows, read, halts)) (inl also) = let no : Ok rows ≡ Err k = sym read ∙ also in absurd (cc)
-  one_check check files (Err h) (Err k) (inr (rows, read, halts)) (inr (others, again, also)) = ap Err (same_halt h k (Err k) (sym (one_file files check.cert (Err h) (Err k) halts also)) refl)
+  one_check check files (Ok (p, c)) (Err h) (read, text) (inl stops) = let no : Ok p ≡ Err h = sym read ∙ stops in absurd (cc)
+  one_check check files (Ok (p, c)) (Err h) (read, text) (inr (rows, again, stops)) = let no : Ok c ≡ Err h = one_file files check.cert (Ok c) (Err h) text stops in absurd (cc)
+  one_check check files (Err h) (Ok (q, d)) (inl stops) (again, other) = let no : Ok q ≡ Err h = sym again ∙ stops in absurd (cc)
+  one_check check files (Err h) (Ok (q, d)) (inr (rows, read, stops)) (again, other) = let no : Err h ≡ Ok d = one_file files check.cert (Err h) (Ok d) stops other in absurd (cc)
+  one_check check files (Err h) (Err k) (inl stops) (inl also) = ap Err (same_stop h k (loaded files (sources_of check)) stops also)
+  one_check check files (Err h) (Err k) (inl stops) (inr (rows, read, also)) = let no : Ok rows ≡ Err h = sym read ∙ stops in absurd (cc)
+  one_check check files (Err h) (Err k) (inr (rows, read, stops)) (inl also) = let no : Ok rows ≡ Err k = sym read ∙ also in absurd (cc)
+  one_check check files (Err h) (Err k) (inr (rows, read, stops)) (inr (others, again, also)) = ap Err (same_stop h k (Err k) (sym (one_file files check.cert (Err h) (Err k) stops also)) refl)

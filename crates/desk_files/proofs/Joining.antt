@@ -11,9 +11,9 @@ use Rattle.desk_model.specs.Desk.{Desk}
 use Rattle.topics_pool.specs.Rows.{IsNoFault, IsFaultOf, run_names, first_repeated, is_repeated, cells_of}
 use Rattle.topics_pool.specs.declared.fault.DeskFault.TheVariants.{TooManyCells}
 use Rattle.topics_pool.specs.declared.limits.TheConstants.{MOST_CELLS}
-use Rattle.desk_files.specs.declared.stop.Stop.{Stop}
-use Rattle.desk_files.specs.declared.stop.Stop.TheVariants as stops
-use Rattle.desk_files.specs.Files.{Halt, ◌>>=◌, file_as, Refused, Repeated, Excessive}
+use Rattle.desk_files.specs.declared.stop.Stop.{Stop as KeptStop}
+use Rattle.desk_files.specs.declared.stop.Stop.TheVariants as kept
+use Rattle.desk_files.specs.Files.{Stop, ◌>>=◌, file_as, Refused, SameName, TooManyCells}
 use Rattle.desk_files.specs.Load.{Sources, Loaded, loaded, loaded_from, runs_of, used_by, within}
 use Rattle.desk_files.specs.Joined.{joined, Joins, Makes}
 use Rattle.desk_files.specs.Outcome.{Stops}
@@ -36,11 +36,11 @@ pub is_within : (qrels : List TopicRows) (runs : List Run) → IsNoFault qrels r
 is_within qrels runs none =
     let loaded : Loaded = record { qrels = qrels; runs = runs } in
     let cells = cells_of qrels runs in
-    let refused : Result Loaded Halt = Err (Refused (Excessive cells)) in
+    let refused : Result Loaded Stop = Err (Refused (TooManyCells cells)) in
     ap (within qrels runs) none.names ∙ ap (λ b. cond b refused (Ok loaded)) (lt-leb (suc MOST_CELLS) cells (omega (arith, none.cells)))
 
-pub is_repeated_at : (qrels : List TopicRows) (runs : List Run) (r : ℕ) (name : List ℕ) → first_repeated (run_names runs) ≡ Some r → name ≡ slice_index_or (run_names runs) r [] → joined qrels runs ≡ Err (Refused (Repeated name))
-is_repeated_at qrels runs r name e is = ap (within qrels runs) e ∙ ap (λ n. Err (Refused (Repeated n))) (sym is)
+pub is_repeated_at : (qrels : List TopicRows) (runs : List Run) (r : ℕ) (name : List ℕ) → first_repeated (run_names runs) ≡ Some r → name ≡ slice_index_or (run_names runs) r [] → joined qrels runs ≡ Err (Refused (SameName name))
+is_repeated_at qrels runs r name e is = ap (within qrels runs) e ∙ ap (λ n. Err (Refused (SameName n))) (sym is)
 
 -- what the files come to where the qrels and the runs are read
 loads : (held : Files) (sources : Sources) (qrels : List TopicRows) (runs : List Run) → file_as qrels_of held sources.qrels ≡ Ok qrels → runs_of held qrels (used_by qrels) sources.runs ≡ Ok runs → loaded held sources ≡ joined qrels runs
@@ -50,37 +50,37 @@ loads held sources qrels runs e f =
 
 module _ (sources : Sources) (qrels : List TopicRows) (runs : List Run) where
   -- a desk of the rows is one of the files
-  pub makes_joined : (told : Option Files) (before now : ℕ) (result : Result Desk Stop) → IfSome told (λ held. file_as qrels_of held sources.qrels ≡ Ok qrels) → IfSome told (λ held. runs_of held qrels (used_by qrels) sources.runs ≡ Ok runs) → Joins qrels runs result → Makes told before now sources result
+  pub makes_joined : (told : Option Files) (before now : ℕ) (result : Result Desk KeptStop) → IfSome told (λ held. file_as qrels_of held sources.qrels ≡ Ok qrels) → IfSome told (λ held. runs_of held qrels (used_by qrels) sources.runs ≡ Ok runs) → Joins qrels runs result → Makes told before now sources result
   makes_joined None before now (Ok desk) e f joins = (record { qrels = qrels; runs = runs }, tt, joins.1)
   makes_joined (Some held) before now (Ok desk) e f joins = (record { qrels = qrels; runs = runs }, loads held sources qrels runs e f ∙ joins.0, joins.1)
-  makes_joined None before now (Err (stops.Refused refusal)) e f joins = tt
-  makes_joined (Some held) before now (Err (stops.Refused refusal)) e f joins = loads held sources qrels runs e f ∙ joins
-  makes_joined told before now (Err stops.Outside) e f joins = absurd joins
-  makes_joined told before now (Err stops.Memory) e f joins = tt
+  makes_joined None before now (Err (kept.Refused refusal)) e f joins = tt
+  makes_joined (Some held) before now (Err (kept.Refused refusal)) e f joins = loads held sources qrels runs e f ∙ joins
+  makes_joined told before now (Err kept.Outside) e f joins = absurd joins
+  makes_joined told before now (Err kept.Memory) e f joins = tt
 
 -- what stops at the qrels
-pub stops_at_qrels : (held : Files) (sources : Sources) (halt : Halt) → file_as qrels_of held sources.qrels ≡ Err halt → loaded held sources ≡ Err halt
+pub stops_at_qrels : (held : Files) (sources : Sources) (why : Stop) → file_as qrels_of held sources.qrels ≡ Err why → loaded held sources ≡ Err why
 unfolding loaded_from
-stops_at_qrels held sources halt e = ap (λ q. q >>= (λ qrels. runs_of held qrels (used_by qrels) sources.runs >>= (λ runs. joined qrels runs))) e
+stops_at_qrels held sources why e = ap (λ q. q >>= (λ qrels. runs_of held qrels (used_by qrels) sources.runs >>= (λ runs. joined qrels runs))) e
 
 -- what stops at a run
-pub stops_at_runs : (held : Files) (sources : Sources) (qrels : List TopicRows) (halt : Halt) → file_as qrels_of held sources.qrels ≡ Ok qrels → runs_of held qrels (used_by qrels) sources.runs ≡ Err halt → loaded held sources ≡ Err halt
+pub stops_at_runs : (held : Files) (sources : Sources) (qrels : List TopicRows) (why : Stop) → file_as qrels_of held sources.qrels ≡ Ok qrels → runs_of held qrels (used_by qrels) sources.runs ≡ Err why → loaded held sources ≡ Err why
 unfolding loaded_from
-stops_at_runs held sources qrels halt e f =
+stops_at_runs held sources qrels why e f =
     ap (λ q. q >>= (λ qrels. runs_of held qrels (used_by qrels) sources.runs >>= (λ runs. joined qrels runs))) e ∙ ap (λ r. r >>= (λ runs. joined qrels runs)) f
 
-pub makes_err : {Y : Type 0} (told : Option Files) (first before now : ℕ) (sources : Sources) (r : Result Desk Stop) (stop : Stop) (g : Files → Result Y Halt) → r ≡ Err stop → first ≤ before → Stops told before now stop g → ((files : Files) (halt : Halt) → told ≡ Some files → g files ≡ Err halt → loaded files sources ≡ Err halt) → Makes told first now sources r
+pub makes_err : {Y : Type 0} (told : Option Files) (first before now : ℕ) (sources : Sources) (r : Result Desk KeptStop) (stop : KeptStop) (g : Files → Result Y Stop) → r ≡ Err stop → first ≤ before → Stops told before now stop g → ((files : Files) (why : Stop) → told ≡ Some files → g files ≡ Err why → loaded files sources ≡ Err why) → Makes told first now sources r
 makes_err told first before now sources r stop g is le s f =
-    let P : Result Desk Stop → Type 0 = λ r. Makes told first now sources r in
+    let P : Result Desk KeptStop → Type 0 = λ r. Makes told first now sources r in
     subst P (sym is) (stops_too told first before now stop g (λ held. loaded held sources) le s f)
 
 -- memory ran out
-pub joins_memory : (qrels : List TopicRows) (runs : List Run) (r : Result Desk Stop) → IsErrAnd r (λ stop. stop ≡ stops.Memory) → Joins qrels runs r
-joins_memory qrels runs r is = handed_on (λ r. Joins qrels runs r) r stops.Memory is tt
+pub joins_memory : (qrels : List TopicRows) (runs : List Run) (r : Result Desk KeptStop) → IsErrAnd r (λ stop. stop ≡ kept.Memory) → Joins qrels runs r
+joins_memory qrels runs r is = handed_on (λ r. Joins qrels runs r) r kept.Memory is tt
 
 -- there are too many cells
-pub is_excessive : (qrels : List TopicRows) (runs : List Run) (cells : ℕ) → IsFaultOf qrels runs (TooManyCells cells) → joined qrels runs ≡ Err (Refused (Excessive cells))
+pub is_excessive : (qrels : List TopicRows) (runs : List Run) (cells : ℕ) → IsFaultOf qrels runs (TooManyCells cells) → joined qrels runs ≡ Err (Refused (TooManyCells cells))
 is_excessive qrels runs cells (none, is, more) =
-    let fits : Result Loaded Halt = Ok (record { qrels = qrels; runs = runs }) in
-    let refused : ℕ → Result Loaded Halt = λ n. Err (Refused (Excessive n)) in
+    let fits : Result Loaded Stop = Ok (record { qrels = qrels; runs = runs }) in
+    let refused : ℕ → Result Loaded Stop = λ n. Err (Refused (TooManyCells n)) in
     ap (within qrels runs) none ∙ ap (λ b. cond b (refused (cells_of qrels runs)) fits) (le-leb (suc MOST_CELLS) (cells_of qrels runs) (omega (arith, is, more))) ∙ ap refused (sym is)

@@ -8,7 +8,7 @@ use Rattle.qrels_reader.specs.Grouped.{qrels_of}
 use Rattle.run_reader.specs.Run.{Run, run_of}
 use Rattle.run_reader.specs.declared.used.Used.{Used}
 use Rattle.topics_pool.specs.Rows.{first_repeated, run_names}
-use Rattle.desk_files.specs.Files.{Halt, ◌>>=◌, file_as}
+use Rattle.desk_files.specs.Files.{Stop, ◌>>=◌, file_as}
 use Rattle.desk_files.specs.Load.{Sources, Loaded, loaded, loaded_from, runs_of, within, paths_to_open, used_by, if_read, runs_to_open, paths_of, MayOpen, DeskMayOpen, Opens}
 
 -- the names that RUN words may open are these, and then those of the words that are left
@@ -86,12 +86,12 @@ all_readable held qrels used (word ∷ words) runs e = at (file_as (run_of word.
     IsReadable : Run → Type 0
     IsReadable run = (runs : List Run) → runs_of held qrels run.used words ≡ Ok runs → runs_to_open held qrels run.used words ≡ paths_of words
 
-    next : (run : Run) (r : Result (List Run) Halt) → runs_of held qrels run.used words ≡ r → IsReadable run → (r >>= (λ runs. Ok (run ∷ runs))) ≡ Ok runs → runs_to_open held qrels run.used words ≡ paths_of words
-    next run (Err halt) is more e = absurd (cc)
+    next : (run : Run) (r : Result (List Run) Stop) → runs_of held qrels run.used words ≡ r → IsReadable run → (r >>= (λ runs. Ok (run ∷ runs))) ≡ Ok runs → runs_to_open held qrels run.used words ≡ paths_of words
+    next run (Err why) is more e = absurd (cc)
     next run (Ok others) is more e = more others is
 
-    at : (r : Result Run Halt) → ((run : Run) → IsReadable run) → (r >>= (λ run. runs_of held qrels run.used words >>= (λ runs. Ok (run ∷ runs)))) ≡ Ok runs → (word.path ∷ if_read r (λ run. runs_to_open held qrels run.used words)) ≡ word.path ∷ paths_of words
-    at (Err halt) more e = absurd (cc)
+    at : (r : Result Run Stop) → ((run : Run) → IsReadable run) → (r >>= (λ run. runs_of held qrels run.used words >>= (λ runs. Ok (run ∷ runs)))) ≡ Ok runs → (word.path ∷ if_read r (λ run. runs_to_open held qrels run.used words)) ≡ word.path ∷ paths_of words
+    at (Err why) more e = absurd (cc)
     at (Ok run) more e = ap (λ xs. word.path ∷ xs) (next run (runs_of held qrels run.used words) refl (more run) e)
 
 -- where the files make a desk, all their paths are opened
@@ -99,14 +99,14 @@ pub loaded_opens_all : (held : Files) (sources : Sources) (rows : Loaded) → lo
 unfolding loaded_from
 loaded_opens_all held sources rows e = at (file_as qrels_of held sources.qrels) e
   where
-    next : (qrels : List TopicRows) (r : Result (List Run) Halt) → runs_of held qrels (used_by qrels) sources.runs ≡ r → (r >>= (λ runs. within qrels runs (first_repeated (run_names runs)))) ≡ Ok rows →
+    next : (qrels : List TopicRows) (r : Result (List Run) Stop) → runs_of held qrels (used_by qrels) sources.runs ≡ r → (r >>= (λ runs. within qrels runs (first_repeated (run_names runs)))) ≡ Ok rows →
         runs_to_open held qrels (used_by qrels) sources.runs ≡ paths_of sources.runs
-    next qrels (Err halt) is e = absurd (cc)
+    next qrels (Err why) is e = absurd (cc)
     next qrels (Ok runs) is e = all_readable held qrels (used_by qrels) sources.runs runs is
 
-    at : (q : Result (List TopicRows) Halt) → (q >>= (λ qrels. runs_of held qrels (used_by qrels) sources.runs >>= (λ runs. within qrels runs (first_repeated (run_names runs))))) ≡ Ok rows →
+    at : (q : Result (List TopicRows) Stop) → (q >>= (λ qrels. runs_of held qrels (used_by qrels) sources.runs >>= (λ runs. within qrels runs (first_repeated (run_names runs))))) ≡ Ok rows →
         (sources.qrels ∷ if_read q (λ qrels. runs_to_open held qrels (used_by qrels) sources.runs)) ≡ sources.qrels ∷ paths_of sources.runs
-    at (Err halt) e = absurd (cc)
+    at (Err why) e = absurd (cc)
     at (Ok qrels) e = ap (λ xs. sources.qrels ∷ xs) (next qrels (runs_of held qrels (used_by qrels) sources.runs) refl e)
 
 -- the qrels alone were opened

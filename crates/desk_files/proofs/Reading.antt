@@ -5,7 +5,7 @@ use Rattle.std.specs.Io.KnownBytes.{Consumes, IsAtEnd}
 use Rattle.std.proofs.lemmas.Bool.{le-leb, lt-leb}
 use Rattle.std.proofs.lemmas.List.{take-append-le}
 use Rattle.desk_outside.specs.Outside.{Files, Rose, Lacks, Opens}
-use Rattle.desk_files.specs.Files.{Missing, Refused, TooLong, whole_file}
+use Rattle.desk_files.specs.Files.{Outside, Refused, FileTooLong, whole_file}
 use Rattle.desk_files.specs.declared.limits.TheConstants.{LONGEST_FILE}
 
 -- the bytes read so far and what is left are the whole content
@@ -31,17 +31,17 @@ reads_whole None path old new bytes le h c e = tt
 reads_whole (Some files) path None new bytes le h c e = absurd h
 reads_whole (Some files) path (Some xs) None bytes le h c e = absurd c
 reads_whole (Some files) path (Some xs) (Some ys) bytes le h c e =
-    ap (whole_file path) (h ∙ ap (λ zs. Some (bytes ++ zs)) (c ∙ e) ∙ ap Some (append-nil bytes)) ∙ ap (λ b. cond b (Ok bytes) (Err (Refused (TooLong path)))) (le-leb (length bytes) LONGEST_FILE le)
+    ap (whole_file path) (h ∙ ap (λ zs. Some (bytes ++ zs)) (c ∙ e) ∙ ap Some (append-nil bytes)) ∙ ap (λ b. cond b (Ok bytes) (Err (Refused (FileTooLong path)))) (le-leb (length bytes) LONGEST_FILE le)
 
 -- past the limit
-pub reads_too_long : (told : Option Files) (path : List ℕ) (rest : Option (List ℕ)) (bytes : List ℕ) → LONGEST_FILE < length bytes → Reads told path rest bytes → IfSome told (λ files. whole_file path (files path) ≡ Err (Refused (TooLong path)))
+pub reads_too_long : (told : Option Files) (path : List ℕ) (rest : Option (List ℕ)) (bytes : List ℕ) → LONGEST_FILE < length bytes → Reads told path rest bytes → IfSome told (λ files. whole_file path (files path) ≡ Err (Refused (FileTooLong path)))
 reads_too_long None path rest bytes lt h = tt
 reads_too_long (Some files) path None bytes lt h = absurd h
 reads_too_long (Some files) path (Some rest) bytes lt h =
     let long : LONGEST_FILE < length (bytes ++ rest) = omega (arith, length-append bytes rest) in
-    ap (whole_file path) h ∙ ap (λ b. cond b (Ok (bytes ++ rest)) (Err (Refused (TooLong path)))) (lt-leb (length (bytes ++ rest)) LONGEST_FILE long)
+    ap (whole_file path) h ∙ ap (λ b. cond b (Ok (bytes ++ rest)) (Err (Refused (FileTooLong path)))) (lt-leb (length (bytes ++ rest)) LONGEST_FILE long)
 
-pub reads_none : (told : Option Files) (path : List ℕ) (before now : ℕ) → Rose before now ⊎ Lacks told path → Rose before now ⊎ IsSomeAnd told (λ files. whole_file path (files path) ≡ Err Missing)
+pub reads_none : (told : Option Files) (path : List ℕ) (before now : ℕ) → Rose before now ⊎ Lacks told path → Rose before now ⊎ IsSomeAnd told (λ files. whole_file path (files path) ≡ Err Outside)
 reads_none told path before now (inl rose) = inl rose
 reads_none None path before now (inr lacks) = absurd lacks
 reads_none (Some files) path before now (inr lacks) = inr (ap (whole_file path) lacks)

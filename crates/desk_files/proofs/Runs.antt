@@ -8,24 +8,24 @@ use Rattle.file_rows.specs.Grouped.{TopicRows, row_count}
 use Rattle.run_reader.specs.Run.{Run, run_of}
 use Rattle.topics_pool.specs.Rows.{total_rows}
 use Rattle.run_reader.specs.declared.used.Used.{Used}
-use Rattle.desk_files.specs.Files.{Halt, ◌>>=◌, file_as}
+use Rattle.desk_files.specs.Files.{Stop, ◌>>=◌, file_as}
 use Rattle.desk_files.specs.Load.{runs_of}
 
 -- the runs that were read, and then those of the words that are left
-abbrev pub with_rest : Files → List TopicRows → Used → List Run → List RunWord → Result (List Run) Halt
+abbrev pub with_rest : Files → List TopicRows → Used → List Run → List RunWord → Result (List Run) Stop
 with_rest held qrels used done words = runs_of held qrels used words >>= (λ rest. Ok (done ++ rest))
 
 -- all runs come of these
 abbrev pub Reaches : Option Files → List TopicRows → Used → List RunWord → Used → List Run → List RunWord → Type 0
 Reaches told qrels first all used done words = IfSome told (λ held. runs_of held qrels first all ≡ with_rest held qrels used done words)
 
-regrouped : (done : List Run) (run : Run) (r : Result (List Run) Halt) → ((r >>= (λ runs. Ok (run ∷ runs))) >>= (λ rest. Ok (done ++ rest))) ≡ (r >>= (λ rest. Ok ((done ++ run ∷ []) ++ rest)))
+regrouped : (done : List Run) (run : Run) (r : Result (List Run) Stop) → ((r >>= (λ runs. Ok (run ∷ runs))) >>= (λ rest. Ok (done ++ rest))) ≡ (r >>= (λ rest. Ok ((done ++ run ∷ []) ++ rest)))
 regrouped done run (Ok runs) = ap (λ rs. Ok rs) (sym (append_assoc done (run ∷ []) runs))
-regrouped done run (Err halt) = refl
+regrouped done run (Err why) = refl
 
-nothing_done : (r : Result (List Run) Halt) → r ≡ (r >>= (λ rest. Ok ([] ++ rest)))
+nothing_done : (r : Result (List Run) Stop) → r ≡ (r >>= (λ rest. Ok ([] ++ rest)))
 nothing_done (Ok runs) = refl
-nothing_done (Err halt) = refl
+nothing_done (Err why) = refl
 
 pub reaches_first : (told : Option Files) (qrels : List TopicRows) (used : Used) (words : List RunWord) → Reaches told qrels used words used [] words
 reaches_first None qrels used words = tt
@@ -36,13 +36,13 @@ module _ (qrels : List TopicRows) (first : Used) (all : List RunWord) (used : Us
   pub reaches_more : (told : Option Files) (run : Run) → Reaches told qrels first all used done (word ∷ words) → IfSome told (λ held. file_as (run_of word.name qrels used) held word.path ≡ Ok run) → Reaches told qrels first all run.used (done ++ run ∷ []) words
   reaches_more None run h k = tt
   reaches_more (Some held) run h k =
-      h ∙ ap (λ (r : Result Run Halt). (r >>= (λ run. runs_of held qrels run.used words >>= (λ runs. Ok (run ∷ runs)))) >>= (λ rest. Ok (done ++ rest))) k
+      h ∙ ap (λ (r : Result Run Stop). (r >>= (λ run. runs_of held qrels run.used words >>= (λ runs. Ok (run ∷ runs)))) >>= (λ rest. Ok (done ++ rest))) k
       ∙ regrouped done run (runs_of held qrels run.used words)
 
   -- a file that stops the reading
-  pub stops_all : (held : Files) (halt : Halt) → runs_of held qrels first all ≡ with_rest held qrels used done (word ∷ words) → file_as (run_of word.name qrels used) held word.path ≡ Err halt → runs_of held qrels first all ≡ Err halt
-  stops_all held halt h k =
-      h ∙ ap (λ (r : Result Run Halt). (r >>= (λ run. runs_of held qrels run.used words >>= (λ runs. Ok (run ∷ runs)))) >>= (λ rest. Ok (done ++ rest))) k
+  pub stops_all : (held : Files) (why : Stop) → runs_of held qrels first all ≡ with_rest held qrels used done (word ∷ words) → file_as (run_of word.name qrels used) held word.path ≡ Err why → runs_of held qrels first all ≡ Err why
+  stops_all held why h k =
+      h ∙ ap (λ (r : Result Run Stop). (r >>= (λ run. runs_of held qrels run.used words >>= (λ runs. Ok (run ∷ runs)))) >>= (λ rest. Ok (done ++ rest))) k
 
 -- no word is left
 pub reaches_all : (told : Option Files) (qrels : List TopicRows) (first : Used) (all : List RunWord) (used : Used) (done : List Run) → Reaches told qrels first all used done [] → IfSome told (λ held. runs_of held qrels first all ≡ Ok done)

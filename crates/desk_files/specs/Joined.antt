@@ -5,25 +5,25 @@ use Rattle.file_rows.specs.Grouped.{TopicRows}
 use Rattle.run_reader.specs.Run.{Run}
 use Rattle.desk_model.specs.Desk.{Desk}
 use Rattle.topics_pool.specs.Rows.{IsDeskOf, first_repeated, run_names}
-use Rattle.desk_files.specs.declared.stop.Stop.{Stop}
-use Rattle.desk_files.specs.declared.stop.Stop.TheVariants as stops
-use Rattle.desk_files.specs.Files.{Halt, Refused}
+use Rattle.desk_files.specs.declared.stop.Stop.{Stop as KeptStop}
+use Rattle.desk_files.specs.declared.stop.Stop.TheVariants as kept
+use Rattle.desk_files.specs.Files.{Stop, Refused}
 use Rattle.desk_files.specs.Load.{Sources, Loaded, within, loaded, Reads}
 use Rattle.desk_files.specs.Outcome.{Stops}
 use Rattle.desk_files.specs.Views.{refusal_of}
 
 -- what the rows come to where they stand together
-abbrev pub joined : List TopicRows → List Run → Result Loaded Halt
+abbrev pub joined : List TopicRows → List Run → Result Loaded Stop
 joined qrels runs = within qrels runs (first_repeated (run_names runs))
 
 -- a desk is that of the rows, and a refusal is the rows'; memory may run out in the place of either
-abbrev pub Joins : List TopicRows → List Run → Result Desk Stop → Type 0
+abbrev pub Joins : List TopicRows → List Run → Result Desk KeptStop → Type 0
 Joins qrels runs (Ok desk) = (joined qrels runs ≡ Ok (record { qrels = qrels; runs = runs })) × IsDeskOf qrels runs desk
-Joins qrels runs (Err (stops.Refused refusal)) = joined qrels runs ≡ Err (Refused (refusal_of refusal))
-Joins qrels runs (Err stops.Outside) = ⊥
-Joins qrels runs (Err stops.Memory) = Unit {0}
+Joins qrels runs (Err (kept.Refused refusal)) = joined qrels runs ≡ Err (Refused (refusal_of refusal))
+Joins qrels runs (Err kept.Outside) = ⊥
+Joins qrels runs (Err kept.Memory) = Unit {0}
 
 -- a desk is that of the files
-abbrev pub Makes : Option Files → ℕ → ℕ → Sources → Result Desk Stop → Type 0
+abbrev pub Makes : Option Files → ℕ → ℕ → Sources → Result Desk KeptStop → Type 0
 Makes known before now sources (Ok desk) = (rows : Loaded) × Reads known sources rows × IsDeskOf rows.qrels rows.runs desk
 Makes known before now sources (Err stop) = Stops known before now stop (λ held. loaded held sources)

@@ -1,5 +1,6 @@
 pub mod Files
 pub mod Load
+pub mod Reads
 pub mod Views
 pub mod Outcome
 pub mod Stopped

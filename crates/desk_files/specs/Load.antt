@@ -9,7 +9,7 @@ use Rattle.run_reader.specs.declared.used.Used.{Used}
 use Rattle.desk_model.specs.Desk.{Desk}
 use Rattle.topics_pool.specs.Rows.{IsDeskOf, first_repeated, run_names, cells_of}
 use Rattle.topics_pool.specs.declared.limits.TheConstants.{MOST_CELLS}
-use Rattle.desk_files.specs.Files.{Halt, Refused, Repeated, Excessive, ◌>>=◌, file_as}
+use Rattle.desk_files.specs.Files.{Stop, Refused, SameName, TooManyCells, ◌>>=◌, file_as}
 
 -- what a desk is read from: the path of the judgements, and RUN words
 pub record Sources : Type 0 where
@@ -25,7 +25,7 @@ pub record Loaded : Type 0 where
   pub runs : List Run
 
 -- the runs of RUN words in order, beside the qrels and what the files before them used
-abbrev pub runs_of : Files → List TopicRows → Used → List RunWord → Result (List Run) Halt
+abbrev pub runs_of : Files → List TopicRows → Used → List RunWord → Result (List Run) Stop
 runs_of files qrels used [] = Ok []
 runs_of files qrels used (word ∷ words) =
     file_as (run_of word.name qrels used) files word.path >>= (λ run. runs_of files qrels run.used words >>= (λ runs. Ok (run ∷ runs)))
@@ -35,13 +35,13 @@ abbrev pub used_by : List TopicRows → Used
 used_by qrels = record { rows = 0; name_bytes = name_bytes_in qrels }
 
 -- the rows, unless a name comes twice, or there are too many pairs and topics
-abbrev pub within : List TopicRows → List Run → Option ℕ → Result Loaded Halt
-within qrels runs (Some r) = Err (Refused (Repeated (slice_index_or (run_names runs) r [])))
+abbrev pub within : List TopicRows → List Run → Option ℕ → Result Loaded Stop
+within qrels runs (Some r) = Err (Refused (SameName (slice_index_or (run_names runs) r [])))
 within qrels runs None =
-    if nat_lt MOST_CELLS (cells_of qrels runs) then Err (Refused (Excessive (cells_of qrels runs))) else Ok (record { qrels = qrels; runs = runs })
+    if nat_lt MOST_CELLS (cells_of qrels runs) then Err (Refused (TooManyCells (cells_of qrels runs))) else Ok (record { qrels = qrels; runs = runs })
 
 -- what these files say, or the first refusal: the qrels first, then the runs in order, then all together
-unfoldable pub loaded_from : Files → List ℕ → List RunWord → Result Loaded Halt
+unfoldable pub loaded_from : Files → List ℕ → List RunWord → Result Loaded Stop
 loaded_from files path words =
     file_as qrels_of files path >>= (λ qrels. runs_of files qrels (used_by qrels) words >>= (λ runs. within qrels runs (first_repeated (run_names runs))))
 
@@ -50,9 +50,9 @@ abbrev pub StartsWith : List (List ℕ) → List (List ℕ) → Type 0
 StartsWith names first = (rest : List (List ℕ)) × (names ≡ first ++ rest)
 
 -- the names after a file: none, where the file is missing or refused
-abbrev pub if_read : {X : Type 0} → Result X Halt → (X → List (List ℕ)) → List (List ℕ)
+abbrev pub if_read : {X : Type 0} → Result X Stop → (X → List (List ℕ)) → List (List ℕ)
 if_read (Ok x) next = next x
-if_read (Err halt) next = []
+if_read (Err why) next = []
 
 -- the paths of RUN words, up to the first whose file is missing or refused
 abbrev pub runs_to_open : Files → List TopicRows → Used → List RunWord → List (List ℕ)
@@ -85,7 +85,7 @@ pub record Opens (may : List (List ℕ) → Type 0) (had has : List (List ℕ)) 
   pub added : has ≡ had ++ names
 
 -- what the files of a desk say, or the first refusal
-abbrev pub loaded : Files → Sources → Result Loaded Halt
+abbrev pub loaded : Files → Sources → Result Loaded Stop
 loaded files sources = loaded_from files sources.qrels sources.runs
 
 -- where the files of a desk are known, they say these rows

@@ -1,7 +1,9 @@
 //! The certificate of a file.
-ghost use Rattle.std.specs.Prelude.{◌≡◌, ◌≤◌, ◌++◌, ◌∷◌, [], IfOk};
+ghost use Rattle.std.specs.Prelude.{◌≡◌, ◌≤◌, IfOk};
 ghost use Rattle.order_certificate.specs.Certificate.{IsCertificate};
 ghost use Rattle.desk_files.specs.Certificates.{ReadsCertificate};
+ghost use Rattle.desk_files.specs.Reads.{ReadsFile, extent_of};
+ghost use Rattle.desk_files.specs.Views.{answer_of};
 
 use crate::files::read_file;
 use crate::stop::{Refusal, Stop};
@@ -17,10 +19,10 @@ pub fn load_certificate<'a, F: Shelf>(
     files: &mut F,
     path: &'a Path,
 ) -> Result<Certificate, Stop<'a>>
-    ensures reads { ReadsCertificate (F.state files.old).files (F.state files.old).faults (F.state files.new).faults path.now result }
+    ensures comes { ReadsCertificate (F.state files.old).files (F.state files.old).faults (F.state files.new).faults path.now result }
     ensures certificate { IfOk result IsCertificate }
     ensures files { (F.state files.new).files ≡ (F.state files.old).files }
-    ensures opened { (F.state files.new).opened ≡ (F.state files.old).opened ++ path.now ∷ [] }
+    ensures reads { ReadsFile path.now (extent_of (answer_of result)) (F.state files.old).calls (F.state files.new).calls }
     ensures later { (F.state files.old).faults ≤ (F.state files.new).faults }
 {
     certificates_have_texts();
@@ -28,7 +30,7 @@ pub fn load_certificate<'a, F: Shelf>(
     let bytes = read_file(alloc, files, path)?;
     match read_certificate(alloc, &bytes) {
         Ok(certificate) => Ok(certificate),
-        Err(CertFault::BadLine { line }) => Err(Stop::Refused(Refusal::BadCertificate(path, line))),
+        Err(CertFault::BadLine { line }) => Err(Stop::Refused(Refusal::BadLine(path, line))),
         Err(CertFault::Memory) => Err(Stop::Memory),
     }
 }

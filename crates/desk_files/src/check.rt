@@ -1,8 +1,11 @@
 //! The desk and the certificate of a check.
 ghost use Rattle.std.specs.Prelude.{◌≡◌, ◌≤◌, IfOk};
 ghost use Rattle.order_certificate.specs.Certificate.{IsCertificate};
+ghost use Rattle.desk_outside.specs.Calls.{opened_in};
 ghost use Rattle.desk_files.specs.Load.{Opens};
 ghost use Rattle.desk_files.specs.Checks.{MakesCheck, CheckMayOpen};
+ghost use Rattle.desk_files.specs.Reads.{ReadsFiles, extent_of};
+ghost use Rattle.desk_files.specs.Views.{answer_of};
 
 use crate::certificate::load_certificate;
 use crate::desk::load_desk;
@@ -22,7 +25,8 @@ pub fn load_check<'a, F: Shelf>(
     ensures makes { MakesCheck (F.state files.old).files (F.state files.old).faults (F.state files.new).faults check.now result }
     ensures certificate { IfOk result (λ made. IsCertificate made.1) }
     ensures files { (F.state files.new).files ≡ (F.state files.old).files }
-    ensures opened { Opens (CheckMayOpen (F.state files.old).files check.now) (F.state files.old).opened (F.state files.new).opened }
+    ensures opened { Opens (CheckMayOpen (F.state files.old).files check.now) (opened_in (F.state files.old).calls) (opened_in (F.state files.new).calls) }
+    ensures reads { ReadsFiles (extent_of (answer_of result)) (F.state files.old).calls (F.state files.new).calls }
     ensures later { (F.state files.old).faults ≤ (F.state files.new).faults }
 {
     let desk = load_desk(alloc, files, &check.qrels, &check.runs)?;

@@ -1,9 +1,12 @@
 //! The desk of some files.
-ghost use Rattle.std.specs.Prelude.{◌≡◌, ◌<◌, ◌≤◌, ◌++◌, ◌∷◌, map, length, vec_len, IfOk, OnOk};
+ghost use Rattle.std.specs.Prelude.{◌≡◌, ◌⊎◌, ◌<◌, ◌≤◌, ◌++◌, ◌∷◌, map, length, vec_len, IfOk, OnOk};
 ghost use Rattle.run_reader.specs.declared.limits.TheConstants.{MOST_RUN_ROWS};
 ghost use Rattle.topics_pool.specs.Rows.{total_rows, run_names};
+ghost use Rattle.desk_outside.specs.Calls.{opened_in};
 ghost use Rattle.desk_files.specs.Joined.{Joins, Makes};
 ghost use Rattle.desk_files.specs.Load.{DeskMayOpen, Opens, paths_of, sources};
+ghost use Rattle.desk_files.specs.Reads.{ReadsFiles, ToEnd, Somewhere, extent_of};
+ghost use Rattle.desk_files.specs.Views.{answer_of};
 
 use crate::load::{load_qrels, load_runs};
 use crate::stop::{Refusal, Stop};
@@ -31,6 +34,7 @@ fn join<'a>(alloc: Global, qrels: Qrels, runs: Vec<RunRows>) -> Result<Desk, Sto
     requires few { vec_len runs ≤ 256 }
     requires rows { total_rows runs.items ≤ MOST_RUN_ROWS }
     ensures joins { Joins qrels runs.items result }
+    ensures whole { (extent_of (answer_of result) ≡ ToEnd) ⊎ (extent_of (answer_of result) ≡ Somewhere) }
     ensures runs { IfOk result (λ desk. length desk.runs ≡ vec_len runs) }
 {
     let mut names = copy_names(alloc, &runs)?;
@@ -38,9 +42,9 @@ fn join<'a>(alloc: Global, qrels: Qrels, runs: Vec<RunRows>) -> Result<Desk, Sto
         Ok(desk) => Ok(desk),
         Err(DeskFault::SameName { run }) => {
             let name = names.swap_remove(run as usize);
-            Err(Stop::Refused(Refusal::Repeated(name)))
+            Err(Stop::Refused(Refusal::SameName(name)))
         }
-        Err(DeskFault::TooManyCells { cells }) => Err(Stop::Refused(Refusal::Excessive(cells))),
+        Err(DeskFault::TooManyCells { cells }) => Err(Stop::Refused(Refusal::TooManyCells(cells))),
         Err(DeskFault::Memory) => Err(Stop::Memory),
     }
 }
@@ -56,8 +60,9 @@ pub fn load_desk<'a, F: Shelf>(
     ensures makes { Makes (F.state files.old).files (F.state files.old).faults (F.state files.new).faults (sources qrels.now runs.now) result }
     ensures runs { IfOk result (λ desk. length desk.runs ≡ length runs.now) }
     ensures files { (F.state files.new).files ≡ (F.state files.old).files }
-    ensures opened { Opens (DeskMayOpen (F.state files.old).files (sources qrels.now runs.now)) (F.state files.old).opened (F.state files.new).opened }
-    ensures all { OnOk result ((F.state files.new).opened ≡ (F.state files.old).opened ++ qrels.now ∷ paths_of runs.now) }
+    ensures opened { Opens (DeskMayOpen (F.state files.old).files (sources qrels.now runs.now)) (opened_in (F.state files.old).calls) (opened_in (F.state files.new).calls) }
+    ensures all { OnOk result (opened_in (F.state files.new).calls ≡ opened_in (F.state files.old).calls ++ qrels.now ∷ paths_of runs.now) }
+    ensures reads { ReadsFiles (extent_of (answer_of result)) (F.state files.old).calls (F.state files.new).calls }
     ensures later { (F.state files.old).faults ≤ (F.state files.new).faults }
 {
     let judged = load_qrels(alloc, files, qrels.as_str())?;

@@ -7,10 +7,13 @@ ghost use Rattle.file_rows.specs.Grouped.{row_count};
 ghost use Rattle.qrels_reader.specs.Grouped.{qrels_of};
 ghost use Rattle.run_reader.specs.declared.limits.TheConstants.{MOST_RUN_ROWS};
 ghost use Rattle.topics_pool.specs.Rows.{total_rows};
-ghost use Rattle.desk_files.specs.Files.{file_as, halt_at};
+ghost use Rattle.desk_outside.specs.Calls.{opened_in};
+ghost use Rattle.desk_files.specs.Files.{file_as, stop_at};
 ghost use Rattle.desk_files.specs.Load.{runs_of, used_by, runs_to_open, paths_of, MayOpen, Opens};
 ghost use Rattle.desk_files.specs.Outcome.{Gives};
+ghost use Rattle.desk_files.specs.Reads.{ReadsFile, ReadsFiles, extent_of};
 ghost use Rattle.desk_files.specs.Stopped.{IsStopOf};
+ghost use Rattle.desk_files.specs.Views.{answer_of};
 
 use crate::files::{feed_file, open_file};
 use crate::stop::{Refusal, Stop};
@@ -22,12 +25,12 @@ use std::alloc::{AllocError, Global};
 
 // Why a command stops at a file whose reading ended so.
 fn stop_of<'a>(path: &'a str, fault: FileFault) -> Stop<'a>
-    ensures { IsStopOf (halt_at path.entry.now fault) result }
+    ensures { IsStopOf (stop_at path.entry.now fault) result }
 {
     match fault {
-        FileFault::Line { line, fault } => Stop::Refused(Refusal::BadLine(path, line, fault)),
-        FileFault::NoTopics => Stop::Refused(Refusal::LacksTopics(path)),
-        FileFault::NoTag => Stop::Refused(Refusal::LacksTag(path)),
+        FileFault::Line { line, fault } => Stop::Refused(Refusal::Line(path, line, fault)),
+        FileFault::NoTopics => Stop::Refused(Refusal::NoTopics(path)),
+        FileFault::NoTag => Stop::Refused(Refusal::NoTag(path)),
         FileFault::Memory => Stop::Memory,
     }
 }
@@ -40,7 +43,7 @@ pub fn load_qrels<'a, F: Shelf>(
 ) -> Result<Qrels, Stop<'a>>
     ensures gives { Gives (F.state files.old).files (F.state files.old).faults (F.state files.new).faults (λ qrels. qrels) result (λ held. file_as qrels_of held path.now) }
     ensures files { (F.state files.new).files ≡ (F.state files.old).files }
-    ensures opened { (F.state files.new).opened ≡ (F.state files.old).opened ++ path.now ∷ [] }
+    ensures reads { ReadsFile path.now (extent_of (answer_of result)) (F.state files.old).calls (F.state files.new).calls }
     ensures later { (F.state files.old).faults ≤ (F.state files.new).faults }
 {
     open_file(files, path)?;
@@ -75,7 +78,7 @@ pub fn load_run<'a, F: Shelf>(
     ensures gives { Gives (F.state files.old).files (F.state files.old).faults (F.state files.new).faults (λ run. run) result (λ held. file_as (run_of word.now.name qrels.now used) held word.now.path) }
     ensures rows { IfOk result (λ run. run.used.rows ≡ used.rows + row_count run.topics) }
     ensures files { (F.state files.new).files ≡ (F.state files.old).files }
-    ensures opened { (F.state files.new).opened ≡ (F.state files.old).opened ++ word.now.path ∷ [] }
+    ensures reads { ReadsFile word.now.path (extent_of (answer_of result)) (F.state files.old).calls (F.state files.new).calls }
     ensures later { (F.state files.old).faults ≤ (F.state files.new).faults }
 {
     let path = word.path.as_str();
@@ -99,8 +102,9 @@ pub fn load_runs<'a, F: Shelf>(
     ensures count { IfOk result (λ runs. vec_len runs ≡ length words.now) }
     ensures rows { IfOk result (λ runs. total_rows runs.items ≤ MOST_RUN_ROWS) }
     ensures files { (F.state files.new).files ≡ (F.state files.old).files }
-    ensures opened { Opens (MayOpen (F.state files.old).files (λ held. runs_to_open held qrels.now (used_by qrels.now) words.now) (paths_of words.now)) (F.state files.old).opened (F.state files.new).opened }
-    ensures all { OnOk result ((F.state files.new).opened ≡ (F.state files.old).opened ++ paths_of words.now) }
+    ensures opened { Opens (MayOpen (F.state files.old).files (λ held. runs_to_open held qrels.now (used_by qrels.now) words.now) (paths_of words.now)) (opened_in (F.state files.old).calls) (opened_in (F.state files.new).calls) }
+    ensures all { OnOk result (opened_in (F.state files.new).calls ≡ opened_in (F.state files.old).calls ++ paths_of words.now) }
+    ensures reads { ReadsFiles (extent_of (answer_of result)) (F.state files.old).calls (F.state files.new).calls }
     ensures later { (F.state files.old).faults ≤ (F.state files.new).faults }
 {
     let mut runs = Vec::new(alloc);

@@ -10,19 +10,19 @@ use std::alloc::AllocError;
 #[derive(Drop)]
 pub enum Refusal<'a> {
     /// The file of this path has more bytes than it may.
-    TooLong(&'a str),
+    FileTooLong(&'a str),
     /// This line of the file of this path, from 1, has a fault.
-    BadLine(&'a str, u64, LineFault),
+    Line(&'a str, u64, LineFault),
     /// The file of this path has no topic.
-    LacksTopics(&'a str),
+    NoTopics(&'a str),
     /// The file of this path has no name for its run.
-    LacksTag(&'a str),
+    NoTag(&'a str),
     /// This line of the file of this path, from 1, is none of a certificate at its place.
-    BadCertificate(&'a str, u64),
+    BadLine(&'a str, u64),
     /// A run has this name, and an earlier one too.
-    Repeated(Vec<u8>),
+    SameName(Vec<u8>),
     /// Pairs times topics are this many, and too many.
-    Excessive(u64),
+    TooManyCells(u64),
 }
 
 /// Why a command stops before it prints.

@@ -29,7 +29,7 @@ use Rattle.qrels_round_trip.specs.RoundTrip.{IsJudged, HasJudgements, said_by, I
 use Rattle.qrels_round_trip.proofs.Again.{limits_refuse, are_kept}
 use Rattle.qrels_round_trip.proofs.Listed.{read_grouped}
 use Rattle.qrels_round_trip.proofs.Runs.{runs_kept}
-use Rattle.desk_files.specs.Files.{Halt, ◌>>=◌, halt_at, or_faulty, file_as, whole_file}
+use Rattle.desk_files.specs.Files.{Stop, ◌>>=◌, stop_at, or_faulty, file_as, whole_file}
 use Rattle.desk_files.specs.Load.{Sources, sources, Loaded, loaded_from, runs_of, used_by, within}
 use Rattle.desk_files.specs.declared.limits.TheConstants.{LONGEST_FILE}
 use Rattle.topics_pool.proofs.AddedUp.{added_up}
@@ -39,22 +39,22 @@ use Rattle.desk_laws.proofs.Loading.{if_short, steps, file_read, file_again, Are
 
 -- ---- the runs
 -- the same runs, or one is refused
-abbrev ComeAgain : List RunWord → List Run → Result (List Run) Halt → Type 0
+abbrev ComeAgain : List RunWord → List Run → Result (List Run) Stop → Type 0
 ComeAgain words runs (Ok others) = map said_by others ≡ map said_by runs
-ComeAgain words runs (Err halt) = IsRunRefused words halt
+ComeAgain words runs (Err why) = IsRunRefused words why
 
 module _ (files again : Files) (qrels said : List TopicRows) (same : HaveSameNames (names_of said) (names_of qrels)) where
   run_then : (word : RunWord) (words : List RunWord) (run : Run) (rest : List Run) (others : Used) (r : Result Run FileFault) → IsSameRun run r → ((later : Run) → r ≡ Ok later → later.used.rows ≡ others.rows + row_count later.topics) →
       others.rows + row_count run.topics ≤ run.used.rows → ((used : Used) → used.rows ≤ run.used.rows → ComeAgain words rest (runs_of again said used words)) →
       ComeAgain (word ∷ words) (run ∷ rest) (or_faulty word.path r >>= (λ run. runs_of again said run.used words >>= (λ runs. Ok (run ∷ runs))))
-  run_then word words run rest others (Err fault) is counted fewer next = (word, 0, is.0, refl, ap (halt_at word.path) is.1)
+  run_then word words run rest others (Err fault) is counted fewer next = (word, 0, is.0, refl, ap (stop_at word.path) is.1)
   run_then word words run rest others (Ok later) is counted fewer next =
       let rows : row_count later.topics ≡ row_count run.topics = ap (λ (p : List ℕ × List TopicRows). row_count p.1) is in
       all (runs_of again said later.used words) (next later.used (omega (arith, counted later refl, rows, fewer)))
     where
-      all : (q : Result (List Run) Halt) → ComeAgain words rest q → ComeAgain (word ∷ words) (run ∷ rest) (q >>= (λ runs. Ok (later ∷ runs)))
+      all : (q : Result (List Run) Stop) → ComeAgain words rest q → ComeAgain (word ∷ words) (run ∷ rest) (q >>= (λ runs. Ok (later ∷ runs)))
       all (Ok runs) h = ap₂ (λ x xs. x ∷ xs) is h
-      all (Err halt) h = (h.0, suc h.1, h.2, h.3, h.4)
+      all (Err why) h = (h.0, suc h.1, h.2, h.3, h.4)
 
   runs_again : (words : List RunWord) (used others : Used) (runs : List Run) → others.rows ≤ used.rows → AllByRecursion (λ (word : RunWord). again word.path ≡ files word.path) words → runs_of files qrels used words ≡ Ok runs →
       ComeAgain words runs (runs_of again said others words)
@@ -105,14 +105,14 @@ desk_again desk again grades h = record { same = h; marks = λ level. marks_coun
 module _ (files again : Files) (from : Sources) (path : List ℕ) (rows : Loaded) (desk : Desk) (grades : List (List (Option ℤ))) (apart : AreLoaded files from rows) (judged : IsJudged apart.judgements.bytes rows.qrels rows.runs desk grades)
     (at : AllByRecursion (λ (word : RunWord). again word.path ≡ files word.path) from.runs)
   where
-    abbrev Comes : Result Loaded Halt → Type 0
+    abbrev Comes : Result Loaded Stop → Type 0
     Comes = ComesAgain (sources path from.runs) (qrels_text desk grades) desk grades
 
-    abbrev with_judgements : List TopicRows → Result Loaded Halt
+    abbrev with_judgements : List TopicRows → Result Loaded Stop
     with_judgements said = runs_of again said (used_by said) from.runs >>= (λ runs. within said runs (first_repeated (run_names runs)))
 
-    by_runs : (said : List TopicRows) → qrels_of (qrels_text desk grades) ≡ Ok said → (q : Result (List Run) Halt) → ComeAgain from.runs rows.runs q → Comes (q >>= (λ runs. within said runs (first_repeated (run_names runs))))
-    by_runs said e (Err halt) h = inr h
+    by_runs : (said : List TopicRows) → qrels_of (qrels_text desk grades) ≡ Ok said → (q : Result (List Run) Stop) → ComeAgain from.runs rows.runs q → Comes (q >>= (λ runs. within said runs (first_repeated (run_names runs))))
+    by_runs said e (Err why) h = inr h
     by_runs said e (Ok others) h =
         let kept = are_kept apart.judgements.bytes rows.qrels said rows.runs desk grades judged e in
         subst Comes (sym (within_again said others (within_kept apart.judgements.bytes (qrels_text desk grades) rows.qrels said rows.runs others apart.judgements.says e kept.0 h apart.together)))

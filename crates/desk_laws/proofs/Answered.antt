@@ -1,18 +1,18 @@
 -- What a call answers: one thing, in whole lines.
-use Rattle.std.proofs.Common.{◌≡◌, ℕ, List, refl, ap, sym, subst, ◌∙◌, inl, inr}
+use Rattle.std.proofs.Common.{◌≡◌, ℕ, List, ap, sym, subst, ◌∙◌, inl, inr}
 use Rattle.std.specs.Prelude.{Option, Some, Result, Ok, Err, IfSome, ◌⊎◌}
-use Rattle.desk_outside.specs.Outside.{Files, Rose}
+use Rattle.desk_outside.specs.Outside.{Files}
 use Rattle.desk_outside.specs.Inputs.{Input, Whole, Cut, IsInput}
 use Rattle.desk_words.specs.declared.command.Command.{Command}
-use Rattle.desk_files.specs.Files.{Halt}
+use Rattle.desk_files.specs.Files.{Stop}
 use Rattle.desk_top.specs.declared.status.Status.{Status}
 use Rattle.desk_top.specs.declared.status.Status.TheVariants.{Outside, Memory}
-use Rattle.desk_top.specs.Answer.{Answer, text_of, halted}
+use Rattle.desk_top.specs.Answer.{Answer, text_of}
 use Rattle.desk_top.specs.Meaning.{Meaning, AnswersOn, IsAnswer, meaning_of}
 use Rattle.desk_top.specs.Meets.{Call, IsGiven, GivesAnswer}
 use Rattle.desk_laws.specs.Answered.{IsAnsweredCall, IsKnownCall, TextsEndTheirLines, AnswersAreOne, CallsAreOne}
-use Rattle.desk_laws.proofs.LineEnds.{text_ends, halt_line_ends}
-use Rattle.desk_laws.proofs.Statuses.{IsLawfulLoading, on_found, on_halt}
+use Rattle.desk_laws.proofs.LineEnds.{text_ends, stop_line_ends}
+use Rattle.desk_laws.proofs.Statuses.{IsLawfulLoading, on_found, on_stop}
 use Rattle.desk_laws.proofs.Answering.{EndsLines, HasLines, HasOneAnswer}
 use Rattle.desk_laws.proofs.Commands.{IsLawful}
 
@@ -28,16 +28,16 @@ gives words command call status answered = at (answered.ends.meets.command comma
 answer_lines : (meaning : Meaning) → HasLines meaning → (known : Option Files) (input : Input) (answer : Answer) → IsAnswer meaning known input answer → EndsLines answer
 answer_lines meaning lines known input answer is = at is.found is.is
   where
-    at : (found : Result meaning.loading.Found Halt) → AnswersOn meaning input found answer → EndsLines answer
+    at : (found : Result meaning.loading.Found Stop) → AnswersOn meaning input found answer → EndsLines answer
     at (Ok found) own = lines found input answer own
-    at (Err halt) own = subst EndsLines (sym own) (record { said = tt; told = halt_line_ends halt })
+    at (Err why) own = subst EndsLines (sym own) (record { said = tt; told = stop_line_ends why })
 
 pub one_answer : (meaning : Meaning) → IsLawfulLoading meaning.loading → HasOneAnswer meaning → (files : Files) (input : Input) (first second : Answer) → IsAnswer meaning (Some files) input first → IsAnswer meaning (Some files) input second → first ≡ second
 one_answer meaning lawful one files input first second is other = at is.found is.comes is.is
   where
-    at : (found : Result meaning.loading.Found Halt) → meaning.loading.comes (Some files) found → AnswersOn meaning input found first → first ≡ second
+    at : (found : Result meaning.loading.Found Stop) → meaning.loading.comes (Some files) found → AnswersOn meaning input found first → first ≡ second
     at (Ok found) comes own = one found input first second own (on_found meaning lawful files input second found comes other)
-    at (Err halt) comes own = own ∙ sym (on_halt meaning lawful files input second halt comes other)
+    at (Err why) comes own = own ∙ sym (on_stop meaning lawful files input second why comes other)
 
 module _ (lawful : (command : Command) → IsLawful (meaning_of command)) where
   pub texts_end : TextsEndTheirLines

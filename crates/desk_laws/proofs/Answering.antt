@@ -1,17 +1,15 @@
 -- What is asked of each command beside its statuses: one answer, in whole lines.
 use Rattle.std.proofs.Common.{◌≡◌, ◌≢◌, ℕ, List, [], ◌∷◌, length, map, refl, ap, ap₂, sym, subst, ◌∙◌, inl, inr}
-use Rattle.std.specs.Prelude.{None, Result, Ok, Err}
+use Rattle.std.specs.Prelude.{Result, Ok, Err}
 use Rattle.std.specs.List.{AllByRecursion, Contains}
 use Rattle.desk_outside.specs.Inputs.{Input}
-use Rattle.desk_words.specs.declared.command.Check.{Check}
 use Rattle.desk_words.specs.declared.command.Job.{Job}
-use Rattle.desk_model.specs.Desk.{Desk, IsDesk, AreMarksOf, topics_under}
+use Rattle.desk_model.specs.Desk.{Desk, IsDesk, topics_under}
 use Rattle.desk_model.specs.Pairs.{pairs_of}
 use Rattle.desk_model.specs.Verdict.{verdict}
-use Rattle.desk_model.specs.declared.types.Mark.{Mark}
 use Rattle.desk_model.specs.declared.types.Totals.{Totals}
 use Rattle.file_rows.specs.Grouped.{TopicRows}
-use Rattle.run_reader.specs.Run.{Run, run_of}
+use Rattle.run_reader.specs.Run.{Run}
 use Rattle.run_reader.specs.declared.used.Used.{Used}
 use Rattle.topics_pool.specs.Rows.{IsDeskOf, total_rows}
 use Rattle.next_document.specs.Laws.{NextIsOne}
@@ -25,14 +23,14 @@ use Rattle.pair_table.specs.declared.evidence.EvidenceFault.TheVariants.{Close a
 use Rattle.pair_table.proofs.Answered.{one_answer}
 use Rattle.pair_table.proofs.Named.{pair_unique}
 use Rattle.pair_table.proofs.Zips.{zip_unique}
-use Rattle.desk_report.specs.Reports.{Subject, IsTableText, IsCertificateText, IsCloseText}
+use Rattle.desk_report.specs.Reports.{Subject, IsCertificateText, IsCloseText}
 use Rattle.demo_desk.specs.Demo.{SayRuns, IsDemoDesk, demo_runs, used_before_runs}
 use Rattle.demo_desk.specs.Summary.{summary_lines}
 use Rattle.judge_session.specs.declared.change.Change.{Change}
 use Rattle.judge_session.specs.Request.{heard_of}
 use Rattle.session_replies.specs.Laws.{RepliesAreOne}
 use Rattle.session_replies.specs.Replies.{Setting, changes_after}
-use Rattle.session_replies.proofs.Unique.{one_table, one_certified, one_next}
+use Rattle.session_replies.proofs.Unique.{one_certified, one_next}
 use Rattle.session_stream.specs.Hearing.{hearing_of}
 use Rattle.session_stream.specs.Text.{AreReplies}
 use Rattle.desk_files.specs.Load.{Loaded}
@@ -40,11 +38,11 @@ use Rattle.desk_top.specs.declared.status.Status.{Status}
 use Rattle.desk_top.specs.declared.status.Status.TheVariants as statuses
 use Rattle.desk_top.specs.Answer.{About, OfRuns, Saying, Answer, marks_for}
 use Rattle.desk_top.specs.Outcome.{Outcome, Prints, answer_of, IsOutcome, PrintsText}
-use Rattle.desk_top.specs.Report.{subject_of, HasDeskOf, PrintsCertificate}
+use Rattle.desk_top.specs.Report.{subject_of, HasDeskOf}
 use Rattle.desk_top.specs.Verification.{PrintsCheck, verification}
 use Rattle.desk_top.specs.Conversation.{setting_on, IsSession, sayings, status_at, told_at}
 use Rattle.desk_top.specs.Showing.{demo_subject, AreDemoTexts, PrintsDemo, demo_sayings}
-use Rattle.desk_top.specs.Meaning.{Meaning, desk_meaning}
+use Rattle.desk_top.specs.Meaning.{Meaning, desk_meaning, PrintsCertificate}
 use Rattle.desk_top.proofs.Marking.{marks_known}
 use Rattle.desk_laws.specs.Answered.{EndsLastLine}
 use Rattle.desk_laws.specs.Fixed.{DeskIsOne, VerifierIsOne}

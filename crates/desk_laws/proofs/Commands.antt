@@ -1,6 +1,6 @@
 -- What holds of each command: a row each.
-use Rattle.std.proofs.Common.{◌≡◌, ℕ, List, [], ◌∷◌, sym, subst, ◌∙◌, ap, inl, inr, refl, arith}
-use Rattle.std.specs.Prelude.{Result, Ok, Err, Bool, true, false, cond, nat_lt, length, ◌⊎◌}
+use Rattle.std.proofs.Common.{ℕ, List, [], ◌∷◌, sym, subst, ◌∙◌, inl, inr, refl, arith}
+use Rattle.std.specs.Prelude.{Result, Ok, Err, Bool, true, false, cond, nat_lt, length}
 use Rattle.std.specs.List.{Contains}
 use Rattle.desk_outside.specs.Inputs.{Input, Whole, Cut, bytes_in}
 use Rattle.desk_words.specs.declared.command.Check.{Check}
@@ -11,23 +11,23 @@ use Rattle.order_verifier.specs.declared.rejected.Rejected.{Rejected}
 use Rattle.desk_report.specs.Reports.{Subject, IsTableText, IsCertificateText, IsCloseText}
 use Rattle.desk_report.specs.Table.{ended}
 use Rattle.session_replies.proofs.Unique.{one_table}
-use Rattle.session_stream.specs.Hearing.{End, Done, TooLong, has_quit, before_quit, ended_lines, heard_to_end, hearing_of}
+use Rattle.session_stream.specs.Hearing.{End, Done, InputTooLong, has_quit, before_quit, ended_lines, heard_to_end, hearing_of}
 use Rattle.session_stream.specs.declared.stream.TheConstants.{LONGEST_INPUT}
 use Rattle.desk_files.proofs.Opening.{may_open_qrels}
 use Rattle.desk_files.proofs.Checking.{check_opens_qrels}
 use Rattle.desk_top.specs.declared.status.Status.{Status}
 use Rattle.desk_top.specs.declared.status.Status.TheVariants as statuses
 use Rattle.desk_top.specs.Answer.{OfRuns, OfNothing, Answer}
-use Rattle.desk_top.specs.Outcome.{Outcome, Prints, answer_of}
-use Rattle.desk_top.specs.Report.{PrintsTable, PrintsCertificate, sources_of}
-use Rattle.desk_top.specs.Verification.{PrintsCheck, verification, verification_status}
+use Rattle.desk_top.specs.Outcome.{Outcome, answer_of}
+use Rattle.desk_top.specs.Report.{sources_of}
+use Rattle.desk_top.specs.Verification.{PrintsCheck, verification_status}
 use Rattle.desk_top.specs.Conversation.{status_at}
 use Rattle.desk_top.specs.Showing.{PrintsDemo}
-use Rattle.desk_top.specs.Loading.{Loading, desk_loading, check_loading, no_loading}
-use Rattle.desk_top.specs.Meaning.{Meaning, check_meaning, session_meaning, demo_meaning, desk_meaning, meaning_of}
+use Rattle.desk_top.specs.Loading.{desk_loading, check_loading, no_loading}
+use Rattle.desk_top.specs.Meaning.{Meaning, check_meaning, session_meaning, demo_meaning, desk_meaning, meaning_of, PrintsTable, PrintsCertificate}
 use Rattle.desk_laws.specs.Fixed.{CheckIsOne, AnswersAreFixed}
 use Rattle.desk_laws.proofs.LineEnds.{table_text_ends, certificate_text_ends, close_text_ends, next_text_ends, verification_ends, summary_ends, line_ends}
-use Rattle.desk_laws.proofs.Statuses.{IsLawfulLoading, HasEnds, EndsIn, IsCut}
+use Rattle.desk_laws.proofs.Statuses.{IsLawfulLoading, HasEnds, EndsIn}
 use Rattle.desk_laws.proofs.Answering.{EndsLines, HasLines, HasOneAnswer, IsMadeLawfully, outcome_ends, outcome_lines, outcome_one, text_status, text_lines, text_one, on_desk_ends, on_desk_lines, on_desk_one, certificate_one, check_one, session_lines, session_one, demo_one}
 
 -- what holds of a command: of what it reads, of its statuses, of its lines, and that it has one answer
@@ -95,7 +95,7 @@ module _ (job : Job) where
   hearing_ends : (input : Input) → Ends input (hearing_of input).end
   hearing_ends input = at (has_quit (ended_lines input)) (nat_lt LONGEST_INPUT (length (bytes_in input)))
     where
-      at : (quits long : Bool) → Ends input (cond quits (record { lines = before_quit (ended_lines input); end = Done }) (cond long (record { lines = ended_lines input; end = TooLong }) (heard_to_end input))).end
+      at : (quits long : Bool) → Ends input (cond quits (record { lines = before_quit (ended_lines input); end = Done }) (cond long (record { lines = ended_lines input; end = InputTooLong }) (heard_to_end input))).end
       at true long = inl (the_first statuses.Done (statuses.Refused ∷ []))
       at false true = inl (the_second statuses.Done statuses.Refused [])
       at false false = last input

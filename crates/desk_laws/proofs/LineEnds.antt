@@ -1,6 +1,6 @@
 -- Texts whose last line is ended.
 use Rattle.std.proofs.Common.{◌≡◌, ℕ, List, [], ◌∷◌, ◌++◌, flat_map, map, refl, ap, sym, subst, ◌∙◌, inl, inr, append-nil, append_assoc}
-use Rattle.std.specs.Prelude.{codes, length, slice_index_or, ◌*◌, Option, Some, None, Result, Ok, Err, Bool, true, false, MatchBool, nat_eq, ◌⊎◌}
+use Rattle.std.specs.Prelude.{codes, length, slice_index_or, ◌*◌, Option, Some, None, Result, Ok, Err, Bool, true, false, MatchBool, nat_eq}
 use Rattle.std.specs.List.{AllByRecursion, zip}
 use Rattle.desk_model.specs.Book.{Book}
 use Rattle.desk_model.specs.Desk.{Desk}
@@ -20,9 +20,9 @@ use Rattle.desk_report.specs.Judging.{topic_qrels_lines, changed_line, pool_line
 use Rattle.desk_report.specs.Reports.{Subject, IsTableText, IsCertificateText, IsCloseText, IsPairText, IsNextText, run_name}
 use Rattle.session_replies.specs.Replies.{Setting, OnNumbers, IsCertified, IsPoolReply, IsReply, judge_reply, undo_reply, redo_reply, subject_after, changes_after, all_in_force, refusal, change_reply, fault_word}
 use Rattle.session_stream.specs.Text.{AreReplies}
-use Rattle.session_stream.specs.Hearing.{End, Done, TooLong as LongInput, Failed}
-use Rattle.desk_files.specs.Files.{Halt, Missing, NoMemory, Refused}
-use Rattle.desk_top.specs.Answer.{Saying, text_of, halt_line}
+use Rattle.session_stream.specs.Hearing.{End, Done, InputTooLong, Failed}
+use Rattle.desk_files.specs.Files.{Stop, Outside, Memory, Refused}
+use Rattle.desk_top.specs.Answer.{Saying, text_of, stop_line}
 use Rattle.desk_top.specs.Conversation.{sayings, told_at}
 use Rattle.desk_top.specs.Verification.{reason_text, verification_text}
 use Rattle.desk_top.specs.Told.{refusal_text}
@@ -77,14 +77,14 @@ summary_ends f each [] last h = (h, tt)
 summary_ends f each (line ∷ lines) last h = (each line, summary_ends f each lines last h)
 
 -- ---- the lines that are told
-pub halt_line_ends : (halt : Halt) → EndsLastLine (halt_line halt)
-halt_line_ends Missing = inr (codes "fault: outside", refl)
-halt_line_ends NoMemory = inr (codes "fault: memory", refl)
-halt_line_ends (Refused refusal) = inr (codes "refused: " ++ refusal_text refusal, refl)
+pub stop_line_ends : (why : Stop) → EndsLastLine (stop_line why)
+stop_line_ends Outside = inr (codes "fault: outside", refl)
+stop_line_ends Memory = inr (codes "fault: memory", refl)
+stop_line_ends (Refused refusal) = inr (codes "refused: " ++ refusal_text refusal, refl)
 
 pub told_ends : (end : End) → EndsLastLine (told_at end)
 told_ends Done = inl refl
-told_ends LongInput = inr (codes "refused: input: InputTooLong", refl)
+told_ends InputTooLong = inr (codes "refused: input: InputTooLong", refl)
 told_ends Failed = inr (codes "fault: outside", refl)
 
 -- ---- the replies of a session

@@ -8,24 +8,24 @@ use Rattle.file_rows.specs.declared.fault.FileFault.{FileFault}
 use Rattle.run_reader.specs.Run.{Run}
 use Rattle.topics_pool.specs.Rows.{run_names, first_repeated, cells_of}
 use Rattle.topics_pool.specs.declared.limits.TheConstants.{MOST_CELLS}
-use Rattle.desk_files.specs.Files.{Halt, Refused, TooLong, Excessive, ◌>>=◌, whole_file, or_faulty, file_as}
+use Rattle.desk_files.specs.Files.{Stop, Refused, FileTooLong, TooManyCells, ◌>>=◌, whole_file, or_faulty, file_as}
 use Rattle.desk_files.specs.Load.{Sources, Loaded, loaded, loaded_from, runs_of, used_by, within}
 use Rattle.desk_files.specs.declared.limits.TheConstants.{LONGEST_FILE}
 
 -- ---- two steps
-pub record HasSteps {A B : Type 0} (r : Result A Halt) (next : A → Result B Halt) (y : B) : Type 0 where
+pub record HasSteps {A B : Type 0} (r : Result A Stop) (next : A → Result B Stop) (y : B) : Type 0 where
   pub value : A
   pub found : r ≡ Ok value
   pub made : next value ≡ Ok y
 
-pub steps : {A B : Type 0} (r : Result A Halt) (next : A → Result B Halt) (y : B) → (r >>= next) ≡ Ok y → HasSteps r next y
+pub steps : {A B : Type 0} (r : Result A Stop) (next : A → Result B Stop) (y : B) → (r >>= next) ≡ Ok y → HasSteps r next y
 steps (Ok x) next y e = record { value = x; found = refl; made = e }
-steps (Err halt) next y e = absurd (cc)
+steps (Err why) next y e = absurd (cc)
 
 -- ---- one file
 -- the bytes of a file, where they are few enough
-abbrev pub if_short : List ℕ → List ℕ → Bool → Result (List ℕ) Halt
-if_short path bytes short = cond short (Ok bytes) (Err (Refused (TooLong path)))
+abbrev pub if_short : List ℕ → List ℕ → Bool → Result (List ℕ) Stop
+if_short path bytes short = cond short (Ok bytes) (Err (Refused (FileTooLong path)))
 
 pub record IsRead {X : Type 0} (read : List ℕ → Result X FileFault) (files : Files) (path : List ℕ) (x : X) : Type 0 where
   pub bytes : List ℕ
@@ -66,7 +66,7 @@ rows_within qrels runs rows e = by (first_repeated (run_names runs)) refl e
     own : Loaded
     own = record { qrels = qrels; runs = runs }
 
-    small : (b : Bool) → nat_lt MOST_CELLS (cells_of qrels runs) ≡ b → first_repeated (run_names runs) ≡ None → cond b (Err (Refused (Excessive (cells_of qrels runs)))) (Ok own) ≡ Ok rows → AreWithin qrels runs × (own ≡ rows)
+    small : (b : Bool) → nat_lt MOST_CELLS (cells_of qrels runs) ≡ b → first_repeated (run_names runs) ≡ None → cond b (Err (Refused (TooManyCells (cells_of qrels runs)))) (Ok own) ≡ Ok rows → AreWithin qrels runs × (own ≡ rows)
     small true cells names e = absurd (cc)
     small false cells names e = (record { names = names; cells = cells }, cc)
 
@@ -77,7 +77,7 @@ rows_within qrels runs rows e = by (first_repeated (run_names runs)) refl e
 pub within_again : (qrels : List TopicRows) (runs : List Run) → AreWithin qrels runs → within qrels runs (first_repeated (run_names runs)) ≡ Ok (record { qrels = qrels; runs = runs })
 within_again qrels runs h =
     let own : Loaded = record { qrels = qrels; runs = runs } in
-    ap (within qrels runs) h.names ∙ ap (λ b. cond b (Err (Refused (Excessive (cells_of qrels runs)))) (Ok own)) h.cells
+    ap (within qrels runs) h.names ∙ ap (λ b. cond b (Err (Refused (TooManyCells (cells_of qrels runs)))) (Ok own)) h.cells
 
 -- the files of a desk, taken apart
 pub record AreLoaded (files : Files) (from : Sources) (rows : Loaded) : Type 0 where

@@ -1,9 +1,8 @@
 -- A certificate of a session passes the check of the command.
-use Rattle.std.proofs.Common.{◌≡◌, ℕ, List, refl, ap, sym, subst, ◌∙◌, inl, inr}
+use Rattle.std.proofs.Common.{◌≡◌, ℕ, List, ap, sym, subst, ◌∙◌, inl, inr}
 use Rattle.std.specs.Prelude.{◌⊎◌, Some, Option, Result, Ok, Err, codes, length, ◌≤◌, Bool, if◌then◌else◌}
 use Rattle.std.proofs.lemmas.Bool.{le-leb}
 use Rattle.desk_outside.specs.Outside.{Files}
-use Rattle.desk_outside.specs.Inputs.{Input}
 use Rattle.desk_outside.specs.Seen.{ReceivedAll}
 use Rattle.desk_words.specs.declared.command.Check.{Check}
 use Rattle.desk_words.specs.declared.command.Command.TheVariants.{Verify}
@@ -16,8 +15,8 @@ use Rattle.order_verifier.specs.declared.rejected.Rejected.{Rejected}
 use Rattle.topics_pool.specs.Rows.{IsDeskOf}
 use Rattle.session_replies.specs.Replies.{Setting}
 use Rattle.session_replies.specs.State.{IsSetting}
-use Rattle.desk_files.specs.Files.{Refused, TooLong, whole_file}
-use Rattle.desk_files.specs.Load.{Sources, sources, Loaded, loaded}
+use Rattle.desk_files.specs.Files.{Refused, FileTooLong, whole_file}
+use Rattle.desk_files.specs.Load.{Sources, sources, loaded}
 use Rattle.desk_files.specs.Checks.{CheckComes}
 use Rattle.desk_files.specs.declared.limits.TheConstants.{LONGEST_FILE}
 use Rattle.desk_top.specs.declared.status.Status.{Status}
@@ -34,7 +33,7 @@ use Rattle.desk_laws.proofs.Statuses.{Ways, ways, on_found}
 
 -- a file that is short enough is read whole
 short_file : (path : List ℕ) (held : Option (List ℕ)) (bytes : List ℕ) → held ≡ Some bytes → length bytes ≤ LONGEST_FILE → whole_file path held ≡ Ok bytes
-short_file path held bytes is short = ap (whole_file path) is ∙ ap (λ (b : Bool). if b then Ok bytes else Err (Refused (TooLong path))) (le-leb (length bytes) LONGEST_FILE short)
+short_file path held bytes is short = ap (whole_file path) is ∙ ap (λ (b : Bool). if b then Ok bytes else Err (Refused (FileTooLong path))) (le-leb (length bytes) LONGEST_FILE short)
 
 module _ (accepted : CertificatesAreAccepted) (one : CheckIsOne) (texts : (c : Certificate) → IsCertificate c → IsText (certificate_text c) c) where
   module _ (s : Setting) (lines : List (List ℕ)) (files again : Files) (from : Sources) (check : Check) (words : List (List ℕ)) (call : Call) (status : Status) (setting : IsSetting s) (h : IsCheckOfSession s lines files again from check words call status) where

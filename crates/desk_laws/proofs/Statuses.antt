@@ -1,18 +1,21 @@
 -- What follows for every call that ends as its words mean.
-use Rattle.std.proofs.Common.{◌≡◌, ℕ, List, [], ◌∷◌, ◌++◌, length, refl, ap, sym, subst, ◌∙◌, arith, inl, inr, append-nil}
-use Rattle.std.specs.Prelude.{Option, Some, None, Result, Ok, Err, ◌⊎◌}
+use Rattle.std.proofs.Common.{◌≡◌, ℕ, List, [], ◌∷◌, ◌++◌, map, flat_map, length, ap, sym, subst, ◌∙◌, arith, inl, inr, append-nil, length-append}
+use Rattle.std.specs.Prelude.{Option, Some, Result, Ok, Err, ◌⊎◌}
 use Rattle.std.specs.List.{Contains}
 use Rattle.std.specs.Io.KnownBytes.{append_known}
+use Rattle.desk_outside.specs.Calls.{ShelfCall, Reading, opened_in}
 use Rattle.desk_outside.specs.Outside.{Files, Rose}
 use Rattle.desk_outside.specs.Inputs.{Input, Whole, Cut, IsInput}
 use Rattle.desk_outside.specs.Seen.{Shelf, Source, ReceivedNothing}
+use Rattle.desk_outside.proofs.Logs.{opened_in-append}
 use Rattle.desk_outside.proofs.Told.{append_known-nil}
 use Rattle.desk_words.specs.declared.command.Command.{Command}
-use Rattle.desk_files.specs.Files.{Halt, Missing, NoMemory, Refused, Refusal}
+use Rattle.desk_files.specs.Files.{Stop, Outside, Memory, Refused, Refusal}
+use Rattle.desk_files.specs.Reads.{FileReads, calls_of}
 use Rattle.desk_top.specs.declared.status.Status.{Status}
 use Rattle.desk_top.specs.declared.status.Status.TheVariants as statuses
 use Rattle.desk_top.specs.Told.{WritesLine, refusal_line}
-use Rattle.desk_top.specs.Answer.{Answer, text_of, usage, halted, halt_status}
+use Rattle.desk_top.specs.Answer.{Answer, text_of, usage, stop_answer, stop_status}
 use Rattle.desk_top.specs.Loading.{Loading, OpensFiles, OpensWithin}
 use Rattle.desk_top.specs.Meaning.{Meaning, AnswersOn, IsAnswer, meaning_of, usage_meaning}
 use Rattle.desk_top.specs.Meets.{Call, GivesAnswer, OutputFailed, FilesFailed, Stopped, Meets}
@@ -21,7 +24,7 @@ use Rattle.desk_laws.specs.Laws.{IsStatusOf, OtherWordsAreUsage, GoodFilesAreAns
 -- ---- what is asked of each command
 -- known files come to one thing, and files that are refused may be opened
 pub record IsLawfulLoading (loading : Loading) : Type 0 where
-  pub one : (files : Files) (x y : Result loading.Found Halt) → loading.comes (Some files) x → loading.comes (Some files) y → x ≡ y
+  pub one : (files : Files) (x y : Result loading.Found Stop) → loading.comes (Some files) x → loading.comes (Some files) y → x ≡ y
   pub opens : (known : Option Files) (refusal : Refusal) → loading.comes known (Err (Refused refusal)) → OpensFiles loading known
 
 -- an input that failed
@@ -51,16 +54,16 @@ module _ (meaning : Meaning) where
     pub on_found : (found : meaning.loading.Found) → meaning.loading.comes (Some files) (Ok found) → IsAnswer meaning (Some files) input answer → meaning.answers found input answer
     on_found found comes is = at is.found is.comes is.is
       where
-        at : (other : Result meaning.loading.Found Halt) → meaning.loading.comes (Some files) other → AnswersOn meaning input other answer → meaning.answers found input answer
+        at : (other : Result meaning.loading.Found Stop) → meaning.loading.comes (Some files) other → AnswersOn meaning input other answer → meaning.answers found input answer
         at (Ok x) own answers = let both : Ok x ≡ Ok found = lawful.one files (Ok x) (Ok found) own comes in let same : x ≡ found = cc in subst (λ y. meaning.answers y input answer) same answers
-        at (Err halt) own answers = let bad : Err halt ≡ Ok found = lawful.one files (Err halt) (Ok found) own comes in absurd (cc)
+        at (Err why) own answers = let bad : Err why ≡ Ok found = lawful.one files (Err why) (Ok found) own comes in absurd (cc)
 
-    pub on_halt : (halt : Halt) → meaning.loading.comes (Some files) (Err halt) → IsAnswer meaning (Some files) input answer → answer ≡ halted halt
-    on_halt halt comes is = at is.found is.comes is.is
+    pub on_stop : (why : Stop) → meaning.loading.comes (Some files) (Err why) → IsAnswer meaning (Some files) input answer → answer ≡ stop_answer why
+    on_stop why comes is = at is.found is.comes is.is
       where
-        at : (other : Result meaning.loading.Found Halt) → meaning.loading.comes (Some files) other → AnswersOn meaning input other answer → answer ≡ halted halt
-        at (Ok x) own answers = let bad : Ok x ≡ Err halt = lawful.one files (Ok x) (Err halt) own comes in absurd (cc)
-        at (Err other) own answers = let both : Err other ≡ Err halt = lawful.one files (Err other) (Err halt) own comes in let same : other ≡ halt = cc in answers ∙ ap halted same
+        at : (other : Result meaning.loading.Found Stop) → meaning.loading.comes (Some files) other → AnswersOn meaning input other answer → answer ≡ stop_answer why
+        at (Ok x) own answers = let bad : Ok x ≡ Err why = lawful.one files (Ok x) (Err why) own comes in absurd (cc)
+        at (Err other) own answers = let both : Err other ≡ Err why = lawful.one files (Err other) (Err why) own comes in let same : other ≡ why = cc in answers ∙ ap stop_answer same
 
   -- ---- how a call ends
   module _ (call : Call) (status : Status) (meets : Meets meaning call status) where
@@ -84,11 +87,11 @@ module _ (meaning : Meaning) where
     few : IsLawfulLoading meaning.loading → HasEnds meaning → IsStatusOf meaning call.input status ⊎ (OpensFiles meaning.loading call.files.files × (status ≡ statuses.Refused)) ⊎ (status ≡ statuses.Outside) ⊎ (status ≡ statuses.Memory)
     few lawful has = at meets.answered
       where
-        on : (input : Input) (answer : Answer) → IsInput call.input input → status ≡ answer.status → (found : Result meaning.loading.Found Halt) → meaning.loading.comes call.files.files found → AnswersOn meaning input found answer →
+        on : (input : Input) (answer : Answer) → IsInput call.input input → status ≡ answer.status → (found : Result meaning.loading.Found Stop) → meaning.loading.comes call.files.files found → AnswersOn meaning input found answer →
             IsStatusOf meaning call.input status ⊎ (OpensFiles meaning.loading call.files.files × (status ≡ statuses.Refused)) ⊎ (status ≡ statuses.Outside) ⊎ (status ≡ statuses.Memory)
         on input answer met is (Ok found) comes answers = inl (status_there meaning call.input input status met (subst (EndsIn meaning input) (sym is) (has found input answer answers)))
-        on input answer met is (Err Missing) comes answers = inr (inr (inl (is ∙ ap (λ (a : Answer). a.status) answers)))
-        on input answer met is (Err NoMemory) comes answers = inr (inr (inr (is ∙ ap (λ (a : Answer). a.status) answers)))
+        on input answer met is (Err Outside) comes answers = inr (inr (inl (is ∙ ap (λ (a : Answer). a.status) answers)))
+        on input answer met is (Err Memory) comes answers = inr (inr (inr (is ∙ ap (λ (a : Answer). a.status) answers)))
         on input answer met is (Err (Refused refusal)) comes answers = inr (inl (lawful.opens call.files.files refusal comes, is ∙ ap (λ (a : Answer). a.status) answers))
 
         at : GivesAnswer meaning call status ⊎ (status ≡ statuses.Outside) ⊎ (status ≡ statuses.Memory) → IsStatusOf meaning call.input status ⊎ (OpensFiles meaning.loading call.files.files × (status ≡ statuses.Refused)) ⊎ (status ≡ statuses.Outside) ⊎ (status ≡ statuses.Memory)
@@ -111,25 +114,25 @@ module _ (meaning : Meaning) where
           at (inr (inr (inl failed))) = absurd (calm failed.1)
           at (inr (inr (inr memory))) = inr memory
 
-      module _ (halt : Halt) (comes : meaning.loading.comes (Some files) (Err halt)) where
-        halts : (input : Input) (answer : Answer) → IsAnswer meaning call.files.files input answer → answer ≡ halted halt
-        halts input answer is = on_halt lawful files input answer halt comes (its_answer input answer is)
+      module _ (why : Stop) (comes : meaning.loading.comes (Some files) (Err why)) where
+        stops : (input : Input) (answer : Answer) → IsAnswer meaning call.files.files input answer → answer ≡ stop_answer why
+        stops input answer is = on_stop lawful files input answer why comes (its_answer input answer is)
 
-        halt_ends : (status ≡ halt_status halt) ⊎ (status ≡ statuses.Outside) ⊎ (status ≡ statuses.Memory)
-        halt_ends = at meets.answered
+        stop_ends : (status ≡ stop_status why) ⊎ (status ≡ statuses.Outside) ⊎ (status ≡ statuses.Memory)
+        stop_ends = at meets.answered
           where
-            at : GivesAnswer meaning call status ⊎ (status ≡ statuses.Outside) ⊎ (status ≡ statuses.Memory) → (status ≡ halt_status halt) ⊎ (status ≡ statuses.Outside) ⊎ (status ≡ statuses.Memory)
-            at (inl gives) = inl (gives.holds.ended ∙ ap (λ (a : Answer). a.status) (halts gives.input gives.answer gives.is))
+            at : GivesAnswer meaning call status ⊎ (status ≡ statuses.Outside) ⊎ (status ≡ statuses.Memory) → (status ≡ stop_status why) ⊎ (status ≡ statuses.Outside) ⊎ (status ≡ statuses.Memory)
+            at (inl gives) = inl (gives.holds.ended ∙ ap (λ (a : Answer). a.status) (stops gives.input gives.answer gives.is))
             at (inr other) = inr other
 
         silent : OutputFailed meaning call → ⊥
         silent failed =
             let has = failed.1 in
-            let empty : length (text_of has.answer.said) ≡ 0 = ap (λ (a : Answer). length (text_of a.said)) (halts has.input has.answer has.is) in
+            let empty : length (text_of has.answer.said) ≡ 0 = ap (λ (a : Answer). length (text_of a.said)) (stops has.input has.answer has.is) in
             omega (arith, empty, has.holds.0)
 
         nothing_of : (input : Input) (answer : Answer) → IsAnswer meaning call.files.files input answer → call.out.has ≡ append_known call.out.had (text_of answer.said) → ReceivedNothing call.out
-        nothing_of input answer is received = received ∙ ap (λ (a : Answer). append_known call.out.had (text_of a.said)) (halts input answer is) ∙ append_known-nil call.out.had
+        nothing_of input answer is received = received ∙ ap (λ (a : Answer). append_known call.out.had (text_of a.said)) (stops input answer is) ∙ append_known-nil call.out.had
 
         nothing_stopped : Stopped meaning call → ReceivedNothing call.out
         nothing_stopped (inl nothing) = nothing
@@ -140,7 +143,7 @@ module _ (meaning : Meaning) where
         where
           at : Ways → (((status ≡ statuses.Refused) × WritesLine call.err (refusal_line refusal)) ⊎ (status ≡ statuses.Memory)) × ReceivedNothing call.out
           at (inl gives) =
-              let is = halts (Refused refusal) comes gives.input gives.answer gives.is in (
+              let is = stops (Refused refusal) comes gives.input gives.answer gives.is in (
                 inl (gives.holds.ended ∙ ap (λ (a : Answer). a.status) is, subst (λ (a : Answer). WritesLine call.err a.told) is gives.holds.line),
                 nothing_of (Refused refusal) comes gives.input gives.answer gives.is gives.holds.text,
               )
@@ -152,16 +155,24 @@ module _ (meaning : Meaning) where
 usage_alone : (known : Option Files) (input : Input) (answer : Answer) → IsAnswer usage_meaning known input answer → answer ≡ usage
 usage_alone known input answer is = at is.found is.comes is.is
   where
-    at : (found : Result (Unit {0}) Halt) → found ≡ Ok tt → AnswersOn usage_meaning input found answer → answer ≡ usage
+    at : (found : Result (Unit {0}) Stop) → found ≡ Ok tt → AnswersOn usage_meaning input found answer → answer ≡ usage
     at (Ok found) comes answers = answers
-    at (Err halt) comes answers = absurd (cc)
+    at (Err why) comes answers = absurd (cc)
 
-usage_opened : (shelf : Shelf) → OpensWithin usage_meaning.loading shelf → shelf.has ≡ shelf.had
-usage_opened shelf (inl same) = same
-usage_opened shelf (inr opens) = opens.added ∙ ap (λ names. shelf.had ++ names) opens.allowed ∙ append-nil shelf.had
+usage_opened : (shelf : Shelf) → OpensWithin usage_meaning.loading shelf → opened_in shelf.has ≡ opened_in shelf.had
+usage_opened shelf (inl same) = ap opened_in same
+usage_opened shelf (inr opens) = opens.added ∙ ap (λ names. opened_in shelf.had ++ names) opens.allowed ∙ append-nil (opened_in shelf.had)
+
+-- where no file was opened, none was read
+none_opened : (had has : List ShelfCall) (files : List FileReads) → has ≡ had ++ flat_map calls_of files → opened_in has ≡ opened_in had → has ≡ had
+none_opened had has [] added same = added ∙ append-nil had
+none_opened had has (file ∷ files) added same =
+    let names : List (List ℕ) = opened_in (map Reading file.reads ++ flat_map calls_of files) in
+    let more : opened_in had ≡ opened_in had ++ file.name ∷ names = sym same ∙ ap opened_in added ∙ opened_in-append had (flat_map calls_of (file ∷ files)) in
+    absurd (omega (arith, ap length more, length-append (opened_in had) (file.name ∷ names)))
 
 pub other_words : OtherWordsAreUsage
-other_words words call status ends none = (at (ways usage_meaning call status meets), usage_opened call.files meets.opened)
+other_words words call status ends none = (at (ways usage_meaning call status meets), none_opened call.files.had call.files.has meets.reads.files.files meets.reads.files.added (usage_opened call.files meets.opened))
   where
     meets : Meets usage_meaning call status
     meets = ends.meets.usage none
@@ -185,7 +196,7 @@ module _ (loads : (command : Command) → IsLawfulLoading (meaning_of command).l
       good (meaning_of command) call status (over.ends.meets.command command over.asks) (loads command) files over.known (has command) is_good.0 is_good.1 calm still
 
   pub missing_file : MissingFileIsOutside
-  missing_file words command files call status over comes = at (halt_ends (meaning_of command) call status (over.ends.meets.command command over.asks) (loads command) files over.known Missing comes)
+  missing_file words command files call status over comes = at (stop_ends (meaning_of command) call status (over.ends.meets.command command over.asks) (loads command) files over.known Outside comes)
     where
       at : (status ≡ statuses.Outside) ⊎ (status ≡ statuses.Outside) ⊎ (status ≡ statuses.Memory) → (status ≡ statuses.Outside) ⊎ (status ≡ statuses.Memory)
       at (inl outside) = inl outside

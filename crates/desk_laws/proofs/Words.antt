@@ -6,11 +6,10 @@ use Rattle.std.proofs.lemmas.List.Elements.{All-from_recursion, All-nil}
 use Rattle.desk_model.specs.declared.types.MeasureName.TheVariants.{Precision}
 use Rattle.desk_words.specs.declared.command.Job.{Job}
 use Rattle.desk_words.specs.declared.command.Command.TheVariants.{Table, Demo}
-use Rattle.desk_words.specs.Words.{IsCommandOf, IsLevelOf, run_word_of}
+use Rattle.desk_words.specs.Words.{IsCommandOf, IsLevelOf, run_word_of, takes}
 use Rattle.command_line.specs.Given.{Values, Allows, IsOne, IsOneAtMost}
 use Rattle.command_line.specs.Parts.{Part, spaced, joined, alone, given_by, line_of, values_of, words_alone}
-use Rattle.desk_words.specs.Verbs.{takes}
-use Rattle.desk_words.specs.declared.verb.Verb.TheVariants as verb
+use Rattle.desk_words.specs.declared.read.Verb.TheVariants as verb
 use Rattle.desk_words.specs.Laws.{PartsSay}
 use Rattle.desk_words.proofs.Lines.{says_to}
 use Rattle.desk_outside.specs.Outside.{Rose, Lacks, Opens}

@@ -12,13 +12,13 @@ use Rattle.order_certificate.specs.declared.certificate.Certificate.{Certificate
 use Rattle.order_verifier.specs.Verified.{IsVerified}
 use Rattle.order_verifier.specs.declared.rejected.Rejected.{Rejected}
 use Rattle.session_replies.specs.Laws.{RepliesAreOne}
-use Rattle.desk_files.specs.Files.{Halt}
+use Rattle.desk_files.specs.Files.{Stop}
 use Rattle.desk_files.specs.Load.{Loaded}
 use Rattle.desk_files.specs.Checks.{CheckComes}
 
 -- the files of a check come to one thing alone
 abbrev pub CheckIsOne : Type 0
-CheckIsOne = (check : Check) (files : Files) (x y : Result (Loaded × Certificate) Halt) → CheckComes files check x → CheckComes files check y → x ≡ y
+CheckIsOne = (check : Check) (files : Files) (x y : Result (Loaded × Certificate) Stop) → CheckComes files check x → CheckComes files check y → x ≡ y
 
 -- rows make one desk
 abbrev pub DeskIsOne : Type 0

@@ -14,7 +14,7 @@ use Rattle.topics_pool.specs.Rows.{IsDeskOf}
 use Rattle.qrels_round_trip.specs.RoundTrip.{AreGradesOf, HasJudgements, IsLimitPassed, rows_in_force}
 use Rattle.session_replies.specs.Replies.{all_in_force}
 use Rattle.session_stream.specs.Text.{changes_over}
-use Rattle.desk_files.specs.Files.{Halt, Refused, TooLong, BadLine, halt_at}
+use Rattle.desk_files.specs.Files.{Stop, Refused, FileTooLong, Line, stop_at}
 use Rattle.desk_files.specs.Load.{Sources, sources, Loaded, loaded}
 use Rattle.desk_files.specs.declared.limits.TheConstants.{LONGEST_FILE}
 
@@ -45,18 +45,18 @@ pub record IsDeskAgain (desk : Desk) (grades : List (List (Option ℤ))) (again 
   pub marks : (level : ℕ) → map (file_marks level) again.topics ≡ marks_by level grades
 
 -- the text is refused: it is too long for a file, or has too many rows or bytes of document names
-abbrev pub IsTextRefused : List ℕ → List ℕ → List Row → Halt → Type 0
-IsTextRefused path text rows halt =
-    ((halt ≡ Refused (TooLong path)) × (LONGEST_FILE < length text)) ⊎ ((fault : FileFault) × (halt ≡ halt_at path fault) × IsLimitPassed rows fault)
+abbrev pub IsTextRefused : List ℕ → List ℕ → List Row → Stop → Type 0
+IsTextRefused path text rows why =
+    ((why ≡ Refused (FileTooLong path)) × (LONGEST_FILE < length text)) ⊎ ((fault : FileFault) × (why ≡ stop_at path fault) × IsLimitPassed rows fault)
 
 -- a run is refused: with the names of the text and of the runs before it there are too many bytes of document names
-abbrev pub IsRunRefused : List RunWord → Halt → Type 0
-IsRunRefused words halt = (word : RunWord) × (number : ℕ) × (line : ℕ) × (slice_get words number ≡ Some word) × (halt ≡ Refused (BadLine word.path line TooManyNameBytes))
+abbrev pub IsRunRefused : List RunWord → Stop → Type 0
+IsRunRefused words why = (word : RunWord) × (number : ℕ) × (line : ℕ) × (slice_get words number ≡ Some word) × (why ≡ Refused (Line word.path line TooManyNameBytes))
 
 -- what the files with the text come to: rows whose desk is that desk again, or the refusal of a limit
-abbrev pub ComesAgain : Sources → List ℕ → Desk → List (List (Option ℤ)) → Result Loaded Halt → Type 0
+abbrev pub ComesAgain : Sources → List ℕ → Desk → List (List (Option ℤ)) → Result Loaded Stop → Type 0
 ComesAgain from text desk grades (Ok rows) = (again : Desk) → IsDeskOf rows.qrels rows.runs again → IsDeskAgain desk grades again
-ComesAgain from text desk grades (Err halt) = IsTextRefused from.qrels text (rows_in_force desk grades) halt ⊎ IsRunRefused from.runs halt
+ComesAgain from text desk grades (Err why) = IsTextRefused from.qrels text (rows_in_force desk grades) why ⊎ IsRunRefused from.runs why
 
 -- the files of a desk with the judgements in force as their judgements file
 abbrev pub FilesComeAgain : Type 0

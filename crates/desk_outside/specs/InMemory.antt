@@ -4,6 +4,8 @@ use Rattle.std.specs.List.{list_any}
 use Rattle.std.specs.declared.alloc.Global.{Global}
 use Rattle.std.specs.Cmp.Lexicographic.{pointwise}
 use Rattle.desk_outside.specs.Outside.{Files}
+use Rattle.desk_outside.specs.Calls.{ShelfCall}
+use Rattle.desk_outside.specs.declared.log.ReadCall.{ReadCall}
 
 -- the numbers of the calls that fail, the number of the next call, and the failures that were counted
 pub record CallState : Type 0 where
@@ -37,18 +39,19 @@ abbrev pub held_in : List (List ℕ × List ℕ) → Files
 held_in [] name = None
 held_in (e ∷ es) name = if pointwise nat_eq e.0 name then Some e.1 else held_in es name
 
--- a shelf in memory: its files, what is left of the open one, its calls, and the names that were opened
+-- a shelf in memory: its files, what is left of the open one, which of its calls fail, and its calls
 pub record MemoryShelf : Type 0 where
   pub entries : List (List ℕ × List ℕ)
   pub rest : Option (List ℕ)
   pub calls : CallState
-  pub opened : List (List ℕ)
+  pub made : List ShelfCall
 
--- a source in memory: what is left, the most bytes that a call gives, and its calls
+-- a source in memory: what is left, the most bytes that a call gives, which of its calls fail, and its reads
 pub record MemorySource : Type 0 where
   pub rest : List ℕ
   pub piece : ℕ
   pub calls : CallState
+  pub reads : List ReadCall
 
 -- a sink in memory: what it received, its room, the most bytes that a call takes, and its calls
 pub record MemorySink : Type 0 where

@@ -1,6 +1,6 @@
 pub mod Outside
 pub mod State
 pub mod InMemory
-pub mod Names
+pub mod Calls
 pub mod Seen
 pub mod Inputs

@@ -2,20 +2,24 @@
 use Rattle.std.specs.Prelude.{◌≡◌, ℕ, List, Option}
 use Rattle.std.specs.Io.KnownBytes.{append_known}
 use Rattle.desk_outside.specs.Outside.{Files, AppendsPrefix}
+use Rattle.desk_outside.specs.Calls.{ShelfCall}
 use Rattle.desk_outside.specs.State.{ShelfState, SourceState, SinkState}
+use Rattle.desk_outside.specs.declared.log.ReadCall.{ReadCall}
 
--- a shelf: its files, where they are known, the names that had been opened and those that have, and its two counts of failures
+-- a shelf: its files, where they are known, the calls that had been made and those that have, and its two counts of failures
 pub record Shelf : Type 0 where
   pub files : Option Files
-  pub had : List (List ℕ)
-  pub has : List (List ℕ)
+  pub had : List ShelfCall
+  pub has : List ShelfCall
   pub before : ℕ
   pub after : ℕ
 
--- an input: what was left of it and what is, where that is known, and its two counts of failures
+-- an input: what was left of it and what is, where that is known, the reads that had been made and those that have, and its two counts of failures
 pub record Source : Type 0 where
   pub rest : Option (List ℕ)
   pub left : Option (List ℕ)
+  pub had : List ReadCall
+  pub has : List ReadCall
   pub before : ℕ
   pub after : ℕ
 
@@ -28,15 +32,19 @@ pub record Sink : Type 0 where
 
 -- a shelf by its states before a call and after it
 abbrev pub shelf : ShelfState → ShelfState → Shelf
-shelf old new = record { files = old.files; had = old.opened; has = new.opened; before = old.faults; after = new.faults }
+shelf old new = record { files = old.files; had = old.calls; has = new.calls; before = old.faults; after = new.faults }
 
 -- an input by its states before a call and after it
 abbrev pub source : SourceState → SourceState → Source
-source old new = record { rest = old.rest; left = new.rest; before = old.faults; after = new.faults }
+source old new = record { rest = old.rest; left = new.rest; had = old.reads; has = new.reads; before = old.faults; after = new.faults }
 
 -- an output by its states before a call and after it
 abbrev pub sink : SinkState → SinkState → Sink
 sink old new = record { had = old.received; has = new.received; before = old.faults; after = new.faults }
+
+-- an input was not read
+abbrev pub IsUntouched : Source → Type 0
+IsUntouched input = input.has ≡ input.had
 
 -- an output received nothing
 abbrev pub ReceivedNothing : Sink → Type 0

@@ -1,9 +1,9 @@
 // The real files and streams. They tell nothing of what they hold.
 ghost use Rattle.std.specs.Prelude.{◌≡◌, ◌≤◌, ◌+◌, ◌-◌, ◌^◌, [], min, None, false, is_some};
-ghost use Rattle.desk_outside.specs.Names.{names_in};
+ghost use Rattle.desk_outside.specs.Calls.{shelf_calls, source_reads};
 
-use crate::names::Names;
-use crate::opened::add;
+use crate::log::{ShelfLog, SourceLog};
+use crate::logging::{add_opening, add_read, add_reading};
 use crate::{Failed, Shelf, Sink, Source};
 use std::fs;
 use std::io::{Read, Write};
@@ -24,19 +24,19 @@ pub struct HostShelf<'r, R: Files> {
     rt: &'r R,
     file: Option<R::File>,
     faults: u64,
-    opened: Names,
+    calls: ShelfLog,
 }
 
 impl<'r, R: Files> HostShelf<'r, R> {
     /// A shelf with no file open.
     pub fn new(rt: &'r R) -> HostShelf<'r, R>
-        ensures { ⟦<HostShelf<'r, R> as Shelf>⟧.state result ≡ record { files = None; rest = None; is_open = false; faults = 0; opened = [] } }
+        ensures { ⟦<HostShelf<'r, R> as Shelf>⟧.state result ≡ record { files = None; rest = None; is_open = false; faults = 0; calls = [] } }
     {
         HostShelf {
             rt,
             file: None,
             faults: 0,
-            opened: Names::Nobody,
+            calls: ShelfLog::Start,
         }
     }
 }
@@ -47,11 +47,11 @@ impl<R: Files> Shelf for HostShelf<'_, R> {
       rest = None;
       is_open = is_some s.file;
       faults = s.faults;
-      opened = names_in s.opened;
+      calls = shelf_calls s.calls;
     } };
 
     fn open(&mut self, name: &str) -> Result<(), Failed> {
-        add(&mut self.opened, name);
+        add_opening(&mut self.calls, name);
         match fs::open(self.rt, name) {
             Ok(file) => {
                 self.file = Some(file);
@@ -62,13 +62,15 @@ impl<R: Files> Shelf for HostShelf<'_, R> {
     }
 
     fn read(&mut self, room: &mut [u8]) -> Result<usize, Failed> {
-        match &mut self.file {
+        let answer = match &mut self.file {
             Some(file) => match file.read(room) {
                 Ok(count) => Ok(count),
                 Err(_) => Err(counted(&mut self.faults)),
             },
             None => unreachable!(),
-        }
+        };
+        add_reading(&mut self.calls, &answer);
+        answer
     }
 }
 
@@ -77,25 +79,32 @@ impl<R: Files> Shelf for HostShelf<'_, R> {
 pub struct HostSource<I> {
     reader: I,
     faults: u64,
+    reads: SourceLog,
 }
 
 impl<I: Read> HostSource<I> {
     /// A source that reads from the reader's place on.
     pub fn new(reader: I) -> HostSource<I>
-        ensures { ⟦<HostSource<I> as Source>⟧.state result ≡ record { rest = None; faults = 0 } }
+        ensures { ⟦<HostSource<I> as Source>⟧.state result ≡ record { rest = None; faults = 0; reads = [] } }
     {
-        HostSource { reader, faults: 0 }
+        HostSource {
+            reader,
+            faults: 0,
+            reads: SourceLog::Start,
+        }
     }
 }
 
 impl<I: Read> Source for HostSource<I> {
-    ghost state = { λ s. record { rest = None; faults = s.faults } };
+    ghost state = { λ s. record { rest = None; faults = s.faults; reads = source_reads s.reads } };
 
     fn read(&mut self, room: &mut [u8]) -> Result<usize, Failed> {
-        match self.reader.read(room) {
+        let answer = match self.reader.read(room) {
             Ok(count) => Ok(count),
             Err(_) => Err(counted(&mut self.faults)),
-        }
+        };
+        add_read(&mut self.reads, &answer);
+        answer
     }
 }
 

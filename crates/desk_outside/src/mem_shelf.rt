@@ -3,18 +3,19 @@ ghost use Rattle.std.specs.Prelude.{◌≡◌, ◌⊎◌, ◌<◌, ◌≤◌, �
 ghost use Rattle.std.specs.Io.{ReadsAtMost};
 ghost use Rattle.std.specs.Io.KnownBytes.{prepend_known, IsAtEnd};
 ghost use Rattle.desk_outside.specs.Outside.{Rose, HasCause};
+ghost use Rattle.desk_outside.specs.Calls.{Opening, Reading, read_of};
 ghost use Rattle.desk_outside.specs.InMemory.{no_calls, is_listed, after_call, entries_of, held_in};
 
 use crate::calls::Calls;
 use crate::give::give;
-use crate::names::Names;
-use crate::opened::add;
+use crate::log::ShelfLog;
+use crate::logging::{add_opening, add_reading};
 use crate::{Failed, Shelf};
 use std::marker::Model;
 
 // The open file's place among the files, and how many of its bytes were read.
 #[derive(Clone, Copy)]
-struct Reading {
+struct OpenFile {
     file: usize,
     at: usize,
 }
@@ -23,23 +24,23 @@ struct Reading {
 #[derive(Drop)]
 pub struct MemShelf {
     files: Vec<(String, Vec<u8>)>,
-    reading: Option<Reading>,
+    open_file: Option<OpenFile>,
     calls: Calls,
-    opened: Names,
+    made: ShelfLog,
 }
 
 impl Model for MemShelf {
     ghost use Rattle.std.specs.Prelude.{drop, option_map, option_and_then, slice_get};
     ghost use Rattle.desk_outside.specs.InMemory.{MemoryShelf, entries_of};
-    ghost use Rattle.desk_outside.specs.Names.{names_in};
+    ghost use Rattle.desk_outside.specs.Calls.{shelf_calls};
 
     ghost Value = { MemoryShelf };
 
     ghost view = { λ s. record {
       entries = entries_of s.files.items;
-      rest = option_and_then (λ r. option_map (λ e. drop r.at e.1) (slice_get (entries_of s.files.items) r.file)) s.reading;
+      rest = option_and_then (λ r. option_map (λ e. drop r.at e.1) (slice_get (entries_of s.files.items) r.file)) s.open_file;
       calls = s.calls;
-      opened = names_in s.opened;
+      made = shelf_calls s.made;
     } };
 }
 
@@ -50,13 +51,13 @@ impl MemShelf {
         ensures entries { result.entries ≡ entries_of files.items }
         ensures closed { result.rest ≡ None }
         ensures calls { result.calls ≡ no_calls failing.items }
-        ensures opened { result.opened ≡ [] }
+        ensures made { result.made ≡ [] }
     {
         MemShelf {
             files,
-            reading: None,
+            open_file: None,
             calls: Calls::new(failing),
-            opened: Names::Nobody,
+            made: ShelfLog::Start,
         }
     }
 }
@@ -92,7 +93,7 @@ impl Shelf for MemShelf {
       rest = s.rest;
       is_open = is_some s.rest;
       faults = s.calls.faults;
-      opened = s.opened;
+      calls = s.made;
     } };
 
     /// Fails exactly at a listed call, which is counted, and at a name that is not held, which alone is not.
@@ -105,10 +106,10 @@ impl Shelf for MemShelf {
             ⊎ (held_in self.old.entries name.now ≡ None)) }
         ensures rest { OnOk result (self.new.rest ≡ held_in self.old.entries name.now) }
         ensures entries { self.new.entries ≡ self.old.entries }
-        ensures opened { self.new.opened ≡ self.old.opened ++ name.now ∷ [] }
+        ensures made { self.new.made ≡ self.old.made ++ Opening name.now ∷ [] }
         ensures calls { self.new.calls ≡ after_call self.old.calls (is_listed self.old.calls) }
     {
-        add(&mut self.opened, name);
+        add_opening(&mut self.made, name);
         let fails = self.calls.is_listed();
         self.calls.make(fails);
         if fails {
@@ -116,7 +117,7 @@ impl Shelf for MemShelf {
         }
         match place_of(&self.files, name) {
             Some(file) => {
-                self.reading = Some(Reading { file, at: 0 });
+                self.open_file = Some(OpenFile { file, at: 0 });
                 Ok(())
             }
             None => Err(Failed),
@@ -135,23 +136,23 @@ impl Shelf for MemShelf {
         ensures fails { IsErr result ↔ IsTrue (is_listed self.old.calls) }
         ensures count { IfOk result (λ n. IfSome self.old.rest (λ rest. n ≡ min (length rest) (length room.old))) }
         ensures entries { self.new.entries ≡ self.old.entries }
-        ensures opened { self.new.opened ≡ self.old.opened }
+        ensures made { self.new.made ≡ self.old.made ++ Reading (read_of result) ∷ [] }
         ensures calls { self.new.calls ≡ after_call self.old.calls (is_listed self.old.calls) }
     {
         let fails = self.calls.is_listed();
         self.calls.make(fails);
-        if fails {
-            return Err(Failed);
-        }
-        match self.reading {
-            Some(Reading { file, at }) => {
+        let answer = match self.open_file {
+            _ if fails => Err(Failed),
+            Some(OpenFile { file, at }) => {
                 let left = left_of(&self.files, file, at);
                 let count = give(left, left.len(), room);
                 let at = at + count;
-                self.reading = Some(Reading { file, at });
+                self.open_file = Some(OpenFile { file, at });
                 Ok(count)
             }
             None => unreachable!(),
-        }
+        };
+        add_reading(&mut self.made, &answer);
+        answer
     }
 }

@@ -1,18 +1,23 @@
 -- What words mean.
-use Rattle.std.proofs.Common.{◌≡◌, ℕ, List, refl, subst, inl, inr}
-use Rattle.std.specs.Prelude.{Ok}
-use Rattle.desk_outside.specs.Seen.{ReceivedNothing}
+use Rattle.std.proofs.Common.{◌≡◌, ℕ, List, [], refl, sym, subst, ◌∙◌, append-nil, inl}
+use Rattle.std.specs.Prelude.{Ok, Err}
+use Rattle.desk_outside.specs.Inputs.{Cut}
+use Rattle.desk_outside.specs.Seen.{IsUntouched, ReceivedNothing}
+use Rattle.desk_outside.proofs.Told.{append_known-nil}
+use Rattle.desk_files.specs.Files.{Memory as Memory-stop}
+use Rattle.desk_files.specs.Reads.{Extent, ToEnd, Somewhere, GoThrough, ReadsFiles}
 use Rattle.desk_words.specs.Laws.{CommandIsUnique}
 use Rattle.desk_words.specs.Words.{IsCommandOf}
 use Rattle.desk_words.specs.declared.command.Command.{Command}
 use Rattle.desk_top.specs.declared.status.Status.{Status}
 use Rattle.desk_top.specs.declared.status.Status.TheVariants.{Usage, Memory}
 use Rattle.desk_top.specs.Told.{WritesLine}
+use Rattle.desk_top.specs.Answer.{usage}
 use Rattle.desk_top.specs.Meaning.{Meaning, Means, meaning_of, usage_meaning}
 use Rattle.desk_top.specs.Status.{IsStatus, status_line}
 use Rattle.desk_top.specs.Meets.{Call, AreRead, IsCallOf, Meets, CanEnd}
 use Rattle.desk_top.specs.Truths.{PrintsTruth}
-use Rattle.desk_top.proofs.Meeting.{can_end, meets_memory, meets_usage}
+use Rattle.desk_top.proofs.Meeting.{can_end, meets_memory, meets_usage, reads_found}
 use Rattle.desk_top.proofs.Truth.{says_truth}
 use Rattle.desk_top.proofs.Commands.{asked, command_is_truthful, usage_is_truthful}
 
@@ -30,13 +35,18 @@ module _ (words : List (List ℕ)) (fact : Meaning → Type 0) where
   means_all holds = record { command = λ command said. holds (meaning_of command); usage = λ none. holds usage_meaning }
 
 -- ---- words of no command, and memory that ran out before they were read
-module _ (words : List (List ℕ)) (call : Call) (status : Status) (nothing : ReceivedNothing call.out) (cells : call.has_cells ≡ call.had_cells) (opened : call.files.has ≡ call.files.had) where
+module _ (words : List (List ℕ)) (call : Call) (status : Status) (nothing : ReceivedNothing call.out) (cells : call.has_cells ≡ call.had_cells) (opened : call.files.has ≡ call.files.had) (untouched : IsUntouched call.input) where
+  -- no file was opened
+  no_files : (extent : Extent) → GoThrough [] extent → ReadsFiles extent call.files.had call.files.has
+  no_files extent none = record { files = []; through = none; added = opened ∙ sym (append-nil call.files.had) }
+
   pub usage_meets : ((command : Command) → IsCommandOf words command → ⊥) → status ≡ Usage → WritesLine call.err (status_line Usage) → Means words (λ meaning. Meets meaning call status)
   usage_meets none is line =
-      means_usage words (λ meaning. Meets meaning call status) none (meets_usage usage_meaning call status is (λ i. record { found = Ok tt; comes = refl; is = refl }) nothing line (inl cells) (inl opened))
+      means_usage words (λ meaning. Meets meaning call status) none (meets_usage usage_meaning call status is (λ i. record { found = Ok tt; comes = refl; is = refl }) nothing line (inl cells) (inl opened)
+      (reads_found usage_meaning call status tt refl (inl (Cut [], usage, refl, record { ended = is; text = nothing ∙ sym (append_known-nil call.out.had); line = line })) (no_files ToEnd tt) (inl untouched)))
 
   pub memory_meets : status ≡ Memory → WritesLine call.err (status_line Memory) → Means words (λ meaning. Meets meaning call status)
-  memory_meets is line = means_all words (λ meaning. Meets meaning call status) (λ meaning. meets_memory meaning call status is (inl nothing) line (inl cells) (inl opened))
+  memory_meets is line = means_all words (λ meaning. Meets meaning call status) (λ meaning. meets_memory meaning call status is (inl nothing) line (inl cells) (inl opened) (record { came = Err Memory-stop; led = is; files = no_files Somewhere tt; input = untouched }))
 
 -- ---- the call
 pub call_meets : PrintsTruth → (words : List (List ℕ)) (call : Call) (status : Status) → AreRead words call status → Means words (λ meaning. Meets meaning call status) → IsCallOf words call status

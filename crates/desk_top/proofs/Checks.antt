@@ -33,12 +33,11 @@ use Rattle.topics_pool.specs.Rows.{IsDeskOf}
 use Rattle.desk_files.specs.Checks.{CheckComes, MakesCheck}
 use Rattle.desk_files.specs.Load.{Loaded}
 use Rattle.desk_files.specs.Outcome.{StopsAt}
-use Rattle.desk_files.specs.declared.stop.Stop.{Stop}
-use Rattle.desk_files.specs.declared.stop.Stop.TheVariants as stops
+use Rattle.desk_files.specs.declared.stop.Stop.{Stop as KeptStop}
+use Rattle.desk_files.specs.declared.stop.Stop.TheVariants as kept
 use Rattle.desk_outside.specs.Seen.{Shelf}
 use Rattle.desk_top.specs.declared.outcome.Outcome.{Outcome as Made}
 use Rattle.desk_top.specs.declared.outcome.Outcome.TheVariants as made
-use Rattle.desk_top.specs.declared.status.Status.{Status}
 use Rattle.desk_top.specs.Status.{GoesWithText}
 use Rattle.desk_top.specs.Answer.{OfCheck}
 use Rattle.desk_top.specs.Outcome.{Prints}
@@ -78,10 +77,10 @@ check_works check shelf cells made outcome makes within is =
     ((makes.0, made.1), found_may_come (λ files found. CheckComes files check found) shelf.files (makes.0, made.1) makes.1, made_as check cells (makes.0, made.1) made.0 makes.2 within outcome is)
 
 -- why nothing was made
-pub check_stopped : (check : Check) (shelf : Shelf) (cells : ℕ) (stop : Stop) → StopsAt shelf.files shelf.before shelf.after stop (λ files halt. CheckComes files check (Err halt)) → Works (check_meaning check) shelf cells cells (Err stop)
+pub check_stopped : (check : Check) (shelf : Shelf) (cells : ℕ) (stop : KeptStop) → StopsAt shelf.files shelf.before shelf.after stop (λ files why. CheckComes files check (Err why)) → Works (check_meaning check) shelf cells cells (Err stop)
 check_stopped check shelf cells stop stops = (check_stops check shelf stop stops, inl refl)
 
-pub check_memory : (check : Check) (shelf : Shelf) (cells : ℕ) (stop : Stop) → stop ≡ stops.Memory → Works (check_meaning check) shelf cells cells (Err stop)
+pub check_memory : (check : Check) (shelf : Shelf) (cells : ℕ) (stop : KeptStop) → stop ≡ kept.Memory → Works (check_meaning check) shelf cells cells (Err stop)
 check_memory check shelf cells stop is = (subst (StopsLoading (check_loading check) shelf) (sym is) tt, inl refl)
 
 -- ---- a reason in a line

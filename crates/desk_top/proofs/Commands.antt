@@ -13,8 +13,8 @@ use Rattle.session_stream.specs.Hearing.{hearing_of}
 use Rattle.desk_top.specs.declared.status.Status.TheVariants as statuses
 use Rattle.desk_top.specs.Answer.{Answer, AreAlwaysTrue}
 use Rattle.desk_top.specs.Conversation.{setting_on}
-use Rattle.desk_top.specs.Report.{IsAsked, PrintsTable, PrintsCertificate}
-use Rattle.desk_top.specs.Meaning.{session_meaning, usage_meaning, meaning_of}
+use Rattle.desk_top.specs.Report.{IsAsked}
+use Rattle.desk_top.specs.Meaning.{session_meaning, usage_meaning, meaning_of, PrintsTable, PrintsCertificate}
 use Rattle.desk_top.specs.Meets.{IsTruthful}
 use Rattle.desk_top.specs.Truths.{PrintsTruth}
 use Rattle.desk_top.proofs.Truth.{on_desk_true, printed_table_true, printed_certificate_true, check_is_truthful}

@@ -1,7 +1,7 @@
 -- What is made of the files of a command.
-use Rattle.std.proofs.Common.{◌≡◌, ℕ, ◌+◌, ◌≤◌, List, [], ◌∷◌, refl, sym, subst, ◌∙◌, arith, append-nil, inl, inr}
+use Rattle.std.proofs.Common.{◌≡◌, ℕ, ◌+◌, List, [], ◌∷◌, refl, sym, subst, arith, append-nil, inl, inr}
 use Rattle.std.specs.Result.{IsErrAnd}
-use Rattle.std.specs.Prelude.{Option, Some, None, Result, Ok, Err, IfSome, IsSomeAnd, ◌⊎◌}
+use Rattle.std.specs.Prelude.{Option, Some, None, Result, Ok, Err, IfSome, IsSomeAnd}
 use Rattle.desk_outside.specs.Outside.{Files}
 use Rattle.desk_outside.specs.Seen.{Shelf}
 use Rattle.desk_words.specs.declared.command.Check.{Check}
@@ -12,13 +12,13 @@ use Rattle.desk_model.specs.declared.types.MeasureName.{MeasureName}
 use Rattle.topic_counts.specs.declared.span.Span.{Span}
 use Rattle.measure_core.specs.declared.cell.Cell.{Cell}
 use Rattle.topics_pool.specs.Rows.{IsDeskOf}
-use Rattle.desk_files.specs.Files.{Halt, Missing, Refused, Refusal}
+use Rattle.desk_files.specs.Files.{Stop, Outside, Refused, Refusal}
 use Rattle.desk_files.specs.Load.{Loaded, loaded, Reads}
 use Rattle.desk_files.specs.Outcome.{StopsAt, Stops}
 use Rattle.desk_files.specs.Checks.{CheckComes}
 use Rattle.desk_files.specs.Views.{refusal_of}
-use Rattle.desk_files.specs.declared.stop.Stop.{Stop}
-use Rattle.desk_files.specs.declared.stop.Stop.TheVariants as stops
+use Rattle.desk_files.specs.declared.stop.Stop.{Stop as KeptStop}
+use Rattle.desk_files.specs.declared.stop.Stop.TheVariants as kept
 use Rattle.desk_files.proofs.Opening.{may_open_qrels}
 use Rattle.desk_files.proofs.Checking.{check_opens_qrels}
 use Rattle.desk_report.specs.Reports.{Subject, cells_of, IsSubjectOf, IsCertifiedAs}
@@ -28,21 +28,21 @@ use Rattle.desk_top.specs.declared.status.Status.{Status}
 use Rattle.desk_top.specs.declared.status.Status.TheVariants.{Done, Close}
 use Rattle.desk_top.specs.Status.{GoesWithText}
 use Rattle.desk_top.specs.Answer.{About, OfRuns}
-use Rattle.desk_top.specs.Outcome.{Outcome, Prints, PrintsText}
-use Rattle.desk_top.specs.Report.{sources_of, subject_of, PrintsCertificate, shown_as, IsTabled}
-use Rattle.desk_top.specs.declared.report.DeskTable.{DeskTable}
+use Rattle.desk_top.specs.Outcome.{Outcome, Prints}
+use Rattle.desk_top.specs.Report.{sources_of, subject_of, shown_as, IsTabled}
+use Rattle.desk_top.specs.declared.work.DeskTable.{DeskTable}
 use Rattle.desk_top.specs.Loading.{Loading, MayCome, OpensFiles, desk_loading, check_loading}
-use Rattle.desk_top.specs.Meaning.{Meaning, desk_meaning}
+use Rattle.desk_top.specs.Meaning.{Meaning, desk_meaning, PrintsCertificate}
 use Rattle.desk_top.specs.Works.{CountsFor, MakesText, MakesOutcome, StopsLoading, Works}
 use Rattle.desk_top.proofs.Marking.{marks_known}
 
 -- what holds of a stop holds of the answer that hands it on
-pub handed_on : {X : Type 0} (fact : Result X Stop → Type 0) (result : Result X Stop) (stop : Stop) → IsErrAnd result (λ e. e ≡ stop) → fact (Err stop) → fact result
+pub handed_on : {X : Type 0} (fact : Result X KeptStop → Type 0) (result : Result X KeptStop) (stop : KeptStop) → IsErrAnd result (λ e. e ≡ stop) → fact (Err stop) → fact result
 handed_on fact (Ok x) stop is holds = absurd is
 handed_on fact (Err e) stop is holds = subst (λ s. fact (Err s)) (sym is) holds
 
 -- ---- what files come to
-module _ {X : Type 0} (comes : Files → Result X Halt → Type 0) where
+module _ {X : Type 0} (comes : Files → Result X Stop → Type 0) where
   pub found_may_come : (known : Option Files) (found : X) → IfSome known (λ files. comes files (Ok found)) → MayCome known comes (Ok found)
   found_may_come None found read = tt
   found_may_come (Some files) found read = read
@@ -51,7 +51,7 @@ module _ {X : Type 0} (comes : Files → Result X Halt → Type 0) where
   refusal_may_come None refusal read = tt
   refusal_may_come (Some files) refusal read = read
 
-  missing_may_come : (known : Option Files) → IsSomeAnd known (λ files. comes files (Err Missing)) → MayCome known comes (Err Missing)
+  missing_may_come : (known : Option Files) → IsSomeAnd known (λ files. comes files (Err Outside)) → MayCome known comes (Err Outside)
   missing_may_come None is = is
   missing_may_come (Some files) is = is
 
@@ -59,19 +59,19 @@ module _ {X : Type 0} (comes : Files → Result X Halt → Type 0) where
   abbrev loading_by : (Option Files → List (List ℕ) → Type 0) → Loading
   loading_by opens = record { Found = X; comes = λ known found. MayCome known comes found; opens = opens }
 
-  stops_loading : (opens : Option Files → List (List ℕ) → Type 0) (shelf : Shelf) (stop : Stop) → OpensFiles (loading_by opens) shelf.files → StopsAt shelf.files shelf.before shelf.after stop (λ files halt. comes files (Err halt)) → StopsLoading (loading_by opens) shelf stop
-  stops_loading opens shelf (stops.Refused refusal) one stops = refusal_may_come shelf.files (refusal_of refusal) stops
-  stops_loading opens shelf stops.Outside one (inl rose) = inl (one, rose)
-  stops_loading opens shelf stops.Outside one (inr missing) = inr (missing_may_come shelf.files missing)
-  stops_loading opens shelf stops.Memory one stops = tt
+  stops_loading : (opens : Option Files → List (List ℕ) → Type 0) (shelf : Shelf) (stop : KeptStop) → OpensFiles (loading_by opens) shelf.files → StopsAt shelf.files shelf.before shelf.after stop (λ files why. comes files (Err why)) → StopsLoading (loading_by opens) shelf stop
+  stops_loading opens shelf (kept.Refused refusal) one stops = refusal_may_come shelf.files (refusal_of refusal) stops
+  stops_loading opens shelf kept.Outside one (inl rose) = inl (one, rose)
+  stops_loading opens shelf kept.Outside one (inr missing) = inr (missing_may_come shelf.files missing)
+  stops_loading opens shelf kept.Memory one stops = tt
 
 -- why there is no desk
-pub desk_stops : (job : Job) (shelf : Shelf) (stop : Stop) → Stops shelf.files shelf.before shelf.after stop (λ held. loaded held (sources_of job)) → StopsLoading (desk_loading job) shelf stop
+pub desk_stops : (job : Job) (shelf : Shelf) (stop : KeptStop) → Stops shelf.files shelf.before shelf.after stop (λ held. loaded held (sources_of job)) → StopsLoading (desk_loading job) shelf stop
 desk_stops job shelf stop stops =
     stops_loading (λ files found. loaded files (sources_of job) ≡ found) (desk_loading job).opens shelf stop (job.qrels, may_open_qrels shelf.files (sources_of job)) stops
 
 -- why there is no desk or no certificate
-pub check_stops : (check : Check) (shelf : Shelf) (stop : Stop) → StopsAt shelf.files shelf.before shelf.after stop (λ files halt. CheckComes files check (Err halt)) → StopsLoading (check_loading check) shelf stop
+pub check_stops : (check : Check) (shelf : Shelf) (stop : KeptStop) → StopsAt shelf.files shelf.before shelf.after stop (λ files why. CheckComes files check (Err why)) → StopsLoading (check_loading check) shelf stop
 check_stops check shelf stop stops =
     stops_loading (λ files found. CheckComes files check found) (check_loading check).opens shelf stop (check.qrels, check_opens_qrels shelf.files check) stops
 
@@ -101,7 +101,7 @@ module _ (job : Job) (least : ℕ) (ends : List Status) (makes : Subject → Out
     pub desk_works : (made : _) → MakesOutcome on_desk before after rows made → Works on_desk shelf before after (Ok made)
     desk_works made is = (rows, desk_comes, is)
 
-    pub desk_memory : (stop : Stop) → stop ≡ stops.Memory → Works on_desk shelf before after (Err stop)
+    pub desk_memory : (stop : KeptStop) → stop ≡ kept.Memory → Works on_desk shelf before after (Err stop)
     desk_memory stop is = (subst (StopsLoading (desk_loading job) shelf) (sym is) tt, inr (is, rows, desk_comes, desk_counts before after counted))
 
 -- the certificate of two runs, or their close line

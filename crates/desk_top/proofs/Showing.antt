@@ -13,8 +13,8 @@ use Rattle.desk_report.specs.Claims.{IsTrueText, IsTrueProposal, IsOtherWord}
 use Rattle.desk_report.proofs.Spelling.{ink_in_line}
 use Rattle.desk_report.proofs.Texts.{decimal_ink}
 use Rattle.desk_report.proofs.Others.{in_line_back, other_word}
-use Rattle.desk_files.specs.declared.stop.Stop.{Stop}
-use Rattle.desk_files.specs.declared.stop.Stop.TheVariants as stops
+use Rattle.desk_files.specs.declared.stop.Stop.{Stop as KeptStop}
+use Rattle.desk_files.specs.declared.stop.Stop.TheVariants as kept
 use Rattle.desk_top.specs.declared.outcome.Outcome.TheVariants as made
 use Rattle.desk_top.specs.declared.status.Status.TheVariants.{Done}
 use Rattle.desk_top.specs.Answer.{OfNothing, OfProposal, text_of, IsTrueOf, AreAlwaysTrue}
@@ -105,7 +105,7 @@ module _ (seed : ℕ) (files : Shelf) (before after : ℕ) where
     ),
   )
 
-  pub demo_memory : (stop : Stop) → stop ≡ stops.Memory → CountsDemo seed before after → Works (demo_meaning seed) files before after (Err stop)
+  pub demo_memory : (stop : KeptStop) → stop ≡ kept.Memory → CountsDemo seed before after → Works (demo_meaning seed) files before after (Err stop)
   demo_memory stop is counts = (subst (StopsLoading no_loading files) (sym is) tt, at counts)
     where
       at : CountsDemo seed before after → CountsStop (demo_meaning seed) files.files before after stop

@@ -1,5 +1,5 @@
 -- What a sink received of a text.
-use Rattle.std.proofs.Common.{◌≡◌, ℕ, List, [], refl, sym, arith}
+use Rattle.std.proofs.Common.{◌≡◌, ℕ, List, [], sym, arith}
 use Rattle.std.specs.Prelude.{Option, Result, Ok, Err, OnOk, is_ok, if◌then◌else◌}
 use Rattle.desk_outside.specs.Outside.{AppendsPrefix, HasCause}
 use Rattle.desk_outside.specs.Seen.{Sink, ReceivedAll}

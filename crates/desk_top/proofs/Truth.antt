@@ -1,5 +1,5 @@
 -- What is received is true.
-use Rattle.std.proofs.Common.{◌≡◌, ◌≢◌, ℕ, ◌<◌, ◌≤◌, ◌+◌, ◌-◌, List, [], ◌∷◌, ◌++◌, length, take, drop, flat_map, ap, sym, subst, ◌∙◌, arith, length-take, inl, inr, zero, suc, get_or, refl}
+use Rattle.std.proofs.Common.{◌≡◌, ℕ, ◌≤◌, ◌+◌, ◌-◌, List, [], ◌∷◌, ◌++◌, length, take, drop, flat_map, ap, sym, subst, ◌∙◌, arith, length-take, inl, inr, zero, suc, get_or, refl}
 use Rattle.std.proofs.Math.Seq.{take-append-add, take-append_seam, drop-append_seam}
 use Rattle.std.proofs.lemmas.List.{take_all, drop_all, take-append-le}
 use Rattle.std.proofs.lemmas.Bool.{cases_lt}
@@ -27,15 +27,15 @@ use Rattle.pair_table.specs.Numbers.{HaveEnds}
 use Rattle.pair_table.specs.Evidence.{SaysOfVerdict}
 use Rattle.desk_report.specs.Claims.{IsTrueText}
 use Rattle.desk_report.specs.Reports.{Subject, IsTableText, IsCertificateText, IsCloseText, run_name}
-use Rattle.desk_files.specs.Files.{Halt}
+use Rattle.desk_files.specs.Files.{Stop}
 use Rattle.desk_files.specs.Load.{Loaded}
 use Rattle.desk_top.specs.declared.status.Status.{Status}
 use Rattle.desk_top.specs.declared.status.Status.TheVariants.{Done, Outside, Memory, Close}
-use Rattle.desk_top.specs.Answer.{Answer, Saying, About, OfRuns, OfCheck, text_of, marks_for, IsTrueOfRuns, IsTrueOf, AreTrue, AreAlwaysTrue}
+use Rattle.desk_top.specs.Answer.{Answer, Saying, About, OfRuns, OfCheck, text_of, marks_for, IsTrueOf, AreTrue, AreAlwaysTrue}
 use Rattle.desk_top.specs.Outcome.{Outcome, Prints, Refuses, answer_of, IsOutcome, PrintsText}
-use Rattle.desk_top.specs.Report.{subject_of, HasDeskOf, PrintsTable, PrintsCertificate}
+use Rattle.desk_top.specs.Report.{subject_of, HasDeskOf}
 use Rattle.desk_top.specs.Verification.{reason_text, verification_text, PrintsCheck}
-use Rattle.desk_top.specs.Meaning.{Meaning, AnswersOn, IsAnswer, desk_meaning, check_meaning}
+use Rattle.desk_top.specs.Meaning.{Meaning, AnswersOn, IsAnswer, desk_meaning, check_meaning, PrintsTable, PrintsCertificate}
 use Rattle.desk_top.specs.Meets.{Call, HasAnswer, IsGiven, GivesAnswer, OutputFailed, FilesFailed, Stopped, Meets, ReceivesPart, SaysTruth, IsTruthful}
 use Rattle.desk_top.specs.Truths.{PrintsTruth}
 use Rattle.desk_top.proofs.Marking.{marks_known}
@@ -101,9 +101,9 @@ module _ (meaning : Meaning) (call : Call) where
   answer_is_true : IsTruthful meaning → (known : Option Files) (input : Input) (answer : Answer) → IsAnswer meaning known input answer → AreAlwaysTrue answer.said
   answer_is_true truthful known input answer is = at is.found is.is
     where
-      at : (found : Result meaning.loading.Found Halt) → AnswersOn meaning input found answer → AreAlwaysTrue answer.said
+      at : (found : Result meaning.loading.Found Stop) → AnswersOn meaning input found answer → AreAlwaysTrue answer.said
       at (Ok found) own = truthful found input answer own
-      at (Err halt) own = subst (λ (a : Answer). AreAlwaysTrue a.said) (sym own) tt
+      at (Err why) own = subst (λ (a : Answer). AreAlwaysTrue a.said) (sym own) tt
 
   -- what a call put is true, where the answers are
   pub says_truth : (status : Status) → IsTruthful meaning → Meets meaning call status → SaysTruth meaning call

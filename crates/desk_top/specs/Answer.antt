@@ -7,7 +7,7 @@ use Rattle.order_certificate.specs.Claim.{ClaimHolds}
 use Rattle.order_certificate.specs.declared.certificate.Certificate.{Certificate}
 use Rattle.desk_report.specs.Claims.{IsTrueText, IsTrueProposal}
 use Rattle.desk_report.specs.Reports.{Subject}
-use Rattle.desk_files.specs.Files.{Halt, Missing, NoMemory, Refused}
+use Rattle.desk_files.specs.Files.{Stop, Outside, Memory, Refused}
 use Rattle.desk_top.specs.declared.status.Status.{Status}
 use Rattle.desk_top.specs.declared.status.Status.TheVariants as statuses
 use Rattle.desk_top.specs.Status.{status_line}
@@ -52,18 +52,18 @@ abbrev pub usage : Answer
 usage = told_with statuses.Usage (status_line statuses.Usage)
 
 -- the status and the line of a file that is missing or refused, or of memory that ran out
-abbrev pub halt_status : Halt → Status
-halt_status Missing = statuses.Outside
-halt_status NoMemory = statuses.Memory
-halt_status (Refused refusal) = statuses.Refused
+abbrev pub stop_status : Stop → Status
+stop_status Outside = statuses.Outside
+stop_status Memory = statuses.Memory
+stop_status (Refused refusal) = statuses.Refused
 
-abbrev pub halt_line : Halt → List ℕ
-halt_line Missing = status_line statuses.Outside
-halt_line NoMemory = status_line statuses.Memory
-halt_line (Refused refusal) = refusal_line refusal
+abbrev pub stop_line : Stop → List ℕ
+stop_line Outside = status_line statuses.Outside
+stop_line Memory = status_line statuses.Memory
+stop_line (Refused refusal) = refusal_line refusal
 
-abbrev pub halted : Halt → Answer
-halted halt = told_with (halt_status halt) (halt_line halt)
+abbrev pub stop_answer : Stop → Answer
+stop_answer why = told_with (stop_status why) (stop_line why)
 
 -- the marks that the judgements file gives at the level of a certificate
 abbrev pub marks_for : Certificate → Desk → List (List Mark)

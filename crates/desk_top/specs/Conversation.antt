@@ -9,7 +9,7 @@ use Rattle.judge_session.specs.declared.change.Change.{Change}
 use Rattle.judge_session.specs.Request.{Heard, Asked, Next, heard_of}
 use Rattle.session_replies.specs.Replies.{Setting, changes_after, subject_after}
 use Rattle.session_replies.specs.State.{pairs_in}
-use Rattle.session_stream.specs.Hearing.{End, Done, TooLong, Failed, hearing_of}
+use Rattle.session_stream.specs.Hearing.{End, Done, InputTooLong, Failed, hearing_of}
 use Rattle.session_stream.specs.Text.{AreReplies, EndsSession, accepted_in, end_of}
 use Rattle.session_stream.specs.declared.stream.Ended.{Ended}
 use Rattle.session_stream.specs.declared.stream.Fault.{Fault}
@@ -38,13 +38,13 @@ sayings s changes (line ∷ more) (text ∷ texts) = record { about = about_repl
 -- the status of a session by how it ends
 abbrev pub status_at : End → Status
 status_at Done = statuses.Done
-status_at TooLong = statuses.Refused
+status_at InputTooLong = statuses.Refused
 status_at Failed = statuses.Outside
 
 -- the line that it tells
 abbrev pub told_at : End → List ℕ
 told_at Done = []
-told_at TooLong = long_input_line
+told_at InputTooLong = long_input_line
 told_at Failed = status_line statuses.Outside
 
 -- the answer of a session over an input: the replies to the lines that are heard

@@ -1,11 +1,12 @@
 -- What commands read of their files.
 use Rattle.std.specs.Prelude.{◌≡◌, ◌⊎◌, List, [], ◌∷◌, ℕ, Option, Some, None, Result, Ok, Err}
+use Rattle.desk_outside.specs.Calls.{opened_in}
 use Rattle.desk_outside.specs.Outside.{Files}
 use Rattle.desk_outside.specs.Seen.{Shelf}
 use Rattle.desk_words.specs.declared.command.Check.{Check}
 use Rattle.desk_words.specs.declared.command.Job.{Job}
 use Rattle.order_certificate.specs.declared.certificate.Certificate.{Certificate}
-use Rattle.desk_files.specs.Files.{Halt, Missing, NoMemory}
+use Rattle.desk_files.specs.Files.{Stop, Outside, Memory}
 use Rattle.desk_files.specs.Load.{Loaded, loaded, DeskMayOpen, Opens}
 use Rattle.desk_files.specs.Checks.{CheckComes, CheckMayOpen}
 use Rattle.desk_top.specs.Report.{sources_of}
@@ -14,15 +15,15 @@ use Rattle.desk_top.specs.Report.{sources_of}
 pub record Loading : Type 1 where
   -- what they come to where none is missing or refused
   pub Found : Type 0
-  -- they come to that or halt, where these are the files, if they are known
-  pub comes : Option Files → Result Found Halt → Type 0
+  -- they come to that or to a stop, where these are the files, if they are known
+  pub comes : Option Files → Result Found Stop → Type 0
   -- the names that may be opened, one after the other
   pub opens : Option Files → List (List ℕ) → Type 0
 
 -- files that are not known may come to anything, but none of them is called missing
-abbrev pub MayCome : {X : Type 0} → Option Files → (Files → Result X Halt → Type 0) → Result X Halt → Type 0
-MayCome None comes (Err Missing) = ⊥
-MayCome None comes (Err NoMemory) = ⊥
+abbrev pub MayCome : {X : Type 0} → Option Files → (Files → Result X Stop → Type 0) → Result X Stop → Type 0
+MayCome None comes (Err Outside) = ⊥
+MayCome None comes (Err Memory) = ⊥
 MayCome None comes found = Unit {0}
 MayCome (Some files) comes found = comes files found
 
@@ -52,4 +53,4 @@ OpensFiles loading known = (name : List ℕ) × loading.opens known (name ∷ []
 
 -- no file was opened, or those that may be, in their order
 abbrev pub OpensWithin : Loading → Shelf → Type 0
-OpensWithin loading files = (files.has ≡ files.had) ⊎ Opens (loading.opens files.files) files.had files.has
+OpensWithin loading files = (files.has ≡ files.had) ⊎ Opens (loading.opens files.files) (opened_in files.had) (opened_in files.has)

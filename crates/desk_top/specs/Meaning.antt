@@ -1,5 +1,5 @@
 -- What commands mean. A new command is one more case of `meaning_of`.
-use Rattle.std.specs.Prelude.{◌≡◌, ℕ, List, [], ◌∷◌, Option, Result, Ok, Err}
+use Rattle.std.specs.Prelude.{◌≡◌, ◌⊎◌, ℕ, List, [], ◌∷◌, Option, Result, Ok, Err}
 use Rattle.desk_outside.specs.Outside.{Files}
 use Rattle.desk_outside.specs.Inputs.{Input}
 use Rattle.desk_words.specs.Words.{IsCommandOf}
@@ -7,13 +7,13 @@ use Rattle.desk_words.specs.declared.command.Check.{Check}
 use Rattle.desk_words.specs.declared.command.Job.{Job}
 use Rattle.desk_words.specs.declared.command.Command.{Command}
 use Rattle.desk_words.specs.declared.command.Command.TheVariants.{Table, Certify, Verify, Session, Demo}
-use Rattle.desk_files.specs.Files.{Halt}
-use Rattle.desk_report.specs.Reports.{Subject, cells_of}
+use Rattle.desk_files.specs.Files.{Stop}
+use Rattle.desk_report.specs.Reports.{Subject, IsTableText, IsCertificateText, IsCloseText, cells_of}
 use Rattle.desk_top.specs.declared.status.Status.{Status}
 use Rattle.desk_top.specs.declared.status.Status.TheVariants as statuses
-use Rattle.desk_top.specs.Answer.{Answer, usage, halted}
-use Rattle.desk_top.specs.Outcome.{Outcome, IsOutcome}
-use Rattle.desk_top.specs.Report.{IsAsked, HasDeskOf, subject_of, PrintsTable, PrintsCertificate}
+use Rattle.desk_top.specs.Answer.{OfRuns, Answer, usage, stop_answer}
+use Rattle.desk_top.specs.Outcome.{Outcome, IsOutcome, PrintsText}
+use Rattle.desk_top.specs.Report.{IsAsked, HasDeskOf, subject_of}
 use Rattle.desk_top.specs.Verification.{PrintsCheck}
 use Rattle.desk_top.specs.Conversation.{setting_on, IsSession, session_cells}
 use Rattle.desk_top.specs.Showing.{PrintsDemo, HasDemoDesk}
@@ -89,6 +89,14 @@ usage_meaning = record {
   cells = λ found taken most. most ≡ 0;
 }
 
+-- the table of all pairs
+abbrev pub PrintsTable : Subject → Outcome → Type 0
+PrintsTable s outcome = PrintsText statuses.Done (OfRuns s) (IsTableText s) outcome
+
+-- the certificate of the first two runs, or their close line with its own status
+abbrev pub PrintsCertificate : Subject → Outcome → Type 0
+PrintsCertificate s outcome = PrintsText statuses.Done (OfRuns s) (IsCertificateText s 0 1) outcome ⊎ PrintsText statuses.Close (OfRuns s) (IsCloseText s 0 1) outcome
+
 -- what a command means
 abbrev pub meaning_of : Command → Meaning
 meaning_of (Table job) = desk_meaning job 1 (statuses.Done ∷ []) PrintsTable
@@ -102,13 +110,13 @@ pub record Means (words : List (List ℕ)) (fact : Meaning → Type 0) : Type 0 
   pub command : (command : Command) → IsCommandOf words command → fact (meaning_of command)
   pub usage : ((command : Command) → IsCommandOf words command → ⊥) → fact usage_meaning
 
--- the answer to what files came to: that of their halt, or one on what they say
-abbrev pub AnswersOn : (meaning : Meaning) → Input → Result meaning.loading.Found Halt → Answer → Type 0
+-- the answer to what files came to: that of their stop, or one on what they say
+abbrev pub AnswersOn : (meaning : Meaning) → Input → Result meaning.loading.Found Stop → Answer → Type 0
 AnswersOn meaning input (Ok found) answer = meaning.answers found input answer
-AnswersOn meaning input (Err halt) answer = answer ≡ halted halt
+AnswersOn meaning input (Err why) answer = answer ≡ stop_answer why
 
 -- an answer, where these are the files, if they are known, and this is the input
 pub record IsAnswer (meaning : Meaning) (known : Option Files) (input : Input) (answer : Answer) : Type 0 where
-  pub found : Result meaning.loading.Found Halt
+  pub found : Result meaning.loading.Found Stop
   pub comes : meaning.loading.comes known found
   pub is : AnswersOn meaning input found answer

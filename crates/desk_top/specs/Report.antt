@@ -1,5 +1,5 @@
 -- What commands make of a desk.
-use Rattle.std.specs.Prelude.{◌≡◌, ◌⊎◌, ℕ, ◌≤◌, List, length, map, Option}
+use Rattle.std.specs.Prelude.{◌≡◌, ℕ, ◌≤◌, List, length, map, Option}
 use Rattle.desk_outside.specs.Outside.{Files}
 use Rattle.desk_words.specs.declared.command.Job.{Job}
 use Rattle.desk_model.specs.Desk.{Desk, file_marks}
@@ -10,16 +10,14 @@ use Rattle.topic_counts.specs.declared.span.Span.{Span}
 use Rattle.measure_core.specs.declared.cell.Cell.{Cell}
 use Rattle.order_certificate.specs.Certificate.{IsLevel}
 use Rattle.topics_pool.specs.Rows.{IsDeskOf}
-use Rattle.desk_report.specs.Reports.{Subject, subject, IsTableOn, IsTableText, IsCertificateText, IsCloseText}
+use Rattle.desk_report.specs.Reports.{Subject, subject, IsTableOn}
 use Rattle.desk_files.specs.Load.{Sources, sources, Loaded, Reads}
 use Rattle.desk_report.specs.declared.reports.Certified.{Certified}
 use Rattle.desk_report.specs.declared.reports.Certified.TheVariants as certified
 use Rattle.desk_top.specs.declared.status.Status.TheVariants.{Done, Close}
 use Rattle.desk_top.specs.declared.outcome.Outcome.{Outcome as Made}
 use Rattle.desk_top.specs.declared.outcome.Outcome.TheVariants as made
-use Rattle.desk_top.specs.declared.report.DeskTable.{DeskTable}
-use Rattle.desk_top.specs.Answer.{OfRuns}
-use Rattle.desk_top.specs.Outcome.{Outcome, PrintsText}
+use Rattle.desk_top.specs.declared.work.DeskTable.{DeskTable}
 
 -- what the desk of a job is read from
 abbrev pub sources_of : Job → Sources
@@ -38,14 +36,6 @@ marks_in job desk = map (file_marks job.level) desk.topics
 -- what a report on the desk of a job speaks of
 abbrev pub subject_of : Job → Desk → Subject
 subject_of job desk = subject job.measure job.level desk (marks_in job desk)
-
--- the table of all pairs
-abbrev pub PrintsTable : Subject → Outcome → Type 0
-PrintsTable s outcome = PrintsText Done (OfRuns s) (IsTableText s) outcome
-
--- the certificate of the first two runs, or their close line with its own status
-abbrev pub PrintsCertificate : Subject → Outcome → Type 0
-PrintsCertificate s outcome = PrintsText Done (OfRuns s) (IsCertificateText s 0 1) outcome ⊎ PrintsText Close (OfRuns s) (IsCloseText s 0 1) outcome
 
 -- what was made of the answer to two runs
 abbrev pub shown_as : Certified → Made

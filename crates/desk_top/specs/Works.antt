@@ -2,10 +2,10 @@
 use Rattle.std.specs.Prelude.{◌≡◌, ◌⊎◌, ℕ, ◌+◌, ◌<◌, ◌≤◌, List, [], length, Option, Result, Ok, Err}
 use Rattle.desk_outside.specs.Outside.{Files, Rose}
 use Rattle.desk_outside.specs.Inputs.{Input}
-use Rattle.desk_outside.specs.Seen.{Shelf, Sink, ReceivedNothing, ReceivedAll, ReceivedPrefix}
-use Rattle.desk_files.specs.declared.stop.Stop.{Stop}
-use Rattle.desk_files.specs.declared.stop.Stop.TheVariants as stops
-use Rattle.desk_files.specs.Files.{Missing, Refused}
+use Rattle.desk_outside.specs.Seen.{Shelf, Sink, ReceivedAll, ReceivedPrefix}
+use Rattle.desk_files.specs.declared.stop.Stop.{Stop as KeptStop}
+use Rattle.desk_files.specs.declared.stop.Stop.TheVariants as kept
+use Rattle.desk_files.specs.Files.{Outside, Refused}
 use Rattle.desk_files.specs.Views.{refusal_of}
 use Rattle.session_replies.specs.Replies.{Setting}
 use Rattle.session_replies.specs.State.{IsSetting}
@@ -45,18 +45,18 @@ MakesOutcome meaning before after found (made.Refuses line) = ((input : Input) �
 MakesOutcome meaning before after found (made.Holds desk measure level) = HoldsSession meaning found (record { measure = measure; level = level; desk = desk }) × (after ≡ before)
 
 -- why files did not come to anything: to that refusal they come; the shelf failed, or one is missing; memory may run out at any time
-abbrev pub StopsLoading : Loading → Shelf → Stop → Type 0
-StopsLoading loading shelf (stops.Refused refusal) = loading.comes shelf.files (Err (Refused (refusal_of refusal)))
-StopsLoading loading shelf stops.Outside = (OpensFiles loading shelf.files × Rose shelf.before shelf.after) ⊎ loading.comes shelf.files (Err Missing)
-StopsLoading loading shelf stops.Memory = Unit {0}
+abbrev pub StopsLoading : Loading → Shelf → KeptStop → Type 0
+StopsLoading loading shelf (kept.Refused refusal) = loading.comes shelf.files (Err (Refused (refusal_of refusal)))
+StopsLoading loading shelf kept.Outside = (OpensFiles loading shelf.files × Rose shelf.before shelf.after) ⊎ loading.comes shelf.files (Err Outside)
+StopsLoading loading shelf kept.Memory = Unit {0}
 
 -- the cells that were evaluated before a command stopped: none, unless memory ran out after its files were read
-abbrev pub CountsStop : Meaning → Option Files → ℕ → ℕ → Stop → Type 0
+abbrev pub CountsStop : Meaning → Option Files → ℕ → ℕ → KeptStop → Type 0
 CountsStop meaning known before after stop =
-    (after ≡ before) ⊎ ((stop ≡ stops.Memory) × (found : meaning.loading.Found) × meaning.loading.comes known (Ok found) × CountsFor meaning before after found)
+    (after ≡ before) ⊎ ((stop ≡ kept.Memory) × (found : meaning.loading.Found) × meaning.loading.comes known (Ok found) × CountsFor meaning before after found)
 
 -- what a command makes of its files
-abbrev pub Works : Meaning → Shelf → ℕ → ℕ → Result Made Stop → Type 0
+abbrev pub Works : Meaning → Shelf → ℕ → ℕ → Result Made KeptStop → Type 0
 Works meaning shelf before after (Ok outcome) = (found : meaning.loading.Found) × meaning.loading.comes shelf.files (Ok found) × MakesOutcome meaning before after found outcome
 Works meaning shelf before after (Err stop) = StopsLoading meaning.loading shelf stop × CountsStop meaning shelf.files before after stop
 

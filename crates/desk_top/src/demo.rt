@@ -1,5 +1,6 @@
 // The command that shows a demo.
-ghost use Rattle.std.specs.Prelude.{◌≡◌, IfOk};
+ghost use Rattle.std.specs.Prelude.{◌≡◌, IfOk, IfErr};
+ghost use Rattle.desk_files.specs.declared.stop.Stop.TheVariants.{Memory as NoMemory};
 ghost use Rattle.desk_model.specs.Desk.{IsDesk};
 ghost use Rattle.desk_outside.specs.Seen.{Shelf as SeenShelf};
 ghost use Rattle.desk_report.specs.Reports.{IsTableOn};
@@ -71,7 +72,8 @@ pub fn demo_outcome<'a, P: Maker, L: Ledger>(
     seed: u32,
     steps: &mut Steps<L>,
 ) -> Result<Outcome, Stop<'a>>
-    ensures { (files : SeenShelf) → Works (demo_meaning seed) files steps.old steps.new result }
+    ensures works { (files : SeenShelf) → Works (demo_meaning seed) files steps.old steps.new result }
+    ensures memory { IfErr result (λ stop. stop ≡ NoMemory) }
 {
     let text = demo_text(tools, seed, steps)?;
     Ok(Outcome::Prints {

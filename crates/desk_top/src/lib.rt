@@ -4,13 +4,13 @@
 mod demo;
 mod laws;
 mod outcome;
-mod report;
 mod session;
 mod status;
 mod tell;
 mod tools;
 mod top;
 mod verify;
+mod work;
 
 pub use status::Status;
 pub use tell::{tell_memory, tell_outside};

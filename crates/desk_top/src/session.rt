@@ -1,7 +1,10 @@
 // The command that holds a session.
 ghost use Rattle.std.specs.Prelude.{◌≡◌, ℕ};
+ghost use Rattle.desk_files.specs.Reads.{ReadsFiles, extent_of};
+ghost use Rattle.desk_files.specs.Views.{answer_of};
 ghost use Rattle.desk_outside.specs.Seen.{shelf, source, sink};
 ghost use Rattle.session_replies.specs.State.{setting_of, IsSetting};
+ghost use Rattle.session_stream.specs.NoMore.{ReadsNoMore};
 ghost use Rattle.session_stream.specs.Text.{EvaluatesWithin};
 ghost use Rattle.desk_top.specs.Conversation.{AnswersSession};
 ghost use Rattle.desk_top.specs.Loading.{desk_loading, OpensWithin};
@@ -31,6 +34,7 @@ pub fn session_outcome<'a, F: Shelf>(
     requires { IsAsked 1 job.now }
     ensures works { (cells : ℕ) → Works (session_meaning job.now) (shelf (F.state files.old) (F.state files.new)) cells cells result }
     ensures opened { OpensWithin (desk_loading job.now) (shelf (F.state files.old) (F.state files.new)) }
+    ensures reads { ReadsFiles (extent_of (answer_of result)) (F.state files.old).calls (F.state files.new).calls }
     ensures files { (F.state files.new).files ≡ (F.state files.old).files }
 {
     let desk = load_desk(alloc, files, &job.qrels, &job.runs)?;
@@ -57,10 +61,11 @@ pub fn answer_session<S: Source, K: Sink, E: Sink, P: Maker, L: Ledger>(
         (sink (E.state err.old) (E.state err.new)) result }
     ensures cells { EvaluatesWithin (setting_of given.now)
         (source (S.state input.old) (S.state input.new)) steps.old steps.new }
+    ensures heard { ReadsNoMore (source (S.state input.old) (S.state input.new)) }
 {
     match hold_session(tools.alloc, input, out, given, tools.maker, steps) {
         Ok(Ended::Done) => Status::Done,
-        Ok(Ended::TooLong) => tell_long_input(err),
+        Ok(Ended::InputTooLong) => tell_long_input(err),
         Err(Fault::Input) => tell_outside(err),
         Err(Fault::Output) => tell_outside(err),
         Err(Fault::Memory) => tell_memory(err),

@@ -105,33 +105,33 @@ fn push_refusal(line: &mut Vec<u8>, refusal: &Refusal) -> Result<(), AllocError>
     ensures { OnOk result (line.new.items ≡ line.old.items ++ refusal_text (refusal_of refusal.now)) }
 {
     match refusal {
-        Refusal::TooLong(path) => {
+        Refusal::FileTooLong(path) => {
             line.extend_from_slice(path.as_bytes())?;
             line.extend_from_slice(b": FileTooLong")
         }
-        Refusal::BadLine(path, number, fault) => {
+        Refusal::Line(path, number, fault) => {
             line.extend_from_slice(path.as_bytes())?;
             push_fault(line, *number, *fault)
         }
-        Refusal::LacksTopics(path) => {
+        Refusal::NoTopics(path) => {
             line.extend_from_slice(path.as_bytes())?;
             line.extend_from_slice(b": NoTopics")
         }
-        Refusal::LacksTag(path) => {
+        Refusal::NoTag(path) => {
             line.extend_from_slice(path.as_bytes())?;
             line.extend_from_slice(b": NoTag")
         }
-        Refusal::BadCertificate(path, number) => {
+        Refusal::BadLine(path, number) => {
             line.extend_from_slice(path.as_bytes())?;
             line.extend_from_slice(b" line ")?;
             push_number(line, *number)?;
             line.extend_from_slice(b": BadLine")
         }
-        Refusal::Repeated(name) => {
+        Refusal::SameName(name) => {
             line.extend_from_slice(name)?;
             line.extend_from_slice(b": SameName")
         }
-        Refusal::Excessive(cells) => {
+        Refusal::TooManyCells(cells) => {
             line.extend_from_slice(b"desk: TooManyCells ")?;
             push_number(line, *cells)
         }

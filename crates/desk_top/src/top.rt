@@ -1,22 +1,17 @@
 // The top call.
 ghost use Rattle.std.specs.Prelude.{◌≡◌, ◌≤◌, map, string_bytes};
 ghost use Rattle.desk_outside.specs.Seen.{shelf, source, sink};
-ghost use Rattle.desk_top.specs.Loading.{OpensWithin};
 ghost use Rattle.desk_top.specs.Meaning.{Means, meaning_of};
 ghost use Rattle.desk_top.specs.Meets.{call, Meets, IsCallOf, LeavesInput};
 ghost use Rattle.desk_top.specs.Status.{IsStatus};
-ghost use Rattle.desk_top.specs.Works.{Works};
 
-use crate::demo::demo_outcome;
 use crate::laws::printed_texts_are_true;
 use crate::outcome::{Outcome, put_text};
-use crate::report::{certificate_outcome, table_outcome};
-use crate::session::{answer_session, session_outcome};
+use crate::session::answer_session;
 use crate::status::Status;
 use crate::tell::{tell_memory, tell_refusal, tell_stop, tell_usage};
 use crate::tools::Tools;
-use crate::verify::check_outcome;
-use desk_files::Stop;
+use crate::work::outcome_of;
 use desk_outside::{Shelf, Sink, Source};
 use desk_words::laws::command_is_unique;
 use desk_words::{Command, WordsFault, read_words};
@@ -24,27 +19,6 @@ use measure_core::{Maker, Steps};
 use session_replies::Given;
 use std::alloc::Global;
 use std::sync::ledger::Ledger;
-
-// What a command makes of what its files come to.
-fn outcome_of<'a, F: Shelf, P: Maker, L: Ledger>(
-    tools: &Tools<'_, P>,
-    command: &'a Command,
-    files: &mut F,
-    steps: &mut Steps<L>,
-) -> Result<Outcome, Stop<'a>>
-    requires { (meaning_of command.now).asked }
-    ensures works { Works (meaning_of command.now) (shelf (F.state files.old) (F.state files.new)) steps.old steps.new result }
-    ensures opened { OpensWithin (meaning_of command.now).loading (shelf (F.state files.old) (F.state files.new)) }
-    ensures files { (F.state files.new).files ≡ (F.state files.old).files }
-{
-    match command {
-        Command::Table(job) => table_outcome(tools, job, files, steps),
-        Command::Certify(job) => certificate_outcome(tools, job, files, steps),
-        Command::Session(job) => session_outcome(tools.alloc, files, job),
-        Command::Verify(check) => check_outcome(tools.alloc, files, check),
-        Command::Demo { seed } => demo_outcome(tools, *seed, steps),
-    }
-}
 
 // Runs a command, and answers its status.
 fn run_command<F: Shelf, S: Source, K: Sink, E: Sink, P: Maker, L: Ledger>(
@@ -93,8 +67,9 @@ fn run_command<F: Shelf, S: Source, K: Sink, E: Sink, P: Maker, L: Ledger>(
 /// with 0 and `accepted` or with 5 and the reason, `session` with 0 and a reply to each line that is heard, or with 1 where
 /// its input is too long. These end with 1 where their files are refused, and with 3 where a path is not held. `demo` has
 /// no files, and ends with 0, its summary and the document to judge next. No file is opened but those of the words, in
-/// their order; where the files are known, none after the first that is missing or refused. `session` alone reads the
-/// input.
+/// their order; where the files are known, none after the first that is missing or refused. Each is read to its end and no
+/// further, also after its first fault; the last one, if it is too long, to the first byte above the limit. `session` alone
+/// reads the input, once its files make a desk, and nothing after the line `quit` or the end.
 pub fn run_desk<F: Shelf, S: Source, K: Sink, E: Sink, P: Maker, L: Ledger>(
     alloc: Global,
     words: &[String],

@@ -1,6 +1,8 @@
 // The command that checks a certificate.
 ghost use Rattle.std.specs.Prelude.{◌≡◌, ◌++◌, ℕ, IfOk, IfErr, OnOk, codes};
 ghost use Rattle.order_certificate.specs.Certificate.{IsCertificate};
+ghost use Rattle.desk_files.specs.Reads.{ReadsFiles, extent_of};
+ghost use Rattle.desk_files.specs.Views.{answer_of};
 ghost use Rattle.desk_outside.specs.Seen.{shelf};
 ghost use Rattle.desk_top.specs.Loading.{check_loading, OpensWithin};
 ghost use Rattle.desk_top.specs.Meaning.{check_meaning};
@@ -89,6 +91,7 @@ pub fn check_outcome<'a, F: Shelf>(
 ) -> Result<Outcome, Stop<'a>>
     ensures works { (cells : ℕ) → Works (check_meaning check.now) (shelf (F.state files.old) (F.state files.new)) cells cells result }
     ensures opened { OpensWithin (check_loading check.now) (shelf (F.state files.old) (F.state files.new)) }
+    ensures reads { ReadsFiles (extent_of (answer_of result)) (F.state files.old).calls (F.state files.new).calls }
     ensures files { (F.state files.new).files ≡ (F.state files.old).files }
 {
     let (desk, certificate) = load_check(alloc, files, check)?;

@@ -7,12 +7,13 @@ use Rattle.std.proofs.Math.Nat.{mul-le-mul_left}
 use Rattle.desk_outside.specs.Outside.{Rose}
 use Rattle.desk_outside.specs.Inputs.{Input, Whole, Cut, IsPart, IsTaken}
 use Rattle.desk_outside.specs.Seen.{Source, Sink, ReceivedAll}
+use Rattle.desk_outside.specs.declared.log.ReadCall.{ReadCall}
 use Rattle.desk_outside.proofs.Told.{append_known-nil, prepend_known-nil, prepend_known-prepend}
 use Rattle.judge_session.specs.declared.change.Change.{Change}
 use Rattle.session_replies.specs.Replies.{Setting}
 use Rattle.session_replies.specs.State.{cells_of, pairs_in}
 use Rattle.desk_text.specs.Lines.{whole_lines}
-use Rattle.session_stream.specs.Hearing.{End, Done, TooLong, Failed, has_quit, before_quit, hearing_of}
+use Rattle.session_stream.specs.Hearing.{End, Done, InputTooLong, Failed, has_quit, before_quit, hearing_of}
 use Rattle.session_stream.specs.Text.{AreReplies, accepted_in, joined, HasReplies, EndsSession, EvaluatesWithin}
 use Rattle.session_stream.specs.Held.{Talks, Quits, StopsIn, IsBroken, IsHeld, AnswersPiece}
 use Rattle.session_stream.specs.declared.stream.Fault.{Fault}
@@ -77,14 +78,14 @@ module _ (s : Setting) where
 
   -- more bytes came than the limit
   pub long_input : (input : Source) (out : Sink) (bytes begun more : List ℕ) (texts : List (List ℕ)) → input.rest ≡ prepend_known bytes input.left → bytes ≡ begun ++ more → length begun ≡ LONGEST_INPUT → 0 < length more → has_quit (whole_lines begun) ≡ false →
-      AreReplies s [] (whole_lines begun) texts → ReceivedAll out (joined texts) → EndsSession s input out (Ok ended.TooLong)
+      AreReplies s [] (whole_lines begun) texts → ReceivedAll out (joined texts) → EndsSession s input out (Ok ended.InputTooLong)
   long_input input out bytes begun more texts rest is full some none are holds =
       let all = whole_input input.rest input.left bytes rest in
       let heard = heard_too_long (Whole (bytes ++ all.0)) begun (more ++ all.0) (ap (λ b. b ++ all.0) is ∙ append_assoc begun more all.0) full (omega (arith, length-append more all.0, some)) none in record {
         input = Whole (bytes ++ all.0);
         met = all.1;
         texts = texts;
-        replies = heard_replies s (Whole (bytes ++ all.0)) (whole_lines begun) texts TooLong heard are;
+        replies = heard_replies s (Whole (bytes ++ all.0)) (whole_lines begun) texts InputTooLong heard are;
         holds = (ap (λ h. h.end) heard, holds);
       }
 
@@ -110,11 +111,11 @@ module _ (s : Setting) where
       (taken, is, omega (arith, few, le))
 
   -- nothing was taken
-  pub no_memory_yet : (rest had : Option (List ℕ)) (a b d e : ℕ) → EndsSession s (record { rest = rest; left = rest; before = a; after = b }) (record { had = had; has = had; before = d; after = e }) (Err faults.Memory)
-  no_memory_yet rest had a b d e = part_replies (record { rest = rest; left = rest; before = a; after = b }) (λ text. had ≡ append_known had text) [] [] [] (prepend_known-nil rest) (omega arith) refl tt (sym (append_known-nil had))
+  pub no_memory_yet : (reads : List ReadCall) (rest had : Option (List ℕ)) (a b d e : ℕ) → EndsSession s (record { rest = rest; left = rest; had = reads; has = reads; before = a; after = b }) (record { had = had; has = had; before = d; after = e }) (Err faults.Memory)
+  no_memory_yet reads rest had a b d e = part_replies (record { rest = rest; left = rest; had = reads; has = reads; before = a; after = b }) (λ text. had ≡ append_known had text) [] [] [] (prepend_known-nil rest) (omega arith) refl tt (sym (append_known-nil had))
 
-  pub no_cells_yet : (rest : Option (List ℕ)) (a b steps : ℕ) → EvaluatesWithin s (record { rest = rest; left = rest; before = a; after = b }) steps steps
-  no_cells_yet rest a b steps = within_cells (record { rest = rest; left = rest; before = a; after = b }) (Cut []) steps steps [] (prepend_known-nil rest) ((hearing_of (Cut [])).lines, refl) (omega arith)
+  pub no_cells_yet : (reads : List ReadCall) (rest : Option (List ℕ)) (a b steps : ℕ) → EvaluatesWithin s (record { rest = rest; left = rest; had = reads; has = reads; before = a; after = b }) steps steps
+  no_cells_yet reads rest a b steps = within_cells (record { rest = rest; left = rest; had = reads; has = reads; before = a; after = b }) (Cut []) steps steps [] (prepend_known-nil rest) ((hearing_of (Cut [])).lines, refl) (omega arith)
 
   -- ---- what a piece came to, where it was the whole of what was taken within the limit
   module _ (input : Source) (out : Sink) (before steps : ℕ) (all answered : List ℕ) (rest : input.rest ≡ prepend_known all input.left) (cut : take LONGEST_INPUT all ≡ answered) where
@@ -171,7 +172,7 @@ module _ (s : Setting) where
         let few = heard_first begun (drop LONGEST_INPUT h.bytes) (omega (arith, length-take LONGEST_INPUT h.bytes)) h.talks.no_quit in
         within_cells input (Cut h.bytes) before steps (whole_lines begun) rest_is (subst (λ b. Begins (whole_lines begun) (hearing_of (Cut b)).lines) both few) (omega (arith, h.talks.cells))
 
-    pub too_long_end : LONGEST_INPUT < taken → EndsSession s input out (Ok ended.TooLong)
+    pub too_long_end : LONGEST_INPUT < taken → EndsSession s input out (Ok ended.InputTooLong)
     too_long_end lt =
         let begun = take LONGEST_INPUT h.bytes in
         long_input input out h.bytes begun (drop LONGEST_INPUT h.bytes) h.talks.texts rest_is (sym (take-append-drop LONGEST_INPUT h.bytes)) (omega (arith, length-take LONGEST_INPUT h.bytes, h.count, lt))

@@ -6,7 +6,7 @@ use Rattle.std.proofs.lemmas.List.{take_all, take-append-le}
 use Rattle.std.proofs.Math.Seq.{take-append-add}
 use Rattle.desk_text.specs.Lines.{whole_lines, onto_whole}
 use Rattle.desk_outside.specs.Inputs.{Input, Cut, bytes_in}
-use Rattle.session_stream.specs.Hearing.{Done, TooLong, Hearing, ends, has_quit, before_quit, heard_to_end, ended_lines, hearing_of}
+use Rattle.session_stream.specs.Hearing.{Done, InputTooLong, Hearing, ends, has_quit, before_quit, heard_to_end, ended_lines, hearing_of}
 use Rattle.session_stream.specs.declared.stream.TheConstants.{LONGEST_INPUT}
 
 -- one list begins another
@@ -69,14 +69,14 @@ cut_at_limit first rest le =
     ap (λ k. take k (first ++ rest)) long ∙ take-append-add first rest (LONGEST_INPUT - length first)
 
 abbrev by_case : Bool → Bool → List (List ℕ) → Hearing → Hearing
-by_case quits long ls rest = cond quits (record { lines = before_quit ls; end = Done }) (cond long (record { lines = ls; end = TooLong }) rest)
+by_case quits long ls rest = cond quits (record { lines = before_quit ls; end = Done }) (cond long (record { lines = ls; end = InputTooLong }) rest)
 
 -- an input within the limit, none of whose lines that end is `quit`
 pub heard_whole : (input : Input) → length (bytes_in input) ≤ LONGEST_INPUT → has_quit (whole_lines (bytes_in input)) ≡ false → hearing_of input ≡ heard_to_end input
 heard_whole input le none =
     let own : ended_lines input ≡ whole_lines (bytes_in input) = ap whole_lines (within_limit (bytes_in input) le) in
     ap (λ c. by_case c (nat_lt LONGEST_INPUT (length (bytes_in input))) (ended_lines input) (heard_to_end input)) (ap has_quit own ∙ none)
-    ∙ ap (λ c. cond c (record { lines = ended_lines input; end = TooLong }) (heard_to_end input)) (le-ltb LONGEST_INPUT (length (bytes_in input)) le)
+    ∙ ap (λ c. cond c (record { lines = ended_lines input; end = InputTooLong }) (heard_to_end input)) (le-ltb LONGEST_INPUT (length (bytes_in input)) le)
 
 -- where `quit` is the next line after those of a prefix
 pub heard_to_quit : (input : Input) (first rest : List ℕ) (ls : List (List ℕ)) (q : List ℕ) → bytes_in input ≡ first ++ rest → length first ≤ LONGEST_INPUT → whole_lines first ≡ ls ++ q ∷ [] → has_quit ls ≡ false → ends q ≡ true →
@@ -92,14 +92,14 @@ heard_to_quit input first rest ls q is le own none quit =
 
 -- where more comes than the limit
 pub heard_too_long : (input : Input) (first rest : List ℕ) → bytes_in input ≡ first ++ rest → length first ≡ LONGEST_INPUT → 0 < length rest → has_quit (whole_lines first) ≡ false →
-    hearing_of input ≡ record { lines = whole_lines first; end = TooLong }
+    hearing_of input ≡ record { lines = whole_lines first; end = InputTooLong }
 heard_too_long input first rest is full some none =
     let own : ended_lines input ≡ whole_lines first =
     ap (λ b. whole_lines (take LONGEST_INPUT b)) is ∙ ap whole_lines (take-append-le LONGEST_INPUT first rest (omega (arith, full)) ∙ take_all LONGEST_INPUT first (omega (arith, full))) in
     let long : LONGEST_INPUT < length (bytes_in input) = subst (λ b. LONGEST_INPUT < length b) (sym is) (omega (arith, length-append first rest, full, some)) in
     ap (λ l. by_case (has_quit l) (nat_lt LONGEST_INPUT (length (bytes_in input))) l (heard_to_end input)) own
     ∙ ap (λ c. by_case c (nat_lt LONGEST_INPUT (length (bytes_in input))) (whole_lines first) (heard_to_end input)) none
-    ∙ ap (λ c. cond c (record { lines = whole_lines first; end = TooLong }) (heard_to_end input)) (lt-ltb LONGEST_INPUT (length (bytes_in input)) long)
+    ∙ ap (λ c. cond c (record { lines = whole_lines first; end = InputTooLong }) (heard_to_end input)) (lt-ltb LONGEST_INPUT (length (bytes_in input)) long)
 
 -- the lines of a prefix without `quit` come first among those that are heard
 pub heard_first : (first rest : List ℕ) → length first ≤ LONGEST_INPUT → has_quit (whole_lines first) ≡ false → Begins (whole_lines first) (hearing_of (Cut (first ++ rest))).lines

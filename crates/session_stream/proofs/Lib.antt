@@ -6,4 +6,5 @@ pub mod Pieces
 pub mod Ending
 pub mod Reading
 pub mod LastLine
+pub mod LastRead
 pub mod OneLine

@@ -8,7 +8,7 @@ use Rattle.session_stream.specs.declared.stream.TheConstants.{LONGEST_INPUT}
 -- how a session ends: its input was heard to its end or to `quit`; it was too long; it failed
 pub data End : Type 0 where
   Done : End
-  TooLong : End
+  InputTooLong : End
   Failed : End
 
 abbrev pub is_quit : Heard → Bool
@@ -47,5 +47,5 @@ ended_lines input = whole_lines (take LONGEST_INPUT (bytes_in input))
 abbrev pub hearing_of : Input → Hearing
 hearing_of input =
     if has_quit (ended_lines input) then record { lines = before_quit (ended_lines input); end = Done }
-    else if nat_lt LONGEST_INPUT (length (bytes_in input)) then record { lines = ended_lines input; end = TooLong }
+    else if nat_lt LONGEST_INPUT (length (bytes_in input)) then record { lines = ended_lines input; end = InputTooLong }
     else heard_to_end input

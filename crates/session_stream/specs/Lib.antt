@@ -1,3 +1,4 @@
 pub mod Hearing
 pub mod Text
 pub mod Held
+pub mod NoMore

@@ -45,7 +45,7 @@ pub record HasReplies (s : Setting) (is_input : Input → Type 0) (fact : End �
 -- how the input ended
 abbrev pub end_of : Ended → End
 end_of ended.Done = Rattle.session_stream.specs.Hearing.Done
-end_of ended.TooLong = Rattle.session_stream.specs.Hearing.TooLong
+end_of ended.InputTooLong = Rattle.session_stream.specs.Hearing.InputTooLong
 
 -- how a session ended: the output received exactly the replies to its lines; where the output failed, a prefix of replies to lines of the input
 abbrev pub EndsSession : Setting → Source → Sink → Result Ended Fault → Type 0

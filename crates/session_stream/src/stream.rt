@@ -4,6 +4,7 @@ ghost use Rattle.desk_outside.specs.Seen.{source, sink};
 ghost use Rattle.desk_text.specs.Lines.{kept_line, unended};
 ghost use Rattle.session_replies.specs.State.{setting_of, IsSetting, IsReadyForLine, cells_of, owed};
 ghost use Rattle.session_stream.specs.Held.{Talks, IsPut, TakesSteps, AnswersLine, AnswersPiece};
+ghost use Rattle.session_stream.specs.NoMore.{ReadsNoMore};
 ghost use Rattle.session_stream.specs.Text.{EndsSession, EvaluatesWithin};
 
 use desk_outside::{Sink, Source, put_all};
@@ -26,7 +27,7 @@ pub enum Ended {
     /// It was read to its end, or to the line `quit`.
     Done,
     /// It has more than 1,073,741,824 bytes, and no line `quit` ends within them.
-    TooLong,
+    InputTooLong,
 }
 
 /// Why a session stopped.
@@ -147,6 +148,7 @@ fn answer_input<S: Source, K: Sink, P: Maker, L: Ledger>(
         (sink (K.state out.old) (K.state out.new)) result }
     ensures cells { EvaluatesWithin (setting_of given.now)
         (source (S.state input.old) (S.state input.new)) steps.old steps.new }
+    ensures heard { ReadsNoMore (source (S.state input.old) (S.state input.new)) }
 {
     let mut room = [0u8; ROOM];
     let mut taken = 0;
@@ -177,7 +179,7 @@ fn answer_input<S: Source, K: Sink, P: Maker, L: Ledger>(
             Err(fault) => return Err(fault),
         }
     }
-    Ok(Ended::TooLong)
+    Ok(Ended::InputTooLong)
 }
 
 /// Answers the lines of the input, each before the next read, up to `quit` or to the end of the input.
@@ -195,6 +197,7 @@ pub fn hold_session<S: Source, K: Sink, P: Maker, L: Ledger>(
         (sink (K.state out.old) (K.state out.new)) result }
     ensures cells { EvaluatesWithin (setting_of given.now)
         (source (S.state input.old) (S.state input.new)) steps.old steps.new }
+    ensures heard { ReadsNoMore (source (S.state input.old) (S.state input.new)) }
 {
     let Ok(mut lines) = Lines::new(alloc) else {
         return Err(Fault::Memory);

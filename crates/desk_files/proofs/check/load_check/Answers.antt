@@ -9,6 +9,7 @@ use Rattle.desk_files.specs.Outcome.{StopsAt}
 use Rattle.desk_files.specs.Load.{Loaded, Reads, loaded}
 use Rattle.desk_files.specs.Certificates.{CertificateComes}
 use Rattle.desk_files.specs.Checks.{sources_of, CheckComes, MakesCheck}
+use Rattle.desk_files.proofs.InTurn.{file_opened, reads_one, reads_then, files_handed_on}
 use Rattle.desk_files.proofs.Stopping.{if_some_at, stops_at_too, handed_on}
 use Rattle.desk_files.proofs.Checking.{opens_for_desk, opens_all_and_certificate}
 use Rattle.desk_files.proofs.check.load_check.Goals as goal
@@ -26,7 +27,7 @@ returns-in_err-desk-clause-makes g c =
     let check = c.args.check.now in
     let stop = c.in_err-desk.field-0.0 in
     handed_on (λ r. MakesCheck known before now check r) c.from_residual.result stop c.from_residual.ensures.1
-    (stops_at_too known before before now stop (λ files halt. loaded files (sources_of check) ≡ Err halt) (λ files halt. CheckComes files check (Err halt)) (le_refl before) c.in_err-desk.ensures.makes (λ files halt told halts. inl halts))
+    (stops_at_too known before before now stop (λ files why. loaded files (sources_of check) ≡ Err why) (λ files why. CheckComes files check (Err why)) (le_refl before) c.in_err-desk.ensures.makes (λ files why told stops. inl stops))
 
 pub returns-in_err-certificate-clause-makes : goal.returns-in_err-certificate-clause-makes
 returns-in_err-certificate-clause-makes g c =
@@ -37,10 +38,10 @@ returns-in_err-certificate-clause-makes g c =
     let check = c.args.check.now in
     let stop = c.in_err-certificate.field-0.0 in
     let made = c.in_ok-desk.ensures.makes in
-    let stopped : StopsAt known between now stop (λ files halt. CertificateComes files check.cert (Err halt)) = subst (λ k. StopsAt k between now stop (λ files halt. CertificateComes files check.cert (Err halt))) c.load_desk.ensures.files c.in_err-certificate.ensures.reads in
+    let stopped : StopsAt known between now stop (λ files why. CertificateComes files check.cert (Err why)) = subst (λ k. StopsAt k between now stop (λ files why. CertificateComes files check.cert (Err why))) c.load_desk.ensures.files c.in_err-certificate.ensures.comes in
     handed_on (λ r. MakesCheck known before now check r) c.from_residual-in_err-certificate.result stop c.from_residual-in_err-certificate.ensures.1
-    (stops_at_too known before between now stop (λ files halt. CertificateComes files check.cert (Err halt)) (λ files halt. CheckComes files check (Err halt)) c.load_desk.ensures.later stopped
-    (λ files halt told halts. inr (made.0, if_some_at known (λ files. loaded files (sources_of check) ≡ Ok made.0) files made.1 told, halts)))
+    (stops_at_too known before between now stop (λ files why. CertificateComes files check.cert (Err why)) (λ files why. CheckComes files check (Err why)) c.load_desk.ensures.later stopped
+    (λ files why told stops. inr (made.0, if_some_at known (λ files. loaded files (sources_of check) ≡ Ok made.0) files made.1 told, stops)))
 
 pub returns-clause-makes : goal.returns-clause-makes
 returns-clause-makes g c =
@@ -48,7 +49,7 @@ returns-clause-makes g c =
     let check = c.args.check.now in
     let made = c.in_ok-desk.ensures.makes in
     let certificate = c.in_ok-certificate.certificate in
-    let text : IfSome known (λ files. CertificateComes files check.cert (Ok certificate)) = subst (λ k. IfSome k (λ files. CertificateComes files check.cert (Ok certificate))) c.load_desk.ensures.files c.in_ok-certificate.ensures.reads in
+    let text : IfSome known (λ files. CertificateComes files check.cert (Ok certificate)) = subst (λ k. IfSome k (λ files. CertificateComes files check.cert (Ok certificate))) c.load_desk.ensures.files c.in_ok-certificate.ensures.comes in
     (made.0, comes_to_both known check made.0 certificate made.1 text, made.2)
 
 pub returns-in_err-desk-clause-certificate : goal.returns-in_err-desk-clause-certificate
@@ -75,12 +76,12 @@ returns-in_err-desk-clause-opened g c = opens_for_desk (g.F.Shelf.state c.args.f
 pub returns-in_err-certificate-clause-opened : goal.returns-in_err-certificate-clause-opened
 returns-in_err-certificate-clause-opened g c =
     let made = c.in_ok-desk.ensures.makes in
-    opens_all_and_certificate (g.F.Shelf.state c.args.files.now).files c.args.check.now made.0 _ _ _ made.1 c.in_ok-desk.ensures.all c.load_certificate.ensures.opened
+    opens_all_and_certificate (g.F.Shelf.state c.args.files.now).files c.args.check.now made.0 _ _ _ made.1 c.in_ok-desk.ensures.all (file_opened _ _ _ _ c.load_certificate.ensures.reads)
 
 pub returns-clause-opened : goal.returns-clause-opened
 returns-clause-opened g c =
     let made = c.in_ok-desk.ensures.makes in
-    opens_all_and_certificate (g.F.Shelf.state c.args.files.now).files c.args.check.now made.0 _ _ _ made.1 c.in_ok-desk.ensures.all c.load_certificate.ensures.opened
+    opens_all_and_certificate (g.F.Shelf.state c.args.files.now).files c.args.check.now made.0 _ _ _ made.1 c.in_ok-desk.ensures.all (file_opened _ _ _ _ c.load_certificate.ensures.reads)
 
 pub returns-in_err-desk-clause-files : goal.returns-in_err-desk-clause-files
 returns-in_err-desk-clause-files g c = c.load_desk.ensures.files
@@ -90,3 +91,14 @@ returns-in_err-desk-clause-later g c = c.load_desk.ensures.later
 
 pub returns-clause-certificate : goal.returns-clause-certificate
 returns-clause-certificate g c = c.in_ok-certificate.ensures.certificate
+
+pub returns-in_err-desk-clause-reads : goal.returns-in_err-desk-clause-reads
+returns-in_err-desk-clause-reads g c = files_handed_on _ _ c.from_residual.result c.in_err-desk.field-0.0 c.from_residual.ensures.1 c.in_err-desk.ensures.reads
+
+pub returns-in_err-certificate-clause-reads : goal.returns-in_err-certificate-clause-reads
+returns-in_err-certificate-clause-reads g c =
+    files_handed_on _ _ c.from_residual-in_err-certificate.result c.in_err-certificate.field-0.0 c.from_residual-in_err-certificate.ensures.1
+    (reads_then _ _ _ _ c.in_ok-desk.ensures.reads (reads_one _ _ _ _ c.in_err-certificate.ensures.reads))
+
+pub returns-clause-reads : goal.returns-clause-reads
+returns-clause-reads g c = reads_then _ _ _ _ c.in_ok-desk.ensures.reads (reads_one _ _ _ _ c.in_ok-certificate.ensures.reads)

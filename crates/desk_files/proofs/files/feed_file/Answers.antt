@@ -1,9 +1,19 @@
-use Rattle.std.proofs.Common.{ℕ, ◌≤◌, List, ◌++◌, length, drop, refl, ap, sym, subst, ◌∙◌, arith, inl, length-append}
+use Rattle.std.proofs.Common.{◌≡◌, ℕ, ◌+◌, ◌≤◌, List, [], ◌∷◌, ◌++◌, map, append-nil, inr, length, drop, refl, ap, sym, subst, ◌∙◌, arith, inl, length-append}
 use Rattle.std.proofs.lemmas.List.{length-take, length-take-le}
 use Rattle.std.proofs.Math.Nat.{le_refl, le_trans}
 use Rattle.desk_files.specs.Files.{whole_file}
 use Rattle.desk_files.proofs.Reading.{Reads, reads_opened, reads_too_long, reads_whole, reads_piece, counted_piece}
 use Rattle.desk_files.proofs.Stopping.{gives_memory}
+use Rattle.desk_outside.specs.Calls.{Reading, GiveInAll}
+use Rattle.desk_outside.specs.declared.log.ReadCall.{ReadCall}
+use Rattle.desk_outside.specs.declared.log.ReadCall.TheVariants as calls
+use Rattle.desk_outside.proofs.Logs.{give_nothing, give_more}
+use Rattle.desk_files.specs.Reads.{GoTo, extent_of}
+use Rattle.desk_files.specs.Views.{answer_of}
+use Rattle.desk_files.specs.declared.limits.TheConstants.{LONGEST_FILE}
+use Rattle.desk_files.specs.declared.stop.Stop.TheVariants as kept
+use Rattle.desk_files.proofs.InTurn.{calls_more}
+use Rattle.desk_files.proofs.Stopping.{handed_on}
 use Rattle.desk_files.proofs.files.feed_file.Goals as goal
 
 pub returns-in_default-clause-gives : goal.returns-in_default-clause-gives
@@ -25,7 +35,7 @@ pieces-preserved g c =
     let old = g.T.Taker.taken c.pieces.taker in
     record {
       files = read.files ∙ kept.files;
-      names = read.opened ∙ kept.names;
+      made = (kept.made.0 ++ calls.Gave n ∷ [], calls_more (g.F.Shelf.state c.args.files.now).calls (g.F.Shelf.state c.pieces.files).calls (g.F.Shelf.state c.read.new.self).calls kept.made.0 (calls.Gave n) kept.made.1 read.calls, give_more kept.made.0 c.pieces.count n kept.made.2 (omega (arith, c.if-read-eq0.false)));
       opened = read.open;
       later = omega (arith, read.cause.later, kept.later);
       within = omega (arith, c.read.auto.room, length-take c.min-most.result c.pieces.room);
@@ -41,26 +51,17 @@ at_more n room beyond le = omega (arith, le, length-append room beyond)
 pub returns-in_default-clause-files : goal.returns-in_default-clause-files
 returns-in_default-clause-files g c = c.in_default.ensures.files ∙ c.pieces.invariant.files
 
-pub returns-in_default-clause-opened : goal.returns-in_default-clause-opened
-returns-in_default-clause-opened g c = c.in_default.ensures.opened ∙ c.pieces.invariant.names
-
 pub returns-in_default-clause-later : goal.returns-in_default-clause-later
 returns-in_default-clause-later g c = le_trans c.pieces.invariant.later c.in_default.ensures.cause.later
 
 pub returns-then-read-eq0-clause-files : goal.returns-then-read-eq0-clause-files
 returns-then-read-eq0-clause-files g c = c.in-Ok.ensures.files ∙ c.pieces.invariant.files
 
-pub returns-then-read-eq0-clause-opened : goal.returns-then-read-eq0-clause-opened
-returns-then-read-eq0-clause-opened g c = c.in-Ok.ensures.opened ∙ c.pieces.invariant.names
-
 pub returns-then-read-eq0-clause-later : goal.returns-then-read-eq0-clause-later
 returns-then-read-eq0-clause-later g c = le_trans c.pieces.invariant.later c.in-Ok.ensures.cause.later
 
 pub returns-in_err-take-clause-files : goal.returns-in_err-take-clause-files
 returns-in_err-take-clause-files g c = c.in-Ok.ensures.files ∙ c.pieces.invariant.files
-
-pub returns-in_err-take-clause-opened : goal.returns-in_err-take-clause-opened
-returns-in_err-take-clause-opened g c = c.in-Ok.ensures.opened ∙ c.pieces.invariant.names
 
 pub returns-in_err-take-clause-later : goal.returns-in_err-take-clause-later
 returns-in_err-take-clause-later g c = le_trans c.pieces.invariant.later c.in-Ok.ensures.cause.later
@@ -98,7 +99,7 @@ pieces-init g c =
     let rest = (g.F.Shelf.state c.args.files.now).rest in
     record {
       files = refl;
-      names = refl;
+      made = ([], sym (append-nil (g.F.Shelf.state c.args.files.now).calls), give_nothing);
       opened = c.requires.open;
       later = le_refl (g.F.Shelf.state c.args.files.now).faults;
       within = omega arith;
@@ -123,8 +124,32 @@ returns-clause-beside g c = c.pieces.invariant.beside
 pub returns-clause-files : goal.returns-clause-files
 returns-clause-files g c = c.pieces.invariant.files
 
-pub returns-clause-opened : goal.returns-clause-opened
-returns-clause-opened g c = c.pieces.invariant.names
-
 pub returns-clause-later : goal.returns-clause-later
 returns-clause-later g c = c.pieces.invariant.later
+
+pub returns-in_default-clause-reads : goal.returns-in_default-clause-reads
+returns-in_default-clause-reads g c =
+    let made = c.pieces.invariant.made in
+    let added = calls_more (g.F.Shelf.state c.args.files.now).calls (g.F.Shelf.state c.pieces.files).calls (g.F.Shelf.state c.read.new.self).calls made.0 calls.Failed made.1 c.in_default.ensures.calls in
+    (made.0 ++ calls.Failed ∷ [], added, inr (made.0, c.pieces.count, refl, made.2, c.pieces-test.true))
+
+pub returns-then-read-eq0-clause-reads : goal.returns-then-read-eq0-clause-reads
+returns-then-read-eq0-clause-reads g c =
+    let made = c.pieces.invariant.made in
+    let added = calls_more (g.F.Shelf.state c.args.files.now).calls (g.F.Shelf.state c.pieces.files).calls (g.F.Shelf.state c.read.new.self).calls made.0 (calls.Gave 0) made.1 (rw c.if-read-eq0.true at c.in-Ok.ensures.calls) in
+    (made.0 ++ calls.Gave 0 ∷ [], added, (made.0, c.pieces.count, refl, made.2, c.pieces-test.true))
+
+pub returns-in_err-take-clause-reads : goal.returns-in_err-take-clause-reads
+returns-in_err-take-clause-reads g c =
+    let made = c.pieces.invariant.made in
+    let had = (g.F.Shelf.state c.args.files.now).calls in
+    let has = (g.F.Shelf.state c.read.new.self).calls in
+    let added = calls_more had (g.F.Shelf.state c.pieces.files).calls has made.0 (calls.Gave c.in-Ok.read) made.1 c.in-Ok.ensures.calls in
+    handed_on (λ r. (reads : List ReadCall) × (has ≡ had ++ map Reading reads) × GoTo (extent_of (answer_of r)) reads) c.from_residual.result kept.Memory c.from_residual.ensures.1
+    (made.0 ++ calls.Gave c.in-Ok.read ∷ [], added, inr (c.pieces.count + c.in-Ok.read, give_more made.0 c.pieces.count c.in-Ok.read made.2 (omega (arith, c.if-read-eq0.false))))
+
+pub returns-clause-reads : goal.returns-clause-reads
+returns-clause-reads g c =
+    let made = c.pieces.invariant.made in
+    let past : c.pieces.count ≡ LONGEST_FILE + 1 = omega (arith, c.pieces-test.false, c.pieces.invariant.within) in
+    (made.0, made.1, subst (GiveInAll made.0) past made.2)

@@ -1,11 +1,13 @@
-use Rattle.std.proofs.Common.{◌≡◌, ◌≤◌, ◌-◌, true, length}
+use Rattle.std.proofs.Common.{◌≡◌, ◌≤◌, ◌-◌, ◌++◌, List, map, true, length}
+use Rattle.desk_outside.specs.Calls.{Reading, GiveInAll}
+use Rattle.desk_outside.specs.declared.log.ReadCall.{ReadCall}
 use Rattle.desk_files.proofs.Reading.{Reads}
 use Rattle.desk_files.proofs.files.feed_file.Given as goal
 
 abbrev pub invariant-pieces : goal.invariant-pieces
 invariant-pieces g l = record {
   files : (g.F.Shelf.state l.files).files ≡ (g.F.Shelf.state l.fn.files).files;
-  names : (g.F.Shelf.state l.files).opened ≡ (g.F.Shelf.state l.fn.files).opened;
+  made : (reads : List ReadCall) × ((g.F.Shelf.state l.files).calls ≡ (g.F.Shelf.state l.fn.files).calls ++ map Reading reads) × GiveInAll reads l.count;
   opened : (g.F.Shelf.state l.files).is_open ≡ true;
   later : (g.F.Shelf.state l.fn.files).faults ≤ (g.F.Shelf.state l.files).faults;
   within : l.count ≤ 1073741825;

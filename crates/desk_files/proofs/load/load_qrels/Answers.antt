@@ -3,6 +3,9 @@ use Rattle.std.proofs.Math.Nat.{le_trans}
 use Rattle.desk_outside.specs.Outside.{Opens}
 use Rattle.qrels_reader.specs.Grouped.{qrels_of}
 use Rattle.desk_files.specs.Files.{file_as}
+use Rattle.desk_files.specs.Reads.{ToEnd, extent_at}
+use Rattle.desk_files.specs.Views.{stop_of}
+use Rattle.desk_files.proofs.InTurn.{opened_and_read, file_handed_on, opening_failed, reading_failed, goes_to_end}
 use Rattle.desk_files.proofs.Stopping.{gives_memory}
 use Rattle.desk_files.proofs.Loading.{stops_file, reads_file, file_is_faulty}
 use Rattle.desk_files.proofs.load.load_qrels.Goals as goal
@@ -41,17 +44,11 @@ feed_file-requires-clause-content g c =
 pub returns-in_err-feed_file-clause-files : goal.returns-in_err-feed_file-clause-files
 returns-in_err-feed_file-clause-files g c = c.feed_file.ensures.files ∙ c.open_file.ensures.files
 
-pub returns-in_err-feed_file-clause-opened : goal.returns-in_err-feed_file-clause-opened
-returns-in_err-feed_file-clause-opened g c = c.feed_file.ensures.opened ∙ c.open_file.ensures.opened
-
 pub returns-in_err-feed_file-clause-later : goal.returns-in_err-feed_file-clause-later
 returns-in_err-feed_file-clause-later g c = le_trans c.open_file.ensures.later c.feed_file.ensures.later
 
 pub returns-in-Ok-clause-files : goal.returns-in-Ok-clause-files
 returns-in-Ok-clause-files g c = c.feed_file.ensures.files ∙ c.open_file.ensures.files
-
-pub returns-in-Ok-clause-opened : goal.returns-in-Ok-clause-opened
-returns-in-Ok-clause-opened g c = c.feed_file.ensures.opened ∙ c.open_file.ensures.opened
 
 pub returns-in-Ok-clause-later : goal.returns-in-Ok-clause-later
 returns-in-Ok-clause-later g c = le_trans c.open_file.ensures.later c.feed_file.ensures.later
@@ -59,26 +56,17 @@ returns-in-Ok-clause-later g c = le_trans c.open_file.ensures.later c.feed_file.
 pub returns-in-Err-clause-files : goal.returns-in-Err-clause-files
 returns-in-Err-clause-files g c = c.feed_file.ensures.files ∙ c.open_file.ensures.files
 
-pub returns-in-Err-clause-opened : goal.returns-in-Err-clause-opened
-returns-in-Err-clause-opened g c = c.feed_file.ensures.opened ∙ c.open_file.ensures.opened
-
 pub returns-in-Err-clause-later : goal.returns-in-Err-clause-later
 returns-in-Err-clause-later g c = le_trans c.open_file.ensures.later c.feed_file.ensures.later
 
 pub returns-in_err-open_file-clause-files : goal.returns-in_err-open_file-clause-files
 returns-in_err-open_file-clause-files g c = c.open_file.ensures.files
 
-pub returns-in_err-open_file-clause-opened : goal.returns-in_err-open_file-clause-opened
-returns-in_err-open_file-clause-opened g c = c.open_file.ensures.opened
-
 pub returns-in_err-open_file-clause-later : goal.returns-in_err-open_file-clause-later
 returns-in_err-open_file-clause-later g c = c.open_file.ensures.later
 
 pub returns-in_err-reader-clause-files : goal.returns-in_err-reader-clause-files
 returns-in_err-reader-clause-files g c = c.open_file.ensures.files
-
-pub returns-in_err-reader-clause-opened : goal.returns-in_err-reader-clause-opened
-returns-in_err-reader-clause-opened g c = c.open_file.ensures.opened
 
 pub returns-in_err-reader-clause-later : goal.returns-in_err-reader-clause-later
 returns-in_err-reader-clause-later g c = c.open_file.ensures.later
@@ -88,3 +76,22 @@ feed_file-requires-clause-open g c = c.in_ok-open_file.ensures.open
 
 pub feed_file-requires-clause-none : goal.feed_file-requires-clause-none
 feed_file-requires-clause-none g c = c.in_ok-reader.ensures
+
+pub returns-in_err-open_file-clause-reads : goal.returns-in_err-open_file-clause-reads
+returns-in_err-open_file-clause-reads g c = opening_failed c.args.path.now _ _ c.from_residual.result c.in_err-open_file.field-0.0 c.from_residual.ensures.1 c.open_file.ensures.calls c.in_err-open_file.ensures.outside
+
+pub returns-in_err-reader-clause-reads : goal.returns-in_err-reader-clause-reads
+returns-in_err-reader-clause-reads g c = reading_failed c.args.path.now _ _ c.from_residual-in_err-reader.result _ c.from_residual-in_err-reader.ensures.1 c.open_file.ensures.calls refl
+
+pub returns-in_err-feed_file-clause-reads : goal.returns-in_err-feed_file-clause-reads
+returns-in_err-feed_file-clause-reads g c =
+    let fed = c.in_err-feed_file.ensures.reads in
+    file_handed_on c.args.path.now _ _ c.from_residual-in_err-feed_file.result c.in_err-feed_file.field-0.0 c.from_residual-in_err-feed_file.ensures.1 (opened_and_read c.args.path.now _ _ _ c.open_file.ensures.calls (extent_at (stop_of c.in_err-feed_file.field-0.0)) fed.0 fed.1 fed.2)
+
+pub returns-in-Ok-clause-reads : goal.returns-in-Ok-clause-reads
+returns-in-Ok-clause-reads g c = let fed = c.in_ok-feed_file.ensures.reads in opened_and_read c.args.path.now _ _ _ c.open_file.ensures.calls ToEnd fed.0 fed.1 fed.2
+
+pub returns-in-Err-clause-reads : goal.returns-in-Err-clause-reads
+returns-in-Err-clause-reads g c =
+    let fed = c.in_ok-feed_file.ensures.reads in
+    opened_and_read c.args.path.now _ _ _ c.open_file.ensures.calls (extent_at (stop_of c.stop_of.result)) fed.0 fed.1 (goes_to_end _ c.in-Err.fault c.stop_of.result fed.0 c.stop_of.ensures fed.2)

@@ -10,6 +10,9 @@ use Rattle.run_reader.specs.Run.{run_of}
 use Rattle.run_reader.specs.declared.used.Used.{Used}
 use Rattle.topics_pool.proofs.AddedUp.{added_up, answered}
 use Rattle.desk_files.specs.Files.{file_as}
+use Rattle.desk_files.specs.Reads.{ToEnd, extent_at}
+use Rattle.desk_files.specs.Views.{stop_of}
+use Rattle.desk_files.proofs.InTurn.{opened_and_read, file_handed_on, opening_failed, reading_failed, goes_to_end}
 use Rattle.desk_files.proofs.Stopping.{gives_memory}
 use Rattle.desk_files.proofs.Loading.{IsFedWhole, stops_file, reads_file, file_is_faulty}
 use Rattle.desk_files.proofs.load.load_run.Goals as goal
@@ -77,12 +80,6 @@ feed_file-requires-clause-content g c =
 pub feed_file-requires-clause-none : goal.feed_file-requires-clause-none
 feed_file-requires-clause-none g c = ap (λ (r : FedRun). r.fed) c.in_ok-reader.ensures
 
-pub returns-in_err-open_file-clause-opened : goal.returns-in_err-open_file-clause-opened
-returns-in_err-open_file-clause-opened g c = rw c.as_str-path.ensures at c.open_file.ensures.opened
-
-pub returns-in_err-reader-clause-opened : goal.returns-in_err-reader-clause-opened
-returns-in_err-reader-clause-opened g c = rw c.as_str-path.ensures at c.open_file.ensures.opened
-
 pub returns-in_err-open_file-clause-rows : goal.returns-in_err-open_file-clause-rows
 returns-in_err-open_file-clause-rows g c = IfOk-from_err c.from_residual.result _ c.from_residual.ensures.0
 
@@ -95,26 +92,17 @@ returns-in_err-feed_file-clause-rows g c = IfOk-from_err c.from_residual-in_err-
 pub returns-in_err-feed_file-clause-files : goal.returns-in_err-feed_file-clause-files
 returns-in_err-feed_file-clause-files g c = c.feed_file.ensures.files ∙ c.open_file.ensures.files
 
-pub returns-in_err-feed_file-clause-opened : goal.returns-in_err-feed_file-clause-opened
-returns-in_err-feed_file-clause-opened g c = c.feed_file.ensures.opened ∙ (rw c.as_str-path.ensures at c.open_file.ensures.opened)
-
 pub returns-in_err-feed_file-clause-later : goal.returns-in_err-feed_file-clause-later
 returns-in_err-feed_file-clause-later g c = le_trans c.open_file.ensures.later c.feed_file.ensures.later
 
 pub returns-in-Ok-clause-files : goal.returns-in-Ok-clause-files
 returns-in-Ok-clause-files g c = c.feed_file.ensures.files ∙ c.open_file.ensures.files
 
-pub returns-in-Ok-clause-opened : goal.returns-in-Ok-clause-opened
-returns-in-Ok-clause-opened g c = c.feed_file.ensures.opened ∙ (rw c.as_str-path.ensures at c.open_file.ensures.opened)
-
 pub returns-in-Ok-clause-later : goal.returns-in-Ok-clause-later
 returns-in-Ok-clause-later g c = le_trans c.open_file.ensures.later c.feed_file.ensures.later
 
 pub returns-in-Err-clause-files : goal.returns-in-Err-clause-files
 returns-in-Err-clause-files g c = c.feed_file.ensures.files ∙ c.open_file.ensures.files
-
-pub returns-in-Err-clause-opened : goal.returns-in-Err-clause-opened
-returns-in-Err-clause-opened g c = c.feed_file.ensures.opened ∙ (rw c.as_str-path.ensures at c.open_file.ensures.opened)
 
 pub returns-in-Err-clause-later : goal.returns-in-Err-clause-later
 returns-in-Err-clause-later g c = le_trans c.open_file.ensures.later c.feed_file.ensures.later
@@ -142,3 +130,22 @@ new-requires-clause-within g c = c.requires
 
 pub returns-in-Err-clause-rows : goal.returns-in-Err-clause-rows
 returns-in-Err-clause-rows g c = tt
+
+pub returns-in_err-open_file-clause-reads : goal.returns-in_err-open_file-clause-reads
+returns-in_err-open_file-clause-reads g c = opening_failed c.args.word.now.path _ _ c.from_residual.result c.in_err-open_file.field-0.0 c.from_residual.ensures.1 (rw c.as_str-path.ensures at c.open_file.ensures.calls) c.in_err-open_file.ensures.outside
+
+pub returns-in_err-reader-clause-reads : goal.returns-in_err-reader-clause-reads
+returns-in_err-reader-clause-reads g c = reading_failed c.args.word.now.path _ _ c.from_residual-in_err-reader.result _ c.from_residual-in_err-reader.ensures.1 (rw c.as_str-path.ensures at c.open_file.ensures.calls) refl
+
+pub returns-in_err-feed_file-clause-reads : goal.returns-in_err-feed_file-clause-reads
+returns-in_err-feed_file-clause-reads g c =
+    let fed = c.in_err-feed_file.ensures.reads in
+    file_handed_on c.args.word.now.path _ _ c.from_residual-in_err-feed_file.result c.in_err-feed_file.field-0.0 c.from_residual-in_err-feed_file.ensures.1 (opened_and_read c.args.word.now.path _ _ _ (rw c.as_str-path.ensures at c.open_file.ensures.calls) (extent_at (stop_of c.in_err-feed_file.field-0.0)) fed.0 fed.1 fed.2)
+
+pub returns-in-Ok-clause-reads : goal.returns-in-Ok-clause-reads
+returns-in-Ok-clause-reads g c = let fed = c.in_ok-feed_file.ensures.reads in opened_and_read c.args.word.now.path _ _ _ (rw c.as_str-path.ensures at c.open_file.ensures.calls) ToEnd fed.0 fed.1 fed.2
+
+pub returns-in-Err-clause-reads : goal.returns-in-Err-clause-reads
+returns-in-Err-clause-reads g c =
+    let fed = c.in_ok-feed_file.ensures.reads in
+    opened_and_read c.args.word.now.path _ _ _ (rw c.as_str-path.ensures at c.open_file.ensures.calls) (extent_at (stop_of c.stop_of.result)) fed.0 fed.1 (goes_to_end _ c.in-Err.fault c.stop_of.result fed.0 c.stop_of.ensures fed.2)

@@ -1,4 +1,4 @@
-use Rattle.std.proofs.Common.{◌≡◌, ◌+◌, ◌≤◌, [], ◌∷◌, length, drop, refl, ap, sym, subst, ◌∙◌, arith, length-append}
+use Rattle.std.proofs.Common.{◌≡◌, ◌+◌, ◌≤◌, [], ◌∷◌, length, drop, refl, inr, ap, sym, subst, ◌∙◌, arith, length-append}
 use Rattle.std.proofs.lemmas.List.{drop_more, drop_all}
 use Rattle.std.proofs.Math.Nat.{le_refl, le_trans}
 use Rattle.std.proofs.lemmas.Result.{IfOk-from_err}
@@ -7,8 +7,10 @@ use Rattle.run_reader.specs.declared.used.Used.{Used}
 use Rattle.run_reader.specs.declared.limits.TheConstants.{MOST_RUN_ROWS}
 use Rattle.run_reader.specs.Run.{run_of}
 use Rattle.topics_pool.specs.Rows.{total_rows}
+use Rattle.desk_outside.specs.Calls.{opened_in}
 use Rattle.desk_files.specs.Files.{file_as}
 use Rattle.desk_files.specs.Load.{used_by, runs_of}
+use Rattle.desk_files.proofs.InTurn.{file_opened, reads_none, reads_one, reads_then, reads_all, files_handed_on}
 use Rattle.desk_files.proofs.Stopping.{gives_handed_on, gives_memory, if_some_at}
 use Rattle.desk_files.proofs.Runs.{Reaches, with_rest, reaches_first, reaches_more, reaches_all, stops_all, total_rows-push}
 use Rattle.desk_files.proofs.Opening.{OpensSoFar, opens_none, opens_more, opens_last, opens_all, opened_all}
@@ -32,8 +34,9 @@ loop-word-preserved g c =
       within = c.used-used.ensures.within;
       count = omega (arith, ap length pushed, length-append c.loop-word.runs.items (c.in_ok-run.run' ∷ []), kept.count);
       rows = rw pushed (ap (λ (u : Used). u.rows) c.used-used.ensures.value ∙ c.in_ok-run.ensures.rows ∙ ap (λ n. n + row_count c.in_ok-run.run'.topics) kept.rows ∙ sym (total_rows-push c.loop-word.runs.items c.in_ok-run.run'));
-      opened = rw c.used-used.ensures.value (opens_more c.args.qrels.now (used_by c.args.qrels.now) words c.loop-word.used word (drop (i + 1) words) _ _ _ told c.in_ok-run.run' (rw split at kept.opened) c.in_ok-run.ensures.opened gives);
+      opened = rw c.used-used.ensures.value (opens_more c.args.qrels.now (used_by c.args.qrels.now) words c.loop-word.used word (drop (i + 1) words) _ _ _ told c.in_ok-run.run' (rw split at kept.opened) (file_opened _ _ _ _ c.in_ok-run.ensures.reads) gives);
       left = rw (c.used-used.ensures.value, pushed) more;
+      reads = reads_then _ _ _ _ kept.reads (reads_one _ _ _ _ c.in_ok-run.ensures.reads);
     }
 
 pub returns-in_err-run-clause-opened : goal.returns-in_err-run-clause-opened
@@ -42,7 +45,7 @@ returns-in_err-run-clause-opened g c =
     let i = c.loop-word.word-index in
     let word = c.word-item.result in
     let split : drop i words ≡ word ∷ drop (i + 1) words = drop_more words i word (omega arith) ∙ ap (λ w. w ∷ drop (i + 1) words) (sym c.word-item.is) in
-    opens_last c.args.qrels.now (used_by c.args.qrels.now) words c.loop-word.used word (drop (i + 1) words) _ _ _ (g.F.Shelf.state c.args.files.now).files (rw split at c.loop-word.invariant.opened) c.load_run.ensures.opened
+    opens_last c.args.qrels.now (used_by c.args.qrels.now) words c.loop-word.used word (drop (i + 1) words) _ _ _ (g.F.Shelf.state c.args.files.now).files (rw split at c.loop-word.invariant.opened) (file_opened _ _ _ _ c.load_run.ensures.reads)
 
 pub returns-in_err-push_run-clause-opened : goal.returns-in_err-push_run-clause-opened
 returns-in_err-push_run-clause-opened g c =
@@ -50,7 +53,7 @@ returns-in_err-push_run-clause-opened g c =
     let i = c.loop-word.word-index in
     let word = c.word-item.result in
     let split : drop i words ≡ word ∷ drop (i + 1) words = drop_more words i word (omega arith) ∙ ap (λ w. w ∷ drop (i + 1) words) (sym c.word-item.is) in
-    opens_last c.args.qrels.now (used_by c.args.qrels.now) words c.loop-word.used word (drop (i + 1) words) _ _ _ (g.F.Shelf.state c.args.files.now).files (rw split at c.loop-word.invariant.opened) c.load_run.ensures.opened
+    opens_last c.args.qrels.now (used_by c.args.qrels.now) words c.loop-word.used word (drop (i + 1) words) _ _ _ (g.F.Shelf.state c.args.files.now).files (rw split at c.loop-word.invariant.opened) (file_opened _ _ _ _ c.load_run.ensures.reads)
 
 pub returns-clause-opened : goal.returns-clause-opened
 returns-clause-opened g c =
@@ -77,7 +80,7 @@ returns-in_err-run-clause-gives g c =
     let left : Reaches told qrels (used_by qrels) words used done (word ∷ drop (i + 1) words) = rw split at kept.left in
     gives_handed_on told (g.F.Shelf.state before).files (g.F.Shelf.state c.args.files.now).faults (g.F.Shelf.state before).faults (g.F.Shelf.state c.load_run.new.files).faults (λ runs. runs.items) c.from_residual.result c.in_err-run.field-0.0
     (λ held. file_as (run_of word.name qrels used) held word.path) (λ held. runs_of held qrels (used_by qrels) words) kept.files c.from_residual.ensures.1 kept.later c.in_err-run.ensures.gives
-    (λ held halt is stop. stops_all qrels (used_by qrels) words used done word (drop (i + 1) words) held halt
+    (λ held why is stop. stops_all qrels (used_by qrels) words used done word (drop (i + 1) words) held why
     (if_some_at told (λ held. runs_of held qrels (used_by qrels) words ≡ with_rest held qrels used done (word ∷ drop (i + 1) words)) held left is) stop)
 
 pub returns-in_err-push_run-clause-gives : goal.returns-in_err-push_run-clause-gives
@@ -139,7 +142,7 @@ load_run-requires g c = c.loop-word.invariant.within
 pub loop-word-init : goal.loop-word-init
 loop-word-init g c =
     let told = (g.F.Shelf.state c.args.files.now).files in
-    let had = (g.F.Shelf.state c.args.files.now).opened in
+    let had = (opened_in (g.F.Shelf.state c.args.files.now).calls) in
     let words = c.args.words.now in
     let qrels = c.args.qrels.now in
     let used : Used = record { rows = 0; name_bytes = c.name_bytes.result } in
@@ -153,4 +156,16 @@ loop-word-init g c =
       rows = sym (ap total_rows c.new-runs.ensures.items);
       opened = subst (λ u. OpensSoFar told qrels (used_by qrels) words u words had had) (sym same) (opens_none told qrels (used_by qrels) words had);
       left = subst (λ runs. Reaches told qrels (used_by qrels) words used runs words) (sym c.new-runs.ensures.items) left;
+      reads = reads_none (g.F.Shelf.state c.args.files.now).calls;
     }
+
+pub returns-in_err-run-clause-reads : goal.returns-in_err-run-clause-reads
+returns-in_err-run-clause-reads g c = files_handed_on _ _ c.from_residual.result c.in_err-run.field-0.0 c.from_residual.ensures.1 (reads_then _ _ _ _ c.loop-word.invariant.reads (reads_one _ _ _ _ c.in_err-run.ensures.reads))
+
+pub returns-in_err-push_run-clause-reads : goal.returns-in_err-push_run-clause-reads
+returns-in_err-push_run-clause-reads g c =
+    files_handed_on _ _ c.from_residual-in_err-push_run.result _ c.from_residual-in_err-push_run.ensures.1
+    (reads_all _ _ _ (reads_then _ _ _ _ c.loop-word.invariant.reads (reads_one _ _ _ _ c.in_ok-run.ensures.reads)) (inr refl))
+
+pub returns-clause-reads : goal.returns-clause-reads
+returns-clause-reads g c = c.loop-word.invariant.reads

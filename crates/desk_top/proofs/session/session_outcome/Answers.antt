@@ -1,6 +1,7 @@
 use Rattle.desk_outside.specs.Seen.{shelf}
 use Rattle.desk_top.specs.Meaning.{session_meaning}
 use Rattle.desk_top.specs.Works.{Works}
+use Rattle.desk_files.proofs.InTurn.{files_handed_on}
 use Rattle.desk_top.proofs.Conversing.{session_holds, session_stopped}
 use Rattle.desk_top.proofs.Reporting.{handed_on}
 use Rattle.desk_top.proofs.session.session_outcome.Goals as goal
@@ -13,3 +14,6 @@ returns-in_err-desk-clause-works g c =
 pub returns-clause-works : goal.returns-clause-works
 returns-clause-works g c =
     λ cells. session_holds c.args.job.now (shelf (g.F.Shelf.state c.args.files.now) (g.F.Shelf.state c.load_desk.new.files)) cells c.in_ok-desk.ensures.makes.0 c.in_ok-desk.desk c.requires c.in_ok-desk.ensures.makes.1 c.in_ok-desk.ensures.makes.2
+
+pub returns-in_err-desk-clause-reads : goal.returns-in_err-desk-clause-reads
+returns-in_err-desk-clause-reads g c = files_handed_on _ _ c.from_residual.result c.in_err-desk.field-0.0 c.from_residual.ensures.1 c.in_err-desk.ensures.reads

@@ -22,9 +22,9 @@ pub returns-in-Err-Usage-clause-ends : goal.returns-in-Err-Usage-clause-ends
 returns-in-Err-Usage-clause-ends g c =
     let words = map string_bytes c.args.words.now in
     let none = c.in-Err-Usage.ensures.usage (ap Err c.in-Err-Usage.field-0-is) in
-    (c.tell_usage.result, c.into-in-Err-Usage.ensures, call_meets c.printed_texts_are_true.ensures words _ _ (inr (inl none)) (usage_meets words _ _ refl refl refl none c.tell_usage.ensures.status c.tell_usage.ensures.line))
+    (c.tell_usage.result, c.into-in-Err-Usage.ensures, call_meets c.printed_texts_are_true.ensures words _ _ (inr (inl none)) (usage_meets words _ _ refl refl refl refl none c.tell_usage.ensures.status c.tell_usage.ensures.line))
 
 pub returns-in-Err-Memory-clause-ends : goal.returns-in-Err-Memory-clause-ends
 returns-in-Err-Memory-clause-ends g c =
     let words = map string_bytes c.args.words.now in
-    (c.tell_memory.result, c.into-in-Err-Memory.ensures, call_meets c.printed_texts_are_true.ensures words _ _ (inr (inr (c.tell_memory.ensures.status, refl))) (memory_meets words _ _ refl refl refl c.tell_memory.ensures.status c.tell_memory.ensures.line))
+    (c.tell_memory.result, c.into-in-Err-Memory.ensures, call_meets c.printed_texts_are_true.ensures words _ _ (inr (inr (c.tell_memory.ensures.status, refl))) (memory_meets words _ _ refl refl refl refl c.tell_memory.ensures.status c.tell_memory.ensures.line))

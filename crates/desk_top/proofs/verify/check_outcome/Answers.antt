@@ -1,6 +1,7 @@
 use Rattle.desk_outside.specs.Seen.{shelf}
 use Rattle.desk_top.specs.Meaning.{check_meaning}
 use Rattle.desk_top.specs.Works.{Works}
+use Rattle.desk_files.proofs.InTurn.{files_handed_on, memory_after}
 use Rattle.desk_top.proofs.Checks.{check_works, check_stopped}
 use Rattle.desk_top.proofs.Reporting.{handed_on}
 use Rattle.desk_top.proofs.verify.check_outcome.Goals as goal
@@ -14,3 +15,9 @@ pub returns-clause-works : goal.returns-clause-works
 returns-clause-works g c =
     let files = shelf (g.F.Shelf.state c.args.files.now) (g.F.Shelf.state c.load_check.new.files) in
     λ cells. check_works c.args.check.now files cells (c.in_ok-desk.desk, c.in_ok-desk.certificate) c.in_ok-outcome.outcome c.in_ok-desk.ensures.makes c.in_ok-desk.ensures.certificate c.in_ok-outcome.ensures
+
+pub returns-in_err-desk-clause-reads : goal.returns-in_err-desk-clause-reads
+returns-in_err-desk-clause-reads g c = files_handed_on _ _ c.from_residual.result c.in_err-desk.field-0.0 c.from_residual.ensures.1 c.in_err-desk.ensures.reads
+
+pub returns-in_err-outcome-clause-reads : goal.returns-in_err-outcome-clause-reads
+returns-in_err-outcome-clause-reads g c = memory_after _ _ c.from_residual-in_err-outcome.result c.from_residual-in_err-outcome.ensures.1 c.in_ok-desk.ensures.reads

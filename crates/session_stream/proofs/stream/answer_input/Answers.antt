@@ -1,4 +1,4 @@
-use Rattle.std.proofs.Common.{◌+◌, ap, arith, refl, take, drop, ◌++◌}
+use Rattle.std.proofs.Common.{◌+◌, ap, arith, refl, take, drop, ◌++◌, inl, inr}
 use Rattle.std.specs.Prelude.{Ok, Err}
 use Rattle.std.proofs.lemmas.List.{length-take}
 use Rattle.desk_outside.specs.Seen.{source, sink}
@@ -6,6 +6,8 @@ use Rattle.session_replies.specs.State.{setting_of, cells_of, owed}
 use Rattle.session_stream.proofs.Ending.{quits_end, quits_cells, piece_fails, fails_end, talks_cells, too_long_end}
 use Rattle.session_stream.proofs.LastLine.{last_end, last_cells}
 use Rattle.session_stream.proofs.Reading.{talks_all, line_all, held_more, rest_more, piece_answered, nothing_read, bytes_short, held_at_start}
+use Rattle.desk_outside.specs.declared.log.ReadCall.TheVariants as calls
+use Rattle.session_stream.proofs.LastRead.{none_read, some_read, reads_on}
 use Rattle.session_stream.proofs.stream.answer_input.Goals as goal
 
 pub reads-init : goal.reads-init
@@ -16,6 +18,8 @@ reads-init g c = record {
   ready = c.requires.ready;
   input = omega arith;
   out = omega arith;
+  made = none_read (g.S.Source.state c.args.input.now).reads;
+  heard = inl refl;
 }
 
 pub reads-preserved : goal.reads-preserved
@@ -42,6 +46,10 @@ reads-preserved g c =
       ready = c.in-Ok-More.ensures.ready (ap Ok c.in-Ok-More.field-0-is);
       input = omega (arith, c.reads.invariant.input, c.in-Ok.ensures.cause.later);
       out = omega (arith, c.reads.invariant.out, c.answer_piece.ensures.later);
+      made = some_read (g.S.Source.state c.args.input.now).reads (g.S.Source.state c.reads.input).reads (g.S.Source.state c.read.new.self).reads c.reads.taken c.in-Ok.count c.reads.invariant.made (omega (arith, c.if-count-eq0.false)) c.in-Ok.ensures.reads;
+      heard = inr (reads_on (setting_of c.args.given.now) (g.S.Source.state c.reads.input).rest (g.K.Sink.state c.args.out.now).received (g.K.Sink.state c.reads.out).received (c.args.steps.now + cells_of c.args.given.now.desk.now)
+          (c.reads.steps + owed c.args.given.now.desk.now c.reads.judging.table) c.reads.lines c.reads.judging.session c.reads.taken (source (g.S.Source.state c.args.input.now) (g.S.Source.state c.read.new.self))
+          (g.S.Source.state c.reads.input).reads (calls.Gave c.in-Ok.count) c.reads.invariant.held c.reads-test.true c.reads.invariant.made c.in-Ok.ensures.reads);
     }
 
 pub returns-in_default-clause-ends : goal.returns-in_default-clause-ends
@@ -291,3 +299,41 @@ returns-in-Err-answer_piece-clause-cells g c =
     let all = rest_more s rest left had has first total c.reads.lines state.session c.reads.taken h le (g.S.Source.state c.read.new.self).rest room more c.in-Ok.count c.min-within.result c.in-Ok.ensures.bound.0 c.min-within.ensures c.in-Ok.ensures.bytes in
     let answered = piece_answered s rest left had has first total c.reads.lines state.session c.reads.taken h le (g.S.Source.state c.read.new.self).rest room more c.in-Ok.count c.min-within.result c.in-Ok.ensures.bound.0 c.min-within.ensures c.in-Ok.ensures.bytes in
     (piece_fails s input whole c.args.steps.now c.answer_piece.new.steps (h.bytes ++ take c.in-Ok.count room) (h.bytes ++ take c.min-within.result (room ++ more)) all answered inner c.in-Err-answer_piece.fault (c.answer_piece.new.steps + owed c.args.given.now.desk.now now.table) now.session refl refl c.reads.invariant.out (c.in-Err-answer_piece.ensures.answered had first h.bytes line talks)).1
+
+pub returns-in_default-clause-heard : goal.returns-in_default-clause-heard
+returns-in_default-clause-heard g c =
+    inr
+    (reads_on (setting_of c.args.given.now) (g.S.Source.state c.reads.input).rest (g.K.Sink.state c.args.out.now).received (g.K.Sink.state c.reads.out).received (c.args.steps.now + cells_of c.args.given.now.desk.now)
+    (c.reads.steps + owed c.args.given.now.desk.now c.reads.judging.table) c.reads.lines c.reads.judging.session c.reads.taken (source (g.S.Source.state c.args.input.now) (g.S.Source.state c.read.new.self))
+    (g.S.Source.state c.reads.input).reads (calls.Failed) c.reads.invariant.held c.reads-test.true c.reads.invariant.made c.in_default.ensures.reads)
+
+pub returns-in-Ok-answer_line-clause-heard : goal.returns-in-Ok-answer_line-clause-heard
+returns-in-Ok-answer_line-clause-heard g c =
+    inr
+    (reads_on (setting_of c.args.given.now) (g.S.Source.state c.reads.input).rest (g.K.Sink.state c.args.out.now).received (g.K.Sink.state c.reads.out).received (c.args.steps.now + cells_of c.args.given.now.desk.now)
+    (c.reads.steps + owed c.args.given.now.desk.now c.reads.judging.table) c.reads.lines c.reads.judging.session c.reads.taken (source (g.S.Source.state c.args.input.now) (g.S.Source.state c.read.new.self))
+    (g.S.Source.state c.reads.input).reads (calls.Gave c.in-Ok.count) c.reads.invariant.held c.reads-test.true c.reads.invariant.made c.in-Ok.ensures.reads)
+
+pub returns-in-Err-clause-heard : goal.returns-in-Err-clause-heard
+returns-in-Err-clause-heard g c =
+    inr
+    (reads_on (setting_of c.args.given.now) (g.S.Source.state c.reads.input).rest (g.K.Sink.state c.args.out.now).received (g.K.Sink.state c.reads.out).received (c.args.steps.now + cells_of c.args.given.now.desk.now)
+    (c.reads.steps + owed c.args.given.now.desk.now c.reads.judging.table) c.reads.lines c.reads.judging.session c.reads.taken (source (g.S.Source.state c.args.input.now) (g.S.Source.state c.read.new.self))
+    (g.S.Source.state c.reads.input).reads (calls.Gave c.in-Ok.count) c.reads.invariant.held c.reads-test.true c.reads.invariant.made c.in-Ok.ensures.reads)
+
+pub returns-in-Ok-Quit-clause-heard : goal.returns-in-Ok-Quit-clause-heard
+returns-in-Ok-Quit-clause-heard g c =
+    inr
+    (reads_on (setting_of c.args.given.now) (g.S.Source.state c.reads.input).rest (g.K.Sink.state c.args.out.now).received (g.K.Sink.state c.reads.out).received (c.args.steps.now + cells_of c.args.given.now.desk.now)
+    (c.reads.steps + owed c.args.given.now.desk.now c.reads.judging.table) c.reads.lines c.reads.judging.session c.reads.taken (source (g.S.Source.state c.args.input.now) (g.S.Source.state c.read.new.self))
+    (g.S.Source.state c.reads.input).reads (calls.Gave c.in-Ok.count) c.reads.invariant.held c.reads-test.true c.reads.invariant.made c.in-Ok.ensures.reads)
+
+pub returns-in-Err-answer_piece-clause-heard : goal.returns-in-Err-answer_piece-clause-heard
+returns-in-Err-answer_piece-clause-heard g c =
+    inr
+    (reads_on (setting_of c.args.given.now) (g.S.Source.state c.reads.input).rest (g.K.Sink.state c.args.out.now).received (g.K.Sink.state c.reads.out).received (c.args.steps.now + cells_of c.args.given.now.desk.now)
+    (c.reads.steps + owed c.args.given.now.desk.now c.reads.judging.table) c.reads.lines c.reads.judging.session c.reads.taken (source (g.S.Source.state c.args.input.now) (g.S.Source.state c.read.new.self))
+    (g.S.Source.state c.reads.input).reads (calls.Gave c.in-Ok.count) c.reads.invariant.held c.reads-test.true c.reads.invariant.made c.in-Ok.ensures.reads)
+
+pub returns-clause-heard : goal.returns-clause-heard
+returns-clause-heard g c = c.reads.invariant.heard

@@ -1,6 +1,9 @@
 use Rattle.std.proofs.Common.{◌≤◌, ◌+◌, ◌-◌}
 use Rattle.session_replies.specs.State.{setting_of, cells_of, IsReadyForLine, owed}
+use Rattle.desk_outside.specs.Seen.{source}
 use Rattle.session_stream.specs.Held.{IsHeld}
+use Rattle.session_stream.specs.NoMore.{ReadsNoMore}
+use Rattle.session_stream.proofs.LastRead.{ReadSoFar}
 use Rattle.session_stream.proofs.stream.answer_input.Given as goal
 
 abbrev pub invariant-reads : goal.invariant-reads
@@ -11,6 +14,8 @@ invariant-reads g l = record {
   ready : IsReadyForLine (record { name = g.P.Made.Measure.measured; cell = g.P.Made.Measure.cell_of; bound = g.P.Made.Measure.bounds_of }) (setting_of l.given) l.judging;
   input : (g.S.Source.state l.fn.input).faults ≤ (g.S.Source.state l.input).faults;
   out : (g.K.Sink.state l.fn.out).faults ≤ (g.K.Sink.state l.out).faults;
+  made : ReadSoFar (g.S.Source.state l.fn.input).reads (g.S.Source.state l.input).reads l.taken;
+  heard : ReadsNoMore (source (g.S.Source.state l.fn.input) (g.S.Source.state l.input));
 }
 
 abbrev pub decreases-reads : goal.decreases-reads

@@ -1,14 +1,15 @@
 use Rattle.std.proofs.Common.{[], ◌∷◌, refl}
 use Rattle.desk_words.specs.declared.command.Command.TheVariants as commands
 use Rattle.desk_outside.specs.Seen.{shelf}
-use Rattle.desk_files.specs.declared.stop.Stop.TheVariants as stops
+use Rattle.desk_files.specs.declared.stop.Stop.TheVariants as kept
 use Rattle.desk_top.specs.declared.outcome.Outcome.TheVariants as made
 use Rattle.desk_top.specs.declared.status.Status.TheVariants.{Done}
-use Rattle.desk_top.specs.Meaning.{meaning_of}
-use Rattle.desk_top.specs.Report.{subject_of, PrintsTable}
+use Rattle.desk_top.specs.Meaning.{meaning_of, PrintsTable}
+use Rattle.desk_top.specs.Report.{subject_of}
 use Rattle.desk_top.specs.Works.{Works}
+use Rattle.desk_files.proofs.InTurn.{files_handed_on, memory_after}
 use Rattle.desk_top.proofs.Reporting.{handed_on, desk_works, desk_makes, desk_counts, desk_memory, tabled_subject}
-use Rattle.desk_top.proofs.report.table_outcome.Goals as goal
+use Rattle.desk_top.proofs.work.table_outcome.Goals as goal
 
 pub returns-in_err-text-clause-works : goal.returns-in_err-text-clause-works
 returns-in_err-text-clause-works g c =
@@ -16,8 +17,8 @@ returns-in_err-text-clause-works g c =
     let on = c.in_ok-on.on in
     let is = c.in_ok-on.ensures.on in
     let files = shelf (g.F.Shelf.state c.args.files.now) (g.F.Shelf.state c.tabled.new.files) in
-    handed_on (Works (meaning_of (commands.Table job)) files c.args.steps.now c.tabled.new.steps) c.from_residual-in_err-text.result stops.Memory c.from_residual-in_err-text.ensures.1
-    (desk_memory job 1 (Done ∷ []) PrintsTable is.rows on.desk is.ranked files is.read _ _ c.in_ok-on.ensures.steps stops.Memory refl)
+    handed_on (Works (meaning_of (commands.Table job)) files c.args.steps.now c.tabled.new.steps) c.from_residual-in_err-text.result kept.Memory c.from_residual-in_err-text.ensures.1
+    (desk_memory job 1 (Done ∷ []) PrintsTable is.rows on.desk is.ranked files is.read _ _ c.in_ok-on.ensures.steps kept.Memory refl)
 
 pub returns-clause-works : goal.returns-clause-works
 returns-clause-works g c =
@@ -29,3 +30,9 @@ returns-clause-works g c =
     let table = c.in_ok-text.ensures (subject_of job on.desk) refl (tabled_subject _ _ _ job _ on is) in
     desk_works job 1 (Done ∷ []) PrintsTable is.rows on.desk is.ranked files is.read _ _ c.in_ok-on.ensures.steps (made.Prints text Done)
     (desk_makes job 1 (Done ∷ []) PrintsTable is.rows on.desk is.ranked text.items Done tt (text.items, table, refl), desk_counts job 1 (Done ∷ []) PrintsTable is.rows on.desk is.ranked _ _ c.in_ok-on.ensures.steps)
+
+pub returns-in_err-on-clause-reads : goal.returns-in_err-on-clause-reads
+returns-in_err-on-clause-reads g c = files_handed_on _ _ c.from_residual.result c.in_err-on.field-0.0 c.from_residual.ensures.1 c.in_err-on.ensures.reads
+
+pub returns-in_err-text-clause-reads : goal.returns-in_err-text-clause-reads
+returns-in_err-text-clause-reads g c = memory_after _ _ c.from_residual-in_err-text.result c.from_residual-in_err-text.ensures.1 c.in_ok-on.ensures.reads

@@ -1,5 +1,7 @@
-// The commands that make one text of a desk and its table.
+// What each command makes of its files. Those that make one text of a desk and its table stand here whole.
 ghost use Rattle.std.specs.Prelude.{◌≡◌, ◌+◌, IfOk, IfErr, OnErr};
+ghost use Rattle.desk_files.specs.Reads.{ReadsFiles, extent_of};
+ghost use Rattle.desk_files.specs.Views.{answer_of};
 ghost use Rattle.desk_model.specs.MeasureText.{IsMeasure};
 ghost use Rattle.desk_outside.specs.Seen.{shelf};
 ghost use Rattle.desk_report.specs.Reports.{cells_of};
@@ -9,14 +11,17 @@ ghost use Rattle.desk_top.specs.Meaning.{meaning_of};
 ghost use Rattle.desk_top.specs.Report.{IsAsked, IsTabled, shown_as};
 ghost use Rattle.desk_top.specs.Works.{StopsLoading, Works};
 
+use crate::demo::demo_outcome;
 use crate::outcome::Outcome;
+use crate::session::session_outcome;
 use crate::status::Status;
 use crate::tools::Tools;
+use crate::verify::check_outcome;
 use desk_files::{Stop, load_desk};
 use desk_model::{Desk, Marks};
 use desk_outside::Shelf;
 use desk_report::{Certified, certified_report, table_report};
-use desk_words::Job;
+use desk_words::{Command, Job};
 use measure_core::{Maker, Measure, Steps};
 use pair_table::{Table, table_on};
 use std::sync::ledger::Ledger;
@@ -43,6 +48,7 @@ fn tabled<'a, F: Shelf, P: Maker, L: Ledger>(
     ensures steps { IfOk result (λ on. steps.new ≡ steps.old + cells_of on.desk) }
     ensures no_steps { OnErr result (steps.new ≡ steps.old) }
     ensures opened { OpensWithin (desk_loading job.now) (shelf (F.state files.old) (F.state files.new)) }
+    ensures reads { ReadsFiles (extent_of (answer_of result)) (F.state files.old).calls (F.state files.new).calls }
     ensures files { (F.state files.new).files ≡ (F.state files.old).files }
 {
     let desk = load_desk(tools.alloc, files, &job.qrels, &job.runs)?;
@@ -62,6 +68,7 @@ pub fn table_outcome<'a, F: Shelf, P: Maker, L: Ledger>(
     requires { IsAsked 1 job.now }
     ensures works { Works (meaning_of (commands.Table job.now)) (shelf (F.state files.old) (F.state files.new)) steps.old steps.new result }
     ensures opened { OpensWithin (desk_loading job.now) (shelf (F.state files.old) (F.state files.new)) }
+    ensures reads { ReadsFiles (extent_of (answer_of result)) (F.state files.old).calls (F.state files.new).calls }
     ensures files { (F.state files.new).files ≡ (F.state files.old).files }
 {
     let on = tabled(tools, job, files, steps)?;
@@ -98,9 +105,32 @@ pub fn certificate_outcome<'a, F: Shelf, P: Maker, L: Ledger>(
     requires { IsAsked 2 job.now }
     ensures works { Works (meaning_of (commands.Certify job.now)) (shelf (F.state files.old) (F.state files.new)) steps.old steps.new result }
     ensures opened { OpensWithin (desk_loading job.now) (shelf (F.state files.old) (F.state files.new)) }
+    ensures reads { ReadsFiles (extent_of (answer_of result)) (F.state files.old).calls (F.state files.new).calls }
     ensures files { (F.state files.new).files ≡ (F.state files.old).files }
 {
     let on = tabled(tools, job, files, steps)?;
     let answer = certified_report(tools.alloc, &on.desk, &on.marks, job.level, &on.table, 0, 1)?;
     Ok(shown(answer))
+}
+
+/// What a command makes of what its files come to. A new command is one more case.
+pub fn outcome_of<'a, F: Shelf, P: Maker, L: Ledger>(
+    tools: &Tools<'_, P>,
+    command: &'a Command,
+    files: &mut F,
+    steps: &mut Steps<L>,
+) -> Result<Outcome, Stop<'a>>
+    requires { (meaning_of command.now).asked }
+    ensures works { Works (meaning_of command.now) (shelf (F.state files.old) (F.state files.new)) steps.old steps.new result }
+    ensures opened { OpensWithin (meaning_of command.now).loading (shelf (F.state files.old) (F.state files.new)) }
+    ensures reads { ReadsFiles (extent_of (answer_of result)) (F.state files.old).calls (F.state files.new).calls }
+    ensures files { (F.state files.new).files ≡ (F.state files.old).files }
+{
+    match command {
+        Command::Table(job) => table_outcome(tools, job, files, steps),
+        Command::Certify(job) => certificate_outcome(tools, job, files, steps),
+        Command::Session(job) => session_outcome(tools.alloc, files, job),
+        Command::Verify(check) => check_outcome(tools.alloc, files, check),
+        Command::Demo { seed } => demo_outcome(tools, *seed, steps),
+    }
 }

@@ -2,9 +2,10 @@ use Rattle.std.specs.Prelude.{IfErr}
 use Rattle.desk_outside.specs.Seen.{shelf}
 use Rattle.desk_top.specs.Loading.{desk_loading}
 use Rattle.desk_top.specs.Works.{StopsLoading}
+use Rattle.desk_files.proofs.InTurn.{files_handed_on, memory_after}
 use Rattle.desk_top.proofs.Marking.{marks_known}
 use Rattle.desk_top.proofs.Reporting.{desk_stops, handed_on}
-use Rattle.desk_top.proofs.report.tabled.Goals as goal
+use Rattle.desk_top.proofs.work.tabled.Goals as goal
 
 pub returns-in_err-desk-clause-stops : goal.returns-in_err-desk-clause-stops
 returns-in_err-desk-clause-stops g c =
@@ -13,3 +14,12 @@ returns-in_err-desk-clause-stops g c =
 
 pub table_on-requires-clause-marks : goal.table_on-requires-clause-marks
 table_on-requires-clause-marks g c = rw c.in_ok-marks.ensures (marks_known c.args.job.now.level c.in_ok-desk.desk c.valid.ensures)
+
+pub returns-in_err-desk-clause-reads : goal.returns-in_err-desk-clause-reads
+returns-in_err-desk-clause-reads g c = files_handed_on _ _ c.from_residual.result c.in_err-desk.field-0.0 c.from_residual.ensures.1 c.in_err-desk.ensures.reads
+
+pub returns-in_err-marks-clause-reads : goal.returns-in_err-marks-clause-reads
+returns-in_err-marks-clause-reads g c = memory_after _ _ c.from_residual-in_err-marks.result c.from_residual-in_err-marks.ensures.1 c.in_ok-desk.ensures.reads
+
+pub returns-in_err-table-clause-reads : goal.returns-in_err-table-clause-reads
+returns-in_err-table-clause-reads g c = memory_after _ _ c.from_residual-in_err-table.result c.from_residual-in_err-table.ensures.1 c.in_ok-desk.ensures.reads

@@ -1,0 +1,15 @@
+use Rattle.desk_outside.specs.Seen.{shelf}
+use Rattle.desk_files.proofs.InTurn.{none_or_memory}
+use Rattle.desk_top.proofs.work.outcome_of.Goals as goal
+
+pub returns-in-Session-clause-works : goal.returns-in-Session-clause-works
+returns-in-Session-clause-works g c = rw c.in-Session.is (c.session_outcome.ensures.works c.args.steps.now)
+
+pub returns-in-Verify-clause-works : goal.returns-in-Verify-clause-works
+returns-in-Verify-clause-works g c = rw c.in-Verify.is (c.check_outcome.ensures.works c.args.steps.now)
+
+pub returns-in-Demo-clause-works : goal.returns-in-Demo-clause-works
+returns-in-Demo-clause-works g c = rw c.in-Demo.is (c.demo_outcome.ensures.works (shelf (g.F.Shelf.state c.args.files.now) (g.F.Shelf.state c.args.files.now)))
+
+pub returns-in-Demo-clause-reads : goal.returns-in-Demo-clause-reads
+returns-in-Demo-clause-reads g c = none_or_memory (g.F.Shelf.state c.args.files.now).calls c.demo_outcome.result c.demo_outcome.ensures.memory
