@@ -8,11 +8,10 @@ use std::test::Fail;
 #[test]
 fn a_demo_sums_up_its_desk(rt: HostRuntime) -> Result<(), Fail> {
     let answer = run_line(rt.alloc(), "demo 7", &[], b"", SOUND)?;
+    let text =
+        b"demo 7\nrows 200000\njudged 10084\nabove 0\nbelow 0\nequal 0\nopen 28\nclose 0\nnext 401 D1099 12\n";
     assert_eq!(rt; answer.status, 0);
-    assert_eq!(rt;
-        answer.out.as_slice(),
-        b"demo 7\nrows 200000\njudged 10084\nabove 0\nbelow 0\nequal 0\nopen 28\nclose 0\nnext 401 D1099 12\n".as_slice()
-    );
+    assert_eq!(rt; answer.out.as_slice(), text.as_slice());
     assert!(rt; answer.err.is_empty());
     Ok(())
 }

@@ -19,6 +19,10 @@ mod lines;
 #[cfg(test)]
 mod outside;
 #[cfg(test)]
+mod replies;
+#[cfg(test)]
 mod run;
 #[cfg(test)]
 mod sessions;
+#[cfg(test)]
+mod words;

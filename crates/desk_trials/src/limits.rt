@@ -24,8 +24,9 @@ fn is_told(
 
 const ONE_RUN: &str = "table --qrels q --measure P_1 a";
 
-/// A run of one line, with a byte in it so many times, and what is told of it.
+/// A line of a file, or of the input of a session, with a byte in it so many times, and what is told of it, or the reply.
 struct Padded {
+    file: &'static str,
     start: &'static [u8],
     byte: u8,
     count: usize,
@@ -34,7 +35,7 @@ struct Padded {
 }
 
 impl Padded {
-    fn run(&self, alloc: Global) -> Result<Vec<u8>, AllocError> {
+    fn text(&self, alloc: Global) -> Result<Vec<u8>, AllocError> {
         let mut line = self.start.to_vec(alloc)?;
         for _ in 0..self.count {
             line.push(self.byte)?;
@@ -44,8 +45,9 @@ impl Padded {
     }
 }
 
-const PADDED: [Padded; 4] = [
+const PADDED: [Padded; 8] = [
     Padded {
+        file: "a",
         start: b"401 Q0 d1 1 9 A",
         byte: b' ',
         count: 4_081,
@@ -53,6 +55,7 @@ const PADDED: [Padded; 4] = [
         told: "",
     },
     Padded {
+        file: "a",
         start: b"401 Q0 d1 1 9 A",
         byte: b' ',
         count: 4_082,
@@ -60,6 +63,7 @@ const PADDED: [Padded; 4] = [
         told: "refused: a line 1: LineTooLong\n",
     },
     Padded {
+        file: "a",
         start: b"401 Q0 ",
         byte: b'd',
         count: 255,
@@ -67,24 +71,150 @@ const PADDED: [Padded; 4] = [
         told: "",
     },
     Padded {
+        file: "a",
         start: b"401 Q0 ",
         byte: b'd',
         count: 256,
         end: b" 1 9 A\n",
         told: "refused: a line 1: NameTooLong\n",
     },
+    Padded {
+        file: "q",
+        start: b"401 0 d1 1",
+        byte: b' ',
+        count: 4_086,
+        end: b"\n",
+        told: "",
+    },
+    Padded {
+        file: "q",
+        start: b"401 0 d1 1",
+        byte: b' ',
+        count: 4_087,
+        end: b"\n",
+        told: "refused: q line 1: LineTooLong\n",
+    },
+    Padded {
+        file: "q",
+        start: b"401 0 ",
+        byte: b'd',
+        count: 255,
+        end: b" 1\n",
+        told: "",
+    },
+    Padded {
+        file: "q",
+        start: b"401 0 ",
+        byte: b'd',
+        count: 256,
+        end: b" 1\n",
+        told: "refused: q line 1: NameTooLong\n",
+    },
 ];
 
+const RUN: &[u8] = b"401 Q0 d1 1 9 A\n";
+
 fn is_padded_told(alloc: Global, padded: &Padded) -> Result<bool, AllocError> {
-    let run = padded.run(alloc)?;
-    is_told(alloc, ONE_RUN, &[("q", QRELS), ("a", &run)], padded.told)
+    let text = padded.text(alloc)?;
+    if padded.file == "q" {
+        is_told(alloc, ONE_RUN, &[("q", &text), ("a", RUN)], padded.told)
+    } else {
+        is_told(alloc, ONE_RUN, &[("q", QRELS), ("a", &text)], padded.told)
+    }
 }
 
 #[test]
 fn a_line_and_a_name_have_their_limits(rt: HostRuntime) -> Result<(), Fail> {
     for padded in &PADDED {
-        assert!(rt; is_padded_told(rt.alloc(), padded)?, "{}", padded.count);
+        assert!(rt;
+            is_padded_told(rt.alloc(), padded)?,
+            "{} {}",
+            padded.file,
+            padded.count
+        );
     }
+    Ok(())
+}
+
+const HEARD: [Padded; 5] = [
+    Padded {
+        file: "input",
+        start: b"pool 401 1",
+        byte: b' ',
+        count: 4_086,
+        end: b"\n",
+        told: "pool 1 1 1 0\n",
+    },
+    Padded {
+        file: "input",
+        start: b"",
+        byte: b'x',
+        count: 4_001,
+        end: b"\n",
+        told: "no BadLine\n",
+    },
+    Padded {
+        file: "input",
+        start: b"judge ann 401 d1 ",
+        byte: b'x',
+        count: 4_079,
+        end: b"\n",
+        told: "no BadLine\n",
+    },
+    Padded {
+        file: "input",
+        start: b"",
+        byte: b' ',
+        count: 4_097,
+        end: b"\n",
+        told: "no LineTooLong\n",
+    },
+    Padded {
+        file: "input",
+        start: b"pool 401 1",
+        byte: b' ',
+        count: 4_087,
+        end: b"\n",
+        told: "no LineTooLong\n",
+    },
+];
+
+fn is_heard(alloc: Global, padded: &Padded) -> Result<bool, AllocError> {
+    let line = "session --qrels q --measure P_1 a";
+    let text = padded.text(alloc)?;
+    let files: [(&str, &[u8]); 2] = [("q", QRELS), ("a", RUN)];
+    let answer = run_line(alloc, line, &files, &text, SOUND)?;
+    Ok(answer.is(0, padded.told.as_bytes(), b""))
+}
+
+#[test]
+fn a_line_of_a_session_has_its_limit(rt: HostRuntime) -> Result<(), Fail> {
+    for padded in &HEARD {
+        assert!(rt; is_heard(rt.alloc(), padded)?, "{}", padded.count);
+    }
+    Ok(())
+}
+
+// A run with so many documents on one topic.
+fn many_ranks(alloc: Global, ranks: u32) -> Result<Vec<u8>, AllocError> {
+    let mut run = Vec::new(alloc);
+    for rank in 0..ranks {
+        run.extend_from_slice(format!(in alloc; "401 Q0 d{rank} 1 9 A\n")?.as_bytes())?;
+    }
+    Ok(run)
+}
+
+fn is_told_of_ranks(alloc: Global, ranks: u32, told: &str) -> Result<bool, AllocError> {
+    let run = many_ranks(alloc, ranks)?;
+    is_told(alloc, ONE_RUN, &[("q", QRELS), ("a", &run)], told)
+}
+
+#[test]
+fn ranks_have_their_limit(rt: HostRuntime) -> Result<(), Fail> {
+    let alloc = rt.alloc();
+    let told = "refused: a line 10001: TooDeep\n";
+    assert!(rt; is_told_of_ranks(alloc, 10_001, told)?);
+    assert!(rt; is_told_of_ranks(alloc, 10_000, "")?);
     Ok(())
 }
 
@@ -146,15 +276,15 @@ fn many_judgements(alloc: Global) -> Result<Vec<u8>, AllocError> {
 fn a_history_has_its_limit(rt: HostRuntime) -> Result<(), Fail> {
     let alloc = rt.alloc();
     let lines = many_judgements(alloc)?;
-    let files: [(&str, &[u8]); 2] = [("q", QRELS), ("a", b"401 Q0 d1 1 9 A\n")];
+    let files: [(&str, &[u8]); 2] = [("q", QRELS), ("a", RUN)];
     let large = Outside {
         room: 20_000_000,
         ..SOUND
     };
     let line = "session --qrels q --measure P_1 a";
-    let told = run_line(alloc, line, &files, &lines, large)?;
-    let end =
+    let answer = run_line(alloc, line, &files, &lines, large)?;
+    let told =
         b"judged 401 d1 1\nno HistoryFull\nundone 401 d1 1\nno HistoryFull\njudged 401 d1 0\n";
-    assert!(rt; told.status == 0 && told.out.ends_with(end));
+    assert!(rt; answer.status == 0 && answer.out.ends_with(told));
     Ok(())
 }

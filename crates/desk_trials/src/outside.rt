@@ -34,3 +34,10 @@ pub struct Answer {
     pub out: Vec<u8>,
     pub err: Vec<u8>,
 }
+
+impl Answer {
+    /// Whether it has this status and these texts.
+    pub fn is(&self, status: u8, out: &[u8], err: &[u8]) -> bool {
+        self.status == status && self.out.as_slice() == out && self.err.as_slice() == err
+    }
+}

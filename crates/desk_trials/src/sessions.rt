@@ -46,7 +46,7 @@ fn has_replies(
 {
     let outside = Outside { given, ..SOUND };
     let answer = run_line(alloc, line, &FILES, lines.as_bytes(), outside)?;
-    Ok(answer.status == 0 && answer.out.as_slice() == replies.as_bytes() && answer.err.is_empty())
+    Ok(answer.is(0, replies.as_bytes(), b""))
 }
 
 #[test]
