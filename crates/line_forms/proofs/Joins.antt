@@ -16,7 +16,7 @@ text_of-append [] ms = refl
 text_of-append (l ∷ ls) ms = ap (λ x. ended l ++ x) (text_of-append ls ms) ∙ sym (append_assoc (ended l) (text_of ls) (text_of ms))
 
 -- the next of values, and those after it
-next_and_rest : {V : Type 0} (vs : List V) (i : ℕ) (v : V) → i < length vs → v ≡ get_or vs i v → drop i vs ≡ v ∷ drop (i + 1) vs
+pub next_and_rest : {V : Type 0} (vs : List V) (i : ℕ) (v : V) → i < length vs → v ≡ get_or vs i v → drop i vs ≡ v ∷ drop (i + 1) vs
 next_and_rest vs i v lt is = drop_more vs i v lt ∙ ap (λ w. w ∷ drop (i + 1) vs) (sym is)
 
 -- what is written and what is left to write are all: one more line, the lines of one more value, and the end

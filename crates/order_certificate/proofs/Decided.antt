@@ -11,7 +11,7 @@ use Rattle.order_certificate.proofs.Measures.{measure_found}
 use Rattle.order_certificate.proofs.Tested.{low_found, low_high_found, high_count_found, level_found, topics_found, claim_found}
 use Rattle.order_certificate.proofs.Whole.{OneMeasure, places_plain}
 
-places_tested : AtPlaces AreTested
+pub places_tested : AtPlaces AreTested
 places_tested = record {
   fixed_header = fixed_found (codes "desk-certificate 1");
   fixed_end = fixed_found (codes "end");

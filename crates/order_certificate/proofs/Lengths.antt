@@ -31,7 +31,7 @@ claim_line_short claimed.Above = omega arith
 claim_line_short claimed.Equal = omega arith
 claim_line_short claimed.Open = omega arith
 
-places_short : AtPlaces AreShort
+pub places_short : AtPlaces AreShort
 places_short = record {
   fixed_header = λ p fits. omega arith;
   fixed_end = λ p fits. omega arith;

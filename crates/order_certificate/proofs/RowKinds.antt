@@ -6,7 +6,7 @@ use Rattle.std.proofs.lemmas.Fmt.{decimal_injective}
 use Rattle.std.proofs.lemmas.List.{append_cancel_left}
 use Rattle.desk_model.specs.Name.{is_name}
 use Rattle.line_forms.specs.Form.{Whole, Spells, bind}
-use Rattle.line_forms.specs.Places.{IsLaterName, IsShortNumber, count_line}
+use Rattle.line_forms.specs.Places.{AreAscendingNames, IsLaterName, IsShortNumber, count_line, later_name_place}
 use Rattle.line_forms.specs.Rows.{named_rows}
 use Rattle.line_forms.proofs.Cuts.{AreAbove, above-append, same_parts}
 use Rattle.line_forms.proofs.Forms.{IsPlain, bind_forth, bind_back, bind_plain}
@@ -16,15 +16,45 @@ use Rattle.line_forms.proofs.Rows.{Kind, line_kind, rows_forth, rows_back, rows_
 use Rattle.line_forms.proofs.Shown.{signed_above, signed_one, named_one}
 use Rattle.line_forms.proofs.Spelling.{line_forth, made_forth, made_back, flat_single}
 use Rattle.order_certificate.specs.Certificate.{low_line, low_high_line, document_line, witness_lines, IsDocumentCount, AreDocuments, IsLowBound, IsLowHighBound, AreLists}
-use Rattle.order_certificate.specs.Places.{document_place, document_places, low_place, low_high_place, low_count_place, high_count_place, high_places, listed_places, witness_places}
+use Rattle.order_certificate.specs.Places.{document_places, name_places, low_place, low_high_place, low_count_place, high_count_place, high_places, listed_places, witness_places}
 use Rattle.order_certificate.specs.declared.certificate.TopicBound.{TopicBound}
 use Rattle.order_certificate.specs.declared.certificate.TopicWitness.{TopicWitness}
+
+-- ---- so many names, each after a word
+abbrev pub same_name : List ℕ → List ℕ → List ℕ
+same_name _ name = name
+
+module _ (word : List ℕ) (above : AreAbove 10 word) where
+  pub name_kind : Kind (later_name_place word) (λ name. (word ++ name) ∷ []) IsLaterName
+  name_kind = line_kind (λ name. word ++ name) IsLaterName (later_name_plain word above)
+
+  pub names_forth : (n : ℕ) (ls : List (List ℕ)) (names : List (List ℕ)) → Spells (name_places word n) ls names → (length names ≡ n) × AreAscendingNames names × (ls ≡ map (λ name. word ++ name) names)
+  names_forth n ls names s =
+      let h = rows_forth (later_name_place word) same_name (λ name. (word ++ name) ∷ []) IsLaterName name_kind n [] ls names s in
+      (h.0, follow_names names h.1, h.2 ∙ flat_single (λ name. word ++ name) names)
+
+  pub names_back : (names : List (List ℕ)) → AreAscendingNames names → Spells (name_places word (length names)) (map (λ name. word ++ name) names) names
+  names_back names are =
+      subst (λ zs. Spells (name_places word (length names)) zs names) (flat_single (λ name. word ++ name) names)
+      (rows_back (later_name_place word) same_name (λ name. (word ++ name) ∷ []) IsLaterName name_kind names [] (names_follow names are))
+
+  pub names_plain : (n : ℕ) → IsPlain (name_places word n)
+  names_plain n = rows_plain (later_name_place word) same_name (λ name. (word ++ name) ∷ []) IsLaterName name_kind n []
 
 pub doc_above : AreAbove 10 (codes "doc ")
 doc_above = search rules
 
-pub document_kind : Kind document_place (λ name. document_line name ∷ []) IsLaterName
-document_kind = line_kind document_line IsLaterName (later_name_plain (codes "doc ") doc_above)
+-- so many documents
+documents_forth : (n : ℕ) (ls : List (List ℕ)) (names : List (List ℕ)) → IsDocumentCount n → Spells (document_places n) ls names → (length names ≡ n) × AreDocuments names × (ls ≡ map document_line names)
+documents_forth n ls names few s =
+    let h = names_forth (codes "doc ") doc_above n ls names s in
+    (h.0, record { count = subst IsDocumentCount (sym h.0) few; ascending = h.1 }, h.2)
+
+documents_back : (names : List (List ℕ)) → AreDocuments names → Spells (document_places (length names)) (map document_line names) names
+documents_back names are = names_back (codes "doc ") doc_above names are.ascending
+
+pub documents_plain : (n : ℕ) → IsPlain (document_places n)
+documents_plain = names_plain (codes "doc ") doc_above
 
 -- a bound's three parts
 same_bound : (b c : TopicBound) → b.topic ≡ c.topic → b.low ≡ c.low → b.high ≡ c.high → b ≡ c
@@ -71,20 +101,6 @@ low_high_kind = line_kind low_high_line LowHighFollows (λ before. (
   (λ p fp. above-append 10 (low_line p) (32 ∷ signed_decimal p.high) (low_in_line p fp.0.0) (omega arith, signed_in_line p.high)),
   (λ p fp. tt),
 ))
-
--- so many documents
-documents_forth : (n : ℕ) (ls : List (List ℕ)) (names : List (List ℕ)) → IsDocumentCount n → Spells (document_places n) ls names → (length names ≡ n) × AreDocuments names × (ls ≡ map document_line names)
-documents_forth n ls names few s =
-    let h = rows_forth document_place (λ (_ : List ℕ) (name : List ℕ). name) (λ name. document_line name ∷ []) IsLaterName document_kind n [] ls names s in
-    (h.0, record { count = subst IsDocumentCount (sym h.0) few; ascending = follow_names names h.1 }, h.2 ∙ flat_single document_line names)
-
-documents_back : (names : List (List ℕ)) → AreDocuments names → Spells (document_places (length names)) (map document_line names) names
-documents_back names are =
-    subst (λ zs. Spells (document_places (length names)) zs names) (flat_single document_line names)
-    (rows_back document_place (λ (_ : List ℕ) (name : List ℕ). name) (λ name. document_line name ∷ []) IsLaterName document_kind names [] (names_follow names are.ascending))
-
-pub documents_plain : (n : ℕ) → IsPlain (document_places n)
-documents_plain n = rows_plain document_place (λ (_ : List ℕ) (name : List ℕ). name) (λ name. document_line name ∷ []) IsLaterName document_kind n []
 
 -- the lines of a list after its count
 abbrev list_lines : List ℕ → List ℕ → List (List ℕ) → List (List ℕ)

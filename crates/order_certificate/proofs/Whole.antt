@@ -93,7 +93,7 @@ evidence_back (Equal bounds) h = (
 evidence_back (Open witnesses) h = (claimed.Open, tt, refl, made_rows_back witness_places witness_name witness_lines AreLists witness_kind Open witnesses h.0 h.1)
 
 -- `end` is the last line
-end_forth : {X : Type 0} (v : X) (ls : List (List ℕ)) (x : X) → Spells (bind (fixed_place (codes "end")) (λ _. Whole v)) ls x → (v ≡ x) × (ls ≡ codes "end" ∷ [])
+pub end_forth : {X : Type 0} (v : X) (ls : List (List ℕ)) (x : X) → Spells (bind (fixed_place (codes "end")) (λ _. Whole v)) ls x → (v ≡ x) × (ls ≡ codes "end" ∷ [])
 end_forth v [] x s = absurd s
 end_forth v (l ∷ []) x s = (s.3, ap (λ z. z ∷ []) s.2)
 end_forth v (l ∷ m ∷ ls) x s = absurd s.3

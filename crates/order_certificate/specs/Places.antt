@@ -1,5 +1,6 @@
 -- Which line may stand where in the text of a certificate.
-use Rattle.std.specs.Prelude.{ℕ, List, ◌++◌, codes}
+use Rattle.std.specs.Prelude.{ℕ, ◌<◌, List, ◌++◌, codes}
+use Rattle.std.specs.List.{AllByRecursion}
 use Rattle.desk_model.specs.MeasureText.{IsMeasure, measure_text}
 use Rattle.desk_model.specs.declared.types.MeasureName.{MeasureName}
 use Rattle.line_forms.specs.Form.{Form, Whole, Line, IsTextIn, bind}
@@ -41,9 +42,17 @@ low_count_place = name_and_count_place (codes "low ") IsDocumentCount
 abbrev pub high_count_place : List ℕ → Form ℕ
 high_count_place topic = Line (λ n. count_line (codes "high ") topic n) IsDocumentCount Whole
 
+-- a word ends no line: each byte is above the line feed
+abbrev pub IsWord : List ℕ → Type 0
+IsWord bytes = AllByRecursion (λ b. 10 < b) bytes
+
+-- so many names, each after a word
+abbrev pub name_places : List ℕ → ℕ → Form (List (List ℕ))
+name_places word n = named_rows (later_name_place word) (λ name. name) n
+
 -- so many documents
 abbrev pub document_places : ℕ → Form (List (List ℕ))
-document_places n = named_rows document_place (λ name. name) n
+document_places = name_places (codes "doc ")
 
 -- a topic's second list after its first, and both, each after its count
 abbrev pub high_places : List ℕ → List (List ℕ) → Form TopicWitness

@@ -7,7 +7,7 @@ pub mod place;
 pub mod places;
 pub mod reading;
 pub mod topics;
-mod writing;
+pub mod writing;
 
 pub use certificate::{
     Certificate, Evidence, NameList, TopicBound, TopicBounds, TopicWitness, Witnesses,

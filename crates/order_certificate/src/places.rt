@@ -5,14 +5,14 @@ ghost use Rattle.desk_model.specs.Name.{is_name};
 ghost use Rattle.line_forms.specs.Places.{IsLaterName, count_line};
 ghost use Rattle.line_forms.specs.Reading.{IsReading, IsPartOf};
 ghost use Rattle.order_certificate.specs.Certificate.{IsDocumentCount, IsLowBound, IsLowHighBound, low_line, low_high_line};
-ghost use Rattle.order_certificate.specs.Places.{measure_place, document_place, low_place, low_high_place, low_count_place, high_count_place, claim_place, claim_line};
+ghost use Rattle.order_certificate.specs.Places.{measure_place, low_place, low_high_place, low_count_place, high_count_place, claim_place, claim_line};
 ghost use Rattle.order_certificate.specs.declared.certificate.TopicBound.{TopicBound as OfBound};
 
 use crate::certificate::TopicBound;
 use desk_model::{MeasureName, Name, measure_of_text_is_unique, push_measure, read_measure};
 use line_forms::lines::{after, cut};
 use line_forms::parts::{count, later_name_and_text, number};
-use line_forms::places::{later_name_line, name_and_count_line};
+use line_forms::places::name_and_count_line;
 use line_forms::{FormFault, TextLines};
 use std::alloc::{AllocError, Global};
 
@@ -136,17 +136,6 @@ pub fn claim_line(lines: &mut TextLines<'_>) -> Result<Claim, FormFault>
         Some(line) => claim_of(line),
         None => Err(FormFault::Bad),
     }
-}
-
-/// Takes a document that comes after another.
-pub fn document_line(
-    alloc: Global,
-    lines: &mut TextLines<'_>,
-    before: &[u8],
-) -> Result<Name, FormFault>
-    ensures { IsReading (document_place before.now) lines.old.rest result lines.new }
-{
-    later_name_line(alloc, lines, b"doc ", before)
 }
 
 /// Takes a topic that comes after another, and its lower number.

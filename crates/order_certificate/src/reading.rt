@@ -73,8 +73,8 @@ fn from_second(
     from_evidence(alloc, lines, measure, level, first, second)
 }
 
-// From the first run on.
-fn from_first(
+/// Takes what follows the level, from the first run on.
+pub fn from_first(
     alloc: Global,
     lines: &mut TextLines<'_>,
     measure: MeasureName,

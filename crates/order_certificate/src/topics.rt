@@ -2,16 +2,14 @@
 ghost use Rattle.std.specs.Prelude.{◌≡◌, ◌≤◌};
 ghost use Rattle.line_forms.specs.Reading.{IsReading};
 ghost use Rattle.line_forms.specs.Rows.{last_name, named_rows};
-ghost use Rattle.order_certificate.specs.Places.{document_places, low_place, low_high_place, witness_places, high_places, claim_places, claim_rows, evidence_places, listed_places};
+ghost use Rattle.order_certificate.specs.Places.{IsWord, document_places, name_places, low_place, low_high_place, witness_places, high_places, claim_places, claim_rows, evidence_places, listed_places};
 ghost use Rattle.order_certificate.specs.declared.certificate.TopicBound.{TopicBound as OfBound};
 ghost use Rattle.order_certificate.specs.declared.certificate.TopicWitness.{TopicWitness as OfWitness};
 
 use crate::certificate::{Evidence, NameList, TopicBound, TopicBounds, TopicWitness, Witnesses};
-use crate::places::{
-    Claim, claim_line, document_line, high_count_line, low_count_line, low_high_line, low_line,
-};
+use crate::places::{Claim, claim_line, high_count_line, low_count_line, low_high_line, low_line};
 use desk_model::Name;
-use line_forms::places::number_line;
+use line_forms::places::{later_name_line, number_line};
 use line_forms::{FormFault, TextLines};
 use std::alloc::Global;
 
@@ -45,16 +43,29 @@ fn last_witness(witnesses: &[TopicWitness]) -> &[u8]
     }
 }
 
-// So many documents. No room is taken for more than were read.
-fn documents(alloc: Global, lines: &mut TextLines<'_>, count: u32) -> Result<NameList, FormFault>
-    ensures { IsReading (document_places count) lines.old.rest result lines.new }
+/// Takes so many names, each after a word and greater than the one before it. No room is taken for more than were read.
+pub fn names(
+    alloc: Global,
+    lines: &mut TextLines<'_>,
+    word: &[u8],
+    count: u32,
+) -> Result<NameList, FormFault>
+    requires { IsWord word.now }
+    ensures { IsReading (name_places word.now count) lines.old.rest result lines.new }
 {
     let mut names = Vec::new(alloc);
     while names.len() < count as usize {
-        let name = document_line(alloc, lines, last_of(names.as_slice()))?;
+        let name = later_name_line(alloc, lines, word, last_of(names.as_slice()))?;
         names.push(name)?;
     }
     Ok(NameList::new(names))
+}
+
+// So many documents.
+fn documents(alloc: Global, lines: &mut TextLines<'_>, count: u32) -> Result<NameList, FormFault>
+    ensures { IsReading (document_places count) lines.old.rest result lines.new }
+{
+    names(alloc, lines, b"doc ", count)
 }
 
 // So many topics with a lower number.

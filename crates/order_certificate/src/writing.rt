@@ -1,4 +1,4 @@
-// The text of a certificate.
+//! The text of a certificate, put at the end of bytes line by line.
 ghost use Rattle.std.specs.Prelude.{◌≡◌, ◌++◌, ◌∷◌, [], length, codes, decimal, map, flat_map, IfOk, OnOk};
 ghost use Rattle.std.specs.Fmt.{signed_decimal};
 ghost use Rattle.desk_model.specs.MeasureText.{measure_text};
@@ -11,14 +11,16 @@ use crate::certificate::{Certificate, Evidence, TopicBound, TopicWitness};
 use desk_model::{MeasureName, Memory, Name, push_measure, push_signed, push_whole};
 use std::alloc::{AllocError, Global};
 
-fn push_after_space(out: &mut Vec<u8>, number: i128) -> Result<(), AllocError>
+/// Puts a space and a number.
+pub fn push_after_space(out: &mut Vec<u8>, number: i128) -> Result<(), AllocError>
     ensures { OnOk result (out.new.items ≡ out.old.items ++ 32 ∷ signed_decimal number) }
 {
     out.extend_from_slice(b" ")?;
     push_signed(out, number)
 }
 
-fn push_line(out: &mut Vec<u8>, word: &[u8], rest: &[u8]) -> Result<(), AllocError>
+/// Puts a line of a word and a text.
+pub fn push_line(out: &mut Vec<u8>, word: &[u8], rest: &[u8]) -> Result<(), AllocError>
     ensures { OnOk result (out.new.items ≡ out.old.items ++ ended (word.now ++ rest.now)) }
 {
     out.extend_from_slice(word)?;
@@ -26,7 +28,8 @@ fn push_line(out: &mut Vec<u8>, word: &[u8], rest: &[u8]) -> Result<(), AllocErr
     out.extend_from_slice(b"\n")
 }
 
-fn push_number_line(out: &mut Vec<u8>, word: &[u8], number: usize) -> Result<(), AllocError>
+/// Puts a line of a word and a number.
+pub fn push_number_line(out: &mut Vec<u8>, word: &[u8], number: usize) -> Result<(), AllocError>
     ensures { OnOk result (out.new.items ≡ out.old.items ++ ended (word.now ++ decimal number)) }
 {
     out.extend_from_slice(word)?;
@@ -34,7 +37,8 @@ fn push_number_line(out: &mut Vec<u8>, word: &[u8], number: usize) -> Result<(),
     out.extend_from_slice(b"\n")
 }
 
-fn push_measure_line(out: &mut Vec<u8>, measure: &MeasureName) -> Result<(), AllocError>
+/// Puts the line of the measure.
+pub fn push_measure_line(out: &mut Vec<u8>, measure: &MeasureName) -> Result<(), AllocError>
     ensures { OnOk result (out.new.items ≡ out.old.items ++ ended (codes "measure " ++ measure_text measure.now)) }
 {
     out.extend_from_slice(b"measure ")?;
@@ -83,7 +87,8 @@ fn push_lows_and_highs(out: &mut Vec<u8>, bounds: &[TopicBound]) -> Result<(), A
     Ok(())
 }
 
-fn push_documents(out: &mut Vec<u8>, names: &[Name]) -> Result<(), AllocError>
+/// Puts the lines of documents.
+pub fn push_documents(out: &mut Vec<u8>, names: &[Name]) -> Result<(), AllocError>
     ensures { OnOk result (out.new.items ≡ out.old.items ++ text_of (map document_line names.now)) }
 {
     for name in names {
@@ -92,7 +97,8 @@ fn push_documents(out: &mut Vec<u8>, names: &[Name]) -> Result<(), AllocError>
     Ok(())
 }
 
-fn push_count_line(
+/// Puts a line of a word, a topic and a number.
+pub fn push_count_line(
     out: &mut Vec<u8>,
     word: &[u8],
     topic: &[u8],

@@ -1,4 +1,5 @@
 pub mod Differences
+pub mod Rows
 pub mod Least
 pub mod Own
 pub mod Walk

@@ -11,94 +11,95 @@ ghost use Rattle.order_verifier.specs.Verified.{FailsBy};
 
 use crate::comparison::Comparison;
 use crate::failure::Failure;
-use order_certificate::TopicBound;
+use crate::rows::TopicNumbers;
 
-fn low_sum(bounds: &[TopicBound]) -> i128
-    requires few { length bounds.now ≤ TOPIC_LIMIT }
-    requires sizes { All (λ (b : Bound). IsShortNumber b.low) bounds.now }
-    ensures { result ≡ whole_sum (lows_of bounds.now) }
+fn low_sum<N: TopicNumbers>(numbers: &N) -> i128
+    requires few { length (N.bounds numbers.now) ≤ TOPIC_LIMIT }
+    requires sizes { All (λ (b : Bound). IsShortNumber b.low) (N.bounds numbers.now) }
+    ensures { result ≡ whole_sum (lows_of (N.bounds numbers.now)) }
 {
     let mut sum = 0;
-    for bound in bounds {
-        sum += bound.low;
+    for topic in 0..numbers.count() {
+        let low = numbers.low(topic);
+        sum += low;
     }
     sum
 }
 
-fn high_sum(bounds: &[TopicBound]) -> i128
-    requires few { length bounds.now ≤ TOPIC_LIMIT }
-    requires sizes { All (λ (b : Bound). IsShortNumber b.high) bounds.now }
-    ensures { result ≡ whole_sum (highs_of bounds.now) }
+fn high_sum<N: TopicNumbers>(numbers: &N) -> i128
+    requires few { length (N.bounds numbers.now) ≤ TOPIC_LIMIT }
+    requires sizes { All (λ (b : Bound). IsShortNumber b.high) (N.bounds numbers.now) }
+    ensures { result ≡ whole_sum (highs_of (N.bounds numbers.now)) }
 {
     let mut sum = 0;
-    for bound in bounds {
-        sum += bound.high;
+    for topic in 0..numbers.count() {
+        let high = numbers.high(topic);
+        sum += high;
     }
     sum
 }
 
 impl Comparison<'_> {
     /// The first topic whose lower number is greater than the lower end of the least difference.
-    fn first_low_too_great(&self, bounds: &[TopicBound]) -> Option<u32>
-        requires topics { length bounds.now ≡ length (topics_in self.now) }
-        requires few { length bounds.now ≤ TOPIC_LIMIT }
-        ensures { MatchOption result (BoundsHold self.now (A bounds.now)) (HasBoundTooGreat self.now (A bounds.now)) }
+    fn first_low_too_great<N: TopicNumbers>(&self, numbers: &N) -> Option<u32>
+        requires topics { length (N.bounds numbers.now) ≡ length (topics_in self.now) }
+        requires few { length (N.bounds numbers.now) ≤ TOPIC_LIMIT }
+        ensures { MatchOption result (BoundsHold self.now (A (N.bounds numbers.now))) (HasBoundTooGreat self.now (A (N.bounds numbers.now))) }
     {
-        let mut topic = 0;
-        for bound in bounds {
-            if bound.low > self.least_low(topic) {
+        for topic in 0..numbers.count() {
+            let low = numbers.low(topic);
+            if low > self.least_low(topic) {
                 return Some(topic);
             }
-            topic += 1;
         }
         None
     }
 
     /// The first topic of which either number is beyond its end.
-    fn first_too_great(&self, bounds: &[TopicBound]) -> Option<u32>
-        requires topics { length bounds.now ≡ length (topics_in self.now) }
-        requires few { length bounds.now ≤ TOPIC_LIMIT }
-        ensures { MatchOption result (BoundsHold self.now (E bounds.now)) (HasBoundTooGreat self.now (E bounds.now)) }
+    fn first_too_great<N: TopicNumbers>(&self, numbers: &N) -> Option<u32>
+        requires topics { length (N.bounds numbers.now) ≡ length (topics_in self.now) }
+        requires few { length (N.bounds numbers.now) ≤ TOPIC_LIMIT }
+        ensures { MatchOption result (BoundsHold self.now (E (N.bounds numbers.now))) (HasBoundTooGreat self.now (E (N.bounds numbers.now))) }
     {
-        let mut topic = 0;
-        for bound in bounds {
+        for topic in 0..numbers.count() {
+            let low = numbers.low(topic);
+            let high = numbers.high(topic);
             let ends = self.outer_ends(topic);
-            if bound.low > ends.least_low || bound.high < ends.most_high {
+            if low > ends.least_low || high < ends.most_high {
                 return Some(topic);
             }
-            topic += 1;
         }
         None
     }
 
     /// Whether numbers show that the first run is always above the second.
-    pub fn check_above(&self, bounds: &[TopicBound]) -> Result<(), Failure>
-        requires topics { length bounds.now ≡ length (topics_in self.now) }
-        requires few { length bounds.now ≤ TOPIC_LIMIT }
-        requires lows { All (λ (b : Bound). IsShortNumber b.low) bounds.now }
-        ensures { MatchResult result (λ _. ShowsOf self.now (A bounds.now)) (FailsBy self.now (A bounds.now)) }
+    pub fn check_above<N: TopicNumbers>(&self, numbers: &N) -> Result<(), Failure>
+        requires topics { length (N.bounds numbers.now) ≡ length (topics_in self.now) }
+        requires few { length (N.bounds numbers.now) ≤ TOPIC_LIMIT }
+        requires lows { All (λ (b : Bound). IsShortNumber b.low) (N.bounds numbers.now) }
+        ensures { MatchResult result (λ _. ShowsOf self.now (A (N.bounds numbers.now))) (FailsBy self.now (A (N.bounds numbers.now))) }
     {
-        if let Some(topic) = self.first_low_too_great(bounds) {
+        if let Some(topic) = self.first_low_too_great(numbers) {
             return Err(Failure::BoundTooGreat { topic });
         }
-        if low_sum(bounds) <= 0 {
+        if low_sum(numbers) <= 0 {
             return Err(Failure::NoSum);
         }
         Ok(())
     }
 
     /// Whether numbers show that the two runs are always equal.
-    pub fn check_equal(&self, bounds: &[TopicBound]) -> Result<(), Failure>
-        requires topics { length bounds.now ≡ length (topics_in self.now) }
-        requires few { length bounds.now ≤ TOPIC_LIMIT }
-        requires lows { All (λ (b : Bound). IsShortNumber b.low) bounds.now }
-        requires highs { All (λ (b : Bound). IsShortNumber b.high) bounds.now }
-        ensures { MatchResult result (λ _. ShowsOf self.now (E bounds.now)) (FailsBy self.now (E bounds.now)) }
+    pub fn check_equal<N: TopicNumbers>(&self, numbers: &N) -> Result<(), Failure>
+        requires topics { length (N.bounds numbers.now) ≡ length (topics_in self.now) }
+        requires few { length (N.bounds numbers.now) ≤ TOPIC_LIMIT }
+        requires lows { All (λ (b : Bound). IsShortNumber b.low) (N.bounds numbers.now) }
+        requires highs { All (λ (b : Bound). IsShortNumber b.high) (N.bounds numbers.now) }
+        ensures { MatchResult result (λ _. ShowsOf self.now (E (N.bounds numbers.now))) (FailsBy self.now (E (N.bounds numbers.now))) }
     {
-        if let Some(topic) = self.first_too_great(bounds) {
+        if let Some(topic) = self.first_too_great(numbers) {
             return Err(Failure::BoundTooGreat { topic });
         }
-        if low_sum(bounds) < 0 || high_sum(bounds) > 0 {
+        if low_sum(numbers) < 0 || high_sum(numbers) > 0 {
             return Err(Failure::NoSum);
         }
         Ok(())

@@ -9,9 +9,10 @@ ghost use Rattle.order_verifier.specs.Checks.{IsComparison as IsOne, OfTopic};
 ghost use Rattle.order_verifier.specs.Refusal.{OfEnds, topics_in};
 
 use crate::TopicEnds;
+use crate::documents::Documents;
 use crate::listed::Listed;
 use crate::names::RunNumbers;
-use desk_model::{Desk, Mark, Marks, Name};
+use desk_model::{Desk, Mark, Marks};
 use std::marker::Model;
 
 /// Two runs of a desk under its marks, and what their ends are computed by.
@@ -120,25 +121,25 @@ impl<'a> Comparison<'a> {
     }
 
     /// The upper end of the difference on a topic in the completion that a list stands for.
-    pub fn upper_end(&self, topic: u32, names: &[Name]) -> i128
-        requires names { AreAscending names.now }
-        requires topic { OfTopic (topics_in self.now) topic (λ t. AreUnjudged t names.now) }
-        ensures upper { OfTopic (topics_in self.now) topic (λ t. IsUpperEnd self.now.measure (length t.topic.marks) (listed_truth t names.now) (t.topic.ranking self.now.first) (t.topic.ranking self.now.second) result) }
+    pub fn upper_end(&self, topic: u32, documents: &Documents<'_>) -> i128
+        requires ascending { AreAscending documents.now }
+        requires topic { OfTopic (topics_in self.now) topic (λ t. AreUnjudged t documents.now) }
+        ensures upper { OfTopic (topics_in self.now) topic (λ t. IsUpperEnd self.now.measure (length t.topic.marks) (listed_truth t documents.now) (t.topic.ranking self.now.first) (t.topic.ranking self.now.second) result) }
         ensures modest { IsModest result }
     {
         let first = self.desk.ranking(self.runs.first, topic);
         let second = self.desk.ranking(self.runs.second, topic);
-        let listed = Listed::new(self.desk.topic(topic), self.marks.topic(topic), names);
+        let listed = Listed::new(self.desk.topic(topic), self.marks.topic(topic), documents);
         self.ends.upper_end(first, second, &listed)
     }
 
     /// The lower end of it.
-    pub fn lower_end(&self, topic: u32, names: &[Name]) -> i128
-        requires names { AreAscending names.now }
-        requires topic { OfTopic (topics_in self.now) topic (λ t. AreUnjudged t names.now) }
-        ensures lower { OfTopic (topics_in self.now) topic (λ t. IsLowerEnd self.now.measure (length t.topic.marks) (listed_truth t names.now) (t.topic.ranking self.now.first) (t.topic.ranking self.now.second) result) }
+    pub fn lower_end(&self, topic: u32, documents: &Documents<'_>) -> i128
+        requires ascending { AreAscending documents.now }
+        requires topic { OfTopic (topics_in self.now) topic (λ t. AreUnjudged t documents.now) }
+        ensures lower { OfTopic (topics_in self.now) topic (λ t. IsLowerEnd self.now.measure (length t.topic.marks) (listed_truth t documents.now) (t.topic.ranking self.now.first) (t.topic.ranking self.now.second) result) }
         ensures modest { IsModest result }
     {
-        -self.swapped().upper_end(topic, names)
+        -self.swapped().upper_end(topic, documents)
     }
 }

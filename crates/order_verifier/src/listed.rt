@@ -1,14 +1,13 @@
 // The completion of a topic in which a list says what is relevant.
 ghost use Rattle.std.specs.Prelude.{◌≡◌, ◌≤◌, length};
-ghost use Rattle.std.specs.List.{list_any};
 ghost use Rattle.desk_model.specs.Limits.{DOCUMENT_LIMIT};
-ghost use Rattle.desk_model.specs.Name.{is_same_name, AreAscending};
 ghost use Rattle.measure_laws.specs.Classes.{judged_count};
 ghost use Rattle.order_certificate.specs.Evidence.{listed_truth};
 ghost use Rattle.order_verifier.specs.Checks.{AreListed, unranked};
 
 use crate::Relevance;
-use desk_model::{Mark, Name, TopicBook};
+use crate::documents::Documents;
+use desk_model::{Mark, TopicBook};
 use std::marker::Model;
 
 /// A topic's documents, and a list of unjudged ones: those that are judged relevant and those on the list are
@@ -17,7 +16,7 @@ use std::marker::Model;
 pub struct Listed<'a> {
     book: &'a TopicBook,
     marks: &'a [Mark],
-    names: &'a [Name],
+    documents: &'a Documents<'a>,
 }
 
 impl<'a> Model for Listed<'a> {
@@ -25,18 +24,22 @@ impl<'a> Model for Listed<'a> {
 
     ghost Value = { NamesOnTopic };
 
-    ghost view = { λ l. record { docs = l.book.now.docs; marks = l.marks.now; names = l.names.now } };
+    ghost view = { λ l. record { docs = l.book.now.docs; marks = l.marks.now; names = l.documents.now } };
 
-    ghost invariant = { λ l. Fit (record { docs = l.book.now.docs; marks = l.marks.now; names = l.names.now }) };
+    ghost invariant = { λ l. Fit (record { docs = l.book.now.docs; marks = l.marks.now; names = l.documents.now }) };
 }
 
 impl<'a> Listed<'a> {
     /// A list of unjudged documents of a topic, ascending by name.
-    pub fn new(book: &'a TopicBook, marks: &'a [Mark], names: &'a [Name]) -> Listed<'a>
-        requires { AreListed (record { docs = book.now.docs; marks = marks.now; names = names.now }) }
-        ensures { result ≡ record { docs = book.now.docs; marks = marks.now; names = names.now } }
+    pub fn new(book: &'a TopicBook, marks: &'a [Mark], documents: &'a Documents<'a>) -> Listed<'a>
+        requires { AreListed (record { docs = book.now.docs; marks = marks.now; names = documents.now }) }
+        ensures { result ≡ record { docs = book.now.docs; marks = marks.now; names = documents.now } }
     {
-        Listed { book, marks, names }
+        Listed {
+            book,
+            marks,
+            documents,
+        }
     }
 }
 
@@ -50,14 +53,14 @@ impl Relevance for Listed<'_> {
     }
 
     fn relevant_count(&self) -> u32 {
-        judged_relevant(self.marks) + self.names.len() as u32
+        judged_relevant(self.marks) + self.documents.len() as u32
     }
 
     fn is_relevant(&self, doc: u32) -> bool {
         match self.marks[doc as usize] {
             Mark::Relevant => true,
             Mark::Other => false,
-            Mark::Unjudged => is_on(self.names, self.book.doc_name(doc)),
+            Mark::Unjudged => self.documents.has(self.book.doc_name(doc)),
         }
     }
 }
@@ -74,15 +77,4 @@ fn judged_relevant(marks: &[Mark]) -> u32
         }
     }
     count
-}
-
-/// Whether a name is on a list.
-fn is_on(names: &[Name], name: &[u8]) -> bool
-    requires { AreAscending names.now }
-    ensures { result ≡ list_any (λ each. is_same_name each name.now) names.now }
-{
-    match names.binary_search_by(|each| each.compare(name)) {
-        Ok(_) => true,
-        Err(_) => false,
-    }
 }

@@ -81,8 +81,8 @@ fn check(comparison: &Comparison<'_>, evidence: &Evidence) -> Result<(), Failure
     ensures { MatchResult result (λ _. ShowsOf comparison.now evidence.now) (FailsBy comparison.now evidence.now) }
 {
     match evidence {
-        Evidence::Above(bounds) => comparison.check_above(bounds.as_slice()),
-        Evidence::Equal(bounds) => comparison.check_equal(bounds.as_slice()),
-        Evidence::Open(witnesses) => comparison.check_open(witnesses.as_slice()),
+        Evidence::Above(bounds) => comparison.check_above(bounds),
+        Evidence::Equal(bounds) => comparison.check_equal(bounds),
+        Evidence::Open(witnesses) => comparison.check_open(witnesses),
     }
 }

@@ -7,12 +7,14 @@ ghost use Rattle.desk_model.specs.Verdict.{differs};
 ghost use Rattle.order_certificate.specs.declared.certificate.Evidence.TheVariants.{Open as O};
 ghost use Rattle.order_verifier.specs.Checks.{OfTopic};
 ghost use Rattle.order_verifier.specs.Refusal.{AreCompletions, HasCompletions, HasOther, HasWrongDocument, IsFirstOther, ShowsOf, topics_in};
+ghost use Rattle.order_verifier.specs.Rows.{OfRow};
 ghost use Rattle.order_verifier.specs.Verified.{FailsBy};
 
 use crate::comparison::Comparison;
+use crate::documents::Documents;
 use crate::failure::Failure;
-use desk_model::Name;
-use order_certificate::{CertificatePlace, TopicWitness, WitnessList};
+use crate::rows::TopicLists;
+use order_certificate::{CertificatePlace, WitnessList};
 
 /// Whether two sums, of a low and of a high completion, differ on the order: they are on two sides of 0, or one is 0.
 fn differ(low: i128, high: i128) -> bool
@@ -23,35 +25,36 @@ fn differ(low: i128, high: i128) -> bool
 
 impl Comparison<'_> {
     /// The first name of a list, by its number from 0, that is not that of an unjudged document of a topic.
-    fn first_other(&self, topic: u32, names: &[Name]) -> Option<u32>
+    fn first_other(&self, topic: u32, documents: &Documents<'_>) -> Option<u32>
         requires topic { topic < length (topics_in self.now) }
-        requires few { length names.now ≤ DOCUMENT_LIMIT }
-        ensures { OfTopic (topics_in self.now) topic (λ t. MatchOption result (AreUnjudged t names.now) (IsFirstOther t names.now)) }
+        requires few { length documents.now ≤ DOCUMENT_LIMIT }
+        ensures { OfTopic (topics_in self.now) topic (λ t. MatchOption result (AreUnjudged t documents.now) (IsFirstOther t documents.now)) }
     {
-        let mut document = 0;
-        for name in names {
-            if !self.is_unjudged(topic, name.as_bytes()) {
+        for document in 0..documents.len() as u32 {
+            if !self.is_unjudged(topic, documents.name(document)) {
                 return Some(document);
             }
-            document += 1;
         }
         None
     }
 
     /// The same of the two lists of a topic, the low one first.
-    fn first_other_on(&self, topic: u32, witness: &TopicWitness) -> Option<CertificatePlace>
+    fn first_other_on<L: TopicLists>(&self, topic: u32, lists: &L) -> Option<CertificatePlace>
         requires topic { topic < length (topics_in self.now) }
-        requires lists { AreLists witness.now }
-        ensures { OfTopic (topics_in self.now) topic (λ t. MatchOption result (AreCompletions (witness.now, t)) (HasOther topic (witness.now, t))) }
+        requires row { topic < length (L.witnesses lists.now) }
+        requires lists { All AreLists (L.witnesses lists.now) }
+        ensures { OfRow (L.witnesses lists.now) topic (λ w. OfTopic (topics_in self.now) topic (λ t. MatchOption result (AreCompletions (w, t)) (HasOther topic (w, t)))) }
     {
-        if let Some(document) = self.first_other(topic, witness.low.as_slice()) {
+        let low = lists.low(topic);
+        let high = lists.high(topic);
+        if let Some(document) = self.first_other(topic, &low) {
             return Some(CertificatePlace::Document {
                 topic,
                 list: WitnessList::Low,
                 document,
             });
         }
-        match self.first_other(topic, witness.high.as_slice()) {
+        match self.first_other(topic, &high) {
             Some(document) => Some(CertificatePlace::Document {
                 topic,
                 list: WitnessList::High,
@@ -62,65 +65,61 @@ impl Comparison<'_> {
     }
 
     /// The same of all topics, in their order.
-    fn first_wrong_document(&self, witnesses: &[TopicWitness]) -> Option<CertificatePlace>
-        requires topics { length witnesses.now ≡ length (topics_in self.now) }
-        requires few { length witnesses.now ≤ TOPIC_LIMIT }
-        requires lists { All AreLists witnesses.now }
-        ensures { MatchOption result (HasCompletions self.now (O witnesses.now)) (HasWrongDocument self.now (O witnesses.now)) }
+    fn first_wrong_document<L: TopicLists>(&self, lists: &L) -> Option<CertificatePlace>
+        requires topics { length (L.witnesses lists.now) ≡ length (topics_in self.now) }
+        requires few { length (L.witnesses lists.now) ≤ TOPIC_LIMIT }
+        requires lists { All AreLists (L.witnesses lists.now) }
+        ensures { MatchOption result (HasCompletions self.now (O (L.witnesses lists.now))) (HasWrongDocument self.now (O (L.witnesses lists.now))) }
     {
-        let mut topic = 0;
-        for witness in witnesses {
-            if let Some(place) = self.first_other_on(topic, witness) {
+        for topic in 0..lists.count() {
+            if let Some(place) = self.first_other_on(topic, lists) {
                 return Some(place);
             }
-            topic += 1;
         }
         None
     }
 
     /// The sum over the topics of the upper end of the difference in the low completion.
-    fn upper_sum(&self, witnesses: &[TopicWitness]) -> i128
-        requires few { length witnesses.now ≤ TOPIC_LIMIT }
-        requires lists { All AreLists witnesses.now }
-        requires unjudged { HasCompletions self.now (O witnesses.now) }
-        ensures { IsLowSum self.now.measure self.now.first self.now.second witnesses.now (topics_in self.now) result }
+    fn upper_sum<L: TopicLists>(&self, lists: &L) -> i128
+        requires few { length (L.witnesses lists.now) ≤ TOPIC_LIMIT }
+        requires lists { All AreLists (L.witnesses lists.now) }
+        requires unjudged { HasCompletions self.now (O (L.witnesses lists.now)) }
+        ensures { IsLowSum self.now.measure self.now.first self.now.second (L.witnesses lists.now) (topics_in self.now) result }
     {
         let mut sum = 0;
-        let mut topic = 0;
-        for witness in witnesses {
-            sum += self.upper_end(topic, witness.low.as_slice());
-            topic += 1;
+        for topic in 0..lists.count() {
+            let documents = lists.low(topic);
+            sum += self.upper_end(topic, &documents);
         }
         sum
     }
 
     /// The sum over the topics of the lower end of the difference in the high completion.
-    fn lower_sum(&self, witnesses: &[TopicWitness]) -> i128
-        requires few { length witnesses.now ≤ TOPIC_LIMIT }
-        requires lists { All AreLists witnesses.now }
-        requires unjudged { HasCompletions self.now (O witnesses.now) }
-        ensures { IsHighSum self.now.measure self.now.first self.now.second witnesses.now (topics_in self.now) result }
+    fn lower_sum<L: TopicLists>(&self, lists: &L) -> i128
+        requires few { length (L.witnesses lists.now) ≤ TOPIC_LIMIT }
+        requires lists { All AreLists (L.witnesses lists.now) }
+        requires unjudged { HasCompletions self.now (O (L.witnesses lists.now)) }
+        ensures { IsHighSum self.now.measure self.now.first self.now.second (L.witnesses lists.now) (topics_in self.now) result }
     {
         let mut sum = 0;
-        let mut topic = 0;
-        for witness in witnesses {
-            sum += self.lower_end(topic, witness.high.as_slice());
-            topic += 1;
+        for topic in 0..lists.count() {
+            let documents = lists.high(topic);
+            sum += self.lower_end(topic, &documents);
         }
         sum
     }
 
     /// Whether lists are two completions that differ on the order of the two runs.
-    pub fn check_open(&self, witnesses: &[TopicWitness]) -> Result<(), Failure>
-        requires topics { length witnesses.now ≡ length (topics_in self.now) }
-        requires few { length witnesses.now ≤ TOPIC_LIMIT }
-        requires lists { All AreLists witnesses.now }
-        ensures { MatchResult result (λ _. ShowsOf self.now (O witnesses.now)) (FailsBy self.now (O witnesses.now)) }
+    pub fn check_open<L: TopicLists>(&self, lists: &L) -> Result<(), Failure>
+        requires topics { length (L.witnesses lists.now) ≡ length (topics_in self.now) }
+        requires few { length (L.witnesses lists.now) ≤ TOPIC_LIMIT }
+        requires lists { All AreLists (L.witnesses lists.now) }
+        ensures { MatchResult result (λ _. ShowsOf self.now (O (L.witnesses lists.now))) (FailsBy self.now (O (L.witnesses lists.now))) }
     {
-        if let Some(place) = self.first_wrong_document(witnesses) {
+        if let Some(place) = self.first_wrong_document(lists) {
             return Err(Failure::NotCompletion { place });
         }
-        if !differ(self.upper_sum(witnesses), self.lower_sum(witnesses)) {
+        if !differ(self.upper_sum(lists), self.lower_sum(lists)) {
             return Err(Failure::NoDifference);
         }
         Ok(())

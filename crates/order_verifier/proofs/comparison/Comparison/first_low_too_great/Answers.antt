@@ -1,42 +1,36 @@
-use Rattle.std.proofs.Common.{◌≡◌, ◌+◌, take, ap, sym, subst, arith, ◌≤ℤ◌, ◌<ℤ◌}
+use Rattle.std.proofs.Common.{◌≡◌, ◌+◌, take, subst, arith, ◌≤ℤ◌, ◌<ℤ◌}
 use Rattle.std.specs.List.{AllByRecursion, zip}
 use Rattle.std.proofs.lemmas.Int.{ints}
 use Rattle.std.proofs.lemmas.List.{take_all}
 use Rattle.std.proofs.lemmas.Slice.Zip.{length-zip}
 use Rattle.order_certificate.specs.declared.certificate.TopicBound.{TopicBound}
-use Rattle.order_verifier.specs.Checks.{OfTopic}
-use Rattle.order_verifier.specs.Refusal.{HasLow, HasGreaterLow, IsFirstFailing, OfEnds, topics_in}
+use Rattle.order_verifier.specs.Refusal.{HasLow, HasGreaterLow, topics_in}
 use Rattle.order_verifier.proofs.NumbersOnTopics.{bound_more, bound_fails}
 use Rattle.order_verifier.proofs.FirstFailing.{all_pairs}
-use Rattle.order_verifier.proofs.Topics.{item_there}
 use Rattle.order_verifier.proofs.comparison.Comparison.first_low_too_great.Goals as goal
 
-pub returns-then-bound-least_low : goal.returns-then-bound-least_low
-returns-then-bound-least_low c =
+pub returns-then-low-least_low : goal.returns-then-low-least_low
+returns-then-low-least_low g c =
     let v = c.args.self.now in
-    let bound = c.bound-item.result in
-    let there = item_there c.args.bounds.now c.loop-bound.bound-index bound c.loop-bound-test.true c.bound-item.is in
-    let of = subst (λ k. OfTopic (topics_in v) k (λ t. OfEnds v t (λ ends. c.least_low.result ≡ ends.least_lo))) c.loop-bound.invariant.0 c.least_low.ensures in
-    let greater : c.least_low.result <ℤ bound.low = omega (arith, ints, c.if-bound-least_low.true) in
-    subst (IsFirstFailing (HasLow v) (HasGreaterLow v) (zip c.args.bounds.now (topics_in v))) (sym c.loop-bound.invariant.0)
-    (bound_fails v c.args.bounds.now c.loop-bound.bound-index bound (λ ends. c.least_low.result ≡ ends.least_lo) there of (HasLow v) (HasGreaterLow v)
-    (λ t e. (e.0, e.1, subst (λ z. z <ℤ bound.low) e.2 greater)) c.loop-bound.invariant.1)
+    let row = c.low-low.ensures in
+    let over : c.least_low.result <ℤ c.low-low.result = omega (arith, ints, c.if-low-least_low.true) in
+    let greater : c.least_low.result <ℤ row.0.low = subst (λ z. c.least_low.result <ℤ z) row.2 over in
+    bound_fails v (g.N.TopicNumbers.bounds c.args.numbers.now) c.loop-topic.topic row.0 (λ ends. c.least_low.result ≡ ends.least_lo) row.1 c.least_low.ensures (HasLow v) (HasGreaterLow v)
+    (λ t e. (e.0, e.1, subst (λ z. z <ℤ row.0.low) e.2 greater)) c.loop-topic.invariant
 
-pub loop-bound-preserved : goal.loop-bound-preserved
-loop-bound-preserved c =
+pub loop-topic-preserved : goal.loop-topic-preserved
+loop-topic-preserved g c =
     let v = c.args.self.now in
-    let bound = c.bound-item.result in
-    let there = item_there c.args.bounds.now c.loop-bound.bound-index bound c.loop-bound-test.true c.bound-item.is in
-    let of = subst (λ k. OfTopic (topics_in v) k (λ t. OfEnds v t (λ ends. c.least_low.result ≡ ends.least_lo))) c.loop-bound.invariant.0 c.least_low.ensures in
-    let within : bound.low ≤ℤ c.least_low.result = omega (arith, ints, c.if-bound-least_low.false) in (
-      ap (λ k. k + 1) c.loop-bound.invariant.0,
-      bound_more v c.args.bounds.now c.loop-bound.bound-index bound (λ ends. c.least_low.result ≡ ends.least_lo) there of (HasLow v)
-          (λ t e. ((e.0, e.1, subst (λ z. bound.low ≤ℤ z) e.2 within), tt)) c.loop-bound.invariant.1,
-    )
+    let row = c.low-low.ensures in
+    let under : c.low-low.result ≤ℤ c.least_low.result = omega (arith, ints, c.if-low-least_low.false) in
+    let within : row.0.low ≤ℤ c.least_low.result = subst (λ z. z ≤ℤ c.least_low.result) row.2 under in
+    bound_more v (g.N.TopicNumbers.bounds c.args.numbers.now) c.loop-topic.topic row.0 (λ ends. c.least_low.result ≡ ends.least_lo) row.1 c.least_low.ensures (HasLow v)
+    (λ t e. ((e.0, e.1, subst (λ z. row.0.low ≤ℤ z) e.2 within), tt)) c.loop-topic.invariant
 
 pub returns : goal.returns
-returns c =
+returns g c =
     let v = c.args.self.now in
-    let pairs = zip c.args.bounds.now (topics_in v) in
-    let whole : take c.loop-bound.bound-index pairs ≡ pairs = take_all c.loop-bound.bound-index pairs (omega (arith, length-zip c.args.bounds.now (topics_in v), c.requires.topics, c.loop-bound-test.false)) in
-    all_pairs _ (λ (b : TopicBound). b.low) c.args.bounds.now (topics_in v) c.requires.topics (subst (AllByRecursion (HasLow v)) whole c.loop-bound.invariant.1)
+    let bounds = g.N.TopicNumbers.bounds c.args.numbers.now in
+    let pairs = zip bounds (topics_in v) in
+    let whole : take c.loop-topic.topic pairs ≡ pairs = take_all c.loop-topic.topic pairs (omega (arith, length-zip bounds (topics_in v), c.requires.topics, c.count-topic-end.ensures)) in
+    all_pairs _ (λ (b : TopicBound). b.low) bounds (topics_in v) c.requires.topics (subst (AllByRecursion (HasLow v)) whole c.loop-topic.invariant)

@@ -13,10 +13,9 @@ use Rattle.order_verifier.proofs.comparison.Comparison.lower_sum.Given as goal
 abbrev pub IsEnd : Compared → ℤ → TopicWitness × NamedTopic → Type 0
 IsEnd c end p = IsLowerEnd c.measure (length p.1.topic.marks) (listed_truth p.1 p.0.high) (p.1.topic.ranking c.first) (p.1.topic.ranking c.second) end
 
-pub record Summed (c : Compared) (ws : List TopicWitness) (index topic : ℕ) (sum : ℤ) : Type 0 where
-  pub place : topic ≡ index
+pub record Summed (c : Compared) (ws : List TopicWitness) (index : ℕ) (sum : ℤ) : Type 0 where
   pub summed : SumsTo (IsEnd c) (take index (zip ws (topics_in c))) sum
   pub within : unsigned_abs sum ≤ index * (2 * 10 ^ 18)
 
-abbrev pub invariant-loop-witness : goal.invariant-loop-witness
-invariant-loop-witness l = Summed l.self l.witnesses l.witness-index l.topic l.sum
+abbrev pub invariant-loop-topic : goal.invariant-loop-topic
+invariant-loop-topic g l = Summed l.self (g.L.TopicLists.witnesses l.lists) l.topic l.sum

@@ -19,7 +19,7 @@ pub topic-requires-2 : goal.topic-requires-2
 topic-requires-2 c = marks_within c.self.inside.desk.now c.self.inside.marks.now c.self.invariant.known c.args.topic (topic_within _ _ c.self.view_is c.self.invariant.known c.args.topic _ c.requires.topic)
 
 pub new-listed-requires : goal.new-listed-requires
-new-listed-requires c = names_met _ _ c.self.view_is c.self.invariant c.args.topic c.topic-2.result.now c.topic.result.now c.args.names.now c.topic-2.ensures c.topic.ensures c.requires.names c.requires.topic
+new-listed-requires c = names_met _ _ c.self.view_is c.self.invariant c.args.topic c.topic-2.result.now c.topic.result.now c.args.documents.now c.topic-2.ensures c.topic.ensures c.requires.ascending c.requires.topic
 
 pub upper_end-requires : goal.upper_end-requires
 upper_end-requires c =
@@ -30,5 +30,5 @@ upper_end-requires c =
 pub returns-clause-upper : goal.returns-clause-upper
 returns-clause-upper c =
     let read : to_z w128 (of_z w128 c.upper_end.result) ≡ c.upper_end.result = omega (arith, ints) in
-    upper_on _ _ c.self.view_is c.args.topic c.topic-2.result.now c.topic.result.now c.ranking-first.result.now c.ranking-second.result.now c.args.names.now c.topic-2.ensures c.topic.ensures c.ranking-first.ensures.ranking
+    upper_on _ _ c.self.view_is c.args.topic c.topic-2.result.now c.topic.result.now c.ranking-first.result.now c.ranking-second.result.now c.args.documents.now c.topic-2.ensures c.topic.ensures c.ranking-first.ensures.ranking
     c.ranking-second.ensures.ranking c.new-listed.result c.new-listed.ensures _ _ read c.upper_end.ensures.upper

@@ -1,0 +1,5 @@
+pub mod Matched
+pub mod Zipped
+pub mod Counted
+pub mod Placed
+pub mod Refused

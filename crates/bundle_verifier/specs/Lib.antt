@@ -1,0 +1,4 @@
+pub mod Refusal
+pub mod Verified
+pub mod Lines
+pub mod Sizes

@@ -1,0 +1,18 @@
+//! A checker of bundles: it accepts one, or tells the first reason against it. Each claim is checked as the
+//! certificate of one pair for which it stands, by the checker of those and without writing it out.
+#![tactic(auto)]
+
+pub mod claim;
+pub mod laws;
+mod lines;
+pub mod names;
+pub mod reason;
+pub mod rejected;
+pub mod rows;
+mod told;
+pub mod verifier;
+
+pub use laws::rejected_bundles_are_no_evidence;
+pub use reason::{BundleName, BundleReason};
+pub use rejected::BundleRejected;
+pub use verifier::BundleVerifier;

@@ -1,0 +1,13 @@
+pub mod TopicRows
+pub mod PickOrder
+pub mod PickRows
+pub mod ClaimRows
+pub mod WholeBundles
+pub mod Either
+pub mod FirstLines
+pub mod WrittenParts
+pub mod Counting
+pub mod Known
+pub mod EveryLine
+pub mod Decided
+pub mod WrittenOut

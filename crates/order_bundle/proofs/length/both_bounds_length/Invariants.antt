@@ -1,0 +1,11 @@
+use Rattle.std.proofs.Common.{◌≡◌, ◌+◌, ◌*◌, ◌≤◌, drop, map}
+use Rattle.order_bundle.specs.Bundle.{both_bounds_line}
+use Rattle.order_bundle.specs.Lengths.{text_length}
+use Rattle.order_bundle.proofs.length.both_bounds_length.Given as goal
+
+-- what is counted and what is left to count are all
+abbrev pub invariant-loop-bound : goal.invariant-loop-bound
+invariant-loop-bound l = record {
+  counted : l.bytes + text_length (map both_bounds_line (drop l.bound-index l.bounds)) ≡ text_length (map both_bounds_line l.bounds);
+  few : l.bytes ≤ 100 * l.bound-index;
+}
