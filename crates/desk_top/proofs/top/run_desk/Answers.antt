@@ -1,6 +1,7 @@
 use Rattle.std.proofs.Common.{refl, ap, inl, inr}
 use Rattle.std.specs.Prelude.{map, string_bytes, Err}
 use Rattle.desk_top.specs.Meets.{Meets, LeavesInput}
+use Rattle.desk_top.proofs.Commands.{asked}
 use Rattle.desk_top.proofs.Calling.{means_command, usage_meets, memory_meets, call_meets}
 use Rattle.desk_top.proofs.top.run_desk.Goals as goal
 
@@ -28,3 +29,6 @@ pub returns-in-Err-Memory-clause-ends : goal.returns-in-Err-Memory-clause-ends
 returns-in-Err-Memory-clause-ends g c =
     let words = map string_bytes c.args.words.now in
     (c.tell_memory.result, c.into-in-Err-Memory.ensures, call_meets c.printed_texts_are_true.ensures words _ _ (inr (inr (c.tell_memory.ensures.status, refl))) (memory_meets words _ _ refl refl refl refl c.tell_memory.ensures.status c.tell_memory.ensures.line))
+
+pub run_command-requires : goal.run_command-requires
+run_command-requires g c = asked (map string_bytes c.args.words.now) c.in-Ok.command c.in-Ok.ensures.ok
