@@ -20,6 +20,7 @@ pub mod RprecFirst
 pub mod Ratios
 pub mod FirstRanks
 pub mod LeastDifferences
+pub mod Stretches
 pub mod ReciprocalDifferences
 pub mod CaseEnds
 pub mod Scores

@@ -82,6 +82,12 @@ smaller_trans s t u p q r h k =
     (strict_then (s.first.num * s.second.den) (s.second.num * s.first.den) (s.first.den * s.second.den) (t.first.num * t.second.den) (t.second.num * t.first.den) (t.first.den * t.second.den)
     (u.first.num * u.second.den) (u.second.num * u.first.den) (u.first.den * u.second.den) (mul-pos p.first p.second) (mul-pos q.first q.second) (mul-pos r.first r.second) (ltb-true _ _ h) k)
 
+pub smaller_no_greater : (s t : Scores) → is_smaller s t ≡ true → NoGreater s t
+smaller_no_greater s t e = let less = ltb-true _ _ e in omega (arith, less)
+
+pub not_smaller : (s t : Scores) → is_smaller t s ≡ false → NoGreater s t
+not_smaller s t e = let more = ltb-false _ _ e in omega (arith, more)
+
 pub no_smaller : (s t : Scores) → NoGreater s t → is_smaller t s ≡ false
 no_smaller s t h = le-ltb _ _ (omega (arith, h))
 

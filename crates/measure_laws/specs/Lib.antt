@@ -11,4 +11,5 @@ pub mod Cases
 pub mod Weights
 pub mod Ends
 pub mod LeastDifference
+pub mod RprecStretches
 pub mod Refinement

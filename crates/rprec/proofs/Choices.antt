@@ -20,7 +20,8 @@ use Rattle.measure_laws.specs.RprecCase.{greedy_truth, greedy_scores}
 use Rattle.measure_laws.proofs.RecallEnds.{every, over-max}
 use Rattle.measure_laws.specs.LeastDifference.{IsPossible}
 use Rattle.measure_laws.proofs.LeastDifferences.{among_few, greedy_lead, open_size}
-use Rattle.measure_laws.proofs.RprecEnds.{count_picked, count_three}
+use Rattle.measure_laws.proofs.RprecEnds.{count_picked}
+use Rattle.measure_laws.proofs.Stretches.{class_sizes, greedy_smaller}
 use Rattle.topic_counts.specs.declared.counts.Counts.{Counts}
 use Rattle.rprec.specs.declared.prefixes.Prefixes.{Prefixes}
 use Rattle.rprec.specs.declared.greedy.DepthCandidate.{DepthCandidate}
@@ -39,43 +40,11 @@ gains_are marks a b r chosen f all c ra rb h topic er small ec e1 e2 =
     record { same = subst (λ (s : ℕ). true_among (greedy_truth marks a b s) s a + c.second ≡ true_among (greedy_truth marks a b s) s b + c.first) (sym ec) here }
 
 -- ---- one candidate against another
-pub scaled_test : (m n k : ℕ) → 0 < k → nat_lt (m * k) (n * k) ≡ nat_lt m n
-scaled_test m n k h = by_test (nat_lt m n) refl
-  where
-    by_test : (b : Bool) → nat_lt m n ≡ b → nat_lt (m * k) (n * k) ≡ b
-    by_test true e =
-        let less : suc m ≤ n = grind (arith, nat_tests) in
-        let more = mul-le-mul_right k less in grind (arith, nat_tests)
-    by_test false e =
-        let less : n ≤ m = grind (arith, nat_tests) in
-        let more = mul-le-mul_right k less in grind (arith, nat_tests)
-
--- the test of four scores with two denominators, in gains
-pub test_step : (m n x y r s first second first' second' : ℕ) → 0 < r → 0 < s → m + second ≡ n + first → x + second' ≡ y + first' →
-    nat_lt ((m * r) * (s * s) + (y * s) * (r * r)) ((x * s) * (r * r) + (n * r) * (s * s)) ≡ nat_lt (first * s + second' * r) (first' * r + second * s)
-test_step m n x y r s first second first' second' pr ps e f =
-    let left : (m * r) * (s * s) + (y * s) * (r * r) ≡ (m * s + y * r) * (r * s) = omega arith in
-    let right : (x * s) * (r * r) + (n * r) * (s * s) ≡ (x * r + n * s) * (r * s) = omega arith in
-    ap (λ k. nat_lt k ((x * s) * (r * r) + (n * r) * (s * s))) left ∙ ap (λ k. nat_lt ((m * s + y * r) * (r * s)) k) right ∙ scaled_test (m * s + y * r) (x * r + n * s) (r * s) (mul-pos pr ps)
-    ∙ same_difference (first' * r + second * s) (first * s + second' * r) (x * r + n * s) (m * s + y * r) (omega (arith, ap (λ k. k * s) e, ap (λ k. k * r) f))
-
 pub smaller_is : (marks : List Mark) (a b : List ℕ) (c best : DepthCandidate) → AreGains marks a b c → AreGains marks a b best →
     is_smaller (greedy_scores marks a b c.count) (greedy_scores marks a b best.count) ≡ beats c best
-smaller_is marks a b c best h k =
-    let r = c.count in
-    let s = best.count in
-    let here = greedy_truth marks a b r in
-    let there = greedy_truth marks a b s in
-    rw (over-max (true_among here r a) r (among_few here r a), over-max (true_among here r b) r (among_few here r b), over-max (true_among there s a) s (among_few there s a), over-max (true_among there s b) s (among_few there s b))
-    (test_step (true_among here r a) (true_among here r b) (true_among there s a) (true_among there s b) (max 1 r) (max 1 s) c.first c.second best.first best.second (omega arith) (omega arith) h.same k.same)
+smaller_is marks a b c best h k = greedy_smaller marks a b c.count best.count c.first c.second best.first best.second h.same k.same
 
 -- ---- sizes
--- the sizes of the three classes together
-pub class_sizes : (marks : List Mark) (a b : List ℕ) (r : ℕ) → size_of (length marks) (open_in marks (λ _. true)) ≡
-    size_of (length marks) (open_in marks (only_second r b a)) + size_of (length marks) (open_in marks (only_second r a b)) + size_of (length marks) (open_in marks (neutral r a b))
-class_sizes marks a b r =
-    let zs = range_with_len 0 (length marks) in count_by-agree _ _ zs (every _ (λ d. and-true (is_unjudged (mark_at marks d))) zs) ∙ count_three (λ d. is_unjudged (mark_at marks d)) r a b zs
-
 -- the own unjudged documents of both are among all
 pub own_both : (marks : List Mark) (a b : List ℕ) (r : ℕ) (f : Prefixes) (all : Counts) → IsRanking (length marks) a → IsRanking (length marks) b → ArePrefixes marks (take r a) (take r b) f → AreTopic marks all → f.first.unjudged + f.second.unjudged ≤ all.unjudged
 own_both marks a b r f all ra rb h topic =

@@ -4,12 +4,11 @@ use Rattle.std.specs.Prelude.{if◌then◌else◌}
 use Rattle.std.proofs.lemmas.Bool.{cases_lt, ltb-false, le-ltb}
 use Rattle.std.proofs.lemmas.Bool.Decides.{nat_tests}
 use Rattle.measure_laws.specs.Differences.{ArePositive, Scores, is_smaller}
-use Rattle.measure_laws.proofs.Picks.{NoGreater, NoGreater-trans, no_smaller}
+use Rattle.measure_laws.proofs.Picks.{NoGreater, NoGreater-trans, no_smaller, not_smaller, smaller_no_greater}
+use Rattle.measure_laws.proofs.Stretches.{test_step}
 use Rattle.rprec.specs.declared.greedy.DepthCandidate.{DepthCandidate}
 use Rattle.rprec.specs.Greedy.{beats}
 use Rattle.rprec.specs.Search.{IsBestBetween, IsBestOf, precedes, preferred}
-use Rattle.rprec.proofs.Choices.{test_step}
-use Rattle.rprec.proofs.Tails.{not_smaller, smaller_no_greater}
 
 -- ---- candidates as scores
 abbrev scores_of : DepthCandidate → Scores

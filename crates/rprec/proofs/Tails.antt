@@ -2,31 +2,25 @@
 use Rattle.std.proofs.Common.{◌≡◌, ℕ, zero, suc, ◌+◌, ◌-◌, ◌*◌, ◌<◌, ◌≤◌, min, max, Bool, true, false, not, ◌&&◌, ◌||◌, ◌⊎◌, nat_lt, List, [], ◌∷◌, ◌++◌, length, take, arith, refl, ap, ◌∙◌, sym, subst, inl, inr}
 use Rattle.std.specs.Prelude.{if◌then◌else◌}
 use Rattle.std.specs.List.{AllByRecursion, range_with_len}
-use Rattle.std.proofs.lemmas.Bool.{cases_lt, ltb-true, ltb-false, le-ltb}
+use Rattle.std.proofs.lemmas.Bool.{cases_lt}
 use Rattle.std.proofs.lemmas.Bool.Decides.{nat_tests}
-use Rattle.std.proofs.lemmas.List.{take_all, length-take}
-use Rattle.small_lemmas.proofs.Tests.{same_difference}
 use Rattle.desk_model.specs.Ranking.{IsRanking}
 use Rattle.desk_model.specs.declared.types.Mark.{Mark}
 use Rattle.measure_laws.specs.Differences.{ArePositive, Scores, is_smaller, first_least}
 use Rattle.measure_laws.specs.RprecCase.{greedy_scores, rprec_count}
 use Rattle.measure_laws.specs.Classes.{judged_count}
-use Rattle.measure_laws.proofs.Picks.{NoGreater, NoGreater-trans, NoGreater-refl, first_least-all, first_least-least, no_smaller, first_least-append}
+use Rattle.measure_laws.specs.LeastDifference.{unjudged_count}
+use Rattle.measure_laws.specs.RprecStretches.{IsBeyond, IsEven, others_used, second_used}
+use Rattle.measure_laws.proofs.Picks.{NoGreater, NoGreater-trans, NoGreater-refl, first_least-all, first_least-least, no_smaller, not_smaller, smaller_no_greater, first_least-append}
 use Rattle.measure_laws.proofs.RprecEnds.{greedy_positive, range_push}
+use Rattle.measure_laws.proofs.Stretches.{same_take, stretches_are}
 use Rattle.topic_counts.specs.declared.counts.Counts.{Counts}
 use Rattle.rprec.specs.declared.prefixes.Prefixes.{Prefixes}
 use Rattle.rprec.specs.declared.greedy.DepthCandidate.{DepthCandidate}
 use Rattle.rprec.specs.Greedy.{AreTopic, AreGains, IsLeast, beats, better_of, candidate, best_beyond}
 use Rattle.rprec.specs.Search.{IsBestOf, precedes}
-use Rattle.rprec.proofs.Choices.{scaled_test, smaller_is, gains_are, own_both}
+use Rattle.rprec.proofs.Choices.{smaller_is, gains_are}
 use Rattle.rprec.proofs.Steps.{ArePrefixes}
-
--- ---- tests
-pub smaller_no_greater : (s t : Scores) → is_smaller s t ≡ true → NoGreater s t
-smaller_no_greater s t e = let less = ltb-true _ _ e in omega (arith, less)
-
-pub not_smaller : (s t : Scores) → is_smaller t s ≡ false → NoGreater s t
-not_smaller s t e = let more = ltb-false _ _ e in omega (arith, more)
 
 -- ---- ranges
 range_all : (P : ℕ → Type 0) (start n : ℕ) → ((d : ℕ) → start ≤ d → d < start + n → P d) → AllByRecursion P (range_with_len start n)
@@ -150,55 +144,12 @@ best_still marks a b j tried n best h f =
     later : (d : ℕ) → j + tried + 1 ≤ d → d < j + tried + 1 + n → is_smaller (greedy_scores marks a b d) (greedy_scores marks a b best.count) ≡ false
     later d k l = no_smaller _ _ (subst (λ (x : ℕ). NoGreater (greedy_scores marks a b best.count) (greedy_scores marks a b x)) (omega (arith, k)) (from_last (d - (j + tried)) (omega arith)))
 
--- ---- stretches of even choices
--- the test of two choices of a stretch along which both counts grow evenly
-stretch_test : (r f g up down i e : ℕ) → 0 < e →
-    nat_lt ((f + up * (i + e)) * (r + i) + (g + down * i) * (r + (i + e))) ((f + up * i) * (r + (i + e)) + (g + down * (i + e)) * (r + i)) ≡ nat_lt (up * r + g) (f + down * r)
-stretch_test r f g up down i e h =
-    same_difference ((f + down * r) * e) ((up * r + g) * e) ((f + up * i) * (r + (i + e)) + (g + down * (i + e)) * (r + i)) ((f + up * (i + e)) * (r + i) + (g + down * i) * (r + (i + e))) (omega arith)
-    ∙ scaled_test (up * r + g) (f + down * r) e h
-
--- choices from a number on, along which both counts grow evenly
-pub record IsStretch (marks : List Mark) (a b : List ℕ) (p : ℕ → DepthCandidate) (r n up down : ℕ) : Type 0 where
-  pub positive : 0 < n → 0 < r
-  pub gains : (i : ℕ) → i ≤ n → AreGains marks a b (p i)
-  pub count : (i : ℕ) → i ≤ n → (p i).count ≡ r + i
-  pub first : (i : ℕ) → i ≤ n → (p i).first ≡ (p 0).first + up * i
-  pub second : (i : ℕ) → i ≤ n → (p i).second ≡ (p 0).second + down * i
-
-test_by : (c best : DepthCandidate) (r s f g x y : ℕ) → 0 < r → 0 < s → c.count ≡ r → best.count ≡ s → c.first ≡ f → c.second ≡ g → best.first ≡ x → best.second ≡ y → beats c best ≡ nat_lt (f * s + y * r) (x * r + g * s)
-test_by c best r s f g x y pr ps er es ef eg ex ey =
-    let here : max 1 c.count ≡ r = omega (arith, er, pr) in
-    let there : max 1 best.count ≡ s = omega (arith, es, ps) in
-    ap (λ (k : ℕ). nat_lt (c.first * max 1 best.count + best.second * k) (best.first * k + c.second * max 1 best.count)) here
-    ∙ ap (λ (k : ℕ). nat_lt (c.first * k + best.second * r) (best.first * r + c.second * k)) there
-    ∙ ap (λ (k : ℕ). nat_lt (k * s + best.second * r) (best.first * r + c.second * s)) ef ∙ ap (λ (k : ℕ). nat_lt (f * s + best.second * r) (best.first * r + k * s)) eg
-    ∙ ap (λ (k : ℕ). nat_lt (f * s + best.second * r) (k * r + g * s)) ex ∙ ap (λ (k : ℕ). nat_lt (f * s + k * r) (x * r + g * s)) ey
-
-pub stretch_falls : (marks : List Mark) (a b : List ℕ) (p : ℕ → DepthCandidate) (r n up down : ℕ) → IsStretch marks a b p r n up down → (m k : ℕ) → m < k → k ≤ n →
-    is_smaller (greedy_scores marks a b (r + k)) (greedy_scores marks a b (r + m)) ≡ nat_lt (up * r + (p 0).second) ((p 0).first + down * r)
-stretch_falls marks a b p r n up down h m k lt le =
-    let scores = greedy_scores marks a b in
-    let more = h.positive (omega arith) in
-    let e = k - m in
-    let k_is : k ≡ m + e = omega arith in
-    ap (λ (x : ℕ). is_smaller (scores x) (scores (r + m))) (sym (h.count k le)) ∙ ap (λ (x : ℕ). is_smaller (scores (p k).count) (scores x)) (sym (h.count m (omega arith)))
-    ∙ smaller_is marks a b (p k) (p m) (h.gains k le) (h.gains m (omega arith))
-    ∙ test_by (p k) (p m) (r + (m + e)) (r + m) ((p 0).first + up * (m + e)) ((p 0).second + down * (m + e)) ((p 0).first + up * m) ((p 0).second + down * m) (omega arith) (omega arith)
-    (h.count k le ∙ ap (λ (x : ℕ). r + x) k_is) (h.count m (omega arith)) (h.first k le ∙ ap (λ (x : ℕ). (p 0).first + up * x) k_is) (h.second k le ∙ ap (λ (x : ℕ). (p 0).second + down * x) k_is) (h.first m (omega arith)) (h.second m (omega arith))
-    ∙ stretch_test r (p 0).first (p 0).second up down m e (omega arith)
-
 -- ---- the choices from where the prefixes stay as they are
--- a prefix beyond the length of its list
-same_take : (xs : List ℕ) (r s longest : ℕ) → length xs ≤ longest → r ≤ s → (r < s → longest ≤ r) → take s xs ≡ take r xs
-same_take xs r s longest h le f = elim (cases_lt r s) [
-  | inl less ↦ let short = f less in take_all s xs (omega arith) ∙ sym (take_all r xs (omega arith))
-  | inr more ↦ let e : s ≡ r = omega arith in ap (λ (k : ℕ). take k xs) e
-]
-
 pub same_prefixes : (marks : List Mark) (a b : List ℕ) (f : Prefixes) (r s longest : ℕ) → length a ≤ longest → length b ≤ longest → r ≤ s → (r < s → longest ≤ r) → ArePrefixes marks (take r a) (take r b) f → ArePrefixes marks (take s a) (take s b) f
 same_prefixes marks a b f r s longest ha hb le g h =
-    subst (λ (ys : List ℕ). ArePrefixes marks (take s a) ys f) (sym (same_take b r s longest hb le g)) (subst (λ (xs : List ℕ). ArePrefixes marks xs (take r b) f) (sym (same_take a r s longest ha le g)) h)
+    let ea : take s a ≡ take r a = same_take a r s le (λ l. omega (arith, ha, g l)) in
+    let eb : take s b ≡ take r b = same_take b r s le (λ l. omega (arith, hb, g l)) in
+    subst (λ (ys : List ℕ). ArePrefixes marks (take s a) ys f) (sym eb) (subst (λ (xs : List ℕ). ArePrefixes marks xs (take r b) f) (sym ea) h)
 
 pub choice_gains : (marks : List Mark) (a b : List ℕ) (r chosen : ℕ) (f : Prefixes) (all : Counts) (c : DepthCandidate) → IsRanking (length marks) a → IsRanking (length marks) b →
     ArePrefixes marks (take r a) (take r b) f → AreTopic marks all → r ≡ all.relevant + chosen → chosen ≤ all.unjudged → c ≡ candidate f all chosen → AreGains marks a b c
@@ -207,63 +158,57 @@ choice_gains marks a b r chosen f all c ra rb h topic er small e =
 
 pub record IsSettled (marks : List Mark) (a b : List ℕ) (all : Counts) (f : Prefixes) (start : ℕ) : Type 0 where
   pub prefixes : (c : ℕ) → start ≤ c → c ≤ all.unjudged → ArePrefixes marks (take (all.relevant + c) a) (take (all.relevant + c) b) f
-  pub positive : start < all.unjudged → 0 < all.relevant + start
-  pub short : start < all.unjudged → f.first.relevant + f.first.unjudged ≤ all.relevant + start
-  pub within : f.first.unjudged + f.second.unjudged ≤ all.unjudged
+  pub beyond : IsBeyond marks a b (all.relevant + start)
 
-pub settled : (marks : List Mark) (a b : List ℕ) (all : Counts) (f : Prefixes) (start longest : ℕ) → IsRanking (length marks) a → IsRanking (length marks) b → AreTopic marks all → length a ≤ longest → length b ≤ longest → 0 < longest →
+pub settled : (marks : List Mark) (a b : List ℕ) (all : Counts) (f : Prefixes) (start longest : ℕ) → AreTopic marks all → length a ≤ longest → length b ≤ longest → 0 < longest →
     start ≡ min (longest - all.relevant) all.unjudged → ArePrefixes marks (take (all.relevant + start) a) (take (all.relevant + start) b) f → IsSettled marks a b all f start
-settled marks a b all f start longest ra rb topic ha hb positive e h = record {
+settled marks a b all f start longest topic ha hb positive e h = record {
   prefixes = λ c lo hi. same_prefixes marks a b f (all.relevant + start) (all.relevant + c) longest ha hb (omega arith) (λ l. omega arith) h;
-  positive = λ l. omega arith;
-  short = λ l. omega (arith, h.first_few, length-take {A = ℕ} (all.relevant + start) a);
-  within = own_both marks a b (all.relevant + start) f all ra rb h topic;
+  beyond = record {
+    possible = (omega (arith, topic.relevant), omega (arith, topic.relevant, topic.unjudged, e));
+    positive = λ l. omega (arith, topic.relevant, topic.unjudged, e, positive, l);
+    first = λ l. omega (arith, topic.relevant, topic.unjudged, e, ha, l);
+    second = λ l. omega (arith, topic.relevant, topic.unjudged, e, hb, l);
+  };
 }
 
 settled_gains : (marks : List Mark) (a b : List ℕ) (all : Counts) (f : Prefixes) (start c : ℕ) → IsRanking (length marks) a → IsRanking (length marks) b → AreTopic marks all → IsSettled marks a b all f start →
     start ≤ c → c ≤ all.unjudged → AreGains marks a b (candidate f all c)
 settled_gains marks a b all f start c ra rb topic h lo hi = gains_are marks a b (all.relevant + c) c f all (candidate f all c) ra rb (h.prefixes c lo hi) topic refl hi refl refl refl
 
-settled_stretch : (marks : List Mark) (a b : List ℕ) (all : Counts) (f : Prefixes) (start c d up down : ℕ) → IsRanking (length marks) a → IsRanking (length marks) b → AreTopic marks all → IsSettled marks a b all f start →
-    start ≤ c → c ≤ d → d ≤ all.unjudged → ((i : ℕ) → c + i ≤ d → (candidate f all (c + i)).first ≡ (candidate f all (c + 0)).first + up * i) → ((i : ℕ) → c + i ≤ d → (candidate f all (c + i)).second ≡ (candidate f all (c + 0)).second + down * i) →
-    IsStretch marks a b (λ i. candidate f all (c + i)) (all.relevant + c) (d - c) up down
-settled_stretch marks a b all f start c d up down ra rb topic h lo le hi first second = record {
-  positive = λ l. omega (arith, h.positive (omega arith));
-  gains = λ i l. settled_gains marks a b all f start (c + i) ra rb topic h (omega arith) (omega arith);
-  count = λ i l. omega arith;
-  first = λ i l. first i (omega arith);
-  second = λ i l. second i (omega arith);
-}
-
 -- from one place to another, along an even stretch
-advanced : (marks : List Mark) (a b : List ℕ) (all : Counts) (f : Prefixes) (start c d up down : ℕ) (best : DepthCandidate) → IsRanking (length marks) a → IsRanking (length marks) b → AreTopic marks all → IsSettled marks a b all f start →
-    start ≤ c → c ≤ d → d ≤ all.unjudged → ((i : ℕ) → c + i ≤ d → (candidate f all (c + i)).first ≡ (candidate f all (c + 0)).first + up * i) → ((i : ℕ) → c + i ≤ d → (candidate f all (c + i)).second ≡ (candidate f all (c + 0)).second + down * i) →
-    IsBest marks a b all.relevant c best → IsBest marks a b all.relevant d (better_of (candidate f all d) best)
-advanced marks a b all f start c d up down best ra rb topic h lo le hi first second k =
-    let p : ℕ → DepthCandidate = λ i. candidate f all (c + i) in
-    let even = settled_stretch marks a b all f start c d up down ra rb topic h lo le hi first second in
+advanced : (marks : List Mark) (a b : List ℕ) (all : Counts) (f : Prefixes) (start c d : ℕ) (falls : Bool) (best : DepthCandidate) → IsRanking (length marks) a → IsRanking (length marks) b → AreTopic marks all → IsSettled marks a b all f start →
+    start ≤ c → c ≤ d → d ≤ all.unjudged → IsEven marks a b (all.relevant + c) (all.relevant + d) falls → IsBest marks a b all.relevant c best → IsBest marks a b all.relevant d (better_of (candidate f all d) best)
+advanced marks a b all f start c d falls best ra rb topic h lo le hi even k =
     subst (λ (x : ℕ). IsBest marks a b all.relevant x (better_of (candidate f all d) best)) (omega arith)
-    (best_over marks a b all.relevant c (d - c) (nat_lt (up * (all.relevant + c) + (p 0).second) ((p 0).first + down * (all.relevant + c))) (candidate f all d) best k
-    (settled_gains marks a b all f start d ra rb topic h (omega arith) hi) (omega arith) (stretch_falls marks a b p (all.relevant + c) (d - c) up down even))
+    (best_over marks a b all.relevant c (d - c) falls (candidate f all d) best k (settled_gains marks a b all f start d ra rb topic h (omega arith) hi) (omega arith)
+    (λ m n lt l. even (all.relevant + c + m) (all.relevant + c + n) (omega arith) (omega arith) (omega arith)))
 
--- beyond the places where the second run's own documents, and then all but the first run's own, are used up, the difference rises
+-- beyond the places where the second run's own documents, and then all but the first run's own, are used up, the difference never falls
 pub beyond_least : (marks : List Mark) (a b : List ℕ) (all : Counts) (f : Prefixes) (start : ℕ) (best : DepthCandidate) → IsRanking (length marks) a → IsRanking (length marks) b → AreTopic marks all → start ≤ all.unjudged → IsSettled marks a b all f start → IsBest marks a b all.relevant start best →
     ((best_beyond f all start best).count ≡ first_least (greedy_scores marks a b) all.relevant (range_with_len (all.relevant + 1) all.unjudged)) × AreGains marks a b (best_beyond f all start best)
 beyond_least marks a b all f start best ra rb topic small h k =
-    let others = all.unjudged - f.first.unjudged in
+    let r = all.relevant + start in
     let one = max start f.second.unjudged in
-    let two = max start others in
-    let within = h.within in
-    let first = advanced marks a b all f start start one 0 1 best ra rb topic h (omega arith) (omega arith) (omega arith) (λ i l. omega arith) (λ i l. omega arith) k in
-    let second = advanced marks a b all f start one two 0 0 (better_of (candidate f all one) best) ra rb topic h (omega arith) (omega arith) (omega arith) (λ i l. omega arith) (λ i l. omega arith) first in
-    let after = best_beyond f all start best in
-    let even : IsStretch marks a b (λ i. candidate f all (two + i)) (all.relevant + two) (all.unjudged - two) 1 0 =
-    settled_stretch marks a b all f start two all.unjudged 1 0 ra rb topic h (omega arith) (omega arith) (omega arith) (λ i l. omega arith) (λ i l. omega arith) in
-    let whole : two + (all.unjudged - two) ≡ all.unjudged = omega arith in
+    let two = max start (all.unjudged - f.first.unjudged) in
+    let stretches = stretches_are marks a b r ra rb h.beyond in
+    let counts = h.prefixes start (omega arith) small in
+    let used : all.relevant + one ≡ second_used marks a b r = omega (arith, topic.relevant, counts.second) in
+    let left : all.relevant + two ≡ others_used marks a b r = omega (arith, topic.relevant, topic.unjudged, counts.first) in
+    let end : judged_count marks + unjudged_count marks ≡ all.relevant + all.unjudged = omega (arith, topic.relevant, topic.unjudged) in
+    let order : one ≤ two = omega (arith, stretches.order, used, left) in
+    let last : two ≤ all.unjudged = omega (arith, stretches.last, left, end) in
+    let to_used : IsEven marks a b r (all.relevant + one) stretches.first.0 = subst (λ (x : ℕ). IsEven marks a b r x stretches.first.0) (sym used) stretches.first.1 in
+    let to_left : IsEven marks a b (all.relevant + one) (all.relevant + two) stretches.second.0 =
+    subst (λ (x : ℕ). IsEven marks a b x (all.relevant + two) stretches.second.0) (sym used) (subst (λ (x : ℕ). IsEven marks a b (second_used marks a b r) x stretches.second.0) (sym left) stretches.second.1) in
+    let first = advanced marks a b all f start start one stretches.first.0 best ra rb topic h (omega arith) (omega arith) (omega (arith, order, last)) to_used k in
+    let second = advanced marks a b all f start one two stretches.second.0 (better_of (candidate f all one) best) ra rb topic h (omega arith) order last to_left first in
+    let whole : two + (all.unjudged - two) ≡ all.unjudged = omega (arith, last) in
     let rises : (m n : ℕ) → m < n → n ≤ all.unjudged - two → is_smaller (greedy_scores marks a b (all.relevant + two + n)) (greedy_scores marks a b (all.relevant + two + m)) ≡ false =
-    λ m n lt le. stretch_falls marks a b (λ i. candidate f all (two + i)) (all.relevant + two) (all.unjudged - two) 1 0 even m n lt le
-    ∙ le-ltb (1 * (all.relevant + two) + (candidate f all (two + 0)).second) ((candidate f all (two + 0)).first + 0 * (all.relevant + two)) (omega (arith, h.short (omega arith))) in
-    (best_still marks a b all.relevant two (all.unjudged - two) after second rises ∙ ap (λ (x : ℕ). first_least (greedy_scores marks a b) all.relevant (range_with_len (all.relevant + 1) x)) whole, second.gains)
+    λ m n lt le. stretches.third (all.relevant + two + m) (all.relevant + two + n) (omega (arith, left)) (omega arith) (omega (arith, end, last, le)) in (
+      best_still marks a b all.relevant two (all.unjudged - two) (best_beyond f all start best) second rises ∙ ap (λ (x : ℕ). first_least (greedy_scores marks a b) all.relevant (range_with_len (all.relevant + 1) x)) whole,
+      second.gains,
+    )
 
 -- it is the least of all
 pub beyond_is_least : (marks : List Mark) (a b : List ℕ) (all : Counts) (f : Prefixes) (start : ℕ) (best after : DepthCandidate) → IsRanking (length marks) a → IsRanking (length marks) b → AreTopic marks all → start ≤ all.unjudged → IsSettled marks a b all f start → IsBest marks a b all.relevant start best →

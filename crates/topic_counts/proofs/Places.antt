@@ -53,7 +53,7 @@ ranked_step : (n d r s x : ℕ) (later : Option ℕ) → x < n → (later ≡ So
 ranked_step n d r s x later h k true t f = subst (λ (z : ℕ). z < n) (nat_eq-true x d t) h
 ranked_step n d r s x later h k false t f = k f
 
-ranked_within : (n d r s : ℕ) (docs : List ℕ) → AllByRecursion (λ x. x < n) docs → position_from (λ each. nat_eq each d) s docs ≡ Some r → d < n
+pub ranked_within : (n d r s : ℕ) (docs : List ℕ) → AllByRecursion (λ x. x < n) docs → position_from (λ each. nat_eq each d) s docs ≡ Some r → d < n
 ranked_within n d r s [] h e = absurd (cc)
 ranked_within n d r s (x ∷ xs) h e = ranked_step n d r s x (position_from (λ each. nat_eq each d) (s + 1) xs) h.0 (ranked_within n d r (s + 1) xs h.1) (nat_eq x d) refl e
 

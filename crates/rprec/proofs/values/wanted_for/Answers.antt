@@ -2,7 +2,7 @@ use Rattle.std.proofs.Common.{◌≡◌, length, arith}
 use Rattle.measure_laws.specs.Classes.{open_in, size_of}
 use Rattle.measure_laws.specs.Prefixes.{only_second}
 use Rattle.measure_laws.proofs.LeastDifferences.{open_size}
-use Rattle.rprec.proofs.Choices.{class_sizes}
+use Rattle.measure_laws.proofs.Stretches.{class_sizes}
 use Rattle.rprec.proofs.values.wanted_for.Goals as goal
 
 pub returns-clause-both : goal.returns-clause-both

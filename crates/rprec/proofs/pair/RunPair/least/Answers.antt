@@ -39,5 +39,5 @@ returns-clause-least c =
     let end = prefixes p (j + steps_of p) in
     let after : c.best_beyond.result ≡ best_beyond end p.all (steps_of p) c.best.result =
     c.best_beyond.ensures.value ∙ ap (λ (f : Prefixes). best_beyond f p.all c.steps.result c.best.result) c.requires.end ∙ ap (λ (k : ℕ). best_beyond end p.all k c.best.result) c.steps.ensures in
-    let still = settled marks a b p.all end (steps_of p) p.longest h.a h.b h.topic h.first_short h.second_short h.some refl (pair_prefixes p (j + steps_of p) h) in
+    let still = settled marks a b p.all end (steps_of p) p.longest h.topic h.first_short h.second_short h.some refl (pair_prefixes p (j + steps_of p) h) in
     beyond_is_least marks a b p.all end (steps_of p) c.best.result c.best_beyond.result h.a h.b h.topic (omega arith) still best after
