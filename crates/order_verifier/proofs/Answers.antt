@@ -262,7 +262,7 @@ one_pair : (c : Certificate) (desk : Desk) (a b a' b' : ℕ) → NamesRuns c des
 one_pair c desk a b a' b' ((p, q), _) ((p', q'), _) = ((cc), (cc))
 
 -- a wrong name, or evidence that fails on the desk
-abbrev Fails : Certificate → Desk → List (List Mark) → Failure → Type 0
+abbrev pub Fails : Certificate → Desk → List (List Mark) → Failure → Type 0
 Fails c desk marks failure = OnDesk c desk marks (λ k. FailsBy k c.evidence failure)
 
 by_stage : (c : Certificate) (desk : Desk) (marks : List (List Mark)) (r : Rejected) → IsRejected c desk marks r →
@@ -284,6 +284,13 @@ rejected_no_evidence c desk marks why h e = elim (by_stage c desk marks why h) [
       shown_or_failed (compared c desk marks k.0 k.1) c.evidence f.0 shows k.4
 ]
 
+-- it fails in one way
+pub one_failure : (c : Certificate) (desk : Desk) (marks : List (List Mark)) (r s : Failure) → Fails c desk marks r → Fails c desk marks s → r ≡ s
+one_failure c desk marks r s x y =
+    let pair = one_pair c desk x.0 x.1 y.0 y.1 x.2 y.2 in
+    one_reason (compared c desk marks y.0 y.1) c.evidence r s
+    (subst (λ a. FailsBy (compared c desk marks a y.1) c.evidence r) pair.0 (subst (λ b. FailsBy (compared c desk marks x.0 b) c.evidence r) pair.1 x.4)) y.4
+
 one_refusal : (c : Certificate) (desk : Desk) (marks : List (List Mark)) (r s : Rejected) → IsRejected c desk marks r → IsRejected c desk marks s → r ≡ s
 one_refusal c desk marks r s h k = elim (by_stage c desk marks r h) [
   | inl x ↦ elim (by_stage c desk marks s k) [
@@ -294,12 +301,7 @@ one_refusal c desk marks r s h k = elim (by_stage c desk marks r h) [
       let x = f.2 in
       elim (by_stage c desk marks s k) [
         | inl y ↦ absurd (name_apart c desk y.0 x.0 x.1 x.2 x.3 y.2)
-        | inr g ↦
-            let y = g.2 in
-            let pair = one_pair c desk x.0 x.1 y.0 y.1 x.2 y.2 in
-            f.1
-            ∙ ap (rejection c.evidence) (one_reason (compared c desk marks y.0 y.1) c.evidence f.0 g.0
-            (subst (λ a. FailsBy (compared c desk marks a y.1) c.evidence f.0) pair.0 (subst (λ b. FailsBy (compared c desk marks x.0 b) c.evidence f.0) pair.1 x.4)) y.4) ∙ sym g.1
+        | inr g ↦ f.1 ∙ ap (rejection c.evidence) (one_failure c desk marks f.0 g.0 f.2 g.2) ∙ sym g.1
       ]
 ]
 

@@ -9,11 +9,11 @@ pub mod Walks
 pub mod FirstPlaces
 pub mod Shares
 pub mod Named
-pub mod OwnWalk
 pub mod Prefixes
 pub mod Topics
 pub mod Unjudged
 pub mod OnLists
+pub mod Numbered
 pub mod FirstFailing
 pub mod NumbersOnTopics
 pub mod SameNames

@@ -62,28 +62,28 @@ found p n j (x ∷ xs) d e = by (p x) refl (λ later. found p (n + 1) j xs d lat
         (omega (arith, later.0), ap (λ k. p (get_or (x ∷ xs) k d)) one ∙ later.1)
 
 -- a name is not smaller than itself
-not_below_itself : (name : List ℕ) → is_same_name name name ≡ true → name_cmp name name ≡ Less → ⊥
+pub not_below_itself : (name : List ℕ) → is_same_name name name ≡ true → name_cmp name name ≡ Less → ⊥
 not_below_itself name same less =
     let apart : is_same_name name name ≡ false = same_by_cmp name name ∙ ap is_eq less in cc
 
-module _ (marks : List Mark) (docs : List (List ℕ)) (sized : length marks ≡ length docs) (up : AreAscending docs) where
-  -- whether a list names a document
-  abbrev on_list : List (List ℕ) → ℕ → Bool
-  on_list names d = list_any (λ name. is_same_name name (get_or docs d [])) names
+-- whether a list names a document
+abbrev on_list : List (List ℕ) → List (List ℕ) → ℕ → Bool
+on_list docs names d = list_any (λ name. is_same_name name (get_or docs d [])) names
 
+module _ (docs : List (List ℕ)) (up : AreAscending docs) where
   module _ (name : List ℕ) (x : ℕ) (number : number_of docs name ≡ Some x) where
     itself : is_same_name (get_or docs x []) name ≡ true
     itself =
         let at = found (λ each. is_same_name each name) 0 x docs [] number in
         let same : x - 0 ≡ x = omega arith in sym (ap (λ k. is_same_name (get_or docs k []) name) same) ∙ at.1
 
-    its_name : get_or docs x [] ≡ name
+    pub its_name : get_or docs x [] ≡ name
     its_name = same_text (get_or docs x []) name (sym itself)
 
     own_name : is_same_name name name ≡ true
     own_name = subst (λ y. is_same_name y name ≡ true) its_name itself
 
-    inside : x < length docs
+    pub inside : x < length docs
     inside = let at = place_within (λ each. is_same_name each name) docs 0 x number in omega (arith, at)
 
     -- no other document has the name
@@ -97,7 +97,7 @@ module _ (marks : List Mark) (docs : List (List ℕ)) (sized : length marks ≡ 
         up' : AreAscending (map (λ (y : List ℕ). y) docs)
         up' = rw (map-id docs) up
 
-    by_number : (d : ℕ) → d < length docs → is_same_name name (get_or docs d []) ≡ nat_eq x d
+    pub by_number : (d : ℕ) → d < length docs → is_same_name name (get_or docs d []) ≡ nat_eq x d
     by_number d lt = by (nat_eq x d) refl
       where
         by : (b : Bool) → nat_eq x d ≡ b → is_same_name name (get_or docs d []) ≡ b
@@ -111,37 +111,38 @@ module _ (marks : List Mark) (docs : List (List ℕ)) (sized : length marks ≡ 
             other false is = refl
 
     -- a list on which the name does not stand does not name its document
-    off_list : (rest : List (List ℕ)) → AllByRecursion (λ y. name_cmp name y ≡ Less) rest → on_list rest x ≡ false
+    off_list : (rest : List (List ℕ)) → AllByRecursion (λ y. name_cmp name y ≡ Less) rest → on_list docs rest x ≡ false
     off_list [] h = refl
     off_list (y ∷ rest) h = join (is_same_name y (get_or docs x [])) refl (off_list rest h.1)
       where
-        join : (c : Bool) → is_same_name y (get_or docs x []) ≡ c → on_list rest x ≡ false → (c || on_list rest x) ≡ false
+        join : (c : Bool) → is_same_name y (get_or docs x []) ≡ c → on_list docs rest x ≡ false → (c || on_list docs rest x) ≡ false
         join true is later =
             let same : y ≡ name = same_text y (get_or docs x []) (sym is) ∙ its_name in
             absurd (not_below_itself name own_name (subst (λ z. name_cmp name z ≡ Less) same h.0))
         join false is later = later
 
-  one_more : (o s r e : Bool) → s ≡ e → (e ≡ true → (o ≡ true) × (r ≡ false)) → one_if (o && (s || r)) ≡ one_if e + one_if (o && r)
-  one_more o s r true is h =
-      let k = h refl in rw (is, k.0, k.1) refl
-  one_more o s r false is h = rw is (omega arith)
+one_more : (o s r e : Bool) → s ≡ e → (e ≡ true → (o ≡ true) × (r ≡ false)) → one_if (o && (s || r)) ≡ one_if e + one_if (o && r)
+one_more o s r true is h =
+    let k = h refl in rw (is, k.0, k.1) refl
+one_more o s r false is h = rw is (omega arith)
 
+module _ (marks : List Mark) (docs : List (List ℕ)) (sized : length marks ≡ length docs) (up : AreAscending docs) where
   -- as many unjudged documents are on a list as it has names
   on_list_count : (names : List (List ℕ)) → AreAscending names → AllByRecursion (λ name. (doc : ℕ) × (number_of docs name ≡ Some doc) × (mark_at marks doc ≡ Unjudged)) names →
-      count_by (λ d. open_in marks (λ _. true) d && on_list names d) (range_with_len 0 (length marks)) ≡ length names
+      count_by (λ d. open_in marks (λ _. true) d && on_list docs names d) (range_with_len 0 (length marks)) ≡ length names
   unfolding IsStrictlySortedBy
   on_list_count [] sorted h = count_by-none (λ d. open_in marks (λ _. true) d && false) (range_with_len 0 (length marks)) (every (λ d. (open_in marks (λ _. true) d && false) ≡ false) (λ d. and-false (open_in marks (λ _. true) d)) (range_with_len 0 (length marks)))
   on_list_count (name ∷ rest) sorted (here, later) =
       let x = here.0 in
       let range = range_with_len 0 (length marks) in
-      let old = λ (d : ℕ). one_if (open_in marks (λ _. true) d && on_list rest d) in
+      let old = λ (d : ℕ). one_if (open_in marks (λ _. true) d && on_list docs rest d) in
       let at_x : open_in marks (λ _. true) x ≡ true = ap (λ m. is_unjudged m && true) here.2 in
-      let off = off_list name x here.1 rest sorted.0 in
-      let step : AllByRecursion (λ d. one_if (open_in marks (λ _. true) d && (is_same_name name (get_or docs d []) || on_list rest d)) ≡ one_if (nat_eq x d) + old d) range =
-      weaker (λ d. d < length marks) (λ d. one_if (open_in marks (λ _. true) d && (is_same_name name (get_or docs d []) || on_list rest d)) ≡ one_if (nat_eq x d) + old d)
-      (λ d lt. one_more (open_in marks (λ _. true) d) (is_same_name name (get_or docs d [])) (on_list rest d) (nat_eq x d) (by_number name x here.1 d (omega (arith, lt, sized)))
-      (λ e. let same : x ≡ d = nat_eq-true x d e in (subst (λ k. open_in marks (λ _. true) k ≡ true) same at_x, subst (λ k. on_list rest k ≡ false) same off))) range (range_below (length marks)) in
-      let one = one_counts (λ _. 1) x 0 (length marks) (omega arith) (omega (arith, inside name x here.1, sized)) in
+      let off = off_list docs up name x here.1 rest sorted.0 in
+      let step : AllByRecursion (λ d. one_if (open_in marks (λ _. true) d && (is_same_name name (get_or docs d []) || on_list docs rest d)) ≡ one_if (nat_eq x d) + old d) range =
+      weaker (λ d. d < length marks) (λ d. one_if (open_in marks (λ _. true) d && (is_same_name name (get_or docs d []) || on_list docs rest d)) ≡ one_if (nat_eq x d) + old d)
+      (λ d lt. one_more (open_in marks (λ _. true) d) (is_same_name name (get_or docs d [])) (on_list docs rest d) (nat_eq x d) (by_number docs up name x here.1 d (omega (arith, lt, sized)))
+      (λ e. let same : x ≡ d = nat_eq-true x d e in (subst (λ k. open_in marks (λ _. true) k ≡ true) same at_x, subst (λ k. on_list docs rest k ≡ false) same off))) range (range_below (length marks)) in
+      let one = one_counts (λ _. 1) x 0 (length marks) (omega arith) (omega (arith, inside docs up name x here.1, sized)) in
       let before = on_list_count rest sorted.1 later in
       omega (arith, sum_by-agree _ _ range step, sum_by-plus (λ d. one_if (nat_eq x d)) old range, one, before)
 

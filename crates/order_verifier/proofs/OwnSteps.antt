@@ -1,5 +1,5 @@
 -- The counts of each of two lists that the other has not, with one document more.
-use Rattle.std.proofs.Common.{◌≡◌, ℕ, ◌+◌, ◌<◌, ◌≤◌, Bool, true, false, not, ◌&&◌, nat_eq, List, [], ◌∷◌, ◌++◌, length, take, get_or, arith, ap, ◌∙◌, sym, subst}
+use Rattle.std.proofs.Common.{◌≡◌, ℕ, ◌+◌, ◌<◌, ◌≤◌, Bool, true, false, not, ◌&&◌, nat_eq, List, [], ◌∷◌, ◌++◌, length, take, get_or, arith, refl, ap, ◌∙◌, sym, subst}
 use Rattle.std.specs.List.{IsDistinct}
 use Rattle.std.proofs.lemmas.List.{take_all, take_more, length-take}
 use Rattle.std.proofs.lemmas.List.Sums.{count_by-le-length, sum_by_push}
@@ -11,6 +11,7 @@ use Rattle.desk_model.specs.declared.types.Mark.{Mark}
 use Rattle.desk_model.proofs.Counts.{IsDistinct-take, one_if, one_if_split}
 use Rattle.desk_model.proofs.PrecisionEnds.{difference_outside}
 use Rattle.measure_laws.proofs.LeastDifferences.{only_more}
+use Rattle.measure_laws.proofs.Stretches.{same_take}
 use Rattle.order_verifier.specs.Own.{CountsOwn, IsOrdered}
 use Rattle.order_verifier.specs.declared.counts.RelevantCounts.{RelevantCounts}
 use Rattle.order_verifier.specs.declared.own.Own.{Own}
@@ -93,3 +94,12 @@ pub own_past : (marks : List Mark) (docs found ys : List ℕ) (place : ℕ) (own
 own_past marks docs found ys place own e past h =
     let same : take place docs ≡ take (place + 1) docs = take_all place docs (omega (arith, past, ap length e)) ∙ sym (take_all (place + 1) docs (omega (arith, past, ap length e))) in
     subst (λ (xs : List ℕ). CountsOwn marks xs ys own) same h
+
+-- no documents
+pub own_none : (marks : List Mark) (xs ys : List ℕ) (own : Own) → own ≡ record { first = record { relevant = 0; possible = 0 }; second = record { relevant = 0; possible = 0 } } → CountsOwn marks (take 0 xs) (take 0 ys) own
+own_none marks xs ys own e = subst (CountsOwn marks [] []) (sym e) (record { first_relevant = refl; first_possible = refl; second_relevant = refl; second_possible = refl })
+
+-- first documents of two rankings that are all of them
+pub own_later : (marks : List Mark) (a b : List ℕ) (r s : ℕ) (own : Own) → r ≤ s → (r < s → length a ≤ r) → (r < s → length b ≤ r) → CountsOwn marks (take r a) (take r b) own → CountsOwn marks (take s a) (take s b) own
+own_later marks a b r s own le first second h =
+    subst (λ (ys : List ℕ). CountsOwn marks (take s a) ys own) (sym (same_take b r s le second)) (subst (λ (xs : List ℕ). CountsOwn marks xs (take r b) own) (sym (same_take a r s le first)) h)

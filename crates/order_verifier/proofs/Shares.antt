@@ -1,5 +1,5 @@
--- Sums of the shares of documents, one by one.
-use Rattle.std.proofs.Common.{◌≡◌, ℕ, ◌+◌, ◌*◌, ◌^◌, ◌≤◌, Bool, List, map, Option, ℤ, pos, neg_ℤ, ◌+ℤ◌, ◌≤ℤ◌, to_z, of_z, arith, ap, ◌∙◌, sym}
+-- Sums of the shares of documents, as the walk over the documents of both rankings adds them up.
+use Rattle.std.proofs.Common.{◌≡◌, ℕ, zero, suc, ◌+◌, ◌-◌, ◌*◌, ◌^◌, ◌<◌, ◌≤◌, Bool, true, false, List, map, Option, None, ℤ, pos, neg_ℤ, ◌+ℤ◌, ◌≤ℤ◌, to_z, of_z, arith, refl, ap, ◌∙◌, sym, subst}
 use Rattle.std.specs.Int.{w128}
 use Rattle.std.specs.Prelude.{if◌then◌else◌}
 use Rattle.std.specs.List.{range_with_len}
@@ -11,8 +11,11 @@ use Rattle.desk_model.specs.Ranking.{rank}
 use Rattle.desk_model.specs.Verdict.{whole_sum}
 use Rattle.desk_model.proofs.Sums.{whole_sum-push}
 use Rattle.desk_model.specs.declared.types.Mark.{Mark}
-use Rattle.measure_laws.specs.Ranks.{comes_before}
+use Rattle.desk_model.specs.declared.placed.Placed.{Placed}
+use Rattle.measure_laws.specs.Ranks.{comes_before, earlier}
 use Rattle.measure_laws.specs.Shares.{biased_truth, share_sum_of}
+use Rattle.order_verifier.specs.Walk.{AreFrom, first_of}
+use Rattle.order_verifier.proofs.Walks.{IsNextOf, none_before, none_left_of}
 
 pub shares_more : (truth : ℕ → Bool) (n : ℕ) (share : Option ℕ → Option ℕ → ℤ) (a b : List ℕ) → share_sum_of truth (n + 1) share a b ≡ share_sum_of truth n share a b +ℤ (if truth n then share (rank a n) (rank b n) else pos 0)
 shares_more truth n share a b =
@@ -39,6 +42,51 @@ sum_more truth n share a b sum gain few h e i j =
       low = omega (arith, ints, total, h.low, i);
       high = omega (arith, ints, total, h.high, j);
     }
+
+-- documents that neither ranking has add nothing
+pub record AreAbsent (n count : ℕ) (share : Option ℕ → Option ℕ → ℤ) (a b : List ℕ) : Type 0 where
+  pub nothing : share None None ≡ pos 0
+  pub ranks : (d : ℕ) → n ≤ d → d < n + count → (rank a d ≡ None) × (rank b d ≡ None)
+
+pub sum_absent : (truth : ℕ → Bool) (n count : ℕ) (share : Option ℕ → Option ℕ → ℤ) (a b : List ℕ) (sum : ℤ) → AreAbsent n count share a b → IsSum truth n share a b sum → IsSum truth (n + count) share a b sum
+sum_absent truth n zero share a b sum h k = subst (λ (m : ℕ). IsSum truth m share a b sum) (omega arith) k
+sum_absent truth n (suc count) share a b sum h k =
+    let before = sum_absent truth n count share a b sum (record { nothing = h.nothing; ranks = λ d le lt. h.ranks d le (omega (arith, lt)) }) k in
+    let none = h.ranks (n + count) (omega arith) (omega arith) in
+    let here : (if truth (n + count) then share (rank a (n + count)) (rank b (n + count)) else pos 0) ≡ pos 0 =
+    ap (λ (o : Option ℕ). if truth (n + count) then share o (rank b (n + count)) else pos 0) none.0 ∙ ap (λ (o : Option ℕ). if truth (n + count) then share None o else pos 0) none.1 ∙ either (truth (n + count)) (share None None) h.nothing in
+    let next : n + count + 1 ≡ n + suc count = omega arith in
+    subst (λ (m : ℕ). IsSum truth m share a b sum) next (record {
+      is = before.is ∙ sym (plus_none (share_sum_of truth (n + count) share a b)) ∙ ap (λ z. share_sum_of truth (n + count) share a b +ℤ z) (sym here) ∙ sym (shares_more truth (n + count) share a b);
+      low = omega (arith, ints, before.low);
+      high = omega (arith, ints, before.high);
+    })
+  where
+    either : (t : Bool) (z : ℤ) → z ≡ pos 0 → (if t then z else pos 0) ≡ pos 0
+    either true z e = e
+    either false z e = refl
+
+    plus_none : (z : ℤ) → z +ℤ pos 0 ≡ z
+    plus_none z = omega (arith, ints)
+
+-- ---- the walk over the documents of both rankings
+-- the sum of the shares of the documents before those that are left
+pub record AreSummed (universe : ℕ) (truth : ℕ → Bool) (share : Option ℕ → Option ℕ → ℤ) (a b : List ℕ) (first second : List Placed) (sum : ℤ) : Type 0 where
+  pub next : ℕ
+  pub within : next ≤ universe
+  pub first_from : AreFrom next a first
+  pub second_from : AreFrom next b second
+  pub total : IsSum truth next share a b sum
+
+pub summed_next : (universe : ℕ) (truth : ℕ → Bool) (share : Option ℕ → Option ℕ → ℤ) (a b : List ℕ) (first second : List Placed) (sum : ℤ) → (h : AreSummed universe truth share a b first second sum) → (doc : ℕ) → share None None ≡ pos 0 → IsNextOf h.next doc a b first second → IsSum truth doc share a b sum
+summed_next universe truth share a b first second sum h doc nothing next =
+    let whole : h.next + (doc - h.next) ≡ doc = omega (arith, next.later) in
+    subst (λ (m : ℕ). IsSum truth m share a b sum) whole (sum_absent truth h.next (doc - h.next) share a b sum (record { nothing = nothing; ranks = λ d le lt. none_before h.next doc a b first second h.first_from h.second_from next d le (omega (arith, lt, whole)) }) h.total)
+
+pub summed_all : (universe : ℕ) (truth : ℕ → Bool) (share : Option ℕ → Option ℕ → ℤ) (a b : List ℕ) (first second : List Placed) (sum : ℤ) → AreSummed universe truth share a b first second sum → share None None ≡ pos 0 → None ≡ earlier (first_of first) (first_of second) → IsSum truth universe share a b sum
+summed_all universe truth share a b first second sum h nothing e =
+    let whole : h.next + (universe - h.next) ≡ universe = omega (arith, h.within) in
+    subst (λ (m : ℕ). IsSum truth m share a b sum) whole (sum_absent truth h.next (universe - h.next) share a b sum (record { nothing = nothing; ranks = λ d le lt. none_left_of h.next a b first second h.first_from h.second_from e d le }) h.total)
 
 -- what a document adds in the least case
 pub least_gain_is : (share : Option ℕ → Option ℕ → ℤ) (marks : List Mark) (a b : List ℕ) (n : ℕ) (x y : Option ℕ) (mark : Mark) (gain : ℤ) → gain ≡ (if picked_value (comes_before y x) mark then share x y else pos 0) →

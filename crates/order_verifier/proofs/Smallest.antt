@@ -1,5 +1,5 @@
 -- The greatest whole number below all of some differences, as they are seen one by one.
-use Rattle.std.proofs.Common.{◌≡◌, ℕ, suc, ◌^◌, ◌≤◌, List, ◌⊎◌, inl, inr, ℤ, pos, negsuc, ◌*ℤ◌, ◌≤ℤ◌, arith, sym, subst}
+use Rattle.std.proofs.Common.{◌≡◌, ℕ, suc, ◌^◌, ◌≤◌, List, ◌⊎◌, inl, inr, ℤ, pos, negsuc, ◌*ℤ◌, ◌≤ℤ◌, arith, refl, sym, subst}
 use Rattle.std.proofs.lemmas.Int.{ints}
 use Rattle.std.proofs.Math.Nat.{mul-le-mul_right}
 use Rattle.desk_model.specs.Extremes.{InEvery, IsGreatest}
@@ -53,6 +53,12 @@ low_more {X} before after one num den d low next more seen el ew lowered =
         subst (λ (n : ℤ). IsUnder n (whole_of d) w) (sym el) (subst (λ (n : ℕ). IsUnder (num one) n w) (sym ew) (h one more.new)),
       );
     }
+
+-- the same, where those after it are no more than that
+pub low_added : {X : Type 0} (before : X → Type 0) (one : X) (num : X → ℤ) (den : X → ℕ) (d : Difference) (low next : ℤ) → IsGreatest (IsBelow before num den) low →
+    lead_of d ≡ num one → whole_of d ≡ den one → IsLowered d low next → IsGreatest (IsBelow (λ x. before x ⊎ (one ≡ x)) num den) next
+low_added before one num den d low next seen el ew lowered =
+    low_more before (λ x. before x ⊎ (one ≡ x)) one num den d low next (record { old = λ x h. inl h; new = inr refl; only = λ x h. h }) seen el ew lowered
 
 -- the first fraction
 pub low_first : {X : Type 0} (among : X → Type 0) (one : X) (num : X → ℤ) (den : X → ℕ) (d : Difference) (z : ℤ) → among one → ((x : X) → among x → one ≡ x) →

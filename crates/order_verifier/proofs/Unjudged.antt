@@ -1,6 +1,7 @@
 -- Names of unjudged documents.
-use Rattle.std.proofs.Common.{◌≡◌, ℕ, Bool, List, [], ◌∷◌, Some, None, ap, sym, ◌∙◌, subst}
+use Rattle.std.proofs.Common.{◌≡◌, ℕ, Bool, List, [], ◌∷◌, All, Some, None, ap, sym, ◌∙◌, subst}
 use Rattle.std.specs.Prelude.{◌↔◌, IsTrue}
+use Rattle.std.specs.List.{AllByRecursion}
 use Rattle.std.proofs.lemmas.List.Elements.{recursion_from_All, All-from_recursion}
 use Rattle.desk_model.specs.Mark.{is_unjudged, mark_at}
 use Rattle.desk_model.specs.Name.{number_of}
@@ -29,6 +30,14 @@ pub unnumbered : (t : NamedTopic) (name : List ℕ) → number_of t.docs name �
 unnumbered t name e h =
     let found = unjudged_out t name h in
     let number = found.1 in cc
+
+-- names of unjudged documents are those of documents
+pub known_names : (t : NamedTopic) (names : List (List ℕ)) → AreUnjudged t names → All (λ name. (number : ℕ) × (number_of t.docs name ≡ Some number)) names
+known_names t names h = All-from_recursion (λ name. (number : ℕ) × (number_of t.docs name ≡ Some number)) names (each names (recursion_from_All (IsUnjudgedName t) names h))
+  where
+    each : (ns : List (List ℕ)) → AllByRecursion (IsUnjudgedName t) ns → AllByRecursion (λ name. (number : ℕ) × (number_of t.docs name ≡ Some number)) ns
+    each [] k = tt
+    each (n ∷ ns) k = ((k.0.0, k.0.1), each ns k.1)
 
 -- a test of a document's mark says whether its name is that of an unjudged one
 pub tested : (t : NamedTopic) (name : List ℕ) (doc : ℕ) (b : Bool) → number_of t.docs name ≡ Some doc → b ≡ is_unjudged (mark_at t.topic.marks doc) → IsTrue b ↔ AreUnjudged t (name ∷ [])

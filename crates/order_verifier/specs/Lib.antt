@@ -1,5 +1,6 @@
 pub mod Differences
 pub mod Rows
+pub mod Counted
 pub mod Least
 pub mod Own
 pub mod Walk

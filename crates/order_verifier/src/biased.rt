@@ -11,7 +11,7 @@ ghost use Rattle.order_verifier.specs.Least.{AreRankings, IsLeastLow};
 
 use crate::ranks::is_before;
 use crate::relevance::Relevance;
-use crate::walk::{after, next_rank};
+use crate::walk::{after, next_document, next_rank};
 use desk_model::{Mark, Ranking};
 use topic_counts::{Powers, Span};
 
@@ -87,8 +87,7 @@ fn greatest_gain<T: Relevance>(
     ensures low { neg_ℤ (pos PARTS_OF_ONE) ≤ℤ result }
     ensures high { result ≤ℤ pos PARTS_OF_ONE }
 {
-    let is_ranked = x.is_some() || y.is_some();
-    if is_ranked && relevant.is_relevant(doc) {
+    if relevant.is_relevant(doc) {
         -least_share(powers, y, x)
     } else {
         0
@@ -125,11 +124,10 @@ pub fn least_low(powers: &Powers, a: &Ranking, b: &Ranking, marks: &[Mark]) -> i
     let mut first = a.by_doc();
     let mut second = b.by_doc();
     let mut sum = 0;
-    for (place, mark) in marks.iter().enumerate() {
-        let doc = place as u32;
+    while let Some(doc) = next_document(first, second) {
         let x = next_rank(first, doc);
         let y = next_rank(second, doc);
-        sum += least_gain(powers, x, y, *mark);
+        sum += least_gain(powers, x, y, marks[doc as usize]);
         first = after(first, doc);
         second = after(second, doc);
     }
@@ -147,7 +145,7 @@ pub fn upper_end<T: Relevance>(powers: &Powers, a: &Ranking, b: &Ranking, releva
     let mut first = a.by_doc();
     let mut second = b.by_doc();
     let mut sum = 0;
-    for doc in 0..relevant.document_count() {
+    while let Some(doc) = next_document(first, second) {
         let x = next_rank(first, doc);
         let y = next_rank(second, doc);
         sum += greatest_gain(powers, x, y, relevant, doc);

@@ -11,9 +11,9 @@ ghost use Rattle.order_verifier.specs.Verified.{FailsBy};
 
 use crate::comparison::Comparison;
 use crate::failure::Failure;
-use crate::rows::TopicNumbers;
+use crate::rows::BoundRows;
 
-fn low_sum<N: TopicNumbers>(numbers: &N) -> i128
+fn low_sum<N: BoundRows>(numbers: &N) -> i128
     requires few { length (N.bounds numbers.now) ≤ TOPIC_LIMIT }
     requires sizes { All (λ (b : Bound). IsShortNumber b.low) (N.bounds numbers.now) }
     ensures { result ≡ whole_sum (lows_of (N.bounds numbers.now)) }
@@ -26,7 +26,7 @@ fn low_sum<N: TopicNumbers>(numbers: &N) -> i128
     sum
 }
 
-fn high_sum<N: TopicNumbers>(numbers: &N) -> i128
+fn high_sum<N: BoundRows>(numbers: &N) -> i128
     requires few { length (N.bounds numbers.now) ≤ TOPIC_LIMIT }
     requires sizes { All (λ (b : Bound). IsShortNumber b.high) (N.bounds numbers.now) }
     ensures { result ≡ whole_sum (highs_of (N.bounds numbers.now)) }
@@ -41,7 +41,7 @@ fn high_sum<N: TopicNumbers>(numbers: &N) -> i128
 
 impl Comparison<'_> {
     /// The first topic whose lower number is greater than the lower end of the least difference.
-    fn first_low_too_great<N: TopicNumbers>(&self, numbers: &N) -> Option<u32>
+    fn first_low_too_great<N: BoundRows>(&self, numbers: &N) -> Option<u32>
         requires topics { length (N.bounds numbers.now) ≡ length (topics_in self.now) }
         requires few { length (N.bounds numbers.now) ≤ TOPIC_LIMIT }
         ensures { MatchOption result (BoundsHold self.now (A (N.bounds numbers.now))) (HasBoundTooGreat self.now (A (N.bounds numbers.now))) }
@@ -56,7 +56,7 @@ impl Comparison<'_> {
     }
 
     /// The first topic of which either number is beyond its end.
-    fn first_too_great<N: TopicNumbers>(&self, numbers: &N) -> Option<u32>
+    fn first_too_great<N: BoundRows>(&self, numbers: &N) -> Option<u32>
         requires topics { length (N.bounds numbers.now) ≡ length (topics_in self.now) }
         requires few { length (N.bounds numbers.now) ≤ TOPIC_LIMIT }
         ensures { MatchOption result (BoundsHold self.now (E (N.bounds numbers.now))) (HasBoundTooGreat self.now (E (N.bounds numbers.now))) }
@@ -73,7 +73,7 @@ impl Comparison<'_> {
     }
 
     /// Whether numbers show that the first run is always above the second.
-    pub fn check_above<N: TopicNumbers>(&self, numbers: &N) -> Result<(), Failure>
+    pub fn check_above<N: BoundRows>(&self, numbers: &N) -> Result<(), Failure>
         requires topics { length (N.bounds numbers.now) ≡ length (topics_in self.now) }
         requires few { length (N.bounds numbers.now) ≤ TOPIC_LIMIT }
         requires lows { All (λ (b : Bound). IsShortNumber b.low) (N.bounds numbers.now) }
@@ -89,7 +89,7 @@ impl Comparison<'_> {
     }
 
     /// Whether numbers show that the two runs are always equal.
-    pub fn check_equal<N: TopicNumbers>(&self, numbers: &N) -> Result<(), Failure>
+    pub fn check_equal<N: BoundRows>(&self, numbers: &N) -> Result<(), Failure>
         requires topics { length (N.bounds numbers.now) ≡ length (topics_in self.now) }
         requires few { length (N.bounds numbers.now) ≤ TOPIC_LIMIT }
         requires lows { All (λ (b : Bound). IsShortNumber b.low) (N.bounds numbers.now) }

@@ -1,5 +1,5 @@
 // Two runs of a desk on its topics.
-ghost use Rattle.std.specs.Prelude.{◌≡◌, ◌↔◌, ◌<◌, ◌∷◌, [], length, IsTrue};
+ghost use Rattle.std.specs.Prelude.{◌≡◌, ◌↔◌, ◌<◌, ◌∷◌, [], length, slice_get, IsTrue, Some};
 ghost use Rattle.desk_model.specs.Mark.{is_unjudged};
 ghost use Rattle.desk_model.specs.Name.{AreAscending};
 ghost use Rattle.measure_laws.specs.Ends.{IsUpperEnd, IsLowerEnd};
@@ -7,12 +7,14 @@ ghost use Rattle.measure_laws.specs.Shares.{IsModest};
 ghost use Rattle.order_certificate.specs.Evidence.{AreUnjudged, listed_truth};
 ghost use Rattle.order_verifier.specs.Checks.{IsComparison as IsOne, OfTopic};
 ghost use Rattle.order_verifier.specs.Refusal.{OfEnds, topics_in};
+ghost use Rattle.order_verifier.specs.Rows.{OfRow};
 
 use crate::TopicEnds;
+use crate::counted::DeskMarks;
 use crate::documents::Documents;
 use crate::listed::Listed;
 use crate::names::RunNumbers;
-use desk_model::{Desk, Mark, Marks};
+use desk_model::{Desk, Mark, TopicBook};
 use std::marker::Model;
 
 /// Two runs of a desk under its marks, and what their ends are computed by.
@@ -20,7 +22,7 @@ use std::marker::Model;
 pub struct Comparison<'a> {
     ends: &'a TopicEnds,
     desk: &'a Desk,
-    marks: &'a Marks,
+    marks: &'a DeskMarks<'a>,
     runs: RunNumbers,
 }
 
@@ -56,7 +58,7 @@ impl<'a> Comparison<'a> {
     pub fn new(
         ends: &'a TopicEnds,
         desk: &'a Desk,
-        marks: &'a Marks,
+        marks: &'a DeskMarks<'a>,
         runs: RunNumbers,
     ) -> Comparison<'a>
         requires { IsOne desk.now marks.now runs.first runs.second }
@@ -70,6 +72,15 @@ impl<'a> Comparison<'a> {
         }
     }
 
+    /// A topic of the desk.
+    pub fn topic_book(&self, topic: u32) -> &TopicBook
+        requires { topic < length (topics_in self.now) }
+        ensures book { slice_get self.now.desk.topics topic ≡ Some result.now }
+        ensures docs { OfTopic (topics_in self.now) topic (λ t. result.now.docs ≡ t.docs) }
+    {
+        self.desk.topic(topic)
+    }
+
     /// The lower end of the least difference of the two runs on a topic.
     pub fn least_low(&self, topic: u32) -> i128
         requires { topic < length (topics_in self.now) }
@@ -77,7 +88,8 @@ impl<'a> Comparison<'a> {
     {
         let first = self.desk.ranking(self.runs.first, topic);
         let second = self.desk.ranking(self.runs.second, topic);
-        self.ends.least_low(first, second, self.marks.topic(topic))
+        let marks = self.marks.topic(topic);
+        self.ends.least_low(first, second, &marks)
     }
 
     /// The outer ends of the differences of the two runs on a topic.
@@ -89,18 +101,19 @@ impl<'a> Comparison<'a> {
         let second = self.desk.ranking(self.runs.second, topic);
         let marks = self.marks.topic(topic);
         OuterEnds {
-            least_low: self.ends.least_low(first, second, marks),
-            most_high: -self.ends.least_low(second, first, marks),
+            least_low: self.ends.least_low(first, second, &marks),
+            most_high: -self.ends.least_low(second, first, &marks),
         }
     }
 
-    /// Whether a name is that of an unjudged document of a topic.
-    pub fn is_unjudged(&self, topic: u32, name: &[u8]) -> bool
-        requires { topic < length (topics_in self.now) }
-        ensures { OfTopic (topics_in self.now) topic (λ t. IsTrue result ↔ AreUnjudged t (name.now ∷ [])) }
+    /// Whether a list names an unjudged document of a topic at a place.
+    pub fn is_unjudged(&self, topic: u32, documents: &Documents<'_>, place: u32) -> bool
+        requires place { place < length documents.now.names }
+        requires topic { OfTopic (topics_in self.now) topic (λ t. documents.now.docs ≡ t.docs) }
+        ensures { OfRow documents.now.names place (λ name. OfTopic (topics_in self.now) topic (λ t. IsTrue result ↔ AreUnjudged t (name ∷ []))) }
     {
-        match self.desk.topic(topic).find(name) {
-            Some(doc) => is_open(self.marks.topic(topic)[doc as usize]),
+        match documents.number(place) {
+            Some(doc) => is_open(self.marks.of_topic(topic)[doc as usize]),
             None => false,
         }
     }
@@ -122,22 +135,23 @@ impl<'a> Comparison<'a> {
 
     /// The upper end of the difference on a topic in the completion that a list stands for.
     pub fn upper_end(&self, topic: u32, documents: &Documents<'_>) -> i128
-        requires ascending { AreAscending documents.now }
-        requires topic { OfTopic (topics_in self.now) topic (λ t. AreUnjudged t documents.now) }
-        ensures upper { OfTopic (topics_in self.now) topic (λ t. IsUpperEnd self.now.measure (length t.topic.marks) (listed_truth t documents.now) (t.topic.ranking self.now.first) (t.topic.ranking self.now.second) result) }
+        requires ascending { AreAscending documents.now.names }
+        requires topic { OfTopic (topics_in self.now) topic (λ t. (documents.now.docs ≡ t.docs) × AreUnjudged t documents.now.names) }
+        ensures upper { OfTopic (topics_in self.now) topic (λ t. IsUpperEnd self.now.measure (length t.topic.marks) (listed_truth t documents.now.names) (t.topic.ranking self.now.first) (t.topic.ranking self.now.second) result) }
         ensures modest { IsModest result }
     {
         let first = self.desk.ranking(self.runs.first, topic);
         let second = self.desk.ranking(self.runs.second, topic);
-        let listed = Listed::new(self.desk.topic(topic), self.marks.topic(topic), documents);
+        let marks = self.marks.topic(topic);
+        let listed = Listed::new(&marks, documents);
         self.ends.upper_end(first, second, &listed)
     }
 
     /// The lower end of it.
     pub fn lower_end(&self, topic: u32, documents: &Documents<'_>) -> i128
-        requires ascending { AreAscending documents.now }
-        requires topic { OfTopic (topics_in self.now) topic (λ t. AreUnjudged t documents.now) }
-        ensures lower { OfTopic (topics_in self.now) topic (λ t. IsLowerEnd self.now.measure (length t.topic.marks) (listed_truth t documents.now) (t.topic.ranking self.now.first) (t.topic.ranking self.now.second) result) }
+        requires ascending { AreAscending documents.now.names }
+        requires topic { OfTopic (topics_in self.now) topic (λ t. (documents.now.docs ≡ t.docs) × AreUnjudged t documents.now.names) }
+        ensures lower { OfTopic (topics_in self.now) topic (λ t. IsLowerEnd self.now.measure (length t.topic.marks) (listed_truth t documents.now.names) (t.topic.ranking self.now.first) (t.topic.ranking self.now.second) result) }
         ensures modest { IsModest result }
     {
         -self.swapped().upper_end(topic, documents)

@@ -3,8 +3,7 @@ ghost use Rattle.desk_model.specs.Limits.{DOCUMENT_LIMIT, RANK_LIMIT};
 ghost use Rattle.desk_model.specs.Completion.{picked_value};
 ghost use Rattle.desk_model.specs.Ranking.{IsRanking, is_in};
 ghost use Rattle.desk_model.specs.Score.{true_among};
-ghost use Rattle.measure_laws.specs.Classes.{judged_count};
-ghost use Rattle.measure_laws.specs.LeastDifference.{possible_count};
+ghost use Rattle.order_verifier.specs.Counted.{AreAllCounts};
 
 use crate::ranks::is_within;
 use crate::relevance::Relevance;
@@ -77,10 +76,7 @@ pub fn is_among_first(k: u32, ranking: &Ranking, doc: u32) -> bool
 /// The counts of all documents of a topic.
 pub fn all_documents(marks: &[Mark]) -> RelevantCounts
     requires { length marks.now ≤ DOCUMENT_LIMIT }
-    ensures relevant { result.relevant ≡ judged_count marks.now }
-    ensures possible { result.possible ≡ possible_count marks.now }
-    ensures order { result.relevant ≤ result.possible }
-    ensures few { result.possible ≤ DOCUMENT_LIMIT }
+    ensures { AreAllCounts marks.now result }
 {
     let mut counts = RelevantCounts::NONE;
     for mark in marks {

@@ -1,84 +1,126 @@
-//! The documents that a list names.
-ghost use Rattle.std.specs.Prelude.{◌≡◌, ◌<◌, true, [], length, slice_get, slice_index_or, Some};
+//! The documents that a list names, on a topic.
+ghost use Rattle.std.specs.Prelude.{◌≡◌, ℕ, List, ◌<◌, true, [], length, slice_index_or};
 ghost use Rattle.std.specs.List.{list_any};
-ghost use Rattle.desk_model.specs.Name.{is_same_name, AreAscending};
-ghost use Rattle.order_verifier.specs.Rows.{names_listed};
+ghost use Rattle.desk_model.specs.Name.{is_same_name, number_of, AreAscending};
+ghost use Rattle.order_verifier.specs.Rows.{AreKnown, OfRow, names_listed, numbers_of};
 
-use desk_model::Name;
+use desk_model::{Name, TopicBook};
 use std::marker::Model;
 
-/// Documents of a topic by their names: all of some names, or those picked of them by their numbers.
+/// How a list names documents.
+#[derive(Clone, Copy, PartialEq, Eq)]
+pub enum ListForm {
+    /// By all of some names.
+    Names,
+    /// By picking some of the names by their numbers.
+    Picks,
+    /// The same, where the topic's number of each of the names is known.
+    NumberedPicks,
+}
+
+/// Documents of a topic that a list names: all of some names, or those picked of them by their numbers.
 #[derive(Drop)]
 pub struct Documents<'a> {
+    book: &'a TopicBook,
     names: &'a [Name],
     picks: &'a [u32],
-    are_picked: bool,
+    numbers: &'a [Option<u32>],
+    form: ListForm,
 }
 
 impl<'a> Model for Documents<'a> {
-    ghost use Rattle.std.specs.Prelude.{List, ℕ};
-    ghost use Rattle.order_verifier.specs.Rows.{names_listed as listed};
+    ghost use Rattle.order_verifier.specs.Rows.{AreNumbered as Numbered, ListedOn, is_picked, names_listed as listed};
 
-    ghost Value = { List (List ℕ) };
+    ghost Value = { ListedOn };
 
-    ghost view = { λ d. listed d.names.now d.picks.now d.are_picked };
+    ghost view = { λ d. record { docs = d.book.now.docs; names = listed d.names.now d.picks.now (is_picked d.form) } };
+
+    ghost invariant = { λ d. Numbered d.form d.book.now.docs d.names.now d.numbers.now };
 }
 
 impl<'a> Documents<'a> {
     /// The documents with these names.
-    pub fn named(names: &'a [Name]) -> Documents<'a>
-        ensures { result ≡ names.now }
+    pub fn named(book: &'a TopicBook, names: &'a [Name]) -> Documents<'a>
+        ensures { result ≡ record { docs = book.now.docs; names = names.now } }
     {
         Documents {
+            book,
             names,
             picks: &[],
-            are_picked: false,
+            numbers: &[],
+            form: ListForm::Names,
         }
     }
 
     /// Those of some names that are picked by their numbers, from 0.
-    pub fn picked(names: &'a [Name], picks: &'a [u32]) -> Documents<'a>
-        ensures { result ≡ names_listed names.now picks.now true }
+    pub fn picked(book: &'a TopicBook, names: &'a [Name], picks: &'a [u32]) -> Documents<'a>
+        ensures { result ≡ record { docs = book.now.docs; names = names_listed names.now picks.now true } }
     {
         Documents {
+            book,
             names,
             picks,
-            are_picked: true,
+            numbers: &[],
+            form: ListForm::Picks,
+        }
+    }
+
+    /// The same, where the topic's number of each of the names is known, or that it has none.
+    pub fn numbered(
+        book: &'a TopicBook,
+        names: &'a [Name],
+        picks: &'a [u32],
+        numbers: &'a [Option<u32>],
+    ) -> Documents<'a>
+        requires { numbers.now ≡ numbers_of book.now.docs names.now }
+        ensures { result ≡ record { docs = book.now.docs; names = names_listed names.now picks.now true } }
+    {
+        Documents {
+            book,
+            names,
+            picks,
+            numbers,
+            form: ListForm::NumberedPicks,
         }
     }
 
     /// How many they are.
     pub fn len(&self) -> usize
-        ensures { result ≡ length self.now }
+        ensures { result ≡ length self.now.names }
     {
-        if self.are_picked {
-            self.picks.len()
-        } else {
-            self.names.len()
+        match self.form {
+            ListForm::Names => self.names.len(),
+            ListForm::Picks | ListForm::NumberedPicks => self.picks.len(),
         }
     }
 
-    /// The name at a place of the list, from 0.
-    pub fn name(&self, place: u32) -> &[u8]
-        requires { place < length self.now }
-        ensures { slice_get self.now place ≡ Some result.now }
+    /// The number on the topic of the document at a place of the list, from 0, and none where the topic has no
+    /// such document.
+    pub fn number(&self, place: u32) -> Option<u32>
+        requires { place < length self.now.names }
+        ensures { OfRow self.now.names place (λ name. result ≡ number_of self.now.docs name) }
     {
-        if self.are_picked {
-            name_at(self.names, self.picks[place as usize])
-        } else {
-            self.names[place as usize].as_bytes()
+        match self.form {
+            ListForm::Names => self.book.find(self.names[place as usize].as_bytes()),
+            ListForm::Picks => self
+                .book
+                .find(name_at(self.names, self.picks[place as usize])),
+            ListForm::NumberedPicks => {
+                number_at(self.book, self.numbers, self.picks[place as usize])
+            }
         }
     }
 
-    /// Whether a name is on the list, which ascends.
-    pub fn has(&self, name: &[u8]) -> bool
-        requires { AreAscending self.now }
-        ensures { result ≡ list_any (λ each. is_same_name each name.now) self.now }
+    /// Whether a document of the topic is on the list, which ascends and names documents of the topic alone.
+    pub fn has(&self, doc: u32) -> bool
+        requires known { AreKnown self.now.docs self.now.names }
+        requires doc { doc < length self.now.docs }
+        ensures { result ≡ list_any (λ each. is_same_name each (slice_index_or self.now.docs doc [])) self.now.names }
     {
-        if self.are_picked {
-            is_picked(self.names, self.picks, name)
-        } else {
-            is_on(self.names, name)
+        match self.form {
+            ListForm::Names => is_on(self.names, self.book.doc_name(doc)),
+            ListForm::Picks => is_picked(self.names, self.picks, self.book.doc_name(doc)),
+            ListForm::NumberedPicks => has_number(self.book, self.numbers, self.picks, doc),
         }
     }
 }
@@ -90,6 +132,16 @@ fn name_at(names: &[Name], number: u32) -> &[u8]
     match names.get(number as usize) {
         Some(name) => name.as_bytes(),
         None => &[],
+    }
+}
+
+/// The number on a topic of a document that is picked, by the numbers of the names that lists may pick.
+fn number_at(book: &TopicBook, numbers: &[Option<u32>], pick: u32) -> Option<u32>
+    ensures { result ≡ slice_index_or numbers.now pick (number_of book.now.docs []) }
+{
+    match numbers.get(pick as usize) {
+        Some(number) => *number,
+        None => book.find(&[]),
     }
 }
 
@@ -110,6 +162,19 @@ fn is_picked(names: &[Name], picks: &[u32], name: &[u8]) -> bool
     ensures { result ≡ list_any (λ each. is_same_name each name.now) (names_listed names.now picks.now true) }
 {
     match picks.binary_search_by(|pick| name_at(names, *pick).cmp(name)) {
+        Ok(_) => true,
+        Err(_) => false,
+    }
+}
+
+/// Whether a document of a topic is one of those picked, by the numbers of the names that lists may pick. Numbers of
+/// ascending names ascend.
+fn has_number(book: &TopicBook, numbers: &[Option<u32>], picks: &[u32], doc: u32) -> bool
+    requires { doc < length book.now.docs }
+    ensures { (names : List (List ℕ)) → numbers.now ≡ numbers_of book.now.docs names → AreKnown book.now.docs (names_listed names picks.now true) →
+        result ≡ list_any (λ each. is_same_name each (slice_index_or book.now.docs doc [])) (names_listed names picks.now true) }
+{
+    match picks.binary_search_by(|pick| number_at(book, numbers, *pick).unwrap_or(0).cmp(&doc)) {
         Ok(_) => true,
         Err(_) => false,
     }

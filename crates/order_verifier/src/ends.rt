@@ -5,9 +5,10 @@ ghost use Rattle.measure_laws.specs.Ends.{HasEnds, IsUpperEnd};
 ghost use Rattle.measure_laws.specs.Shares.{IsModest};
 ghost use Rattle.order_verifier.specs.Least.{AreRankings};
 
+use crate::counted::TopicMarks;
 use crate::kind::Kind;
 use crate::relevance::Relevance;
-use desk_model::{Mark, MeasureName, Memory, Ranking};
+use desk_model::{MeasureName, Memory, Ranking};
 use std::alloc::Global;
 use std::marker::Model;
 use topic_counts::Powers;
@@ -50,7 +51,7 @@ impl TopicEnds {
     /// The lower end of the least difference, a's score minus b's, over all completions of the marks,
     /// in units of the measure. The upper end of the greatest difference is that of the swapped
     /// rankings, negated.
-    pub fn least_low(&self, a: &Ranking, b: &Ranking, marks: &[Mark]) -> i128
+    pub fn least_low(&self, a: &Ranking, b: &Ranking, marks: &TopicMarks<'_>) -> i128
         requires { AreRankings (length marks.now) a.now b.now }
         ensures low { (ends : Ends) → HasEnds self.now marks.now a.now b.now ends → result ≡ ends.least_lo }
         ensures most { (ends : Ends) → HasEnds self.now marks.now b.now a.now ends → neg_ℤ result ≡ ends.most_hi }

@@ -1,6 +1,7 @@
+use crate::counted::TopicMarks;
 use crate::relevance::Relevance;
 use crate::{biased, precision, recall, reciprocal, rprecision};
-use desk_model::{Mark, Ranking};
+use desk_model::Ranking;
 use topic_counts::Powers;
 
 /// A measure by what its ends are computed from.
@@ -25,17 +26,17 @@ impl Kind {
     ghost use Rattle.order_verifier.specs.Least.{AreRankings, IsLeastLow};
 
     /// The lower end of the least difference.
-    pub fn least_low(&self, a: &Ranking, b: &Ranking, marks: &[Mark]) -> i128
+    pub fn least_low(&self, a: &Ranking, b: &Ranking, marks: &TopicMarks<'_>) -> i128
         requires kind { IsKind self.now }
         requires rankings { AreRankings (length marks.now) a.now b.now }
         ensures { IsLeastLow (name_of self.now) marks.now a.now b.now result }
     {
         match self {
-            Kind::Precision(k) => precision::least_low(*k, a, b, marks),
-            Kind::Recall(k) => recall::least_low(*k, a, b, marks),
-            Kind::RPrecision => rprecision::least_low(a, b, marks),
-            Kind::Reciprocal => reciprocal::least_low(a, b, marks),
-            Kind::Biased(powers) => biased::least_low(powers, a, b, marks),
+            Kind::Precision(k) => precision::least_low(*k, a, b, marks.as_slice()),
+            Kind::Recall(k) => recall::least_low(*k, a, b, marks.as_slice(), marks.all()),
+            Kind::RPrecision => rprecision::least_low(a, b, marks.as_slice(), marks.all()),
+            Kind::Reciprocal => reciprocal::least_low(a, b, marks.as_slice()),
+            Kind::Biased(powers) => biased::least_low(powers, a, b, marks.as_slice()),
         }
     }
 

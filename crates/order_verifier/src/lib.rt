@@ -5,6 +5,7 @@
 pub mod biased;
 mod bounds;
 pub mod comparison;
+pub mod counted;
 pub mod counts;
 pub mod difference;
 pub mod documents;
@@ -28,6 +29,8 @@ pub mod walk;
 mod witnesses;
 
 pub use comparison::Comparison;
+pub use counted::{DeskMarks, TopicMarks};
+pub use counts::{RelevantCounts, all_documents};
 pub use documents::Documents;
 pub use ends::TopicEnds;
 pub use failure::Failure;
@@ -35,5 +38,5 @@ pub use laws::{answers_are_one, numbers_are_of_lines, rejected_certificates_are_
 pub use names::RunNumbers;
 pub use rejected::Rejected;
 pub use relevance::Relevance;
-pub use rows::{TopicLists, TopicNumbers};
+pub use rows::{BoundRows, ListRows};
 pub use verifier::Verifier;

@@ -1,21 +1,19 @@
 // The completion of a topic in which a list says what is relevant.
-ghost use Rattle.std.specs.Prelude.{◌≡◌, ◌≤◌, length};
-ghost use Rattle.desk_model.specs.Limits.{DOCUMENT_LIMIT};
-ghost use Rattle.measure_laws.specs.Classes.{judged_count};
+ghost use Rattle.std.specs.Prelude.{◌≡◌, length};
 ghost use Rattle.order_certificate.specs.Evidence.{listed_truth};
 ghost use Rattle.order_verifier.specs.Checks.{AreListed, unranked};
 
 use crate::Relevance;
+use crate::counted::TopicMarks;
 use crate::documents::Documents;
-use desk_model::{Mark, TopicBook};
+use desk_model::Mark;
 use std::marker::Model;
 
 /// A topic's documents, and a list of unjudged ones: those that are judged relevant and those on the list are
 /// relevant.
 #[derive(Drop)]
 pub struct Listed<'a> {
-    book: &'a TopicBook,
-    marks: &'a [Mark],
+    marks: &'a TopicMarks<'a>,
     documents: &'a Documents<'a>,
 }
 
@@ -24,22 +22,18 @@ impl<'a> Model for Listed<'a> {
 
     ghost Value = { NamesOnTopic };
 
-    ghost view = { λ l. record { docs = l.book.now.docs; marks = l.marks.now; names = l.documents.now } };
+    ghost view = { λ l. record { docs = l.documents.now.docs; marks = l.marks.now; names = l.documents.now.names } };
 
-    ghost invariant = { λ l. Fit (record { docs = l.book.now.docs; marks = l.marks.now; names = l.documents.now }) };
+    ghost invariant = { λ l. Fit (record { docs = l.documents.now.docs; marks = l.marks.now; names = l.documents.now.names }) };
 }
 
 impl<'a> Listed<'a> {
     /// A list of unjudged documents of a topic, ascending by name.
-    pub fn new(book: &'a TopicBook, marks: &'a [Mark], documents: &'a Documents<'a>) -> Listed<'a>
-        requires { AreListed (record { docs = book.now.docs; marks = marks.now; names = documents.now }) }
-        ensures { result ≡ record { docs = book.now.docs; marks = marks.now; names = documents.now } }
+    pub fn new(marks: &'a TopicMarks<'a>, documents: &'a Documents<'a>) -> Listed<'a>
+        requires { AreListed (record { docs = documents.now.docs; marks = marks.now; names = documents.now.names }) }
+        ensures { result ≡ record { docs = documents.now.docs; marks = marks.now; names = documents.now.names } }
     {
-        Listed {
-            book,
-            marks,
-            documents,
-        }
+        Listed { marks, documents }
     }
 }
 
@@ -48,33 +42,15 @@ impl Relevance for Listed<'_> {
 
     ghost truth = { λ l. listed_truth (unranked l) l.names };
 
-    fn document_count(&self) -> u32 {
-        self.book.doc_count()
-    }
-
     fn relevant_count(&self) -> u32 {
-        judged_relevant(self.marks) + self.documents.len() as u32
+        self.marks.all().relevant + self.documents.len() as u32
     }
 
     fn is_relevant(&self, doc: u32) -> bool {
-        match self.marks[doc as usize] {
+        match self.marks.as_slice()[doc as usize] {
             Mark::Relevant => true,
             Mark::Other => false,
-            Mark::Unjudged => self.documents.has(self.book.doc_name(doc)),
+            Mark::Unjudged => self.documents.has(doc),
         }
     }
-}
-
-/// How many documents are judged relevant.
-fn judged_relevant(marks: &[Mark]) -> u32
-    requires { length marks.now ≤ DOCUMENT_LIMIT }
-    ensures { result ≡ judged_count marks.now }
-{
-    let mut count = 0;
-    for mark in marks {
-        if *mark == Mark::Relevant {
-            count += 1;
-        }
-    }
-    count
 }

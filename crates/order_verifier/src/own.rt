@@ -1,13 +1,11 @@
 ghost use Rattle.std.specs.Prelude.{◌≡◌, ◌+◌, ◌^◌, ◌≤◌, ◌<◌, ◌&&◌, not, true, false, length, take, if◌then◌else◌};
 ghost use Rattle.desk_model.specs.Completion.{picked_value};
-ghost use Rattle.desk_model.specs.Limits.{DOCUMENT_LIMIT};
 ghost use Rattle.desk_model.specs.Ranking.{IsRanking};
 ghost use Rattle.order_verifier.specs.Least.{AreRankings};
 ghost use Rattle.order_verifier.specs.Own.{CountsOwn, IsOrdered};
 
 use crate::counts::{RelevantCounts, is_among_first};
-use crate::ranks::is_within;
-use crate::walk::{after, next_rank};
+use crate::ranks::longer;
 use desk_model::{Mark, Ranking};
 
 /// The counts of the documents that each of two rankings has among its first ones, and the other not.
@@ -18,6 +16,12 @@ pub struct Own {
 }
 
 impl Own {
+    /// The counts of no documents.
+    pub const NONE: Own = Own {
+        first: RelevantCounts::NONE,
+        second: RelevantCounts::NONE,
+    };
+
     /// The counts of the swapped rankings.
     fn swapped(self) -> Own
         ensures first { result.first ≡ self.second }
@@ -29,49 +33,15 @@ impl Own {
         }
     }
 
-    /// With one document more, which each of the two rankings has or has not among its first ones.
-    fn with_either(self, in_first: bool, in_second: bool, mark: Mark) -> Own
-        requires first { self.first.relevant ≤ self.first.possible }
-        requires second { self.second.relevant ≤ self.second.possible }
-        requires first_few { self.first.possible < DOCUMENT_LIMIT }
-        requires second_few { self.second.possible < DOCUMENT_LIMIT }
-        ensures first_relevant { result.first.relevant ≡ self.first.relevant + (if picked_value false mark && (in_first && not in_second) then 1 else 0) }
-        ensures first_possible { result.first.possible ≡ self.first.possible + (if picked_value true mark && (in_first && not in_second) then 1 else 0) }
-        ensures second_relevant { result.second.relevant ≡ self.second.relevant + (if picked_value false mark && (in_second && not in_first) then 1 else 0) }
-        ensures second_possible { result.second.possible ≡ self.second.possible + (if picked_value true mark && (in_second && not in_first) then 1 else 0) }
-    {
-        match (in_first, in_second) {
-            (true, false) => Own {
-                first: self.first.with(mark),
-                second: self.second,
-            },
-            (false, true) => Own {
-                first: self.first,
-                second: self.second.with(mark),
-            },
-            _ => self,
-        }
-    }
-
-    /// The counts of the first k documents, by one walk over all documents.
+    /// The counts of the first k documents, one document deeper in both rankings at a time.
     pub fn of_first(k: u32, a: &Ranking, b: &Ranking, marks: &[Mark]) -> Own
         requires { AreRankings (length marks.now) a.now b.now }
         ensures own { CountsOwn marks.now (take k a.now) (take k b.now) result }
         ensures ordered { IsOrdered result }
     {
-        let mut first = a.by_doc();
-        let mut second = b.by_doc();
-        let mut own = Own {
-            first: RelevantCounts::NONE,
-            second: RelevantCounts::NONE,
-        };
-        for (place, mark) in marks.iter().enumerate() {
-            let doc = place as u32;
-            let in_first = is_within(k, next_rank(first, doc));
-            let in_second = is_within(k, next_rank(second, doc));
-            own = own.with_either(in_first, in_second, *mark);
-            first = after(first, doc);
-            second = after(second, doc);
+        let mut own = Own::NONE;
+        for depth in 0..k.min(longer(a, b)) {
+            own = own.deepened(depth, a, b, marks);
         }
         own
     }

@@ -1,7 +1,7 @@
-ghost use Rattle.std.specs.Prelude.{◌≡◌, ℕ, ◌≤◌, List, length, take};
+ghost use Rattle.std.specs.Prelude.{◌≡◌, ℕ, ◌≤◌, List, length, max, take};
 ghost use Rattle.desk_model.specs.Limits.{RANK_LIMIT};
 ghost use Rattle.desk_model.specs.Ranking.{rank, is_in};
-ghost use Rattle.measure_laws.specs.Ranks.{IsRankWithin, comes_before};
+ghost use Rattle.measure_laws.specs.Ranks.{IsRankWithin, comes_before, earlier};
 
 use desk_model::Ranking;
 
@@ -13,6 +13,15 @@ pub fn rank_in(ranking: &Ranking, doc: u32) -> Option<u32>
 {
     ranking.rank_of(doc)
 }
+
+/// How many documents the longer of two rankings has.
+pub fn longer(a: &Ranking, b: &Ranking) -> u32
+    ensures longer { result ≡ max (length a.now) (length b.now) }
+    ensures few { result ≤ RANK_LIMIT }
+{
+    a.docs().len().max(b.docs().len()) as u32
+}
+
 /// Whether a rank comes before another, where an absent one comes last.
 pub fn is_before(x: Option<u32>, y: Option<u32>) -> bool
     ensures { result ≡ comes_before x y }
@@ -21,6 +30,17 @@ pub fn is_before(x: Option<u32>, y: Option<u32>) -> bool
         (Some(x), Some(y)) => x < y,
         (Some(_), None) => true,
         (None, _) => false,
+    }
+}
+
+/// The earlier of two ranks, where an absent one comes last.
+pub fn earlier_of(x: Option<u32>, y: Option<u32>) -> Option<u32>
+    ensures { result ≡ earlier x y }
+{
+    match (x, y) {
+        (Some(x), Some(y)) => Some(x.min(y)),
+        (Some(x), None) => Some(x),
+        (None, y) => y,
     }
 }
 

@@ -1,9 +1,10 @@
 ghost use Rattle.std.specs.Prelude.{◌≡◌, length};
 ghost use Rattle.desk_model.specs.declared.types.MeasureName.TheVariants.{Recall as R};
 ghost use Rattle.measure_laws.specs.Ends.{IsUpperEnd};
+ghost use Rattle.order_verifier.specs.Counted.{AreAllCounts};
 ghost use Rattle.order_verifier.specs.Least.{AreRankings, IsLeastLow};
 
-use crate::counts::{all_documents, relevant_among};
+use crate::counts::{RelevantCounts, relevant_among};
 use crate::difference::Difference;
 use crate::own::Own;
 use crate::relevance::Relevance;
@@ -13,11 +14,11 @@ use desk_model::{Mark, Ranking};
 /// k, less b's own ones that are relevant or unjudged, out of the relevant ones of the least case.
 /// Where a leads these are all that can be but a's own unjudged ones, else the judged ones and b's own
 /// unjudged ones.
-pub fn least_low(k: u32, a: &Ranking, b: &Ranking, marks: &[Mark]) -> i128
-    requires { AreRankings (length marks.now) a.now b.now }
+pub fn least_low(k: u32, a: &Ranking, b: &Ranking, marks: &[Mark], all: RelevantCounts) -> i128
+    requires rankings { AreRankings (length marks.now) a.now b.now }
+    requires all { AreAllCounts marks.now all }
     ensures { IsLeastLow (R k) marks.now a.now b.now result }
 {
-    let all = all_documents(marks);
     let own = Own::of_first(k, a, b, marks);
     let first = own.first;
     let second = own.second;

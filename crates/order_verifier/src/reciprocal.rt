@@ -5,13 +5,13 @@ ghost use Rattle.desk_model.specs.Ranking.{IsRanking};
 ghost use Rattle.desk_model.specs.Score.{first_true};
 ghost use Rattle.desk_model.specs.declared.types.MeasureName.TheVariants.{Reciprocal as R};
 ghost use Rattle.measure_laws.specs.Ends.{IsUpperEnd};
-ghost use Rattle.measure_laws.specs.Ranks.{IsRankWithin, earlier};
+ghost use Rattle.measure_laws.specs.Ranks.{IsRankWithin};
 ghost use Rattle.order_verifier.specs.Differences.{IsDifferenceOf};
 ghost use Rattle.order_verifier.specs.Least.{AreRankings, IsLeastLow};
 
 use crate::counts::prefix;
 use crate::difference::Difference;
-use crate::ranks::rank_in;
+use crate::ranks::{earlier_of, rank_in};
 use crate::relevance::Relevance;
 use desk_model::{Mark, Ranking};
 
@@ -41,17 +41,6 @@ fn first_relevant<T: Relevance>(ranking: &Ranking, relevant: &T) -> Option<u32>
         }
     }
     None
-}
-
-/// The earlier of two ranks, where an absent one comes last.
-fn earlier_of(x: Option<u32>, y: Option<u32>) -> Option<u32>
-    ensures { result ≡ earlier x y }
-{
-    match (x, y) {
-        (Some(x), Some(y)) => Some(x.min(y)),
-        (Some(x), None) => Some(x),
-        (None, y) => y,
-    }
 }
 
 /// One over a rank less one over another, where an absent rank gives 0.

@@ -9,10 +9,6 @@ pub trait Relevance {
     /// Whether each of them is relevant.
     ghost truth: { Self → ℕ → Bool };
 
-    /// How many documents the topic has.
-    fn document_count(&self) -> u32
-        ensures { result ≡ universe self.now };
-
     /// How many of them are relevant.
     fn relevant_count(&self) -> u32
         ensures { result ≡ true_count (truth self.now) (universe self.now) };

@@ -4,13 +4,15 @@ ghost use Rattle.desk_model.specs.Limits.{DOCUMENT_LIMIT, RANK_LIMIT};
 ghost use Rattle.desk_model.specs.Ranking.{IsRanking};
 ghost use Rattle.desk_model.specs.declared.types.MeasureName.TheVariants.{RPrecision as R};
 ghost use Rattle.measure_laws.specs.Ends.{IsUpperEnd};
+ghost use Rattle.order_verifier.specs.Counted.{AreAllCounts};
 ghost use Rattle.order_verifier.specs.Differences.{IsSmallDifference, lead_of, whole_of};
 ghost use Rattle.order_verifier.specs.Least.{AreRankings, IsLeastLow};
 ghost use Rattle.order_verifier.specs.Own.{CountsOwn, IsOrdered};
 
-use crate::counts::{RelevantCounts, all_documents, relevant_among};
+use crate::counts::{RelevantCounts, relevant_among};
 use crate::difference::Difference;
 use crate::own::Own;
+use crate::ranks::longer;
 use crate::relevance::Relevance;
 use desk_model::{Mark, Ranking};
 
@@ -33,20 +35,36 @@ fn difference(own: Own, all: RelevantCounts, chosen: u32) -> Difference
     }
 }
 
+/// How many unjudged documents to make relevant one by one: up to as many relevant documents as the
+/// longer ranking has, and at least one, where the topic can have so many.
+fn steps_to_longer(all: RelevantCounts, a: &Ranking, b: &Ranking) -> u32
+    requires { all.relevant ≤ all.possible }
+    ensures { result ≡ min (max 1 (max (length a.now) (length b.now)) - all.relevant) (all.possible - all.relevant) }
+{
+    let longest = longer(a, b).max(1);
+    all.unjudged().min(longest.saturating_sub(all.relevant))
+}
+
 /// The lower end of the least difference under R-precision: the smallest over each number of relevant
-/// documents that the topic can have, from the judged ones to those and all unjudged ones.
-pub fn least_low(a: &Ranking, b: &Ranking, marks: &[Mark]) -> i128
-    requires { AreRankings (length marks.now) a.now b.now }
+/// documents that the topic can have, from the judged ones to those and all unjudged ones. Beyond both
+/// rankings two of them are enough: where b's own unjudged documents are used up, and where only a's
+/// own are left.
+pub fn least_low(a: &Ranking, b: &Ranking, marks: &[Mark], all: RelevantCounts) -> i128
+    requires rankings { AreRankings (length marks.now) a.now b.now }
+    requires all { AreAllCounts marks.now all }
     ensures { IsLeastLow R marks.now a.now b.now result }
 {
-    let all = all_documents(marks);
+    let steps = steps_to_longer(all, a, b);
     let mut own = Own::of_first(all.relevant, a, b, marks);
     let mut low = difference(own, all, 0).floor();
-    for chosen in 0..all.unjudged() {
+    for chosen in 0..steps {
         own = own.deepened(all.relevant + chosen, a, b, marks);
         low = difference(own, all, chosen + 1).lowered(low);
     }
-    low
+    let second_used = steps.max(own.second.unjudged());
+    let others_used = steps.max(all.unjudged().saturating_sub(own.first.unjudged()));
+    let low = difference(own, all, second_used).lowered(low);
+    difference(own, all, others_used).lowered(low)
 }
 
 /// The upper end of the difference under R-precision in one completion.

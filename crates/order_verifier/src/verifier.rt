@@ -8,6 +8,7 @@ ghost use Rattle.order_verifier.specs.Verified.{FailsBy, IsVerified};
 
 use crate::TopicEnds;
 use crate::comparison::Comparison;
+use crate::counted::DeskMarks;
 use crate::failure::{Failure, rejection, wrong_names};
 use crate::names::{runs_of, wrong_topic};
 use crate::rejected::Rejected;
@@ -64,8 +65,9 @@ impl Verifier {
         if let Some(place) = wrong_topic(desk, &certificate.evidence) {
             return Err(wrong_names(&certificate.evidence, place));
         }
+        let marks = DeskMarks::anew(marks);
         match check(
-            &Comparison::new(&self.ends, desk, marks, runs),
+            &Comparison::new(&self.ends, desk, &marks, runs),
             &certificate.evidence,
         ) {
             Ok(()) => Ok(()),

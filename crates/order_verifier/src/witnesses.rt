@@ -7,13 +7,13 @@ ghost use Rattle.desk_model.specs.Verdict.{differs};
 ghost use Rattle.order_certificate.specs.declared.certificate.Evidence.TheVariants.{Open as O};
 ghost use Rattle.order_verifier.specs.Checks.{OfTopic};
 ghost use Rattle.order_verifier.specs.Refusal.{AreCompletions, HasCompletions, HasOther, HasWrongDocument, IsFirstOther, ShowsOf, topics_in};
-ghost use Rattle.order_verifier.specs.Rows.{OfRow};
+ghost use Rattle.order_verifier.specs.Rows.{OfRow, SuitDesk};
 ghost use Rattle.order_verifier.specs.Verified.{FailsBy};
 
 use crate::comparison::Comparison;
 use crate::documents::Documents;
 use crate::failure::Failure;
-use crate::rows::TopicLists;
+use crate::rows::ListRows;
 use order_certificate::{CertificatePlace, WitnessList};
 
 /// Whether two sums, of a low and of a high completion, differ on the order: they are on two sides of 0, or one is 0.
@@ -26,12 +26,12 @@ fn differ(low: i128, high: i128) -> bool
 impl Comparison<'_> {
     /// The first name of a list, by its number from 0, that is not that of an unjudged document of a topic.
     fn first_other(&self, topic: u32, documents: &Documents<'_>) -> Option<u32>
-        requires topic { topic < length (topics_in self.now) }
-        requires few { length documents.now ≤ DOCUMENT_LIMIT }
-        ensures { OfTopic (topics_in self.now) topic (λ t. MatchOption result (AreUnjudged t documents.now) (IsFirstOther t documents.now)) }
+        requires topic { OfTopic (topics_in self.now) topic (λ t. documents.now.docs ≡ t.docs) }
+        requires few { length documents.now.names ≤ DOCUMENT_LIMIT }
+        ensures { OfTopic (topics_in self.now) topic (λ t. MatchOption result (AreUnjudged t documents.now.names) (IsFirstOther t documents.now.names)) }
     {
         for document in 0..documents.len() as u32 {
-            if !self.is_unjudged(topic, documents.name(document)) {
+            if !self.is_unjudged(topic, documents, document) {
                 return Some(document);
             }
         }
@@ -39,14 +39,16 @@ impl Comparison<'_> {
     }
 
     /// The same of the two lists of a topic, the low one first.
-    fn first_other_on<L: TopicLists>(&self, topic: u32, lists: &L) -> Option<CertificatePlace>
+    fn first_other_on<L: ListRows>(&self, topic: u32, lists: &L) -> Option<CertificatePlace>
         requires topic { topic < length (topics_in self.now) }
         requires row { topic < length (L.witnesses lists.now) }
         requires lists { All AreLists (L.witnesses lists.now) }
+        requires suits { SuitDesk (L.suits lists.now) self.now.desk }
         ensures { OfRow (L.witnesses lists.now) topic (λ w. OfTopic (topics_in self.now) topic (λ t. MatchOption result (AreCompletions (w, t)) (HasOther topic (w, t)))) }
     {
-        let low = lists.low(topic);
-        let high = lists.high(topic);
+        let book = self.topic_book(topic);
+        let low = lists.low(topic, book);
+        let high = lists.high(topic, book);
         if let Some(document) = self.first_other(topic, &low) {
             return Some(CertificatePlace::Document {
                 topic,
@@ -65,10 +67,11 @@ impl Comparison<'_> {
     }
 
     /// The same of all topics, in their order.
-    fn first_wrong_document<L: TopicLists>(&self, lists: &L) -> Option<CertificatePlace>
+    fn first_wrong_document<L: ListRows>(&self, lists: &L) -> Option<CertificatePlace>
         requires topics { length (L.witnesses lists.now) ≡ length (topics_in self.now) }
         requires few { length (L.witnesses lists.now) ≤ TOPIC_LIMIT }
         requires lists { All AreLists (L.witnesses lists.now) }
+        requires suits { SuitDesk (L.suits lists.now) self.now.desk }
         ensures { MatchOption result (HasCompletions self.now (O (L.witnesses lists.now))) (HasWrongDocument self.now (O (L.witnesses lists.now))) }
     {
         for topic in 0..lists.count() {
@@ -80,40 +83,43 @@ impl Comparison<'_> {
     }
 
     /// The sum over the topics of the upper end of the difference in the low completion.
-    fn upper_sum<L: TopicLists>(&self, lists: &L) -> i128
+    fn upper_sum<L: ListRows>(&self, lists: &L) -> i128
         requires few { length (L.witnesses lists.now) ≤ TOPIC_LIMIT }
         requires lists { All AreLists (L.witnesses lists.now) }
+        requires suits { SuitDesk (L.suits lists.now) self.now.desk }
         requires unjudged { HasCompletions self.now (O (L.witnesses lists.now)) }
         ensures { IsLowSum self.now.measure self.now.first self.now.second (L.witnesses lists.now) (topics_in self.now) result }
     {
         let mut sum = 0;
         for topic in 0..lists.count() {
-            let documents = lists.low(topic);
+            let documents = lists.low(topic, self.topic_book(topic));
             sum += self.upper_end(topic, &documents);
         }
         sum
     }
 
     /// The sum over the topics of the lower end of the difference in the high completion.
-    fn lower_sum<L: TopicLists>(&self, lists: &L) -> i128
+    fn lower_sum<L: ListRows>(&self, lists: &L) -> i128
         requires few { length (L.witnesses lists.now) ≤ TOPIC_LIMIT }
         requires lists { All AreLists (L.witnesses lists.now) }
+        requires suits { SuitDesk (L.suits lists.now) self.now.desk }
         requires unjudged { HasCompletions self.now (O (L.witnesses lists.now)) }
         ensures { IsHighSum self.now.measure self.now.first self.now.second (L.witnesses lists.now) (topics_in self.now) result }
     {
         let mut sum = 0;
         for topic in 0..lists.count() {
-            let documents = lists.high(topic);
+            let documents = lists.high(topic, self.topic_book(topic));
             sum += self.lower_end(topic, &documents);
         }
         sum
     }
 
     /// Whether lists are two completions that differ on the order of the two runs.
-    pub fn check_open<L: TopicLists>(&self, lists: &L) -> Result<(), Failure>
+    pub fn check_open<L: ListRows>(&self, lists: &L) -> Result<(), Failure>
         requires topics { length (L.witnesses lists.now) ≡ length (topics_in self.now) }
         requires few { length (L.witnesses lists.now) ≤ TOPIC_LIMIT }
         requires lists { All AreLists (L.witnesses lists.now) }
+        requires suits { SuitDesk (L.suits lists.now) self.now.desk }
         ensures { MatchResult result (λ _. ShowsOf self.now (O (L.witnesses lists.now))) (FailsBy self.now (O (L.witnesses lists.now))) }
     {
         if let Some(place) = self.first_wrong_document(lists) {

@@ -1,13 +1,11 @@
-use Rattle.std.proofs.Common.{◌≡◌, ℕ, ◌-◌, Bool, true, false, Option, Some, None, pos, neg_ℤ, ◌-ℤ◌, to_z, of_z, arith, refl, ap, sym, ◌∙◌}
+use Rattle.std.proofs.Common.{◌≡◌, ℕ, ◌-◌, Bool, true, false, Option, pos, neg_ℤ, ◌-ℤ◌, to_z, of_z, arith, refl, ap, ◌∙◌}
 use Rattle.std.specs.Int.{w128}
-use Rattle.std.specs.Option.{is_some}
 use Rattle.std.specs.Prelude.{if◌then◌else◌}
 use Rattle.std.proofs.lemmas.Int.{ints}
 use Rattle.measure_laws.specs.Powers.{low_weight, high_weight}
 use Rattle.measure_laws.specs.Ranks.{comes_before}
 use Rattle.measure_laws.specs.Shares.{low_share, high_share}
 use Rattle.measure_laws.proofs.BiasedEnds.{one_first}
-use Rattle.order_verifier.proofs.biased.greatest_gain.Goals.{then-is_some, else-is_some, else-is_ranked-via-then-is_ranked+else-is_relevant, else-is_ranked-via-else-is_ranked}
 use Rattle.order_verifier.proofs.biased.greatest_gain.Goals as goal
 
 -- the same by which rank comes first
@@ -21,13 +19,6 @@ flipped false false l h one = omega (arith, ints)
 -- an upper share is the lower one of the swapped ranks, negated
 negated_share : (top bottom : ℕ) (x y : Option ℕ) → pos 0 -ℤ low_share top bottom y x ≡ high_share top bottom x y
 negated_share top bottom x y = flipped (comes_before x y) (comes_before y x) (low_weight top bottom y) (high_weight top bottom x) (one_first x y)
-
--- a document that neither ranking has adds nothing
-absent : (top bottom : ℕ) (t : Bool) (x y : Option ℕ) → is_some x ≡ false → is_some y ≡ false → pos 0 ≡ (if t then high_share top bottom x y else pos 0)
-absent top bottom true None None h k = refl
-absent top bottom false None None h k = refl
-absent top bottom t (Some x) y h k = absurd (cc)
-absent top bottom t None (Some y) h k = absurd (cc)
 
 pub overflow_sub-result : goal.overflow_sub-result
 overflow_sub-result g c = omega (arith, ints, c.least_share.ensures.low, c.least_share.ensures.high)
@@ -46,14 +37,6 @@ returns-then-is_relevant-clause-low g c = omega (arith, ints, c.least_share.ensu
 pub returns-then-is_relevant-clause-high : goal.returns-then-is_relevant-clause-high
 returns-then-is_relevant-clause-high g c = omega (arith, ints, c.least_share.ensures.low, c.least_share.ensures.high)
 
-pub returns-else-is_ranked-clause-gain : goal.returns-else-is_ranked-clause-gain
-returns-else-is_ranked-clause-gain g c =
-    let powers = c.args.powers.now in
-    elim c.else-is_ranked.branch [
-      | else-is_ranked-via-then-is_ranked+else-is_relevant w ↦ ap (λ (t : Bool). if t then high_share powers.top powers.bottom c.args.x c.args.y else pos 0) w.if-is_relevant.ensures
-      | else-is_ranked-via-else-is_ranked w ↦
-          elim c.if-is_some.branch [
-            | then-is_some v ↦ let bad : true ≡ false = sym v.if-is_some.true ∙ sym v.is_ranked-is ∙ w.if-is_ranked.false in absurd (cc)
-            | else-is_some v ↦ absent powers.top powers.bottom (g.T.Relevance.truth c.args.relevant.now c.args.doc) c.args.x c.args.y (sym c.is_some.ensures ∙ v.if-is_some.false) (sym v.is_some-is_ranked.ensures ∙ sym v.is_ranked-is ∙ w.if-is_ranked.false)
-          ]
-    ]
+pub returns-else-is_relevant-clause-gain : goal.returns-else-is_relevant-clause-gain
+returns-else-is_relevant-clause-gain g c =
+    let powers = c.args.powers.now in ap (λ (t : Bool). if t then high_share powers.top powers.bottom c.args.x c.args.y else pos 0) c.if-is_relevant.ensures

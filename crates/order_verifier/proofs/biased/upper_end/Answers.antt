@@ -1,30 +1,76 @@
-use Rattle.std.proofs.Common.{arith, subst, sym}
+use Rattle.std.proofs.Common.{◌+◌, refl, arith, ◌∙◌, subst, sym}
+use Rattle.std.proofs.lemmas.Int.{ints}
 use Rattle.measure_laws.specs.Ranks.{IsRankWithin}
 use Rattle.measure_laws.specs.Shares.{high_share}
 use Rattle.measure_laws.proofs.Ranks.{rank_within}
-use Rattle.order_verifier.proofs.Shares.{gain_is, sum_more}
+use Rattle.order_verifier.proofs.Shares.{gain_is, sum_more, summed_all, summed_next}
+use Rattle.order_verifier.proofs.Walks.{from_start, next_is, next_known}
 use Rattle.order_verifier.proofs.biased.upper_end.Goals as goal
+
+pub loop-doc-init : goal.loop-doc-init
+loop-doc-init g c = record {
+  next = 0;
+  within = omega arith;
+  first_from = from_start c.args.a.now c.by_doc-first.result.now c.by_doc-first.ensures.ascending c.by_doc-first.ensures.ranks;
+  second_from = from_start c.args.b.now c.by_doc-second.result.now c.by_doc-second.ensures.ascending c.by_doc-second.ensures.ranks;
+  total = record { is = refl; low = omega (arith, ints); high = omega (arith, ints) };
+}
+
+pub greatest_gain-sum-requires-clause-doc : goal.greatest_gain-sum-requires-clause-doc
+greatest_gain-sum-requires-clause-doc g c =
+    let a = c.args.a.now in
+    let b = c.args.b.now in
+    let doc = c.in-Some.doc in
+    let kept = c.loop-doc.invariant in
+    let next = next_is kept.next doc a b c.loop-doc.first.now c.loop-doc.second.now kept.first_from kept.second_from c.in-Some.ensures in
+    next_known kept.next doc (g.T.Relevance.universe c.args.relevant.now) a b c.loop-doc.first.now c.loop-doc.second.now c.requires.rankings.first c.requires.rankings.second next
 
 pub greatest_gain-sum-requires-clause-first : goal.greatest_gain-sum-requires-clause-first
 greatest_gain-sum-requires-clause-first g c =
-    subst (IsRankWithin 10000) (sym (c.next_rank-x.ensures c.args.a.now c.loop-doc.invariant.first)) (rank_within c.args.a.now 10000 _ c.requires.rankings.first.short)
+    let a = c.args.a.now in
+    let b = c.args.b.now in
+    let doc = c.in-Some.doc in
+    let kept = c.loop-doc.invariant in
+    let next = next_is kept.next doc a b c.loop-doc.first.now c.loop-doc.second.now kept.first_from kept.second_from c.in-Some.ensures in
+    subst (IsRankWithin 10000) (sym (c.next_rank-x.ensures a next.first_from)) (rank_within a 10000 doc c.requires.rankings.first.short)
 
 pub greatest_gain-sum-requires-clause-second : goal.greatest_gain-sum-requires-clause-second
 greatest_gain-sum-requires-clause-second g c =
-    subst (IsRankWithin 10000) (sym (c.next_rank-y.ensures c.args.b.now c.loop-doc.invariant.second)) (rank_within c.args.b.now 10000 _ c.requires.rankings.second.short)
+    let a = c.args.a.now in
+    let b = c.args.b.now in
+    let doc = c.in-Some.doc in
+    let kept = c.loop-doc.invariant in
+    let next = next_is kept.next doc a b c.loop-doc.first.now c.loop-doc.second.now kept.first_from kept.second_from c.in-Some.ensures in
+    subst (IsRankWithin 10000) (sym (c.next_rank-y.ensures b next.second_from)) (rank_within b 10000 doc c.requires.rankings.second.short)
 
 pub loop-doc-preserved : goal.loop-doc-preserved
 loop-doc-preserved g c =
-    let truth = g.T.Relevance.truth c.args.relevant.now in
     let a = c.args.a.now in
     let b = c.args.b.now in
-    let n = c.loop-doc.doc in
-    let share = high_share c.args.powers.now.top c.args.powers.now.bottom in
+    let doc = c.in-Some.doc in
     let kept = c.loop-doc.invariant in
+    let next = next_is kept.next doc a b c.loop-doc.first.now c.loop-doc.second.now kept.first_from kept.second_from c.in-Some.ensures in
+    let universe = g.T.Relevance.universe c.args.relevant.now in
+    let truth = g.T.Relevance.truth c.args.relevant.now in
+    let share = high_share c.args.powers.now.top c.args.powers.now.bottom in
+    let known = next_known kept.next doc (g.T.Relevance.universe c.args.relevant.now) a b c.loop-doc.first.now c.loop-doc.second.now c.requires.rankings.first c.requires.rankings.second next in
     let gain = c.greatest_gain-sum in
-    let is = gain_is share (truth n) a b n c.next_rank-x.result c.next_rank-y.result gain.result gain.ensures.gain (c.next_rank-x.ensures a kept.first) (c.next_rank-y.ensures b kept.second) in
+    let is = gain_is share (truth doc) a b doc c.next_rank-x.result c.next_rank-y.result gain.result gain.ensures.gain (c.next_rank-x.ensures a next.first_from) (c.next_rank-y.ensures b next.second_from) in
+    let before = summed_next universe truth share a b c.loop-doc.first.now c.loop-doc.second.now _ kept doc refl next in
     record {
-      first = c.after-first.ensures a kept.first;
-      second = c.after-second.ensures b kept.second;
-      sum = sum_more truth n share a b _ gain.result (omega (arith, c.requires.rankings.small)) kept.sum is gain.ensures.low gain.ensures.high;
+      next = doc + 1;
+      within = omega (arith, known);
+      first_from = c.after-first.ensures.from a next.first_from;
+      second_from = c.after-second.ensures.from b next.second_from;
+      total = sum_more truth doc share a b _ gain.result (omega (arith, known, c.requires.rankings.small)) before is gain.ensures.low gain.ensures.high;
     }
+
+pub returns : goal.returns
+returns g c =
+    let a = c.args.a.now in
+    let b = c.args.b.now in
+    let universe = g.T.Relevance.universe c.args.relevant.now in
+    let truth = g.T.Relevance.truth c.args.relevant.now in
+    let share = high_share c.args.powers.now.top c.args.powers.now.bottom in
+    let all = summed_all universe truth share a b c.loop-doc.first.now c.loop-doc.second.now _ c.loop-doc.invariant refl (sym c.in_default.is ∙ c.next_document.ensures) in
+    omega (arith, ints, all.is, all.low, all.high, c.tail_least.ensures.value, c.tail_least.ensures.small, c.requires.rankings.small)

@@ -1,11 +1,10 @@
+use Rattle.std.proofs.Common.{◌+◌, length}
 use Rattle.measure_laws.specs.Shares.{high_share}
-use Rattle.order_verifier.specs.Walk.{AreFrom}
-use Rattle.order_verifier.proofs.Shares.{IsSum}
+use Rattle.order_verifier.proofs.Shares.{AreSummed}
 use Rattle.order_verifier.proofs.biased.upper_end.Given as goal
 
 abbrev pub invariant-loop-doc : goal.invariant-loop-doc
-invariant-loop-doc g l = record {
-  first : AreFrom l.doc l.a l.first;
-  second : AreFrom l.doc l.b l.second;
-  sum : IsSum (g.T.Relevance.truth l.relevant) l.doc (high_share l.powers.top l.powers.bottom) l.a l.b l.sum;
-}
+invariant-loop-doc g l = AreSummed (g.T.Relevance.universe l.relevant) (g.T.Relevance.truth l.relevant) (high_share l.powers.top l.powers.bottom) l.a l.b l.first l.second l.sum
+
+abbrev pub decreases-loop-doc : goal.decreases-loop-doc
+decreases-loop-doc g l = length l.first + length l.second

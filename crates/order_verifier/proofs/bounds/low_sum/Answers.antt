@@ -1,8 +1,7 @@
-use Rattle.std.proofs.Common.{◌≡◌, ◌+◌, ◌*◌, ◌^◌, ◌<◌, ◌≤◌, length, take, arith, ap, sym, subst, ◌∙◌, ◌+ℤ◌, to_z, of_z}
+use Rattle.std.proofs.Common.{◌≡◌, ◌+◌, ◌*◌, ◌^◌, ◌≤◌, take, arith, ap, sym, subst, ◌∙◌, ◌+ℤ◌, to_z, of_z}
 use Rattle.std.specs.Prelude.{unsigned_abs}
 use Rattle.std.specs.Int.{w128}
 use Rattle.std.proofs.lemmas.Int.{ints}
-use Rattle.std.proofs.lemmas.List.{take_all}
 use Rattle.std.proofs.lemmas.List.Elements.{recursion_from_All}
 use Rattle.desk_model.specs.Verdict.{whole_sum}
 use Rattle.line_forms.specs.Places.{IsShortNumber}
@@ -14,7 +13,7 @@ use Rattle.order_verifier.proofs.bounds.low_sum.Goals as goal
 
 pub loop-topic-preserved : goal.loop-topic-preserved
 loop-topic-preserved g c =
-    let bounds = g.N.TopicNumbers.bounds c.args.numbers.now in
+    let bounds = g.N.BoundRows.bounds c.args.numbers.now in
     let i = c.loop-topic.topic in
     let z = c.low-low.result in
     let row = c.low-low.ensures in

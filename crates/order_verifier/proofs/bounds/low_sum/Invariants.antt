@@ -5,4 +5,4 @@ use Rattle.order_certificate.specs.Evidence.{lows_of}
 use Rattle.order_verifier.proofs.bounds.low_sum.Given as goal
 
 abbrev pub invariant-loop-topic : goal.invariant-loop-topic
-invariant-loop-topic g l = (l.sum ≡ whole_sum (lows_of (take l.topic (g.N.TopicNumbers.bounds l.numbers)))) × (unsigned_abs l.sum ≤ l.topic * 10 ^ 19)
+invariant-loop-topic g l = (l.sum ≡ whole_sum (lows_of (take l.topic (g.N.BoundRows.bounds l.numbers)))) × (unsigned_abs l.sum ≤ l.topic * 10 ^ 19)

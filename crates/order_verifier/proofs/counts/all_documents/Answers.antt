@@ -4,8 +4,10 @@ use Rattle.desk_model.specs.Completion.{picked_value}
 use Rattle.topic_counts.proofs.MarkCounts.{true_count_marks}
 use Rattle.order_verifier.proofs.counts.all_documents.Goals as goal
 
-pub returns-clause-relevant : goal.returns-clause-relevant
-returns-clause-relevant c = c.loop-mark.invariant.relevant ∙ ap (count_by (picked_value false)) (take_all c.loop-mark.mark-index c.args.marks.now (omega arith)) ∙ sym (true_count_marks false c.args.marks.now)
-
-pub returns-clause-possible : goal.returns-clause-possible
-returns-clause-possible c = c.loop-mark.invariant.possible ∙ ap (count_by (picked_value true)) (take_all c.loop-mark.mark-index c.args.marks.now (omega arith)) ∙ sym (true_count_marks true c.args.marks.now)
+pub returns : goal.returns
+returns c = record {
+  relevant = c.loop-mark.invariant.relevant ∙ ap (count_by (picked_value false)) (take_all c.loop-mark.mark-index c.args.marks.now (omega arith)) ∙ sym (true_count_marks false c.args.marks.now);
+  possible = c.loop-mark.invariant.possible ∙ ap (count_by (picked_value true)) (take_all c.loop-mark.mark-index c.args.marks.now (omega arith)) ∙ sym (true_count_marks true c.args.marks.now);
+  order = c.loop-mark.invariant.order;
+  few = omega (arith, c.loop-mark.invariant.few, c.requires);
+}

@@ -10,18 +10,17 @@ use Rattle.order_verifier.proofs.recall.least_low.Goals as goal
 
 pub overflow_sub-whole : goal.overflow_sub-whole
 overflow_sub-whole c =
-    omega (arith, own_few c.args.k c.args.marks.now c.args.a.now c.args.b.now _ _ c.requires.first c.requires.second c.of_first-own.ensures.own.first_possible c.all_documents-all.ensures.possible, c.unjudged.ensures)
+    omega (arith, own_few c.args.k c.args.marks.now c.args.a.now c.args.b.now _ _ c.requires.rankings.first c.requires.rankings.second c.of_first-own.ensures.own.first_possible c.requires.all.possible, c.unjudged.ensures)
 
 pub returns : goal.returns
 returns c =
     let own = c.of_first-own.result in
     let is = c.of_first-own.ensures.own in
-    let all = c.all_documents-all in
     let same : to_z w128 (of_z w128 c.floor.result) ≡ c.floor.result = omega (arith, ints) in
-    let led : own.second.possible < own.first.relevant → c.if-second-first.whole ≡ all.result.possible - (own.first.possible - own.first.relevant) =
+    let led : own.second.possible < own.first.relevant → c.if-second-first.whole ≡ c.args.all.possible - (own.first.possible - own.first.relevant) =
     λ h. elim c.if-second-first.branch [ then-second-first w ↦ omega (arith, w.whole-is, w.unjudged.ensures) | else-second-first w ↦ absurd (omega (arith, h, w.if-second-first.false)) ] in
-    let trails : own.first.relevant ≤ own.second.possible → c.if-second-first.whole ≡ all.result.relevant + (own.second.possible - own.second.relevant) =
+    let trails : own.first.relevant ≤ own.second.possible → c.if-second-first.whole ≡ c.args.all.relevant + (own.second.possible - own.second.relevant) =
     λ h. elim c.if-second-first.branch [ then-second-first w ↦ absurd (omega (arith, h, w.if-second-first.true)) | else-second-first w ↦ omega (arith, w.whole-is, w.unjudged-else-second-first.ensures) ] in
     subst (IsGreatest (λ w. InEvery (Recall c.args.k) c.args.marks.now c.args.a.now c.args.b.now (IsAtMost w (10 ^ 18)))) (sym same)
-    (recall_low c.args.k c.args.marks.now c.args.a.now c.args.b.now own.first own.second all.result c.if-second-first.whole c.floor.result c.requires.first c.requires.second
-    (record { relevant = is.first_relevant; possible = is.first_possible }) (record { relevant = is.second_relevant; possible = is.second_possible }) all.ensures.relevant all.ensures.possible led trails c.floor.ensures.floor)
+    (recall_low c.args.k c.args.marks.now c.args.a.now c.args.b.now own.first own.second c.args.all c.if-second-first.whole c.floor.result c.requires.rankings.first c.requires.rankings.second
+    (record { relevant = is.first_relevant; possible = is.first_possible }) (record { relevant = is.second_relevant; possible = is.second_possible }) c.requires.all.relevant c.requires.all.possible led trails c.floor.ensures.floor)

@@ -4,4 +4,4 @@ use Rattle.order_verifier.specs.Refusal.{HasLow, topics_in}
 use Rattle.order_verifier.proofs.comparison.Comparison.first_low_too_great.Given as goal
 
 abbrev pub invariant-loop-topic : goal.invariant-loop-topic
-invariant-loop-topic g l = AllByRecursion (HasLow l.self) (take l.topic (zip (g.N.TopicNumbers.bounds l.numbers) (topics_in l.self)))
+invariant-loop-topic g l = AllByRecursion (HasLow l.self) (take l.topic (zip (g.N.BoundRows.bounds l.numbers) (topics_in l.self)))

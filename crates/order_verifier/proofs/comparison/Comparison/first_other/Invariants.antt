@@ -6,4 +6,4 @@ use Rattle.order_verifier.specs.Refusal.{topics_in}
 use Rattle.order_verifier.proofs.comparison.Comparison.first_other.Given as goal
 
 abbrev pub invariant-loop-document : goal.invariant-loop-document
-invariant-loop-document l = OfTopic (topics_in l.self) l.topic (λ t. AllByRecursion (λ name. AreUnjudged t (name ∷ [])) (take l.document l.documents))
+invariant-loop-document l = OfTopic (topics_in l.self) l.topic (λ t. AllByRecursion (λ name. AreUnjudged t (name ∷ [])) (take l.document l.documents.names))

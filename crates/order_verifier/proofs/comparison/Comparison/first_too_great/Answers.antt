@@ -1,4 +1,4 @@
-use Rattle.std.proofs.Common.{◌≡◌, ◌+◌, take, ap, sym, ◌∙◌, subst, arith, inl, inr, ◌⊎◌, ◌≤ℤ◌, ◌<ℤ◌}
+use Rattle.std.proofs.Common.{◌≡◌, take, ap, sym, ◌∙◌, subst, arith, inl, inr, ◌⊎◌, ◌≤ℤ◌, ◌<ℤ◌}
 use Rattle.std.specs.List.{AllByRecursion, zip}
 use Rattle.std.specs.Prelude.{Some}
 use Rattle.std.proofs.lemmas.Int.{ints}
@@ -38,7 +38,7 @@ returns-then-low-ends g c =
       | inl over ↦ inl (e.0, e.1, subst (λ z. z <ℤ bound.low) (ap (λ (o : OuterEnds). o.least_low) e.2) (subst (λ z. r.least_low <ℤ z) low.2 over))
       | inr under ↦ inr (e.0, e.1, subst (λ z. bound.high <ℤ z) (ap (λ (o : OuterEnds). o.most_high) e.2) (subst (λ z. z <ℤ r.most_high) is_high under))
     ] in
-    bound_fails v (g.N.TopicNumbers.bounds c.args.numbers.now) c.loop-topic.topic bound (AreOuter r) low.1 c.outer_ends-ends.ensures (λ p. HasLow v p × HasHigh v p) (λ p. HasGreaterLow v p ⊎ HasSmallerHigh v p) fails c.loop-topic.invariant
+    bound_fails v (g.N.BoundRows.bounds c.args.numbers.now) c.loop-topic.topic bound (AreOuter r) low.1 c.outer_ends-ends.ensures (λ p. HasLow v p × HasHigh v p) (λ p. HasGreaterLow v p ⊎ HasSmallerHigh v p) fails c.loop-topic.invariant
 
 pub loop-topic-preserved : goal.loop-topic-preserved
 loop-topic-preserved g c =
@@ -53,7 +53,7 @@ loop-topic-preserved g c =
     let over : r.most_high ≤ℤ c.high-high.result = omega (arith, ints, c.if-high-ends.false) in
     let held_low : bound.low ≤ℤ r.least_low = subst (λ z. z ≤ℤ r.least_low) low.2 under in
     let held_high : r.most_high ≤ℤ bound.high = subst (λ z. r.most_high ≤ℤ z) is_high over in
-    bound_more v (g.N.TopicNumbers.bounds c.args.numbers.now) c.loop-topic.topic bound (AreOuter r) low.1 c.outer_ends-ends.ensures (λ p. HasLow v p × HasHigh v p)
+    bound_more v (g.N.BoundRows.bounds c.args.numbers.now) c.loop-topic.topic bound (AreOuter r) low.1 c.outer_ends-ends.ensures (λ p. HasLow v p × HasHigh v p)
     (λ t e. (
       ((e.0, e.1, subst (λ z. bound.low ≤ℤ z) (ap (λ (o : OuterEnds). o.least_low) e.2) held_low), tt),
       ((e.0, e.1, subst (λ z. z ≤ℤ bound.high) (ap (λ (o : OuterEnds). o.most_high) e.2) held_high), tt),
@@ -62,7 +62,7 @@ loop-topic-preserved g c =
 pub returns : goal.returns
 returns g c =
     let v = c.args.self.now in
-    let bounds = g.N.TopicNumbers.bounds c.args.numbers.now in
+    let bounds = g.N.BoundRows.bounds c.args.numbers.now in
     let pairs = zip bounds (topics_in v) in
     let whole : take c.loop-topic.topic pairs ≡ pairs = take_all c.loop-topic.topic pairs (omega (arith, length-zip bounds (topics_in v), c.requires.topics, c.count-topic-end.ensures)) in
     let all = subst (AllByRecursion (λ p. HasLow v p × HasHigh v p)) whole c.loop-topic.invariant in (

@@ -1,4 +1,4 @@
-use Rattle.std.proofs.Common.{◌≡◌, ◌+◌, take, subst, arith}
+use Rattle.std.proofs.Common.{◌≡◌, take, subst, arith}
 use Rattle.std.specs.List.{AllByRecursion, zip}
 use Rattle.std.proofs.lemmas.List.{take_all}
 use Rattle.std.proofs.lemmas.Slice.Zip.{length-zip}
@@ -11,7 +11,7 @@ use Rattle.order_verifier.proofs.comparison.Comparison.first_wrong_document.Goal
 pub returns-in-Some : goal.returns-in-Some
 returns-in-Some g c =
     let topics = topics_in c.args.self.now in
-    let ws = g.L.TopicLists.witnesses c.args.lists.now in
+    let ws = g.L.ListRows.witnesses c.args.lists.now in
     let i = c.loop-topic.topic in
     let row = c.in-Some.ensures in
     let of = row.2 in
@@ -20,7 +20,7 @@ returns-in-Some g c =
 pub loop-topic-preserved : goal.loop-topic-preserved
 loop-topic-preserved g c =
     let topics = topics_in c.args.self.now in
-    let ws = g.L.TopicLists.witnesses c.args.lists.now in
+    let ws = g.L.ListRows.witnesses c.args.lists.now in
     let i = c.loop-topic.topic in
     let row = c.in_default.ensures in
     let of = row.2 in
@@ -29,7 +29,7 @@ loop-topic-preserved g c =
 pub returns : goal.returns
 returns g c =
     let topics = topics_in c.args.self.now in
-    let ws = g.L.TopicLists.witnesses c.args.lists.now in
+    let ws = g.L.ListRows.witnesses c.args.lists.now in
     let pairs = zip ws topics in
     let whole : take c.loop-topic.topic pairs ≡ pairs = take_all c.loop-topic.topic pairs (omega (arith, length-zip ws topics, c.requires.topics, c.count-topic-end.ensures)) in
     zip_completions ws topics c.requires.topics (subst (AllByRecursion AreCompletions) whole c.loop-topic.invariant)

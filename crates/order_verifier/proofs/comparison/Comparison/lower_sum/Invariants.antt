@@ -1,4 +1,4 @@
-use Rattle.std.proofs.Common.{◌≡◌, ◌*◌, ◌^◌, ◌≤◌, take, length, ℕ, List, ℤ}
+use Rattle.std.proofs.Common.{◌*◌, ◌^◌, ◌≤◌, take, length, ℕ, List, ℤ}
 use Rattle.std.specs.Prelude.{unsigned_abs}
 use Rattle.std.specs.List.{zip}
 use Rattle.measure_laws.specs.Ends.{IsLowerEnd}
@@ -18,4 +18,4 @@ pub record Summed (c : Compared) (ws : List TopicWitness) (index : ℕ) (sum : �
   pub within : unsigned_abs sum ≤ index * (2 * 10 ^ 18)
 
 abbrev pub invariant-loop-topic : goal.invariant-loop-topic
-invariant-loop-topic g l = Summed l.self (g.L.TopicLists.witnesses l.lists) l.topic l.sum
+invariant-loop-topic g l = Summed l.self (g.L.ListRows.witnesses l.lists) l.topic l.sum

@@ -22,12 +22,12 @@ topic-marks-requires c =
 
 pub least_low-requires : goal.least_low-requires
 least_low-requires c =
-    rankings_met c.self.inside.desk.now c.self.inside.marks.now c.self.inside.runs.first c.self.inside.runs.second c.self.invariant c.args.topic c.topic-marks.result.now _ _ c.topic-marks.ensures c.ranking-first.ensures.ranking
+    rankings_met c.self.inside.desk.now c.self.inside.marks.now c.self.inside.runs.first c.self.inside.runs.second c.self.invariant c.args.topic c.topic-marks.result _ _ c.topic-marks.ensures c.ranking-first.ensures.ranking
     c.ranking-second.ensures.ranking
 
 pub least_low-requires-2 : goal.least_low-requires-2
 least_low-requires-2 c =
-    let met = rankings_met c.self.inside.desk.now c.self.inside.marks.now c.self.inside.runs.first c.self.inside.runs.second c.self.invariant c.args.topic c.topic-marks.result.now _ _ c.topic-marks.ensures
+    let met = rankings_met c.self.inside.desk.now c.self.inside.marks.now c.self.inside.runs.first c.self.inside.runs.second c.self.invariant c.args.topic c.topic-marks.result _ _ c.topic-marks.ensures
     c.ranking-first.ensures.ranking c.ranking-second.ensures.ranking in
     record { first = met.second; second = met.first; small = met.small }
 
@@ -38,5 +38,5 @@ returns c =
     let most : neg_ℤ c.least_low-2.result ≡ ends.0.most_hi = c.least_low-2.ensures.most ends.0 ends.1 in
     let low : to_z w128 (of_z w128 c.least_low.result) ≡ ends.0.least_lo = omega (arith, ints, least) in
     let high : to_z w128 (of_z w128 (pos 0 -ℤ to_z w128 (of_z w128 c.least_low-2.result))) ≡ ends.0.most_hi = omega (arith, ints, most) in
-    ends_on _ _ c.self.view_is c.args.topic c.topic-marks.result.now c.ranking-first.result.now c.ranking-second.result.now _ (topic_inside _ _ c.self.view_is c.self.invariant.known c.args.topic c.requires) c.topic-marks.ensures c.ranking-first.ensures.ranking c.ranking-second.ensures.ranking ends.0
+    ends_on _ _ c.self.view_is c.args.topic c.topic-marks.result c.ranking-first.result.now c.ranking-second.result.now _ (topic_inside _ _ c.self.view_is c.self.invariant.known c.args.topic c.requires) c.topic-marks.ensures c.ranking-first.ensures.ranking c.ranking-second.ensures.ranking ends.0
     ends.1 (same_ends low high)

@@ -14,9 +14,9 @@ overflow_cast-result c =
 pub overflow_add-result : goal.overflow_add-result
 overflow_add-result c =
     let all = relevant_within _ c.self.invariant in
-    omega (arith, all, c.len.ensures, c.judged_relevant.ensures)
+    omega (arith, all, c.len.ensures, c.all.ensures.relevant)
 
 pub returns : goal.returns
 returns c =
     let all = relevant_listed _ c.self.invariant in
-    ap (λ n. n + c.len.result) c.judged_relevant.ensures ∙ ap (λ n. judged_count c.self.inside.marks.now + n) c.len.ensures ∙ sym all ∙ ap (λ (l : NamesOnTopic). true_count (listed_truth (unranked l) l.names) (length l.marks)) c.self.view_is
+    ap (λ n. n + c.len.result) c.all.ensures.relevant ∙ ap (λ n. judged_count c.self.inside.marks.now + n) c.len.ensures ∙ sym all ∙ ap (λ (l : NamesOnTopic). true_count (listed_truth (unranked l) l.names) (length l.marks)) c.self.view_is
