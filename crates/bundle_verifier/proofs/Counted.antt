@@ -1,8 +1,8 @@
 -- How many lines the parts of a bundle have.
-use Rattle.std.proofs.Common.{◌≡◌, ℕ, ◌+◌, List, codes, length, arith, length-append}
+use Rattle.std.proofs.Common.{◌≡◌, ◌+◌, codes, length, arith, length-append}
 use Rattle.std.proofs.lemmas.List.{length-map}
 use Rattle.order_certificate.specs.Certificate.{document_line}
-use Rattle.order_bundle.specs.Bundle.{bound_line, both_bounds_line, list_lines, pick_line, picks_lines, topic_lines}
+use Rattle.order_bundle.specs.Bundle.{list_lines, pick_line, picks_lines, topic_lines}
 use Rattle.order_bundle.specs.declared.bundle.Picks.{Picks}
 use Rattle.order_bundle.specs.declared.bundle.TopicNames.{TopicNames}
 

@@ -16,7 +16,7 @@ use Rattle.order_certificate.specs.declared.place.CertificatePlace.{CertificateP
 use Rattle.order_certificate.specs.declared.place.CertificatePlace.TheVariants as place
 use Rattle.order_certificate.specs.declared.place.WitnessList.TheVariants.{Low, High}
 use Rattle.order_bundle.specs.Bundle.{ArePicksOn, Bundle, IsBundle, IsEvidenceOn}
-use Rattle.order_bundle.specs.Evidence.{named_evidence, named_lists, written_out}
+use Rattle.order_bundle.specs.Evidence.{named_evidence, named_lists}
 use Rattle.order_bundle.specs.declared.bundle.PairClaim.{PairClaim}
 use Rattle.order_bundle.specs.declared.bundle.PairEvidence.{PairEvidence}
 use Rattle.order_bundle.specs.declared.bundle.PairEvidence.TheVariants.{Above, Equal, Open}

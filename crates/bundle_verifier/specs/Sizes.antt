@@ -1,5 +1,5 @@
 -- How much a claim has on its topics, and that reasons speak of places that a bundle has.
-use Rattle.std.specs.Prelude.{ℕ, ◌<◌, ◌≤◌, List, All, length, slice_get}
+use Rattle.std.specs.Prelude.{◌<◌, ◌≤◌, List, All, length, slice_get}
 use Rattle.desk_model.specs.Limits.{TOPIC_LIMIT}
 use Rattle.order_certificate.specs.Certificate.{IsDocumentCount}
 use Rattle.order_certificate.specs.declared.place.CertificatePlace.{CertificatePlace}

@@ -8,20 +8,24 @@ ghost use Rattle.order_bundle.specs.Evidence.{named_evidence, written_out};
 ghost use Rattle.order_verifier.specs.Refusal.{ShowsOf, topics_in};
 ghost use Rattle.order_verifier.specs.Verified.{FailsBy};
 ghost use Rattle.bundle_verifier.specs.Refusal.{FailsOn, HasRows, IsClaimOf, NamesDesk};
+ghost use Rattle.bundle_verifier.specs.Rows.{AreNumbersOf};
 
 use crate::names::run_number;
+use crate::numbers::DocumentNumbers;
 use crate::rows::{ClaimLists, ClaimNumbers};
-use desk_model::{Desk, Marks};
+use desk_model::Desk;
 use order_bundle::{Bundle, PairClaim, PairEvidence, TopicNames};
-use order_verifier::{Comparison, Failure, RunNumbers, TopicEnds};
+use order_verifier::{Comparison, DeskMarks, Failure, RunNumbers, TopicEnds};
 
 /// Whether the evidence of a claim shows what it claims of two runs.
 fn check(
     comparison: &Comparison<'_>,
     topics: &[TopicNames],
+    numbers: &[DocumentNumbers],
     evidence: &PairEvidence,
 ) -> Result<(), Failure>
     requires rows { HasRows topics.now evidence.now }
+    requires numbers { AreNumbersOf comparison.now.desk topics.now numbers.now }
     requires form { IsWritable (named_evidence topics.now evidence.now) }
     requires topics { length (topics_of (named_evidence topics.now evidence.now)) ≡ length (topics_in comparison.now) }
     ensures { MatchResult result (λ _. ShowsOf comparison.now (named_evidence topics.now evidence.now)) (FailsBy comparison.now (named_evidence topics.now evidence.now)) }
@@ -34,7 +38,7 @@ fn check(
             comparison.check_equal(&ClaimNumbers::new(topics, bounds.as_slice()))
         }
         PairEvidence::Open(picks) => {
-            comparison.check_open(&ClaimLists::new(topics, picks.as_slice()))
+            comparison.check_open(&ClaimLists::new(topics, picks.as_slice(), numbers))
         }
     }
 }
@@ -44,14 +48,16 @@ fn check(
 pub fn check_claim(
     ends: &TopicEnds,
     desk: &Desk,
-    marks: &Marks,
+    marks: &DeskMarks<'_>,
     bundle: &Bundle,
+    numbers: &[DocumentNumbers],
     claim: &PairClaim,
 ) -> Result<(), Failure>
     requires made { ends.now ≡ bundle.now.measure }
     requires whole { IsDesk desk.now }
     requires marks { AreMarksOf desk.now marks.now }
     requires names { NamesDesk bundle.now desk.now }
+    requires numbers { AreNumbersOf desk.now bundle.now.topics numbers.now }
     requires claim { IsClaimOf bundle.now claim.now }
     ensures { MatchResult result (λ _. IsEvidence (written_out bundle.now claim.now) desk.now marks.now) (FailsOn bundle.now desk.now marks.now claim.now) }
 {
@@ -60,7 +66,12 @@ pub fn check_claim(
     let first = run_number(desk, names, claim.first);
     let second = run_number(desk, names, claim.second);
     let comparison = Comparison::new(ends, desk, marks, RunNumbers { first, second });
-    match check(&comparison, bundle.topics.as_slice(), &claim.evidence) {
+    match check(
+        &comparison,
+        bundle.topics.as_slice(),
+        numbers,
+        &claim.evidence,
+    ) {
         Ok(()) => Ok(()),
         Err(failure) => Err(failure),
     }

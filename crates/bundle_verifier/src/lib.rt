@@ -3,16 +3,24 @@
 #![tactic(auto)]
 
 pub mod claim;
+pub mod either;
 pub mod laws;
 mod lines;
 pub mod names;
+pub mod numbers;
 pub mod reason;
 pub mod rejected;
+pub mod room;
 pub mod rows;
 mod told;
 pub mod verifier;
 
-pub use laws::rejected_bundles_are_no_evidence;
+pub use either::check_any;
+pub use laws::{
+    any_answers_are_one, bundle_answers_are_one, numbers_are_of_bundle_lines,
+    rejected_bundles_are_no_evidence,
+};
 pub use reason::{BundleName, BundleReason};
 pub use rejected::BundleRejected;
+pub use room::Room;
 pub use verifier::BundleVerifier;

@@ -1,14 +1,18 @@
 //! The evidence of a claim as the checker of one pair asks for it, with the names that its numbers stand for.
-ghost use Rattle.std.specs.Prelude.{◌≡◌, ◌<◌, length, map, slice_get, Some};
+ghost use Rattle.std.specs.Prelude.{◌≡◌, ℕ, List, ◌<◌, true, length, map, slice_get, Option, Some};
 ghost use Rattle.std.specs.List.{zip};
-ghost use Rattle.order_bundle.specs.Evidence.{named_bound, named_lists};
+ghost use Rattle.order_bundle.specs.Evidence.{named_bound};
+ghost use Rattle.order_verifier.specs.Rows.{names_listed, numbers_of};
+ghost use Rattle.bundle_verifier.specs.Rows.{AreNumbersOn, witnesses_of};
 
+use crate::numbers::DocumentNumbers;
+use desk_model::{Name, TopicBook};
 use order_bundle::{Bound, Picks, TopicNames};
-use order_verifier::{Documents, TopicLists, TopicNumbers};
+use order_verifier::{BoundRows, Documents, ListRows};
 use std::marker::Model;
 
 /// The item with a number, from 0.
-fn item_at<T>(items: &[T], number: u32) -> &T
+pub fn item_at<T>(items: &[T], number: u32) -> &T
     requires { number < length items.now }
     ensures { slice_get items.now number ≡ Some result.now }
 {
@@ -57,7 +61,7 @@ impl<'a> ClaimNumbers<'a> {
     }
 }
 
-impl TopicNumbers for ClaimNumbers<'_> {
+impl BoundRows for ClaimNumbers<'_> {
     ghost bounds = { λ n. n };
 
     fn count(&self) -> u32 {
@@ -73,56 +77,82 @@ impl TopicNumbers for ClaimNumbers<'_> {
     }
 }
 
-/// Two lists of picks for each topic of a bundle.
+/// Two lists of picks for each topic of a bundle, and for the first topics the desk's numbers of their documents.
 #[derive(Drop)]
 pub struct ClaimLists<'a> {
     topics: &'a [TopicNames],
     picks: &'a [Picks],
+    numbers: &'a [DocumentNumbers],
 }
 
 impl<'a> Model for ClaimLists<'a> {
-    ghost use Rattle.std.specs.Prelude.{◌≡◌, List, length, map};
-    ghost use Rattle.std.specs.List.{zip};
-    ghost use Rattle.order_bundle.specs.Evidence.{named_lists as named};
-    ghost use Rattle.order_certificate.specs.declared.certificate.TopicWitness.{TopicWitness};
+    ghost use Rattle.std.specs.Prelude.{◌≡◌, length};
+    ghost use Rattle.bundle_verifier.specs.Rows.{PickRows};
 
-    ghost Value = { List TopicWitness };
+    ghost Value = { PickRows };
 
-    ghost view = { λ l. map named (zip l.topics.now l.picks.now) };
+    ghost view = { λ l. record { topics = l.topics.now; picks = l.picks.now; numbers = l.numbers.now } };
 
     ghost invariant = { λ l. length l.picks.now ≡ length l.topics.now };
 }
 
 impl<'a> ClaimLists<'a> {
     /// As many lists as there are topics.
-    pub fn new(topics: &'a [TopicNames], picks: &'a [Picks]) -> ClaimLists<'a>
+    pub fn new(
+        topics: &'a [TopicNames],
+        picks: &'a [Picks],
+        numbers: &'a [DocumentNumbers],
+    ) -> ClaimLists<'a>
         requires { length picks.now ≡ length topics.now }
-        ensures { result ≡ map named_lists (zip topics.now picks.now) }
+        ensures { result ≡ record { topics = topics.now; picks = picks.now; numbers = numbers.now } }
     {
-        ClaimLists { topics, picks }
+        ClaimLists {
+            topics,
+            picks,
+            numbers,
+        }
     }
 }
 
-impl TopicLists for ClaimLists<'_> {
-    ghost witnesses = { λ l. l };
+/// The documents that a list picks of a topic's names, by their numbers where these are known.
+fn documents_of<'a>(
+    book: &'a TopicBook,
+    names: &'a [Name],
+    picks: &'a [u32],
+    numbers: &'a [DocumentNumbers],
+    topic: u32,
+) -> Documents<'a>
+    requires { (ns : List (Option ℕ)) → slice_get numbers.now topic ≡ Some ns → ns ≡ numbers_of book.now.docs names.now }
+    ensures { result ≡ record { docs = book.now.docs; names = names_listed names.now picks.now true } }
+{
+    match numbers.get(topic as usize) {
+        Some(numbers) => Documents::numbered(book, names, picks, numbers.as_slice()),
+        None => Documents::picked(book, names, picks),
+    }
+}
+
+impl ListRows for ClaimLists<'_> {
+    ghost witnesses = { witnesses_of };
+
+    ghost suits = { AreNumbersOn };
 
     fn count(&self) -> u32 {
         self.picks.len() as u32
     }
 
-    fn low(&self, topic: u32) -> Documents<'_> {
+    fn low<'d>(&'d self, topic: u32, book: &'d TopicBook) -> Documents<'d> {
         let row = item_at(self.topics, topic);
         let lists = item_at(self.picks, topic);
         let names = row.docs.as_slice();
         let picks = lists.low.as_slice();
-        Documents::picked(names, picks)
+        documents_of(book, names, picks, self.numbers, topic)
     }
 
-    fn high(&self, topic: u32) -> Documents<'_> {
+    fn high<'d>(&'d self, topic: u32, book: &'d TopicBook) -> Documents<'d> {
         let named = item_at(self.topics, topic);
         let lists = item_at(self.picks, topic);
         let names = named.docs.as_slice();
         let picks = lists.high.as_slice();
-        Documents::picked(names, picks)
+        documents_of(book, names, picks, self.numbers, topic)
     }
 }

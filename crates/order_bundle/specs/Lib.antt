@@ -4,3 +4,4 @@ pub mod Reading
 pub mod Lengths
 pub mod Writing
 pub mod Evidence
+pub mod Either

@@ -1,4 +1,6 @@
 //! A certificate of either version.
+ghost use Rattle.std.specs.Prelude.{◌≡◌};
+ghost use Rattle.order_bundle.specs.Either.{any_level};
 
 use crate::bundle::Bundle;
 use order_certificate::Certificate;
@@ -19,4 +21,16 @@ pub enum AnyCertificate {
     One(Certificate),
     /// Version 2.
     Many(Bundle),
+}
+
+impl AnyCertificate {
+    /// The least grade of a relevant document, from 1 to 1,000.
+    pub fn level(&self) -> u32
+        ensures { result ≡ any_level self.now }
+    {
+        match self {
+            AnyCertificate::One(certificate) => certificate.level,
+            AnyCertificate::Many(bundle) => bundle.level,
+        }
+    }
 }

@@ -8,6 +8,7 @@ ghost use Rattle.order_certificate.specs.Certificate.{IsCertificate};
 ghost use Rattle.order_certificate.specs.Places.{IsText, certificate_places};
 ghost use Rattle.order_certificate.specs.declared.certificate.Certificate.{Certificate};
 ghost use Rattle.order_bundle.specs.Bundle.{Bundle, IsBundle};
+ghost use Rattle.order_bundle.specs.Either.{AnyEvidenceImpliesClaims};
 ghost use Rattle.order_bundle.specs.Evidence.{ClaimsHold, IsBundleEvidence, written_out};
 ghost use Rattle.order_bundle.specs.Places.{IsAnyCertificate, IsAnyText, any_places, any_text, version_line};
 ghost use Rattle.order_bundle.specs.declared.any_certificate.AnyCertificate.{AnyCertificate};
@@ -87,4 +88,9 @@ pub fn claims_are_certificates_written_out()
 pub fn bundle_evidence_implies_claims()
     ensures { (b : Bundle) (desk : Desk) (marks : List (List Mark)) → IsMeasure b.measure → IsDesk desk → AreMarksOf desk marks →
         IsBundleEvidence b desk marks → ClaimsHold b desk marks }
+{}
+
+/// Where a certificate of either version is evidence, what it claims holds, whoever wrote it.
+pub fn any_evidence_implies_claims()
+    ensures { AnyEvidenceImpliesClaims }
 {}

@@ -17,10 +17,10 @@ pub use bundle::{
     PickList, Picks, TopicNames,
 };
 pub use laws::{
-    any_bad_line_exists, any_certificates_have_texts, any_first_bad_line_is_unique,
-    any_lines_are_short, any_text_and_certificate_are_one, bundle_evidence_implies_claims,
-    claims_are_certificates_written_out, first_line_names_the_version, no_any_text_begins_another,
-    version_1_is_as_before,
+    any_bad_line_exists, any_certificates_have_texts, any_evidence_implies_claims,
+    any_first_bad_line_is_unique, any_lines_are_short, any_text_and_certificate_are_one,
+    bundle_evidence_implies_claims, claims_are_certificates_written_out,
+    first_line_names_the_version, no_any_text_begins_another, version_1_is_as_before,
 };
 pub use length::bundle_length;
 pub use places::{ClaimHead, UnorderedPair};

@@ -10,6 +10,7 @@ use Rattle.order_verifier.specs.Refusal.{Compared, ShowsOf, topics_in}
 use Rattle.order_verifier.specs.Verified.{FailsBy}
 use Rattle.order_verifier.proofs.Topics.{length-named}
 use Rattle.bundle_verifier.specs.Refusal.{HasRows, IsRunOf}
+use Rattle.bundle_verifier.specs.Rows.{AreNumbersOf}
 use Rattle.bundle_verifier.proofs.Matched.{different_numbers, rows_of, topics_named}
 use Rattle.bundle_verifier.proofs.claim.check_claim.Goals as goal
 
@@ -30,6 +31,11 @@ run_number-second-requires-clause-known c = subst (All (IsRunOf c.args.desk.now)
 pub check-requires-clause-rows : goal.check-requires-clause-rows
 check-requires-clause-rows c =
     subst (λ ts. HasRows ts c.args.claim.now.evidence) (sym (c.as_slice.ensures ∙ ap (λ (v : Bundle). v.topics) c.bundle.view_is)) (rows_of c.args.bundle.now.topics c.args.claim.now.evidence c.requires.claim.rows)
+
+pub check-requires-clause-numbers : goal.check-requires-clause-numbers
+check-requires-clause-numbers c =
+    subst (λ (w : Compared). AreNumbersOf w.desk c.as_slice.result.now c.args.numbers.now) (sym c.new-comparison.ensures)
+    (subst (λ ts. AreNumbersOf c.args.desk.now ts c.args.numbers.now) (sym (c.as_slice.ensures ∙ ap (λ (v : Bundle). v.topics) c.bundle.view_is)) c.requires.numbers)
 
 pub check-requires-clause-topics : goal.check-requires-clause-topics
 check-requires-clause-topics c =

@@ -1,9 +1,7 @@
-use Rattle.std.proofs.Common.{◌≡◌, ◌+◌, Some, take, ap, sym, subst, ◌∙◌}
-use Rattle.std.specs.Prelude.{None, Option, ℕ, Bool, true, false, is_some}
+use Rattle.std.proofs.Common.{◌≡◌, ◌+◌, take, ap, sym, subst, ◌∙◌}
 use Rattle.std.specs.List.{AllByRecursion}
 use Rattle.std.proofs.lemmas.List.{take_all}
 use Rattle.std.proofs.lemmas.List.Elements.{All-from_recursion}
-use Rattle.desk_model.specs.Name.{number_of}
 use Rattle.order_verifier.specs.Refusal.{IsFirstFailing}
 use Rattle.order_verifier.proofs.FirstFailing.{all_more}
 use Rattle.order_verifier.proofs.Topics.{item_there}

@@ -1,4 +1,4 @@
-use Rattle.std.proofs.Common.{◌≡◌, List, ℕ, map, take}
+use Rattle.std.proofs.Common.{◌≡◌, List, ℕ, take}
 use Rattle.std.specs.List.{AllByRecursion, zip}
 use Rattle.order_verifier.specs.Refusal.{topic_names}
 use Rattle.bundle_verifier.specs.Refusal.{names_of_topics}

@@ -1,7 +1,7 @@
-use Rattle.std.proofs.Common.{◌≡◌, length, sym, ap, ◌∙◌, arith}
+use Rattle.std.proofs.Common.{length, sym, ap, ◌∙◌, arith}
 use Rattle.order_bundle.specs.Evidence.{named_bound}
 use Rattle.bundle_verifier.proofs.Zipped.{length_rows}
-use Rattle.bundle_verifier.proofs.rows.ClaimNumbersTopicNumbers.count.Goals as goal
+use Rattle.bundle_verifier.proofs.rows.ClaimNumbersBoundRows.count.Goals as goal
 
 pub overflow_cast-result : goal.overflow_cast-result
 overflow_cast-result c =

@@ -1,0 +1,9 @@
+use Rattle.std.proofs.Common.{◌≡◌, length}
+use Rattle.order_verifier.specs.Counted.{AreCountsOf}
+use Rattle.bundle_verifier.proofs.room.count_topics.Given as goal
+
+abbrev pub invariant-loop-topic : goal.invariant-loop-topic
+invariant-loop-topic l = record {
+  count : length l.counts.items ≡ l.topic;
+  known : AreCountsOf l.marks l.counts.items;
+}

@@ -1,0 +1,14 @@
+use Rattle.std.proofs.Common.{length, sym, ap, ◌∙◌, arith}
+use Rattle.order_bundle.specs.Evidence.{named_lists}
+use Rattle.bundle_verifier.specs.Rows.{PickRows, witnesses_of}
+use Rattle.bundle_verifier.proofs.Zipped.{length_rows}
+use Rattle.bundle_verifier.proofs.rows.ClaimListsListRows.count.Goals as goal
+
+pub overflow_cast-result : goal.overflow_cast-result
+overflow_cast-result c =
+    let rows = length_rows named_lists c.self.inside.topics.now c.self.inside.picks.now c.self.invariant in
+    let view = ap (λ (r : PickRows). length (witnesses_of r)) c.self.view_is in
+    omega (arith, c.requires, rows, view)
+
+pub returns : goal.returns
+returns c = sym (length_rows named_lists c.self.inside.topics.now c.self.inside.picks.now c.self.invariant) ∙ ap (λ (r : PickRows). length (witnesses_of r)) c.self.view_is
