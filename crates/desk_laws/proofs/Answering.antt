@@ -14,8 +14,9 @@ use Rattle.run_reader.specs.declared.used.Used.{Used}
 use Rattle.topics_pool.specs.Rows.{IsDeskOf, total_rows}
 use Rattle.next_document.specs.Laws.{NextIsOne}
 use Rattle.order_certificate.specs.declared.certificate.Certificate.{Certificate}
-use Rattle.order_verifier.specs.Verified.{IsVerified}
-use Rattle.order_verifier.specs.declared.rejected.Rejected.{Rejected}
+use Rattle.order_bundle.specs.declared.any_certificate.AnyCertificate.{AnyCertificate}
+use Rattle.bundle_verifier.specs.Either.{IsAnyVerified}
+use Rattle.bundle_verifier.specs.declared.rejected.BundleRejected.{BundleRejected}
 use Rattle.pair_table.specs.Numbers.{ArePairNumbers}
 use Rattle.pair_table.specs.Sums.{run_numbers}
 use Rattle.pair_table.specs.declared.evidence.EvidenceFault.{EvidenceFault}
@@ -125,10 +126,10 @@ module _ (s : Subject) where
   certificate_one first second (inr h) (inr k) = text_one statuses.Close (OfRuns s) (IsCloseText s 0 1) (λ t u x y. one_certified s 0 1 t u (inr x) (inr y)) first second h k
 
 -- ---- a check
-abbrev IsVerificationOf : Certificate → Desk → Result (Unit {0}) Rejected → Outcome → Type 0
-IsVerificationOf c desk answer outcome = IsVerified c desk (marks_for c desk) answer × (outcome ≡ verification c desk answer)
+abbrev IsVerificationOf : AnyCertificate → Desk → Result (Unit {0}) BundleRejected → Outcome → Type 0
+IsVerificationOf c desk answer outcome = IsAnyVerified c desk (marks_for c desk) answer × (outcome ≡ verification c desk answer)
 
-pub check_one : DeskIsOne → VerifierIsOne → (found : Loaded × Certificate) (first second : Outcome) → PrintsCheck found first → PrintsCheck found second → first ≡ second
+pub check_one : DeskIsOne → VerifierIsOne → (found : Loaded × AnyCertificate) (first second : Outcome) → PrintsCheck found first → PrintsCheck found second → first ≡ second
 check_one desk_one verifier_one found first second h k =
     let same : k.desk ≡ h.desk = desk_one found.0.qrels found.0.runs k.desk h.desk k.ranked h.ranked in
     let other = subst (λ d. IsVerificationOf found.1 d k.answer second) same (k.verified, k.is) in

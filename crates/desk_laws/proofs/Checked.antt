@@ -9,16 +9,19 @@ use Rattle.desk_model.specs.declared.types.Mark.{Mark}
 use Rattle.desk_model.specs.declared.types.Verdict.{Verdict}
 use Rattle.desk_model.specs.declared.types.Verdict.TheVariants.{Above, Below, Equal, Open, Close}
 use Rattle.order_certificate.specs.Claim.{NamedTopic, named_topics}
+use Rattle.order_certificate.specs.Certificate.{IsCertificate, certificate_text}
 use Rattle.order_certificate.specs.Evidence.{IsEvidence, Shows}
-use Rattle.order_certificate.specs.Places.{IsText}
 use Rattle.order_certificate.specs.declared.certificate.Certificate.{Certificate}
-use Rattle.order_certificate.proofs.Whole.{has_text}
+use Rattle.order_bundle.specs.Either.{any_level}
+use Rattle.order_bundle.specs.Places.{IsAnyCertificate, IsAnyText, any_text}
+use Rattle.order_bundle.specs.declared.any_certificate.AnyCertificate.{AnyCertificate}
+use Rattle.order_bundle.specs.declared.any_certificate.AnyCertificate.TheVariants.{One}
 use Rattle.measure_core.specs.Made.{HasEnds}
 use Rattle.pair_table.specs.Evidence.{SaysOfVerdict}
 use Rattle.pair_table.proofs.Evident.{answered_evidence}
 use Rattle.judge_session.specs.declared.change.Change.{Change}
-use Rattle.order_verifier.specs.Verified.{IsVerified}
-use Rattle.order_verifier.specs.declared.rejected.Rejected.{Rejected}
+use Rattle.bundle_verifier.specs.Either.{IsAnyVerified}
+use Rattle.bundle_verifier.specs.declared.rejected.BundleRejected.{BundleRejected}
 use Rattle.order_verifier.proofs.Answers.{rejected_no_evidence}
 use Rattle.session_replies.specs.Replies.{Setting, all_in_force, marks_after}
 use Rattle.session_replies.proofs.Marks.{marks_of_desk}
@@ -70,21 +73,27 @@ level_said s changes a b c Open h = h.compares.at_level
 level_said s changes a b c Close h = absurd h
 
 -- what is evidence is accepted
-accepted : (c : Certificate) (desk : Desk) (marks : List (List Mark)) (answer : Result (Unit {0}) Rejected) → IsEvidence c desk marks → IsVerified c desk marks answer → answer ≡ Ok tt
+accepted : (c : Certificate) (desk : Desk) (marks : List (List Mark)) (answer : Result (Unit {0}) BundleRejected) → IsEvidence c desk marks → IsAnyVerified (One c) desk marks answer → answer ≡ Ok tt
 accepted c desk marks (Ok done) h is = refl
-accepted c desk marks (Err why) h is = absurd (rejected_no_evidence c desk marks why is h)
+accepted c desk marks (Err rejected) h is = absurd (rejected_no_evidence c desk marks rejected.why is.1 h)
 
 -- ---- the law
-pub all_accepted : ((bytes : List ℕ) (c d : Certificate) → IsText bytes c → IsText bytes d → c ≡ d) → CertificatesAreAccepted
-all_accepted one s lines files again from path desk a b text c answer setting taken h of_text verified =
-    let changes = changes_over s.desk lines [] in
-    let grades = all_in_force s.desk changes in
-    let judged : IsJudgedDesk files from taken.rows s.desk grades = record { loads = taken.loads; of_rows = taken.of_rows; in_force = grades_of_session files from taken.rows s.desk lines taken.loads taken.of_rows } in
-    let own : c ≡ h.certificate = one text c h.certificate of_text (subst (λ t. IsText t h.certificate) (sym h.is) (has_text h.certificate h.within)) in
-    let comes = come_again files again from path taken.rows s.desk grades judged (subst (λ t. AreFilesWith files again path t from.runs) taken.replied taken.with_text) in
-    let is : IsDeskAgain s.desk grades desk = subst (ComesAgain (sources path from.runs) _ s.desk grades) taken.loads_again comes desk taken.of_later in
-    let evidence = answered_evidence s.measure s.desk (marks_after s changes) s.level a b h.certificate setting.measure h.valid (marks_of_desk s changes h.valid) h.runs.different h.runs.first h.runs.second h.of_pair in
-    let level : c.level ≡ s.level = ap (λ (d : Certificate). d.level) own ∙ level_said s changes a b h.certificate _ h.of_pair.says in
-    accepted c desk (map (file_marks c.level) desk.topics) answer
-    (subst (λ l. IsEvidence c desk (map (file_marks l) desk.topics)) (sym level) (evidence_again c s.desk desk grades s.level is (subst (λ d. IsEvidence d s.desk (marks_after s changes)) (sym own) evidence)))
-    verified
+module _ (one : (bytes : List ℕ) (c d : AnyCertificate) → IsAnyText bytes c → IsAnyText bytes d → c ≡ d) (texts : (c : AnyCertificate) → IsAnyCertificate c → IsAnyText (any_text c) c) where
+  -- the text of a certificate of one pair is of no other certificate
+  its_own : (text : List ℕ) (c : AnyCertificate) (d : Certificate) → IsCertificate d → text ≡ certificate_text d → IsAnyText text c → c ≡ One d
+  its_own text c d within is of_text = one text c (One d) of_text (subst (λ t. IsAnyText t (One d)) (sym is) (texts (One d) within))
+
+  pub all_accepted : CertificatesAreAccepted
+  all_accepted s lines files again from path desk a b text c answer setting taken h of_text verified =
+      let changes = changes_over s.desk lines [] in
+      let marks = marks_after s changes in
+      let grades = all_in_force s.desk changes in
+      let d = h.certificate in
+      let judged : IsJudgedDesk files from taken.rows s.desk grades = record { loads = taken.loads; of_rows = taken.of_rows; in_force = grades_of_session files from taken.rows s.desk lines taken.loads taken.of_rows } in
+      let comes = come_again files again from path taken.rows s.desk grades judged (subst (λ t. AreFilesWith files again path t from.runs) taken.replied taken.with_text) in
+      let is : IsDeskAgain s.desk grades desk = subst (ComesAgain (sources path from.runs) _ s.desk grades) taken.loads_again comes desk taken.of_later in
+      let evidence = answered_evidence s.measure s.desk marks s.level a b d setting.measure h.valid (marks_of_desk s changes h.valid) h.runs.different h.runs.first h.runs.second h.of_pair in
+      let level : d.level ≡ s.level = level_said s changes a b d _ h.of_pair.says in
+      accepted d desk (map (file_marks d.level) desk.topics) answer
+      (subst (λ l. IsEvidence d desk (map (file_marks l) desk.topics)) (sym level) (evidence_again d s.desk desk grades s.level is evidence))
+      (subst (λ e. IsAnyVerified e desk (map (file_marks (any_level e)) desk.topics) answer) (its_own text c d h.within h.is of_text) verified)

@@ -7,7 +7,7 @@ use Rattle.desk_words.specs.declared.command.Check.{Check}
 use Rattle.desk_words.specs.declared.command.Job.{Job}
 use Rattle.desk_words.specs.declared.command.Command.{Command}
 use Rattle.desk_words.specs.declared.command.Command.TheVariants.{Table, Certify, Session, Verify, Demo}
-use Rattle.order_verifier.specs.declared.rejected.Rejected.{Rejected}
+use Rattle.bundle_verifier.specs.declared.rejected.BundleRejected.{BundleRejected}
 use Rattle.desk_report.specs.Reports.{Subject, IsTableText, IsCertificateText, IsCloseText}
 use Rattle.desk_report.specs.Table.{ended}
 use Rattle.session_replies.proofs.Unique.{one_table}
@@ -76,9 +76,9 @@ prints_certificate = record { status = status; lines = lines; one = certificate_
 check_ends : (check : Check) → HasEnds (check_meaning check)
 check_ends check found input answer is = inl (outcome_ends (statuses.Done ∷ statuses.Rejected ∷ []) (PrintsCheck found) (λ outcome holds. subst (λ o. Contains (statuses.Done ∷ statuses.Rejected ∷ []) (answer_of o).status) (sym holds.is) (at holds.answer)) answer is)
   where
-    at : (result : Result (Unit {0}) Rejected) → Contains (statuses.Done ∷ statuses.Rejected ∷ []) (verification_status result)
+    at : (result : Result (Unit {0}) BundleRejected) → Contains (statuses.Done ∷ statuses.Rejected ∷ []) (verification_status result)
     at (Ok _) = the_first statuses.Done (statuses.Rejected ∷ [])
-    at (Err why) = the_second statuses.Done statuses.Rejected []
+    at (Err rejected) = the_second statuses.Done statuses.Rejected []
 
 demo_ends : (seed : ℕ) → HasEnds (demo_meaning seed)
 demo_ends seed found input answer is = inl (outcome_ends (statuses.Done ∷ []) (PrintsDemo seed) (λ outcome holds. subst (λ o. Contains (statuses.Done ∷ []) (answer_of o).status) (sym holds.is) (the_first statuses.Done [])) answer is)

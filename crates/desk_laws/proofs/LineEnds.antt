@@ -6,7 +6,7 @@ use Rattle.desk_model.specs.Book.{Book}
 use Rattle.desk_model.specs.Desk.{Desk}
 use Rattle.desk_model.specs.Name.{number_of}
 use Rattle.order_certificate.specs.Certificate.{certificate_text, certificate_lines}
-use Rattle.order_verifier.specs.declared.rejected.Rejected.{Rejected}
+use Rattle.bundle_verifier.specs.declared.rejected.BundleRejected.{BundleRejected}
 use Rattle.judge_session.specs.Request.{Judge, Undo, Redo, Table, Pair, Certify, Pool, Next, Qrels, Quit, Heard, Blank, TooLong, Bad, Asked, heard_of}
 use Rattle.judge_session.specs.InForce.{judgeable, grade_in_force}
 use Rattle.judge_session.specs.Session.{undone, redone, last_that, first_that, is_live_by, is_undone_by}
@@ -24,7 +24,7 @@ use Rattle.session_stream.specs.Hearing.{End, Done, InputTooLong, Failed}
 use Rattle.desk_files.specs.Files.{Stop, Outside, Memory, Refused}
 use Rattle.desk_top.specs.Answer.{Saying, text_of, stop_line}
 use Rattle.desk_top.specs.Conversation.{sayings, told_at}
-use Rattle.desk_top.specs.Verification.{reason_text, verification_text}
+use Rattle.desk_top.specs.Verification.{rejection_text, verification_text}
 use Rattle.desk_top.specs.Told.{refusal_text}
 use Rattle.desk_laws.specs.Answered.{EndsLastLine}
 
@@ -68,9 +68,9 @@ close_text_ends s a b text is = subst EndsLastLine (sym is.is) (line_ends (close
 pub next_text_ends : (s : Subject) (text : List ℕ) → IsNextText s text → EndsLastLine text
 next_text_ends s text is = subst EndsLastLine (sym is.is) (line_ends (next_line s.desk is.proposal))
 
-pub verification_ends : (desk : Desk) (answer : Result (Unit {0}) Rejected) → EndsLastLine (verification_text desk answer)
+pub verification_ends : (desk : Desk) (answer : Result (Unit {0}) BundleRejected) → EndsLastLine (verification_text desk answer)
 verification_ends desk (Ok _) = inr (codes "accepted", refl)
-verification_ends desk (Err why) = inr (codes "rejected " ++ reason_text desk why, refl)
+verification_ends desk (Err rejected) = inr (codes "rejected " ++ rejection_text desk rejected, refl)
 
 pub summary_ends : (f : List ℕ → Saying) → ((line : List ℕ) → EndsLastLine (f line).text) → (lines : List (List ℕ)) (last : Saying) → EndsLastLine last.text → AllByRecursion (λ (one : Saying). EndsLastLine one.text) (map f lines ++ last ∷ [])
 summary_ends f each [] last h = (h, tt)

@@ -5,16 +5,17 @@ use Rattle.desk_outside.specs.Seen.{ReceivedAll}
 use Rattle.desk_words.specs.declared.command.Check.{Check}
 use Rattle.desk_words.specs.declared.command.Command.TheVariants.{Verify}
 use Rattle.desk_model.specs.Desk.{Desk, file_marks}
-use Rattle.order_certificate.specs.Places.{IsText}
-use Rattle.order_certificate.specs.declared.certificate.Certificate.{Certificate}
+use Rattle.order_bundle.specs.Either.{any_level}
+use Rattle.order_bundle.specs.Places.{IsAnyText}
+use Rattle.order_bundle.specs.declared.any_certificate.AnyCertificate.{AnyCertificate}
 use Rattle.desk_report.specs.Reports.{IsCertificateText}
 use Rattle.topics_pool.specs.Rows.{IsDeskOf}
 use Rattle.judge_session.specs.Request.{Qrels, Asked}
 use Rattle.session_replies.specs.Replies.{Setting, subject_after, IsReply}
 use Rattle.session_replies.specs.State.{IsSetting}
 use Rattle.session_stream.specs.Text.{changes_over}
-use Rattle.order_verifier.specs.Verified.{IsVerified}
-use Rattle.order_verifier.specs.declared.rejected.Rejected.{Rejected}
+use Rattle.bundle_verifier.specs.Either.{IsAnyVerified}
+use Rattle.bundle_verifier.specs.declared.rejected.BundleRejected.{BundleRejected}
 use Rattle.desk_files.specs.Load.{Sources, sources, Loaded, loaded}
 use Rattle.desk_files.specs.Checks.{sources_of}
 use Rattle.desk_files.specs.declared.limits.TheConstants.{LONGEST_FILE}
@@ -39,9 +40,9 @@ pub record IsTakenUp (s : Setting) (lines : List (List ℕ)) (files again : File
 -- the certificate of two runs that the session replies at the same moment is accepted over that desk
 abbrev pub CertificatesAreAccepted : Type 0
 CertificatesAreAccepted =
-    (s : Setting) (lines : List (List ℕ)) (files again : Files) (from : Sources) (path : List ℕ) (desk : Desk) (a b : ℕ) (text : List ℕ) (c : Certificate) (answer : Result (Unit {0}) Rejected) →
-    IsSetting s → IsTakenUp s lines files again from path desk → IsCertificateText (subject_after s (changes_over s.desk lines [])) a b text → IsText text c →
-    IsVerified c desk (map (file_marks c.level) desk.topics) answer → answer ≡ Ok tt
+    (s : Setting) (lines : List (List ℕ)) (files again : Files) (from : Sources) (path : List ℕ) (desk : Desk) (a b : ℕ) (text : List ℕ) (c : AnyCertificate) (answer : Result (Unit {0}) BundleRejected) →
+    IsSetting s → IsTakenUp s lines files again from path desk → IsCertificateText (subject_after s (changes_over s.desk lines [])) a b text → IsAnyText text c →
+    IsAnyVerified c desk (map (file_marks (any_level c)) desk.topics) answer → answer ≡ Ok tt
 
 -- a call of `verify` over such files: the judgements file is the session's reply to `qrels`, the runs are the same, and the certificate's file is a certificate
 -- of the session of the same moment; all are within the limits, and nothing failed

@@ -3,9 +3,9 @@ ghost use Rattle.desk_laws.specs.Answered.{TextsEndTheirLines, AnswersAreOne, Ca
 ghost use Rattle.desk_laws.specs.Fixed.{AnswersAreFixed};
 ghost use Rattle.desk_laws.specs.Laws.{OtherWordsAreUsage, GoodFilesAreAnswered, MissingFileIsOutside, RefusalIsTold, StatusesAreFew};
 
+use bundle_verifier::any_answers_are_one;
 use next_document::laws::next_is_one;
-use order_certificate::{first_bad_line_is_unique, text_and_certificate_are_one};
-use order_verifier::laws::answers_are_one as verifier_answers_are_one;
+use order_bundle::{any_first_bad_line_is_unique, any_text_and_certificate_are_one};
 use session_replies::laws::replies_are_one;
 use topics_pool::desk_is_one;
 
@@ -13,10 +13,10 @@ use topics_pool::desk_is_one;
 fn answers_are_fixed()
     ensures { AnswersAreFixed }
 {
-    text_and_certificate_are_one();
-    first_bad_line_is_unique();
+    any_text_and_certificate_are_one();
+    any_first_bad_line_is_unique();
     desk_is_one();
-    verifier_answers_are_one();
+    any_answers_are_one();
     replies_are_one();
     next_is_one();
 }

@@ -3,8 +3,8 @@ ghost use Rattle.desk_laws.specs.Settled.{SettledWordsStay, SwappedWordsFollow};
 ghost use Rattle.desk_laws.specs.Replaced.{FilesComeAgain, GradesAreInForce};
 ghost use Rattle.desk_laws.specs.Accepted.{CertificatesAreAccepted, ChecksAccept};
 
-use order_certificate::{
-    certificates_have_texts, first_bad_line_is_unique, text_and_certificate_are_one,
+use order_bundle::{
+    any_certificates_have_texts, any_first_bad_line_is_unique, any_text_and_certificate_are_one,
 };
 
 /// Where a session replied to `pair FIRST SECOND` with the word `above`, `below` or `equal`, it replies to each later
@@ -32,7 +32,8 @@ pub fn files_come_again()
 pub fn certificates_are_accepted()
     ensures { CertificatesAreAccepted }
 {
-    text_and_certificate_are_one();
+    any_certificates_have_texts();
+    any_text_and_certificate_are_one();
 }
 
 /// The command `verify` over the files of a session, with the session's reply to `qrels` as the judgements file and a
@@ -41,7 +42,7 @@ pub fn certificates_are_accepted()
 pub fn checks_accept()
     ensures { ChecksAccept }
 {
-    certificates_have_texts();
-    text_and_certificate_are_one();
-    first_bad_line_is_unique();
+    any_certificates_have_texts();
+    any_text_and_certificate_are_one();
+    any_first_bad_line_is_unique();
 }

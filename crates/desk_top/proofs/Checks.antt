@@ -1,6 +1,6 @@
 -- The meaning of a check.
 use Rattle.std.proofs.Common.{◌≡◌, ℕ, zero, suc, ◌<◌, ◌≤◌, true, rules, List, [], ◌∷◌, ◌++◌, length, refl, ap, ap₂, sym, subst, ◌∙◌, arith, inl}
-use Rattle.std.specs.Prelude.{Result, Ok, Err, IfErr, slice_get, unwrap_or, Some, codes, decimal, slice_index_or}
+use Rattle.std.specs.Prelude.{Bool, false, ◌==◌, if◌then◌else◌, Result, Ok, Err, IfErr, slice_get, unwrap_or, Some, codes, decimal, slice_index_or}
 use Rattle.std.specs.List.{AllByRecursion, zip}
 use Rattle.std.proofs.Math.Nat.{min-le_left, min-le_right}
 use Rattle.desk_words.specs.declared.command.Check.{Check}
@@ -27,8 +27,19 @@ use Rattle.order_certificate.specs.Claim.{named_topics}
 use Rattle.order_certificate.specs.declared.certificate.Evidence.{Evidence}
 use Rattle.order_certificate.specs.declared.certificate.Evidence.TheVariants.{Above, Equal, Open}
 use Rattle.order_verifier.specs.Refusal.{Compared, topics_in, HasBoundTooGreat}
-use Rattle.order_verifier.specs.Verified.{IsVerified}
-use Rattle.order_certificate.specs.Certificate.{IsCertificate}
+use Rattle.order_bundle.specs.Bundle.{Bundle}
+use Rattle.order_bundle.specs.Evidence.{written_out}
+use Rattle.order_bundle.specs.Places.{IsAnyCertificate}
+use Rattle.order_bundle.specs.declared.any_certificate.AnyCertificate.{AnyCertificate}
+use Rattle.order_bundle.specs.declared.any_certificate.AnyCertificate.TheVariants.{One, Many}
+use Rattle.order_verifier.specs.Verified.{IsRejected}
+use Rattle.order_verifier.specs.declared.failure.Failure.TheVariants as failed
+use Rattle.bundle_verifier.specs.Either.{IsAnyVerified}
+use Rattle.bundle_verifier.specs.Lines.{told}
+use Rattle.bundle_verifier.specs.Verified.{IsReason}
+use Rattle.bundle_verifier.specs.declared.reason.BundleReason.{BundleReason}
+use Rattle.bundle_verifier.specs.declared.reason.BundleReason.TheVariants.{WrongName, ClaimFails}
+use Rattle.bundle_verifier.specs.declared.rejected.BundleRejected.{BundleRejected}
 use Rattle.topics_pool.specs.Rows.{IsDeskOf}
 use Rattle.desk_files.specs.Checks.{CheckComes, MakesCheck}
 use Rattle.desk_files.specs.Load.{Loaded}
@@ -43,12 +54,12 @@ use Rattle.desk_top.specs.Answer.{OfCheck}
 use Rattle.desk_top.specs.Outcome.{Prints}
 use Rattle.desk_top.specs.Loading.{check_loading}
 use Rattle.desk_top.specs.Meaning.{check_meaning}
-use Rattle.desk_top.specs.Verification.{IsReasonOn, reason_text, verification_status, IsChecked}
+use Rattle.desk_top.specs.Verification.{IsReasonOn, claim_text, reason_text, rejection_text, verification_status, IsChecked}
 use Rattle.desk_top.specs.Works.{MakesOutcome, StopsLoading, Works}
 use Rattle.desk_top.proofs.Reporting.{found_may_come, check_stops, makes_one_text}
 
 -- ---- what was made
-made_as : (check : Check) (cells : ℕ) (found : Loaded × Certificate) (desk : Desk) → IsDeskOf found.0.qrels found.0.runs desk → IsCertificate found.1 → (outcome : Made) → IsChecked found.1 desk outcome → MakesOutcome (check_meaning check) cells cells found outcome
+made_as : (check : Check) (cells : ℕ) (found : Loaded × AnyCertificate) (desk : Desk) → IsDeskOf found.0.qrels found.0.runs desk → IsAnyCertificate found.1 → (outcome : Made) → IsChecked found.1 desk outcome → MakesOutcome (check_meaning check) cells cells found outcome
 made_as check cells found desk ranked within (made.Prints text status) is =
     let goes : GoesWithText status = subst GoesWithText (sym is.text.1) (goes_with is.answer) in (
       makes_one_text (check_meaning check) found (OfCheck found.1 desk) text.items status goes (λ input. (
@@ -66,13 +77,13 @@ made_as check cells found desk ranked within (made.Prints text status) is =
       (0, λ taken. refl, omega arith),
     )
   where
-    goes_with : (answer : Result (Unit {0}) Rejected) → GoesWithText (verification_status answer)
+    goes_with : (answer : Result (Unit {0}) BundleRejected) → GoesWithText (verification_status answer)
     goes_with (Ok _) = tt
-    goes_with (Err why) = tt
+    goes_with (Err rejected) = tt
 made_as check cells found desk ranked within (made.Refuses line) is = absurd is.text
 made_as check cells found desk ranked within (made.Holds other measure level) is = absurd is.text
 
-pub check_works : (check : Check) (shelf : Shelf) (cells : ℕ) (made : Desk × Certificate) (outcome : Made) → MakesCheck shelf.files shelf.before shelf.after check (Ok made) → IsCertificate made.1 → IsChecked made.1 made.0 outcome → Works (check_meaning check) shelf cells cells (Ok outcome)
+pub check_works : (check : Check) (shelf : Shelf) (cells : ℕ) (made : Desk × AnyCertificate) (outcome : Made) → MakesCheck shelf.files shelf.before shelf.after check (Ok made) → IsAnyCertificate made.1 → IsChecked made.1 made.0 outcome → Works (check_meaning check) shelf cells cells (Ok outcome)
 check_works check shelf cells made outcome makes within is =
     ((makes.0, made.1), found_may_come (λ files found. CheckComes files check found) shelf.files (makes.0, made.1) makes.1, made_as check cells (makes.0, made.1) made.0 makes.2 within outcome is)
 
@@ -100,12 +111,25 @@ joined_in_line : (word name : List ℕ) → AreInLine word → IsInLine name →
 joined_in_line [] name w h = h
 joined_in_line (b ∷ bs) name w h = (w.0, joined_in_line bs name w.1 h)
 
-pub reason_in_line : (desk : Desk) → IsDesk desk → (why : Rejected) → IsInLine (reason_text desk why)
+reason_in_line : (desk : Desk) → IsDesk desk → (why : Rejected) → IsInLine (reason_text desk why)
 reason_in_line desk valid (WrongNames line) = number_in_line (codes "WrongNames line ") line (search rules)
 reason_in_line desk valid (BoundTooGreat topic) = joined_in_line (codes "BoundTooGreat topic ") _ (search rules) (name_there (topic_names desk.topics) topic (topics_named desk.topics (recursion_from_All IsBook desk.topics valid.books)))
 reason_in_line desk valid NoSum = search rules
 reason_in_line desk valid (NotCompletion line) = number_in_line (codes "NotCompletion line ") line (search rules)
 reason_in_line desk valid NoDifference = search rules
+
+claim_in_line : (claim : ℕ) (rest : List ℕ) → IsInLine rest → IsInLine (claim_text claim ++ rest)
+claim_in_line claim rest h = at (claim == 0)
+  where
+    word : AreInLine (codes "claim " ++ decimal claim ++ 32 ∷ [])
+    word = in_line-append (codes "claim " ++ decimal claim) (32 ∷ []) (in_line-append (codes "claim ") (decimal claim) (search rules) (ink_in_line (decimal claim) (decimal_ink claim))) (omega arith, tt)
+
+    at : (none : Bool) → IsInLine ((if none then [] else (codes "claim " ++ decimal claim ++ 32 ∷ [])) ++ rest)
+    at true = h
+    at false = joined_in_line (codes "claim " ++ decimal claim ++ 32 ∷ []) rest word h
+
+pub rejection_in_line : (desk : Desk) → IsDesk desk → (rejected : BundleRejected) → IsInLine (rejection_text desk rejected)
+rejection_in_line desk valid rejected = claim_in_line rejected.claim (reason_text desk rejected.why) (reason_in_line desk valid rejected.why)
 
 -- ---- the topic of a reason
 pub topic_name_there : (books : List Book) (t : ℕ) (book : Book) → slice_get books t ≡ Some book → slice_index_or (topic_names books) t [] ≡ book.name
@@ -122,10 +146,22 @@ topics_within desk marks =
     let same : length (named_topics desk marks) ≡ length pairs = length-map pairs _ in
     omega (arith, same, length-zip desk.topics (topics_under desk marks), min-le_left (length desk.topics) (length (topics_under desk marks)))
 
-pub reason_on_desk : (c : Certificate) (desk : Desk) (marks : List (List Mark)) (answer : Result (Unit {0}) Rejected) → IsVerified c desk marks answer → IfErr answer (IsReasonOn desk)
+rejected_on_desk : (c : Certificate) (desk : Desk) (marks : List (List Mark)) (why : Rejected) → IsRejected c desk marks why → IsReasonOn desk why
+rejected_on_desk c desk marks (WrongNames line) is = tt
+rejected_on_desk c desk marks (BoundTooGreat topic) is = let within = bound_within (record { measure = c.measure; desk = desk; marks = marks; first = is.0; second = is.1 }) c.evidence topic is.4 in omega (arith, within, topics_within desk marks)
+rejected_on_desk c desk marks NoSum is = tt
+rejected_on_desk c desk marks (NotCompletion line) is = tt
+rejected_on_desk c desk marks NoDifference is = tt
+
+-- a claim's reason is that against the certificate of one pair for which it stands
+told_on_desk : (b : Bundle) (desk : Desk) (marks : List (List Mark)) (reason : BundleReason) → IsReason b desk marks reason → IsReasonOn desk (told b reason).why
+told_on_desk b desk marks (WrongName name) is = tt
+told_on_desk b desk marks (ClaimFails claim (failed.BoundTooGreat topic)) is = rejected_on_desk (written_out b is.1.item) desk marks (BoundTooGreat topic) is.1.fails
+told_on_desk b desk marks (ClaimFails claim failed.NoSum) is = tt
+told_on_desk b desk marks (ClaimFails claim (failed.NotCompletion place)) is = tt
+told_on_desk b desk marks (ClaimFails claim failed.NoDifference) is = tt
+
+pub reason_on_desk : (c : AnyCertificate) (desk : Desk) (marks : List (List Mark)) (answer : Result (Unit {0}) BundleRejected) → IsAnyVerified c desk marks answer → IfErr answer (λ rejected. IsReasonOn desk rejected.why)
 reason_on_desk c desk marks (Ok _) is = tt
-reason_on_desk c desk marks (Err (WrongNames line)) is = tt
-reason_on_desk c desk marks (Err (BoundTooGreat topic)) is = let within = bound_within (record { measure = c.measure; desk = desk; marks = marks; first = is.0; second = is.1 }) c.evidence topic is.4 in omega (arith, within, topics_within desk marks)
-reason_on_desk c desk marks (Err NoSum) is = tt
-reason_on_desk c desk marks (Err (NotCompletion line)) is = tt
-reason_on_desk c desk marks (Err NoDifference) is = tt
+reason_on_desk (One c) desk marks (Err rejected) is = rejected_on_desk c desk marks rejected.why is.1
+reason_on_desk (Many b) desk marks (Err rejected) is = subst (λ (r : BundleRejected). IsReasonOn desk r.why) (sym is.2) (told_on_desk b desk marks is.0 is.1)

@@ -19,10 +19,13 @@ use Rattle.desk_model.specs.declared.types.Verdict.{Verdict}
 use Rattle.desk_model.specs.declared.types.Verdict.TheVariants as verdicts
 use Rattle.measure_core.specs.Made.{HasEnds}
 use Rattle.order_certificate.specs.Certificate.{certificate_text}
-use Rattle.order_certificate.specs.Evidence.{IsEvidence}
 use Rattle.order_certificate.specs.declared.certificate.Certificate.{Certificate}
-use Rattle.order_verifier.specs.Verified.{IsVerified}
-use Rattle.order_verifier.specs.declared.rejected.Rejected.{Rejected}
+use Rattle.order_bundle.specs.Either.{IsAnyEvidence, any_level, any_measure}
+use Rattle.order_bundle.specs.Places.{IsAnyCertificate}
+use Rattle.order_bundle.specs.declared.any_certificate.AnyCertificate.{AnyCertificate}
+use Rattle.order_bundle.specs.declared.any_certificate.AnyCertificate.TheVariants.{One, Many}
+use Rattle.bundle_verifier.specs.Either.{IsAnyVerified}
+use Rattle.bundle_verifier.specs.declared.rejected.BundleRejected.{BundleRejected}
 use Rattle.pair_table.specs.Numbers.{HaveEnds}
 use Rattle.pair_table.specs.Evidence.{SaysOfVerdict}
 use Rattle.desk_report.specs.Claims.{IsTrueText}
@@ -34,12 +37,12 @@ use Rattle.desk_top.specs.declared.status.Status.TheVariants.{Done, Outside, Mem
 use Rattle.desk_top.specs.Answer.{Answer, Saying, About, OfRuns, OfCheck, text_of, marks_for, IsTrueOf, AreTrue, AreAlwaysTrue}
 use Rattle.desk_top.specs.Outcome.{Outcome, Prints, Refuses, answer_of, IsOutcome, PrintsText}
 use Rattle.desk_top.specs.Report.{subject_of, HasDeskOf}
-use Rattle.desk_top.specs.Verification.{reason_text, verification_text, PrintsCheck}
+use Rattle.desk_top.specs.Verification.{rejection_text, verification_text, PrintsCheck}
 use Rattle.desk_top.specs.Meaning.{Meaning, AnswersOn, IsAnswer, desk_meaning, check_meaning, PrintsTable, PrintsCertificate}
 use Rattle.desk_top.specs.Meets.{Call, HasAnswer, IsGiven, GivesAnswer, OutputFailed, FilesFailed, Stopped, Meets, ReceivesPart, SaysTruth, IsTruthful}
 use Rattle.desk_top.specs.Truths.{PrintsTruth}
 use Rattle.desk_top.proofs.Marking.{marks_known}
-use Rattle.desk_top.proofs.Checks.{reason_in_line}
+use Rattle.desk_top.proofs.Checks.{rejection_in_line}
 use Rattle.desk_top.proofs.Meeting.{sent_is}
 
 -- texts that are always true are true as far as they were received
@@ -168,14 +171,18 @@ module _ (laws : PrintsTruth) where
       (laws.close_lines s.measure s.desk s.marks (run_name s.desk a) (run_name s.desk b) is.totals n (is.valid.named a [] is.runs.first) (is.valid.named b [] is.runs.second))
 
   -- no prefix of a rejection begins as an acceptance does
-  accepted_is_evidence : (c : Certificate) (desk : Desk) (marks : List (List Mark)) (answer : Result (Unit {0}) Rejected) (n : ℕ) (more : List ℕ) → take n (verification_text desk answer) ≡ codes "accepted\n" ++ more → IsVerified c desk marks answer → IsEvidence c desk marks
+  accepted_is_evidence : (c : AnyCertificate) (desk : Desk) (marks : List (List Mark)) (answer : Result (Unit {0}) BundleRejected) (n : ℕ) (more : List ℕ) → take n (verification_text desk answer) ≡ codes "accepted\n" ++ more → IsAnyVerified c desk marks answer → IsAnyEvidence c desk marks
   accepted_is_evidence c desk marks (Ok _) n more e is = is
-  accepted_is_evidence c desk marks (Err why) zero more e is = absurd (let bad : 0 ≡ 97 = ap (λ t. get_or t 0 0) e in omega (arith, bad))
-  accepted_is_evidence c desk marks (Err why) (suc n) more e is = absurd (let bad : 114 ≡ 97 = ap (λ t. get_or t 0 0) e in omega (arith, bad))
+  accepted_is_evidence c desk marks (Err rejected) zero more e is = absurd (let bad : 0 ≡ 97 = ap (λ t. get_or t 0 0) e in omega (arith, bad))
+  accepted_is_evidence c desk marks (Err rejected) (suc n) more e is = absurd (let bad : 114 ≡ 97 = ap (λ t. get_or t 0 0) e in omega (arith, bad))
 
-  answer_text : (answer : Result (Unit {0}) Rejected) (name : MeasureName) (desk : Desk) (marks : List (List Mark)) (n : ℕ) → IsDesk desk → IsTrueText name desk marks (take n (verification_text desk answer))
+  measure_within : (c : AnyCertificate) → IsAnyCertificate c → IsMeasure (any_measure c)
+  measure_within (One c) within = within.measure
+  measure_within (Many b) within = within.measure
+
+  answer_text : (answer : Result (Unit {0}) BundleRejected) (name : MeasureName) (desk : Desk) (marks : List (List Mark)) (n : ℕ) → IsDesk desk → IsTrueText name desk marks (take n (verification_text desk answer))
   answer_text (Ok _) name desk marks n valid = laws.answers name desk marks (codes "accepted") [] n (inl refl) tt
-  answer_text (Err why) name desk marks n valid = laws.answers name desk marks (codes "rejected ") (reason_text desk why) n (inr refl) (reason_in_line desk valid why)
+  answer_text (Err rejected) name desk marks n valid = laws.answers name desk marks (codes "rejected ") (rejection_text desk rejected) n (inr refl) (rejection_in_line desk valid rejected)
 
   -- ---- each command's outcome is true
   -- what is made of the desk of a job
@@ -192,17 +199,17 @@ module _ (laws : PrintsTruth) where
   printed_certificate_true s outcome known m (inl is) = one_text_is_true Done (OfRuns s) (IsCertificateText s 0 1) (λ text n holds. certificate_is_true s 0 1 text n m known holds) outcome is
   printed_certificate_true s outcome known m (inr is) = one_text_is_true Close (OfRuns s) (IsCloseText s 0 1) (λ text n holds. close_is_true s 0 1 text n holds) outcome is
 
-  -- the line of a check: where it is `accepted`, the claim holds
-  check_true : (found : Loaded × Certificate) (outcome : Outcome) → PrintsCheck found outcome → IsTrueOutcome outcome
+  -- the line of a check: where it is `accepted`, all that the certificate claims holds
+  check_true : (found : Loaded × AnyCertificate) (outcome : Outcome) → PrintsCheck found outcome → IsTrueOutcome outcome
   check_true found outcome is = subst IsTrueOutcome (sym is.is) (at, tt)
     where
       at : (n : ℕ) → IsTrueOf (OfCheck found.1 is.desk) (take n (verification_text is.desk is.answer))
       at n =
           let c = found.1 in
           let marks = marks_for c is.desk in
-          let known = marks_known c.level is.desk is.ranked.valid in (
-            answer_text is.answer c.measure is.desk marks n is.ranked.valid,
-            λ more e. laws.claims c is.desk marks is.within.measure is.ranked.valid known (accepted_is_evidence c is.desk marks is.answer n more e is.verified),
+          let known = marks_known (any_level c) is.desk is.ranked.valid in (
+            answer_text is.answer (any_measure c) is.desk marks n is.ranked.valid,
+            λ more e. laws.claims c is.desk marks (measure_within c is.within) is.ranked.valid known (accepted_is_evidence c is.desk marks is.answer n more e is.verified),
           )
 
   pub check_is_truthful : (check : Check) → IsTruthful (check_meaning check)

@@ -3,8 +3,8 @@ use Rattle.std.specs.Prelude.{◌≡◌, ℕ, List, [], ◌∷◌, ◌++◌, fla
 use Rattle.desk_model.specs.Desk.{Desk, file_marks}
 use Rattle.desk_model.specs.declared.types.Mark.{Mark}
 use Rattle.desk_model.specs.declared.types.MeasureName.{MeasureName}
-use Rattle.order_certificate.specs.Claim.{ClaimHolds}
-use Rattle.order_certificate.specs.declared.certificate.Certificate.{Certificate}
+use Rattle.order_bundle.specs.Either.{AnyClaimHolds, any_level, any_measure}
+use Rattle.order_bundle.specs.declared.any_certificate.AnyCertificate.{AnyCertificate}
 use Rattle.desk_report.specs.Claims.{IsTrueText, IsTrueProposal}
 use Rattle.desk_report.specs.Reports.{Subject}
 use Rattle.desk_files.specs.Files.{Stop, Outside, Memory, Refused}
@@ -19,8 +19,8 @@ pub data About : Type 0 where
   OfRuns : (subject : Subject) → About
   -- the document to judge next on such a desk
   OfProposal : (subject : Subject) → About
-  -- whether a certificate is accepted over a desk
-  OfCheck : (certificate : Certificate) → (desk : Desk) → About
+  -- whether a certificate of either version is accepted over a desk
+  OfCheck : (certificate : AnyCertificate) → (desk : Desk) → About
   -- nothing that hangs on a desk
   OfNothing : About
 
@@ -66,23 +66,23 @@ abbrev pub stop_answer : Stop → Answer
 stop_answer why = told_with (stop_status why) (stop_line why)
 
 -- the marks that the judgements file gives at the level of a certificate
-abbrev pub marks_for : Certificate → Desk → List (List Mark)
-marks_for c desk = map (file_marks c.level) desk.topics
+abbrev pub marks_for : AnyCertificate → Desk → List (List Mark)
+marks_for c desk = map (file_marks (any_level c)) desk.topics
 
 -- what was received of a text claims nothing false of the runs of a desk
 abbrev pub IsTrueOfRuns : Subject → List ℕ → Type 0
 IsTrueOfRuns s received = IsTrueText s.measure s.desk s.marks received
 
--- where what was received begins with the line `accepted`, the claim of the certificate holds
-abbrev pub AcceptsTruly : Certificate → Desk → List ℕ → Type 0
-AcceptsTruly c desk received = (more : List ℕ) → received ≡ codes "accepted\n" ++ more → ClaimHolds c desk (marks_for c desk)
+-- where what was received begins with the line `accepted`, all that the certificate claims holds
+abbrev pub AcceptsTruly : AnyCertificate → Desk → List ℕ → Type 0
+AcceptsTruly c desk received = (more : List ℕ) → received ≡ codes "accepted\n" ++ more → AnyClaimHolds c desk (marks_for c desk)
 
 -- what was received of a text is true of what it speaks of: it claims nothing false of the runs; it is the line of the proposal; it accepts only a certificate
--- whose claim holds; and where it speaks of nothing, it claims nothing false of any desk
+-- of which all that it claims holds; and where it speaks of nothing, it claims nothing false of any desk
 abbrev pub IsTrueOf : About → List ℕ → Type 0
 IsTrueOf (OfRuns s) received = IsTrueOfRuns s received
 IsTrueOf (OfProposal s) received = IsTrueOfRuns s received × IsTrueProposal s.measure s.desk s.marks received
-IsTrueOf (OfCheck c desk) received = IsTrueText c.measure desk (marks_for c desk) received × AcceptsTruly c desk received
+IsTrueOf (OfCheck c desk) received = IsTrueText (any_measure c) desk (marks_for c desk) received × AcceptsTruly c desk received
 IsTrueOf OfNothing received = (measure : MeasureName) (desk : Desk) (marks : List (List Mark)) → IsTrueText measure desk marks received
 
 -- what was received of each text is true

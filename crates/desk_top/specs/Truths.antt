@@ -5,8 +5,8 @@ use Rattle.desk_model.specs.MeasureText.{IsMeasure}
 use Rattle.desk_model.specs.declared.types.Mark.{Mark}
 use Rattle.desk_model.specs.declared.types.MeasureName.{MeasureName}
 use Rattle.measure_core.specs.Made.{HasEnds}
-use Rattle.order_certificate.specs.Claim.{ClaimHolds}
-use Rattle.order_certificate.specs.Evidence.{IsEvidence, ForEvidence}
+use Rattle.order_bundle.specs.Either.{AnyEvidenceImpliesClaims}
+use Rattle.order_certificate.specs.Evidence.{IsEvidence}
 use Rattle.order_certificate.specs.declared.certificate.Certificate.{Certificate}
 use Rattle.pair_table.specs.Evidence.{IsCertificateOf}
 use Rattle.desk_report.specs.Claims.{TablesAreTrue, CertificatesAreTrue, CloseLinesAreTrue, AnswerLinesAreTrue, PairLinesAreTrue, OtherLinesAreTrue, NextLinesAreTrue, QrelsTextsAreTrue, NoTextIsTrue}
@@ -24,7 +24,7 @@ pub record PrintsTruth : Type 0 where
   pub close_lines : CloseLinesAreTrue
   pub evidence : CertificatesAreEvidence
   pub answers : AnswerLinesAreTrue
-  pub claims : ForEvidence (λ c desk marks. ClaimHolds c desk marks)
+  pub claims : AnyEvidenceImpliesClaims
   pub pair_lines : PairLinesAreTrue
   pub others : OtherLinesAreTrue
   pub next : NextLinesAreTrue

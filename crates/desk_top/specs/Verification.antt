@@ -1,12 +1,13 @@
 -- What `verify` prints.
-use Rattle.std.specs.Prelude.{◌≡◌, ℕ, ◌<◌, List, [], ◌∷◌, ◌++◌, length, slice_index_or, Result, Ok, Err, codes, decimal}
+use Rattle.std.specs.Prelude.{◌≡◌, ◌==◌, if◌then◌else◌, ℕ, ◌<◌, List, [], ◌∷◌, ◌++◌, length, slice_index_or, Result, Ok, Err, codes, decimal}
 use Rattle.desk_model.specs.Desk.{Desk}
 use Rattle.topics_pool.specs.Rows.{IsDeskOf, topic_names}
-use Rattle.order_certificate.specs.Certificate.{IsCertificate}
-use Rattle.order_certificate.specs.declared.certificate.Certificate.{Certificate}
-use Rattle.order_verifier.specs.Verified.{IsVerified}
+use Rattle.order_bundle.specs.Places.{IsAnyCertificate}
+use Rattle.order_bundle.specs.declared.any_certificate.AnyCertificate.{AnyCertificate}
 use Rattle.order_verifier.specs.declared.rejected.Rejected.{Rejected as Reason}
 use Rattle.order_verifier.specs.declared.rejected.Rejected.TheVariants.{WrongNames, BoundTooGreat, NoSum, NotCompletion, NoDifference}
+use Rattle.bundle_verifier.specs.Either.{IsAnyVerified}
+use Rattle.bundle_verifier.specs.declared.rejected.BundleRejected.{BundleRejected}
 use Rattle.desk_files.specs.Load.{Loaded}
 use Rattle.desk_top.specs.declared.status.Status.{Status}
 use Rattle.desk_top.specs.declared.status.Status.TheVariants.{Done, Rejected}
@@ -15,7 +16,11 @@ use Rattle.desk_top.specs.declared.outcome.Outcome.TheVariants as made
 use Rattle.desk_top.specs.Answer.{OfCheck, marks_for}
 use Rattle.desk_top.specs.Outcome.{Outcome, Prints}
 
--- why a certificate is rejected
+-- which claim of a bundle is rejected, counted from 1; nothing at 0, which is none: at a wrong name, and for a certificate of one pair
+abbrev pub claim_text : ℕ → List ℕ
+claim_text claim = if claim == 0 then [] else (codes "claim " ++ decimal claim ++ 32 ∷ [])
+
+-- why it is rejected
 abbrev pub reason_text : Desk → Reason → List ℕ
 reason_text desk (WrongNames line) = codes "WrongNames line " ++ decimal line
 reason_text desk (BoundTooGreat topic) = codes "BoundTooGreat topic " ++ slice_index_or (topic_names desk.topics) topic []
@@ -23,32 +28,35 @@ reason_text desk NoSum = codes "NoSum"
 reason_text desk (NotCompletion line) = codes "NotCompletion line " ++ decimal line
 reason_text desk NoDifference = codes "NoDifference"
 
+abbrev pub rejection_text : Desk → BundleRejected → List ℕ
+rejection_text desk rejected = claim_text rejected.claim ++ reason_text desk rejected.why
+
 -- the topic of a reason is on the desk
 abbrev pub IsReasonOn : Desk → Reason → Type 0
 IsReasonOn desk (BoundTooGreat topic) = topic < length desk.topics
 IsReasonOn desk why = Unit {0}
 
--- the line that tells what checking a certificate answered
-abbrev pub verification_text : Desk → Result (Unit {0}) Reason → List ℕ
+-- the line that tells what checking a certificate of either version answered
+abbrev pub verification_text : Desk → Result (Unit {0}) BundleRejected → List ℕ
 verification_text desk (Ok _) = codes "accepted\n"
-verification_text desk (Err why) = codes "rejected " ++ reason_text desk why ++ codes "\n"
+verification_text desk (Err rejected) = codes "rejected " ++ rejection_text desk rejected ++ codes "\n"
 
 -- its status
-abbrev pub verification_status : Result (Unit {0}) Reason → Status
+abbrev pub verification_status : Result (Unit {0}) BundleRejected → Status
 verification_status (Ok _) = Done
-verification_status (Err why) = Rejected
+verification_status (Err rejected) = Rejected
 
 -- what checking a certificate over a desk prints
-abbrev pub verification : Certificate → Desk → Result (Unit {0}) Reason → Outcome
+abbrev pub verification : AnyCertificate → Desk → Result (Unit {0}) BundleRejected → Outcome
 verification c desk answer = Prints (verification_status answer) (record { about = OfCheck c desk; text = verification_text desk answer } ∷ [])
 
 -- the answer of the verifier over the desk of rows
-pub record PrintsCheck (found : Loaded × Certificate) (outcome : Outcome) : Type 0 where
+pub record PrintsCheck (found : Loaded × AnyCertificate) (outcome : Outcome) : Type 0 where
   pub desk : Desk
   pub ranked : IsDeskOf found.0.qrels found.0.runs desk
-  pub within : IsCertificate found.1
-  pub answer : Result (Unit {0}) Reason
-  pub verified : IsVerified found.1 desk (marks_for found.1 desk) answer
+  pub within : IsAnyCertificate found.1
+  pub answer : Result (Unit {0}) BundleRejected
+  pub verified : IsAnyVerified found.1 desk (marks_for found.1 desk) answer
   pub is : outcome ≡ verification found.1 desk answer
 
 -- what was made is that text with that status
@@ -57,7 +65,7 @@ IsText text status (made.Prints shown ended) = (shown.items ≡ text) × (ended 
 IsText text status outcome = ⊥
 
 -- what was made is what checking a certificate over a desk answered
-pub record IsChecked (c : Certificate) (desk : Desk) (outcome : Made) : Type 0 where
-  pub answer : Result (Unit {0}) Reason
-  pub verified : IsVerified c desk (marks_for c desk) answer
+pub record IsChecked (c : AnyCertificate) (desk : Desk) (outcome : Made) : Type 0 where
+  pub answer : Result (Unit {0}) BundleRejected
+  pub verified : IsAnyVerified c desk (marks_for c desk) answer
   pub text : IsText (verification_text desk answer) (verification_status answer) outcome

@@ -6,7 +6,7 @@ use desk_report::claims::{
     other_lines_are_true, printed_certificates_are_true, printed_pair_lines_are_true,
     printed_tables_are_true, qrels_texts_are_true,
 };
-use order_certificate::evidence_implies_claim;
+use order_bundle::any_evidence_implies_claims;
 use pair_table::evidence_laws::certificates_are_evidence;
 
 /// Whatever was received of a printed text claims nothing false.
@@ -23,5 +23,5 @@ pub fn printed_texts_are_true()
     qrels_texts_are_true();
     no_text_is_true();
     certificates_are_evidence();
-    evidence_implies_claim();
+    any_evidence_implies_claims();
 }

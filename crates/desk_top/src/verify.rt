@@ -1,26 +1,40 @@
-// The command that checks a certificate.
+// The command that checks a certificate of either version.
 ghost use Rattle.std.specs.Prelude.{◌≡◌, ◌++◌, ℕ, IfOk, IfErr, OnOk, codes};
-ghost use Rattle.order_certificate.specs.Certificate.{IsCertificate};
 ghost use Rattle.desk_files.specs.Reads.{ReadsFiles, extent_of};
 ghost use Rattle.desk_files.specs.Views.{answer_of};
 ghost use Rattle.desk_outside.specs.Seen.{shelf};
+ghost use Rattle.order_bundle.specs.Places.{IsAnyCertificate};
 ghost use Rattle.desk_top.specs.Loading.{check_loading, OpensWithin};
 ghost use Rattle.desk_top.specs.Meaning.{check_meaning};
-ghost use Rattle.desk_top.specs.Verification.{IsReasonOn, reason_text, verification_text, IsChecked};
+ghost use Rattle.desk_top.specs.Verification.{IsReasonOn, claim_text, reason_text, rejection_text, verification_text, IsChecked};
 ghost use Rattle.desk_top.specs.Works.{Works};
 
 use crate::outcome::Outcome;
 use crate::status::Status;
 use crate::tell::push_number;
+use bundle_verifier::{BundleRejected, check_any};
 use desk_files::{Stop, load_check};
 use desk_model::{Desk, Marks, Memory};
 use desk_outside::Shelf;
 use desk_words::Check;
-use order_certificate::Certificate;
-use order_verifier::{Rejected, Verifier};
+use order_bundle::AnyCertificate;
+use order_verifier::Rejected;
 use std::alloc::{AllocError, Global};
 
-// Why a certificate is rejected.
+// Which claim is rejected.
+fn push_claim(text: &mut Vec<u8>, claim: u32) -> Result<(), AllocError>
+    ensures { OnOk result (text.new.items ≡ text.old.items ++ claim_text claim) }
+{
+    if claim == 0 {
+        return Ok(());
+    }
+    text.extend_from_slice(b"claim ")?;
+    push_number(text, u64::from(claim))?;
+    text.push(b' ')?;
+    Ok(())
+}
+
+// Why it is rejected.
 fn push_reason(text: &mut Vec<u8>, desk: &Desk, why: Rejected) -> Result<(), AllocError>
     requires { IsReasonOn desk.now why }
     ensures { OnOk result (text.new.items ≡ text.old.items ++ reason_text desk.now why) }
@@ -44,36 +58,40 @@ fn push_reason(text: &mut Vec<u8>, desk: &Desk, why: Rejected) -> Result<(), All
 }
 
 // The line of a rejection.
-fn rejection(alloc: Global, desk: &Desk, why: Rejected) -> Result<Vec<u8>, AllocError>
-    requires { IsReasonOn desk.now why }
-    ensures { IfOk result (λ text. text.items ≡ codes "rejected " ++ reason_text desk.now why ++ codes "\n") }
+fn rejection(alloc: Global, desk: &Desk, rejected: BundleRejected) -> Result<Vec<u8>, AllocError>
+    requires { IsReasonOn desk.now rejected.why }
+    ensures { IfOk result (λ text. text.items ≡ codes "rejected " ++ rejection_text desk.now rejected ++ codes "\n") }
 {
     let mut text = Vec::from_slice(alloc, b"rejected ")?;
-    push_reason(&mut text, desk, why)?;
+    push_claim(&mut text, rejected.claim)?;
+    push_reason(&mut text, desk, rejected.why)?;
     text.push(b'\n')?;
     Ok(text)
 }
 
 // The line that tells what checking a certificate answered.
-fn line_of(alloc: Global, desk: &Desk, answer: Result<(), Rejected>) -> Result<Vec<u8>, AllocError>
-    requires { IfErr answer (IsReasonOn desk.now) }
+fn line_of(
+    alloc: Global,
+    desk: &Desk,
+    answer: Result<(), BundleRejected>,
+) -> Result<Vec<u8>, AllocError>
+    requires { IfErr answer (λ rejected. IsReasonOn desk.now rejected.why) }
     ensures { IfOk result (λ text. text.items ≡ verification_text desk.now answer) }
 {
     match answer {
         Ok(()) => Vec::from_slice(alloc, b"accepted\n"),
-        Err(why) => rejection(alloc, desk, why),
+        Err(rejected) => rejection(alloc, desk, rejected),
     }
 }
 
 // What checking a certificate over a desk makes.
-fn verification(alloc: Global, desk: &Desk, certificate: &Certificate) -> Result<Outcome, Memory>
-    requires { IsCertificate certificate.now }
+fn verification(alloc: Global, desk: &Desk, certificate: &AnyCertificate) -> Result<Outcome, Memory>
+    requires { IsAnyCertificate certificate.now }
     ensures { IfOk result (IsChecked certificate.now desk.now) }
 {
     desk.valid();
-    let marks = Marks::of_file(alloc, desk, certificate.level)?;
-    let verifier = Verifier::new(alloc, &certificate.measure)?;
-    let answer = verifier.verify(desk, &marks, certificate);
+    let marks = Marks::of_file(alloc, desk, certificate.level())?;
+    let answer = check_any(alloc, desk, &marks, certificate)?;
     let status = if answer.is_ok() {
         Status::Done
     } else {
@@ -83,7 +101,7 @@ fn verification(alloc: Global, desk: &Desk, certificate: &Certificate) -> Result
     Ok(Outcome::Prints { text, status })
 }
 
-/// The answer of the verifier to the certificate of a check over its desk.
+/// The answer of the verifier to the certificate of a check, of either version, over its desk.
 pub fn check_outcome<'a, F: Shelf>(
     alloc: Global,
     files: &mut F,

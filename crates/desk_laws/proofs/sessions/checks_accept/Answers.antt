@@ -5,5 +5,5 @@ use Rattle.desk_laws.proofs.sessions.checks_accept.Goals as goal
 
 pub returns : goal.returns
 returns c =
-    all_pass (all_accepted c.text_and_certificate_are_one.ensures.certificate)
-    (one_check c.text_and_certificate_are_one.ensures.certificate c.first_bad_line_is_unique.ensures.unique c.first_bad_line_is_unique.ensures.none) c.certificates_have_texts.ensures.text
+    all_pass (all_accepted c.any_text_and_certificate_are_one.ensures.certificate c.any_certificates_have_texts.ensures.text)
+    (one_check c.any_text_and_certificate_are_one.ensures.certificate c.any_first_bad_line_is_unique.ensures.unique c.any_first_bad_line_is_unique.ensures.none) c.any_certificates_have_texts.ensures.text
