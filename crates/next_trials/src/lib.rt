@@ -1,6 +1,9 @@
-//! Desks of small files, whole or in pieces, and on them the pool of a depth and the next document to judge: tests alone.
+//! Desks of small files, whole or in pieces, and on them the pool of a depth, the next document to judge and the bundle
+//! of all pairs: tests alone.
 #![tactic(auto)]
 
+#[cfg(test)]
+mod bundles;
 #[cfg(test)]
 mod cuts;
 #[cfg(test)]

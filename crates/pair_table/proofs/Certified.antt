@@ -39,7 +39,7 @@ use Rattle.pair_table.proofs.Orders.{MetBy}
 use Rattle.pair_table.proofs.Zips.{all_first}
 
 -- ---- numbers
-number_modest : (z : ℤ) → IsModest z → IsShortNumber z
+pub number_modest : (z : ℤ) → IsModest z → IsShortNumber z
 number_modest (pos n) h = omega (arith, ints, h)
 number_modest (negsuc n) h = omega (arith, ints, h)
 
@@ -92,7 +92,7 @@ each_named : (books : List Book) → AllByRecursion IsBook books → AllByRecurs
 each_named [] h = tt
 each_named (b ∷ books) h = (h.0.named, each_named books h.1)
 
-desk_topics : (desk : Desk) → IsDesk desk → AreTopics (names_of desk.topics)
+pub desk_topics : (desk : Desk) → IsDesk desk → AreTopics (names_of desk.topics)
 desk_topics desk valid =
     let count : length (names_of desk.topics) ≡ length desk.topics = length-map desk.topics (λ (book : Book). book.name) in
     record {

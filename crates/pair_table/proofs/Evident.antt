@@ -39,10 +39,10 @@ abbrev named : Book × Topic → NamedTopic
 named p = record { docs = p.0.docs; topic = p.1 }
 
 -- a topic has as many marks as documents
-abbrev Sized : Book → Topic → Type 0
+abbrev pub Sized : Book → Topic → Type 0
 Sized book topic = length topic.marks ≡ length book.docs
 
-sized_from : (desk : Desk) (n : ℕ) (books : List Book) (marks : List (List Mark)) → AllZip (λ (book : Book) (m : List Mark). length m ≡ length book.docs) books marks →
+pub sized_from : (desk : Desk) (n : ℕ) (books : List Book) (marks : List (List Mark)) → AllZip (λ (book : Book) (m : List Mark). length m ≡ length book.docs) books marks →
     AllZip Sized books (map (λ (p : ℕ × List Mark). record { marks = p.1; ranking = λ run. ranking_of desk run p.0 }) (enumerate_from n marks))
 sized_from desk n [] [] h = tt
 sized_from desk n [] (m ∷ marks) h = absurd h

@@ -1,0 +1,12 @@
+pub mod Ascending
+pub mod Held
+pub mod WrittenOnce
+pub mod Single
+pub mod Choosing
+pub mod Replacing
+pub mod Listed
+pub mod Drafted
+pub mod Following
+pub mod Made
+pub mod InOrder
+pub mod Standing

@@ -1,0 +1,72 @@
+use Rattle.std.proofs.Common.{◌≡◌, ℕ, ◌<◌, List, length, map, ap, sym, subst, ◌∙◌}
+use Rattle.std.specs.Prelude.{All}
+use Rattle.std.proofs.lemmas.List.Elements.{All-from_recursion}
+use Rattle.desk_model.specs.Desk.{topics_under}
+use Rattle.desk_model.specs.MeasureText.{IsMeasure}
+use Rattle.order_bundle.specs.Bundle.{IsEvidenceOn}
+use Rattle.order_bundle.specs.Evidence.{name_at}
+use Rattle.order_bundle.specs.declared.bundle.PairClaim.{PairClaim}
+use Rattle.table_bundle.specs.Drafts.{all_documents, drafts, picked_places, picked_topics}
+use Rattle.table_bundle.proofs.InOrder.{order_within}
+use Rattle.table_bundle.proofs.Made.{claims_on, made_from}
+use Rattle.table_bundle.proofs.bundle.bundle_of.Goals as goal
+
+pub run_names-requires : goal.run_names-requires
+run_names-requires g c =
+    let desk = c.args.desk.now in
+    subst (All (λ run. run < length desk.runs)) (sym c.deref.ensures.value) (order_within desk c.valid.ensures c.in_ok-order.order.items c.in_ok-order.ensures)
+
+pub picked_documents-requires : goal.picked_documents-requires
+picked_documents-requires g c =
+    let table = c.args.table.now in
+    let name = g.M.Measure.measured table.measure in
+    let cell = g.M.Measure.cell_of table.measure in
+    let desk = c.args.desk.now in
+    let marks = c.args.marks.now in
+    let order : List ℕ = c.in_ok-order.order.items in
+    let named : c.name-measure.result ≡ name = c.name-measure.ensures.name ∙ ap g.M.Measure.measured c.measure.ensures in
+    let valid : IsMeasure name = subst IsMeasure named c.name-measure.ensures.built in
+    let laws = g.met.M.Measure.laws table.measure valid in
+    let items : c.in_ok-claims.claims.items ≡ drafts cell name (topics_under desk marks) order = c.in_ok-claims.ensures ∙ ap (drafts cell name (topics_under desk marks)) c.deref-2.ensures.value in
+    let On = λ (claim : PairClaim). IsEvidenceOn (all_documents desk) claim.evidence in
+    subst (All On) (sym (c.deref-3.ensures.value ∙ items))
+    (All-from_recursion On (drafts cell name (topics_under desk marks) order)
+    (claims_on name cell (g.M.Measure.bounds_of table.measure) valid laws desk marks c.valid.ensures c.requires.marks c.args.level c.requires.level order c.in_ok-order.ensures c.requires.runs))
+
+pub invariant_of-result : goal.invariant_of-result
+invariant_of-result g c =
+    let table = c.args.table.now in
+    let name = g.M.Measure.measured table.measure in
+    let cell = g.M.Measure.cell_of table.measure in
+    let desk = c.args.desk.now in
+    let marks = c.args.marks.now in
+    let order : List ℕ = c.in_ok-order.order.items in
+    let named : c.name-measure.result ≡ name = c.name-measure.ensures.name ∙ ap g.M.Measure.measured c.measure.ensures in
+    let valid : IsMeasure name = subst IsMeasure named c.name-measure.ensures.built in
+    let laws = g.met.M.Measure.laws table.measure valid in
+    let items : c.in_ok-claims.claims.items ≡ drafts cell name (topics_under desk marks) order = c.in_ok-claims.ensures ∙ ap (drafts cell name (topics_under desk marks)) c.deref-2.ensures.value in
+    (made_from name cell (g.M.Measure.bounds_of table.measure) valid laws desk marks c.valid.ensures c.requires.marks c.args.level c.requires.level order c.in_ok-order.ensures c.requires.runs
+    c.name-measure.result c.in_ok-runs.runs c.new.result c.in_ok-claims-2.claims c.in_ok-claims.claims.items c.deref-4.result.now
+    named (c.in_ok-runs.ensures ∙ ap (map (name_at desk.runs)) c.deref.ensures.value) items
+    (c.new.ensures ∙ c.in_ok-topics.ensures.topics ∙ ap (λ cs. picked_topics cs (all_documents desk)) c.deref-3.ensures.value)
+    (c.deref-4.ensures.value ∙ c.in_ok-topics.ensures.places ∙ ap (λ cs. picked_places cs (all_documents desk)) c.deref-3.ensures.value)
+    c.in_ok-claims-2.ensures).form
+
+pub returns : goal.returns
+returns g c =
+    let table = c.args.table.now in
+    let name = g.M.Measure.measured table.measure in
+    let cell = g.M.Measure.cell_of table.measure in
+    let desk = c.args.desk.now in
+    let marks = c.args.marks.now in
+    let order : List ℕ = c.in_ok-order.order.items in
+    let named : c.name-measure.result ≡ name = c.name-measure.ensures.name ∙ ap g.M.Measure.measured c.measure.ensures in
+    let valid : IsMeasure name = subst IsMeasure named c.name-measure.ensures.built in
+    let laws = g.met.M.Measure.laws table.measure valid in
+    let items : c.in_ok-claims.claims.items ≡ drafts cell name (topics_under desk marks) order = c.in_ok-claims.ensures ∙ ap (drafts cell name (topics_under desk marks)) c.deref-2.ensures.value in
+    made_from name cell (g.M.Measure.bounds_of table.measure) valid laws desk marks c.valid.ensures c.requires.marks c.args.level c.requires.level order c.in_ok-order.ensures c.requires.runs
+    c.name-measure.result c.in_ok-runs.runs c.new.result c.in_ok-claims-2.claims c.in_ok-claims.claims.items c.deref-4.result.now
+    named (c.in_ok-runs.ensures ∙ ap (map (name_at desk.runs)) c.deref.ensures.value) items
+    (c.new.ensures ∙ c.in_ok-topics.ensures.topics ∙ ap (λ cs. picked_topics cs (all_documents desk)) c.deref-3.ensures.value)
+    (c.deref-4.ensures.value ∙ c.in_ok-topics.ensures.places ∙ ap (λ cs. picked_places cs (all_documents desk)) c.deref-3.ensures.value)
+    c.in_ok-claims-2.ensures

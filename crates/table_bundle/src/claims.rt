@@ -1,0 +1,164 @@
+// The claims of a table, on all documents of each topic.
+ghost use Rattle.std.specs.Prelude.{◌≡◌, ◌≢◌, ◌<◌, List, length, map, pos, IfOk, if◌then◌else◌};
+ghost use Rattle.std.specs.List.{AllZip};
+ghost use Rattle.desk_model.specs.Desk.{AreMarksOf, topics_under};
+ghost use Rattle.desk_model.specs.Extremes.{Ends};
+ghost use Rattle.measure_core.specs.Made.{ends_of};
+ghost use Rattle.measure_core.specs.declared.cell.Cell.{Cell as C};
+ghost use Rattle.order_bundle.specs.declared.bundle.PairEvidence.TheVariants.{Above as AboveBy, Equal as EqualBy, Open as OpenBy};
+ghost use Rattle.pair_table.specs.Kept.{IsCellOf, StandsFor};
+ghost use Rattle.table_bundle.specs.Drafts.{bounds_by, draft_of, drafts, picks_on, IsNameOrder};
+
+use crate::lists::pair_picks;
+use desk_model::{Desk, Marks, Memory, PairPlaces, Verdict};
+use measure_core::{Cell, Measure};
+use order_bundle::{Bound, PairBounds, PairClaim, PairEvidence};
+use pair_table::Table;
+use std::alloc::Global;
+
+// The bound of each topic by its cell: the lower end of the least difference, and, where it is wanted, the upper end
+// of the greatest.
+fn bounds_of(alloc: Global, cells: &[Cell], upper: bool) -> Result<PairBounds, Memory>
+    ensures { IfOk result (λ bounds. bounds ≡ bounds_by (λ (e : Ends). if upper then e.most_hi else pos 0) (map ends_of cells.now)) }
+{
+    let mut made = Vec::with_capacity(alloc, cells.len())?;
+    for cell in cells {
+        made.push(Bound {
+            low: cell.least.lo,
+            high: if upper { cell.most.hi } else { 0 },
+        })?;
+    }
+    Ok(PairBounds::new(made))
+}
+
+// The claim that run a is always above run b, of which the first stands at `first` among the names.
+fn above<M: Measure>(
+    alloc: Global,
+    table: &Table<M>,
+    first: u32,
+    second: u32,
+    a: u32,
+    b: u32,
+) -> Result<PairClaim, Memory>
+    requires different { a ≢ b }
+    requires first { a < table.now.runs }
+    requires second { b < table.now.runs }
+    ensures { IfOk result (λ claim. (cells : List C) × AllZip (IsCellOf table.now.runs a b) cells table.now.topics
+        × (claim ≡ record { first = first; second = second; evidence = AboveBy (bounds_by (λ _. pos 0) (map ends_of cells)) })) }
+{
+    let cells = table.cells(alloc, a, b)?;
+    let bounds = bounds_of(alloc, &cells, false)?;
+    Ok(PairClaim {
+        first,
+        second,
+        evidence: PairEvidence::Above(bounds),
+    })
+}
+
+// The claim that runs a and b are always equal.
+fn equal<M: Measure>(
+    alloc: Global,
+    table: &Table<M>,
+    first: u32,
+    second: u32,
+    a: u32,
+    b: u32,
+) -> Result<PairClaim, Memory>
+    requires different { a ≢ b }
+    requires first { a < table.now.runs }
+    requires second { b < table.now.runs }
+    ensures { IfOk result (λ claim. (cells : List C) × AllZip (IsCellOf table.now.runs a b) cells table.now.topics
+        × (claim ≡ record { first = first; second = second; evidence = EqualBy (bounds_by (λ (e : Ends). e.most_hi) (map ends_of cells)) })) }
+{
+    let cells = table.cells(alloc, a, b)?;
+    let bounds = bounds_of(alloc, &cells, true)?;
+    Ok(PairClaim {
+        first,
+        second,
+        evidence: PairEvidence::Equal(bounds),
+    })
+}
+
+// The claim that the order of runs a and b is open.
+fn open<M: Measure>(
+    alloc: Global,
+    measure: &M,
+    desk: &Desk,
+    marks: &Marks,
+    first: u32,
+    second: u32,
+    a: u32,
+    b: u32,
+) -> Result<PairClaim, Memory>
+    requires marks { AreMarksOf desk.now marks.now }
+    requires first { a < length desk.now.runs }
+    requires second { b < length desk.now.runs }
+    ensures { IfOk result (λ claim. claim ≡ record { first = first; second = second; evidence = OpenBy (map (picks_on (M.measured measure.now) a b) (topics_under desk.now marks.now)) }) }
+{
+    let picks = pair_picks(alloc, measure, desk, marks, a, b)?;
+    Ok(PairClaim {
+        first,
+        second,
+        evidence: PairEvidence::Open(picks),
+    })
+}
+
+// The claim on runs a and b, which stand at two places among the names, and none where their verdict is close.
+fn claim_of_pair<M: Measure>(
+    alloc: Global,
+    table: &Table<M>,
+    desk: &Desk,
+    marks: &Marks,
+    at: PairPlaces,
+    a: u32,
+    b: u32,
+) -> Result<Option<PairClaim>, Memory>
+    requires different { a ≢ b }
+    requires first { a < table.now.runs }
+    requires second { b < table.now.runs }
+    requires marks { AreMarksOf desk.now marks.now }
+    requires stands { StandsFor (M.cell_of table.now.measure) (M.bounds_of table.now.measure) desk.now marks.now table.now }
+    ensures { IfOk result (λ held. held ≡ draft_of (M.cell_of table.now.measure) (M.measured table.now.measure) (topics_under desk.now marks.now) (at.first, at.second) a b) }
+{
+    // The laws speak of desks, and of measures that have a name.
+    let measure = table.measure();
+    let _name = measure.name();
+    desk.valid();
+    let claim = match table.verdict(a, b) {
+        Verdict::Above => above(alloc, table, at.first, at.second, a, b)?,
+        Verdict::Below => above(alloc, table, at.second, at.first, b, a)?,
+        Verdict::Equal => equal(alloc, table, at.first, at.second, a, b)?,
+        Verdict::Open => open(alloc, measure, desk, marks, at.first, at.second, a, b)?,
+        Verdict::Close => return Ok(None),
+    };
+    Ok(Some(claim))
+}
+
+/// The claim on each pair of runs whose verdict is not close, in the order of the places of the two runs in `order`.
+pub fn all_claims<M: Measure>(
+    alloc: Global,
+    table: &Table<M>,
+    desk: &Desk,
+    marks: &Marks,
+    order: &[u32],
+) -> Result<Vec<PairClaim>, Memory>
+    requires order { IsNameOrder desk.now order.now }
+    requires marks { AreMarksOf desk.now marks.now }
+    requires stands { StandsFor (M.cell_of table.now.measure) (M.bounds_of table.now.measure) desk.now marks.now table.now }
+    ensures { IfOk result (λ claims. claims.items ≡ drafts (M.cell_of table.now.measure) (M.measured table.now.measure) (topics_under desk.now marks.now) order.now) }
+{
+    desk.valid();
+    let runs = order.len() as u32;
+    let pairs = table.all_totals().len();
+    let mut claims = Vec::new(alloc);
+    let mut at = PairPlaces::START;
+    for _pair in 0..pairs {
+        let first = order[at.first as usize];
+        let second = order[at.second as usize];
+        if let Some(claim) = claim_of_pair(alloc, table, desk, marks, at, first, second)? {
+            claims.push(claim)?;
+        }
+        at = at.next(runs);
+    }
+    Ok(claims)
+}
