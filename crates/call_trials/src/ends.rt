@@ -4,7 +4,7 @@ ghost use Rattle.desk_model.specs.MeasureText.{IsMeasure};
 ghost use Rattle.desk_model.specs.Ranking.{IsRanking};
 
 use desk_model::{Mark, MeasureName, Ranking};
-use order_verifier::{Relevance, TopicEnds};
+use order_verifier::{Relevance, TopicEnds, TopicMarks};
 use std::alloc::Global;
 use std::test::Fail;
 
@@ -32,10 +32,6 @@ impl Relevance for OneRelevant {
     ghost universe = { λ t. t.documents };
 
     ghost truth = { λ t doc. nat_eq t.doc doc };
-
-    fn document_count(&self) -> u32 {
-        self.documents
-    }
 
     fn relevant_count(&self) -> u32 {
         1
@@ -75,9 +71,10 @@ fn is_met(alloc: Global, row: &Row<'_>) -> Result<bool, Fail>
     let b = run_of(alloc, 1, documents)?;
     let ends = TopicEnds::new(alloc, &row.measure)?;
     let relevant = OneRelevant { documents, doc: 0 };
+    let marks = TopicMarks::anew(row.marks);
     Ok(
-        ends.least_low(&a, &b, row.marks) == row.low
-            && ends.least_low(&b, &a, row.marks) == row.swapped
+        ends.least_low(&a, &b, &marks) == row.low
+            && ends.least_low(&b, &a, &marks) == row.swapped
             && ends.upper_end(&a, &b, &relevant) == row.upper,
     )
 }

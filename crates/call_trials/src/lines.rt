@@ -1,56 +1,91 @@
 // What is heard in lines, by hand.
 use judge_session::{Heard, Request, hear};
-use std::process::Abort;
 
-fn expect_heard(rt: &impl Abort, line: &[u8], want: Heard<'_>) {
-    assert!(rt; hear(line) == want, "in {line:?}");
-}
+const ASKED: [(&[u8], Request<'static>); 11] = [
+    (
+        b"judge ann 401 d1 +01",
+        Request::Judge {
+            who: b"ann",
+            topic: b"401",
+            doc: b"d1",
+            grade: 1,
+        },
+    ),
+    (
+        b" judge\tann 401  d1 1\r",
+        Request::Judge {
+            who: b"ann",
+            topic: b"401",
+            doc: b"d1",
+            grade: 1,
+        },
+    ),
+    (b"undo ann", Request::Undo { who: b"ann" }),
+    (b"redo ann", Request::Redo { who: b"ann" }),
+    (b"table", Request::Table),
+    (
+        b"pair A B",
+        Request::Pair {
+            first: b"A",
+            second: b"B",
+        },
+    ),
+    (
+        b"certify A B",
+        Request::Certify {
+            first: b"A",
+            second: b"B",
+        },
+    ),
+    (
+        b"pool 401 10000",
+        Request::Pool {
+            topic: b"401",
+            depth: 10_000,
+        },
+    ),
+    (b"next", Request::Next),
+    (b"qrels", Request::Qrels),
+    (b"quit", Request::Quit),
+];
 
-#[test]
-fn lines_ask(rt: HostRuntime) {
-    let (ann, topic, doc) = (b"ann".as_slice(), b"401".as_slice(), b"d1".as_slice());
-    let (first, second) = (b"A".as_slice(), b"B".as_slice());
-    let judge = Request::Judge {
-        who: ann,
-        topic,
-        doc,
-        grade: 1,
-    };
-    expect_heard(&rt, b"judge ann 401 d1 +01", Heard::Asked(judge));
-    expect_heard(&rt, b" judge\tann 401  d1 1\r", Heard::Asked(judge));
-    expect_heard(&rt, b"undo ann", Heard::Asked(Request::Undo { who: ann }));
-    expect_heard(&rt, b"redo ann", Heard::Asked(Request::Redo { who: ann }));
-    expect_heard(&rt, b"table", Heard::Asked(Request::Table));
-    let pair = Request::Pair { first, second };
-    expect_heard(&rt, b"pair A B", Heard::Asked(pair));
-    let certify = Request::Certify { first, second };
-    expect_heard(&rt, b"certify A B", Heard::Asked(certify));
-    let pool = Request::Pool {
-        topic,
-        depth: 10_000,
-    };
-    expect_heard(&rt, b"pool 401 10000", Heard::Asked(pool));
-    expect_heard(&rt, b"next", Heard::Asked(Request::Next));
-    expect_heard(&rt, b"qrels", Heard::Asked(Request::Qrels));
-    expect_heard(&rt, b"quit", Heard::Asked(Request::Quit));
-}
-
-#[test]
-fn other_lines_ask_nothing(rt: HostRuntime) {
-    for line in [
-        b"quit x".as_slice(),
-        b"Quit".as_slice(),
-        b"pool 401 01".as_slice(),
-        b"pool 401 0".as_slice(),
-        b"pool 401 10001".as_slice(),
-        b"judge ann 401 d1 1001".as_slice(),
-        b"judge ann 401 d1".as_slice(),
-        b"undo\x0bann".as_slice(),
-    ] {
-        expect_heard(&rt, line, Heard::Bad);
+fn are_asked() -> bool {
+    for (line, request) in &ASKED {
+        if hear(line) != Heard::Asked(*request) {
+            return false;
+        }
     }
-    expect_heard(&rt, b" \t\r", Heard::Blank);
-    expect_heard(&rt, b"", Heard::Blank);
-    expect_heard(&rt, &[b' '; 4097], Heard::TooLong);
-    expect_heard(&rt, &[b' '; 4096], Heard::Blank);
+    true
+}
+
+const BAD: [&[u8]; 8] = [
+    b"quit x",
+    b"Quit",
+    b"pool 401 01",
+    b"pool 401 0",
+    b"pool 401 10001",
+    b"judge ann 401 d1 1001",
+    b"judge ann 401 d1",
+    b"undo\x0bann",
+];
+
+fn are_bad() -> bool {
+    for line in &BAD {
+        if hear(line) != Heard::Bad {
+            return false;
+        }
+    }
+    true
+}
+
+fn is_blank(line: &[u8]) -> bool {
+    hear(line) == Heard::Blank
+}
+
+#[test]
+fn lines_are_heard(rt: HostRuntime) {
+    assert!(rt; are_asked());
+    assert!(rt; are_bad());
+    assert!(rt; is_blank(b" \t\r") && is_blank(b"") && is_blank(&[b' '; 4096]));
+    assert!(rt; hear(&[b' '; 4097]) == Heard::TooLong);
 }

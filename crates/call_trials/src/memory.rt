@@ -43,43 +43,53 @@ fn sink_takes(
     Ok(put_all(&mut sink, TEXT) == answer && sink.received() == received.as_bytes())
 }
 
+// A call that fails, and what reading the file gives.
+const OF_SHELF: [(u64, Result<usize, u64>); 4] = [
+    (0, Err(0)),
+    (1, Err(1)),
+    (2, Err(2)),
+    (3, Ok(10)),
+];
+
 #[test]
 fn the_shelf_fails_at_each_call_in_turn(rt: HostRuntime) -> Result<(), Fail> {
-    for (failing, count) in [(0, Err(0)), (1, Err(1)), (2, Err(2)), (3, Ok(10))] {
-        assert!(rt; shelf_gives(rt.alloc(), failing, count)?, "call {failing}");
+    for (failing, count) in &OF_SHELF {
+        assert!(rt; shelf_gives(rt.alloc(), *failing, *count)?);
     }
     assert!(rt; shelf(rt.alloc(), 3)?.open("b").is_err());
     Ok(())
 }
 
+// A call that fails, and the bytes before it.
+const OF_SOURCE: [(u64, Option<usize>); 5] = [
+    (0, Some(0)),
+    (1, Some(4)),
+    (2, Some(8)),
+    (3, Some(10)),
+    (4, None),
+];
+
 #[test]
 fn the_source_fails_at_each_call_in_turn(rt: HostRuntime) -> Result<(), Fail> {
-    for (failing, before) in [
-        (0, Some(0)),
-        (1, Some(4)),
-        (2, Some(8)),
-        (3, Some(10)),
-        (4, None),
-    ] {
-        assert!(rt;
-            source_gives(rt.alloc(), failing, before)?,
-            "call {failing}"
-        );
+    for (failing, before) in &OF_SOURCE {
+        assert!(rt; source_gives(rt.alloc(), *failing, *before)?);
     }
     Ok(())
 }
 
+// The room, a call that fails, the answer, and what was received.
+const OF_SINK: [(usize, u64, Result<(), Failed>, &str); 5] = [
+    (10, 0, Err(Failed), ""),
+    (10, 1, Err(Failed), "ten "),
+    (10, 2, Err(Failed), "ten byte"),
+    (10, 3, Ok(()), "ten bytes."),
+    (6, 3, Err(Failed), "ten by"),
+];
+
 #[test]
 fn the_sink_fails_at_each_call_in_turn(rt: HostRuntime) -> Result<(), Fail> {
-    for (room, failing, answer, received) in [
-        (10, 0, Err(Failed), ""),
-        (10, 1, Err(Failed), "ten "),
-        (10, 2, Err(Failed), "ten byte"),
-        (10, 3, Ok(()), "ten bytes."),
-        (6, 3, Err(Failed), "ten by"),
-    ] {
-        let takes = sink_takes(rt.alloc(), room, failing, answer, received)?;
-        assert!(rt; takes, "room {room}, call {failing}");
+    for (room, failing, answer, received) in &OF_SINK {
+        assert!(rt; sink_takes(rt.alloc(), *room, *failing, *answer, received)?);
     }
     Ok(())
 }

@@ -2,6 +2,46 @@
 use desk_text::{ScoreFault, read_score};
 use std::cmp::Ordering;
 
+// Two texts and the order of their scores between them.
+const ORDERS: &str = "0.30000000000000000001 > 0.3
+-0.30000000000000000001 < -0.3
+9 < 10
+-9 > -10
+-1e999 < 1e-999
+1e-999 > 0
+999999999999999999999999999999e969 < 1e999
+1.2e-05 > 0.0000119
+1e1 = 10.0
+-0 = 0e99999
++.5 = 5.E-1
+1e00000000000000000001 = 0010
+0.000e99999999999999999999 = 00
+";
+
+// A text after each fault.
+const FAULTS: &str = "BadScore
+BadScore .
+BadScore +
+BadScore 1e
+BadScore 1.2.3
+BadScore 1e1e1
+BadScore inf
+BadScore nan
+ScoreTooLong 1000000000000000000000000000001e2000
+ScoreExponent 1e1000
+ScoreExponent 1e-1000
+ScoreExponent 10e999
+ScoreExponent 1e99999999999999999999
+";
+
+fn order_of(sign: &str) -> Ordering {
+    match sign {
+        "<" => Ordering::Less,
+        "=" => Ordering::Equal,
+        _ => Ordering::Greater,
+    }
+}
+
 // Whether two texts are of scores in this order.
 fn are_in_order(left: &str, right: &str, order: Ordering) -> bool {
     match (read_score(left.as_bytes()), read_score(right.as_bytes())) {
@@ -14,55 +54,38 @@ fn are_in_order(left: &str, right: &str, order: Ordering) -> bool {
     }
 }
 
-fn is_fault_of(text: &str, fault: ScoreFault) -> bool {
-    read_score(text.as_bytes()) == Err(fault)
+fn are_ordered() -> bool {
+    for line in ORDERS.lines() {
+        let (left, rest) = line.split_once(' ').unwrap_or((line, ""));
+        let (sign, right) = rest.split_once(' ').unwrap_or((rest, ""));
+        if !are_in_order(left, right, order_of(sign)) {
+            return false;
+        }
+    }
+    true
 }
 
-#[test]
-fn scores_are_compared_by_value(rt: HostRuntime) {
-    for (left, right, order) in [
-        ("0.30000000000000000001", "0.3", Ordering::Greater),
-        ("-0.30000000000000000001", "-0.3", Ordering::Less),
-        ("9", "10", Ordering::Less),
-        ("-9", "-10", Ordering::Greater),
-        ("-1e999", "1e-999", Ordering::Less),
-        ("1e-999", "0", Ordering::Greater),
-        (
-            "999999999999999999999999999999e969",
-            "1e999",
-            Ordering::Less,
-        ),
-        ("1.2e-05", "0.0000119", Ordering::Greater),
-        ("1e1", "10.0", Ordering::Equal),
-        ("-0", "0e99999", Ordering::Equal),
-        ("+.5", "5.E-1", Ordering::Equal),
-        ("1e00000000000000000001", "0010", Ordering::Equal),
-        ("0.000e99999999999999999999", "00", Ordering::Equal),
-    ] {
-        assert!(rt; are_in_order(left, right, order), "{left} and {right}");
+fn fault_of(text: &str) -> &'static str {
+    match read_score(text.as_bytes()) {
+        Ok(_) => "none",
+        Err(ScoreFault::BadScore) => "BadScore",
+        Err(ScoreFault::ScoreTooLong) => "ScoreTooLong",
+        Err(ScoreFault::ScoreExponent) => "ScoreExponent",
     }
 }
 
-#[test]
-fn other_texts_have_their_faults(rt: HostRuntime) {
-    for (text, fault) in [
-        ("", ScoreFault::BadScore),
-        (".", ScoreFault::BadScore),
-        ("+", ScoreFault::BadScore),
-        ("1e", ScoreFault::BadScore),
-        ("1.2.3", ScoreFault::BadScore),
-        ("1e1e1", ScoreFault::BadScore),
-        ("inf", ScoreFault::BadScore),
-        ("nan", ScoreFault::BadScore),
-        (
-            "1000000000000000000000000000001e2000",
-            ScoreFault::ScoreTooLong,
-        ),
-        ("1e1000", ScoreFault::ScoreExponent),
-        ("1e-1000", ScoreFault::ScoreExponent),
-        ("10e999", ScoreFault::ScoreExponent),
-        ("1e99999999999999999999", ScoreFault::ScoreExponent),
-    ] {
-        assert!(rt; is_fault_of(text, fault), "{text}");
+fn have_faults() -> bool {
+    for line in FAULTS.lines() {
+        let (fault, text) = line.split_once(' ').unwrap_or((line, ""));
+        if fault_of(text) != fault {
+            return false;
+        }
     }
+    true
+}
+
+#[test]
+fn scores_are_compared_by_value_and_other_texts_have_their_faults(rt: HostRuntime) {
+    assert!(rt; are_ordered());
+    assert!(rt; have_faults());
 }

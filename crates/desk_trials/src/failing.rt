@@ -1,49 +1,56 @@
 // Each call of the outside fails once, in turn.
-ghost use Rattle.std.specs.Prelude.{◌≡◌, ◌<◌};
-
-use crate::outside::{Answer, FailingCall, Outside, SOUND};
-use crate::run::run_line;
+use crate::calls::{Call, parts_of};
+use crate::files::shelf;
+use crate::outside::{Answer, Outside, SOUND};
+use crate::run::run_over;
+use desk_outside::Shelf;
 use std::alloc::{AllocError, Global};
 use std::test::Fail;
 
-const FILES: [(&str, &[u8]); 8] = [
-    ("q", b"401 0 d1 1\n401 0 d2 0\n"),
-    ("a", b"401 Q0 d1 1 9 A\n"),
-    ("b", b"401 Q0 d2 1 9 B\n"),
-    ("c", b"401 Q0 z1 1 2 C\n401 Q0 z2 2 1 C\n"),
-    ("x", b"401 Q0 d1 1 9 A\n401 Q0 d3 2 8 A\n"),
-    ("y", b"401 Q0 d2 1 9 B\n401 Q0 d3 2 8 B\n"),
-    (
-        "v",
-        b"desk-certificate 1\nmeasure recall_1\nlevel 1\nfirst A\nsecond B\nclaim above\ntopics 1\ntopic 401 333333333333333333\nend\n",
-    ),
-    ("w", b"desk-certificate 1\n"),
-];
-
-/// A command line, its input, and the whole text that its output receives.
-struct Case {
-    line: &'static str,
-    lines: &'static str,
-    text: &'static str,
-}
-
-const CASES: [Case; 3] = [
-    Case {
-        line: "table --qrels q --measure recall_1 a b c",
-        lines: "",
-        text: "measure recall_1\nlevel 1\ntopics 1\nruns 3\nrun A 0.333333 1.000000\nrun B 0.000000 0.000000\nrun C 0.000000 0.500000\npair A above B 0.333333 1.000000\npair A open C 0.000000 1.000000\npair B open C -0.500000 0.000000\n",
-    },
-    Case {
-        line: "verify --qrels q --cert v a b c",
-        lines: "",
-        text: "accepted\n",
-    },
-    Case {
-        line: "session --qrels q --measure P_2 x y",
-        lines: "judge ann 401 d3 2\npool 401 1\npool 401 2\nqrels\nundo ann\nredo ann\ncertify A B\nbogus\nquit\nundo ann\n",
-        text: "judged 401 d3 2\npool 2 2 1 0\npool 3 3 2 0\n401 0 d1 1\n401 0 d2 0\n401 0 d3 2\nundone 401 d3 -\nredone 401 d3 2\ndesk-certificate 1\nmeasure P_2\nlevel 1\nfirst A\nsecond B\nclaim above\ntopics 1\ntopic 401 1\nend\nno BadLine\n",
-    },
-];
+const CALLS: &str = "
+$ 0 table --qrels q --measure recall_1 a b d
+measure recall_1
+level 1
+topics 1
+runs 3
+run A 0.333333 1.000000
+run B 0.000000 0.000000
+run C 0.000000 0.500000
+pair A above B 0.333333 1.000000
+pair A open C 0.000000 1.000000
+pair B open C -0.500000 0.000000
+$ 0 verify --qrels q --cert v a b d
+accepted
+$ 0 session --qrels q --measure P_2 e f
+> judge ann 401 d3 2
+judged 401 d3 2
+> pool 401 1
+pool 2 2 1 0
+> pool 401 2
+pool 3 3 2 0
+> qrels
+401 0 d1 1
+401 0 d2 0
+401 0 d3 2
+> undo ann
+undone 401 d3 -
+> redo ann
+redone 401 d3 2
+> certify A B
+desk-certificate 1
+measure P_2
+level 1
+first A
+second B
+claim above
+topics 1
+topic 401 1
+end
+> bogus
+no BadLine
+> quit
+> undo ann
+";
 
 /// The part of the outside that fails.
 #[derive(Clone, Copy)]
@@ -53,121 +60,208 @@ enum Part {
     Output,
 }
 
-impl Part {
-    // The outside of these sizes in which this call of the part fails.
-    fn failing(self, sizes: (usize, usize), call: FailingCall) -> Outside
-        ensures given { result.given ≡ sizes.0 }
-        ensures taken { result.taken ≡ sizes.1 }
-    {
-        let (given, taken) = sizes;
-        let sound = Outside {
-            given,
-            taken,
-            ..SOUND
-        };
-        match self {
-            Part::Files => Outside {
-                files: call,
-                ..sound
-            },
-            Part::Input => Outside {
-                input: call,
-                ..sound
-            },
-            Part::Output => Outside { out: call, ..sound },
-        }
+const PARTS: [Part; 3] = [Part::Files, Part::Input, Part::Output];
+
+// A sound outside, but that this call of a part fails.
+fn failing(part: Part, number: u64, sound: Outside) -> Outside {
+    let call = Some(number);
+    match part {
+        Part::Files => Outside {
+            files: call,
+            ..sound
+        },
+        Part::Input => Outside {
+            input: call,
+            ..sound
+        },
+        Part::Output => Outside { out: call, ..sound },
     }
 }
 
-// Whether a run that met no failing call gave its whole text.
-fn is_whole(answer: &Answer, case: &Case) -> bool {
-    answer.out.as_slice() == case.text.as_bytes() && answer.err.is_empty()
-}
-
 // Whether a run ended at a failing call, after a prefix of its text.
-fn is_cut(answer: &Answer, case: &Case) -> bool {
-    answer.status == 3
-        && case.text.as_bytes().starts_with(&answer.out)
-        && answer.err.as_slice() == b"fault: outside\n".as_slice()
+fn is_cut(answer: &Answer, text: &[u8]) -> bool {
+    answer.is(3, &answer.out, b"fault: outside\n") && text.starts_with(&answer.out)
 }
 
 // Lets each call of a part fail, until a run meets none that does, and answers whether each run was as it should be.
 fn is_told_in_turn(
     alloc: Global,
-    case: &Case,
+    call: Call<'_>,
     part: Part,
-    sizes: (usize, usize),
-) -> Result<bool, AllocError>
-    requires given { 0 < sizes.0 }
-    requires taken { 0 < sizes.1 }
-{
-    for call in 0..2_000u64 {
-        let outside = part.failing(sizes, Some(call));
-        let answer = run_line(alloc, case.line, &FILES, case.lines.as_bytes(), outside)?;
-        if answer.status == 0 {
-            return Ok(is_whole(&answer, case));
-        }
-        if !is_cut(&answer, case) {
-            return Ok(false);
+    sound: Outside,
+) -> Result<bool, AllocError> {
+    let text = call.text(alloc)?;
+    for number in 0..2_000u64 {
+        let answer = call.answer(alloc, failing(part, number, sound))?;
+        if !is_cut(&answer, text.as_bytes()) {
+            return Ok(call.is_answered(&text, &answer));
         }
     }
     Ok(false)
 }
 
-fn is_told_of_each_part(
-    alloc: Global,
-    case: &Case,
-    sizes: (usize, usize),
-) -> Result<bool, AllocError>
-    requires given { 0 < sizes.0 }
-    requires taken { 0 < sizes.1 }
-{
-    Ok(
-        is_told_in_turn(alloc, case, Part::Files, sizes)?
-            && is_told_in_turn(alloc, case, Part::Input, sizes)?
-            && is_told_in_turn(alloc, case, Part::Output, sizes)?,
-    )
+fn is_told_of_each_part(alloc: Global, call: Call<'_>, sound: Outside) -> Result<bool, AllocError> {
+    for part in &PARTS {
+        if !is_told_in_turn(alloc, call, *part, sound)? {
+            return Ok(false);
+        }
+    }
+    Ok(true)
+}
+
+// Whether this is so of three calls, whose input gives and whose output takes at most so many bytes.
+fn are_told(alloc: Global, given: usize, taken: usize) -> Result<bool, AllocError> {
+    let sound = Outside {
+        given,
+        taken,
+        ..SOUND
+    };
+    let parts = parts_of(alloc, CALLS, "$ ")?;
+    for part in parts.iter() {
+        if !is_told_of_each_part(alloc, Call::of(part), sound)? {
+            return Ok(false);
+        }
+    }
+    Ok(parts.len() == 3)
 }
 
 #[test]
 fn each_call_fails_once(rt: HostRuntime) -> Result<(), Fail> {
     let alloc = rt.alloc();
+    assert!(rt; are_told(alloc, 1, 1)?);
+    assert!(rt; are_told(alloc, 19, 7)?);
+    assert!(rt; are_told(alloc, 4096, 4096)?);
+    Ok(())
+}
+
+/// A command line, its input, the outside over which it is called, and its answer.
+struct OutsideCase {
+    line: &'static str,
+    lines: &'static [u8],
+    outside: Outside,
+    status: u8,
+    out: &'static [u8],
+    err: &'static [u8],
+}
+
+const TABLE: &str = "table --qrels q --measure P_2 e f";
+
+const FAULTY: &str = "table --qrels v2 --measure P_1 a";
+
+const SESSION: &str = "session --qrels q --measure P_2 e f";
+
+// Of a session that ends without a line feed, and of a table of files the first of which has a faulty line: it is opened by call 0, read
+// by call 1, and read at its end by call 2.
+const CASES: [OutsideCase; 9] = [
+    OutsideCase {
+        line: "table --qrels q a",
+        lines: b"",
+        outside: Outside {
+            err: Some(0),
+            ..SOUND
+        },
+        status: 2,
+        out: b"",
+        err: b"",
+    },
+    OutsideCase {
+        line: FAULTY,
+        lines: b"",
+        outside: Outside {
+            files: Some(1),
+            ..SOUND
+        },
+        status: 3,
+        out: b"",
+        err: b"fault: outside\n",
+    },
+    OutsideCase {
+        line: FAULTY,
+        lines: b"",
+        outside: Outside {
+            files: Some(2),
+            ..SOUND
+        },
+        status: 3,
+        out: b"",
+        err: b"fault: outside\n",
+    },
+    OutsideCase {
+        line: FAULTY,
+        lines: b"",
+        outside: Outside {
+            files: Some(3),
+            ..SOUND
+        },
+        status: 1,
+        out: b"",
+        err: b"refused: v2 line 1: BadFieldCount\n",
+    },
+    OutsideCase {
+        line: TABLE,
+        lines: b"",
+        outside: Outside { room: 16, ..SOUND },
+        status: 3,
+        out: b"measure P_2\nleve",
+        err: b"fault: outside\n",
+    },
+    // The second read fails: the one whole line of the first 19 bytes has its reply.
+    OutsideCase {
+        line: SESSION,
+        lines: b"judge ann 401 d3 1\njudge bob 401 d3 0\n",
+        outside: Outside {
+            given: 19,
+            input: Some(1),
+            ..SOUND
+        },
+        status: 3,
+        out: b"judged 401 d3 1\n",
+        err: b"fault: outside\n",
+    },
+    OutsideCase {
+        line: SESSION,
+        lines: b"undo bob\nquit x",
+        outside: Outside { given: 1, ..SOUND },
+        status: 0,
+        out: b"no NothingToUndo\nno BadLine\n",
+        err: b"",
+    },
+    OutsideCase {
+        line: SESSION,
+        lines: b"undo bob\nquit x",
+        outside: Outside { given: 19, ..SOUND },
+        status: 0,
+        out: b"no NothingToUndo\nno BadLine\n",
+        err: b"",
+    },
+    OutsideCase {
+        line: SESSION,
+        lines: b"undo bob\nquit x",
+        outside: SOUND,
+        status: 0,
+        out: b"no NothingToUndo\nno BadLine\n",
+        err: b"",
+    },
+];
+
+fn is_answered(alloc: Global, case: &OutsideCase) -> Result<bool, AllocError> {
+    let mut files = shelf(alloc, case.outside.files)?;
+    let answer = run_over(alloc, case.line, &mut files, case.lines, case.outside)?;
+    Ok(answer.is(case.status, case.out, case.err))
+}
+
+// Each of the three files takes three calls, from 0: one to open it, one for its bytes, one for its end. Call 9 fails.
+fn is_read_to_its_end(alloc: Global) -> Result<bool, AllocError> {
+    let mut files = shelf(alloc, Some(9))?;
+    let answer = run_over(alloc, TABLE, &mut files, b"", SOUND)?;
+    Ok(answer.status == 0 && files.open("q").is_err() && files.open("q").is_ok())
+}
+
+#[test]
+fn a_failure_has_its_answer(rt: HostRuntime) -> Result<(), Fail> {
     for case in &CASES {
-        let told = is_told_of_each_part(alloc, case, (1, 1))?
-            && is_told_of_each_part(alloc, case, (19, 7))?
-            && is_told_of_each_part(alloc, case, (4096, 4096))?;
-        assert!(rt; told, "{}", case.line);
+        assert!(rt; is_answered(rt.alloc(), case)?, "{}", case.line);
     }
-    Ok(())
-}
-
-#[test]
-fn an_error_output_that_fails_changes_no_status(rt: HostRuntime) -> Result<(), Fail> {
-    let alloc = rt.alloc();
-    let outside = Outside {
-        err: Some(0),
-        ..SOUND
-    };
-    let told = run_line(alloc, "table --qrels q a", &FILES, b"", outside)?;
-    assert!(rt; told.status == 2 && told.out.is_empty() && told.err.is_empty());
-    Ok(())
-}
-
-// The status of a table of files the first of which has a faulty line, where this call fails.
-fn faulty_status(alloc: Global, call: u64) -> Result<u8, AllocError> {
-    let outside = Outside {
-        files: Some(call),
-        ..SOUND
-    };
-    let line = "table --qrels w --measure P_1 a";
-    Ok(run_line(alloc, line, &FILES, b"", outside)?.status)
-}
-
-// Call 2 is the read at the end of the file.
-#[test]
-fn a_failure_goes_before_a_faulty_line(rt: HostRuntime) -> Result<(), Fail> {
-    let alloc = rt.alloc();
-    assert!(rt; faulty_status(alloc, 1)? == 3 && faulty_status(alloc, 2)? == 3);
-    assert!(rt; faulty_status(alloc, 3)? == 1);
+    assert!(rt; is_read_to_its_end(rt.alloc())?);
     Ok(())
 }

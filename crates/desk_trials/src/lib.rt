@@ -3,7 +3,15 @@
 #![tactic(auto)]
 
 #[cfg(test)]
+mod bundles;
+#[cfg(test)]
+mod calls;
+#[cfg(test)]
 mod certificates;
+#[cfg(test)]
+mod certified;
+#[cfg(test)]
+mod cuts;
 #[cfg(test)]
 mod demos;
 #[cfg(test)]
@@ -11,18 +19,16 @@ mod failing;
 #[cfg(test)]
 mod files;
 #[cfg(test)]
-mod large;
-#[cfg(test)]
 mod limits;
 #[cfg(test)]
-mod lines;
+mod measured;
 #[cfg(test)]
 mod outside;
 #[cfg(test)]
-mod replies;
+mod refusals;
 #[cfg(test)]
 mod run;
 #[cfg(test)]
 mod sessions;
 #[cfg(test)]
-mod words;
+mod tables;

@@ -1,290 +1,297 @@
-// Limits that are met, and passed by one.
-use crate::outside::{Outside, SOUND};
+// Limits that are met, and passed by one, and inputs that are not small: no clause keeps a body from answering 'out of memory' for
+// such inputs alone.
+use crate::outside::{Answer, Outside, SOUND};
 use crate::run::run_line;
 use std::alloc::{AllocError, Global};
 use std::test::Fail;
 
-const QRELS: &[u8] = b"401 0 d1 1\n401 0 d2 0\n";
-
-// Whether a call with much room tells this alone, or nothing and succeeds.
-fn is_told(
-    alloc: Global,
-    line: &str,
-    files: &[(&str, &[u8])],
-    told: &str,
-) -> Result<bool, AllocError> {
-    let outside = Outside {
-        room: 4_000_000,
-        ..SOUND
-    };
-    let answer = run_line(alloc, line, files, b"", outside)?;
-    let status = if told.is_empty() { 0 } else { 1 };
-    Ok(answer.status == status && answer.err.as_slice() == told.as_bytes())
-}
+/// Texts, each so many times, one after the other. A `#` in a text stands for its number, from 0.
+type Pieces = &'static [(&'static str, u32)];
 
 const ONE_RUN: &str = "table --qrels q --measure P_1 a";
 
-/// A line of a file, or of the input of a session, with a byte in it so many times, and what is told of it, or the reply.
-struct Padded {
-    file: &'static str,
-    start: &'static [u8],
-    byte: u8,
-    count: usize,
-    end: &'static [u8],
+const SESSION: &str = "session --qrels q --measure P_1 a";
+
+const QRELS: &str = "401 0 d1 1\n401 0 d2 0\n";
+
+const RUN: &str = "401 Q0 d1 1 9 A\n";
+
+/// A call over the judgements q and the run a with this input: its status, its output, or how this ends after `..`, and what is told.
+struct Long {
+    line: Pieces,
+    qrels: Pieces,
+    run: Pieces,
+    input: Pieces,
+    status: u8,
+    out: &'static str,
     told: &'static str,
 }
 
-impl Padded {
-    fn text(&self, alloc: Global) -> Result<Vec<u8>, AllocError> {
-        let mut line = self.start.to_vec(alloc)?;
-        for _ in 0..self.count {
-            line.push(self.byte)?;
-        }
-        line.extend_from_slice(self.end)?;
-        Ok(line)
-    }
-}
-
-const PADDED: [Padded; 8] = [
-    Padded {
-        file: "a",
-        start: b"401 Q0 d1 1 9 A",
-        byte: b' ',
-        count: 4_081,
-        end: b"\n",
+// A line of a run, of judgements and of a session, and a name, have their limits; then ranks, topics, cells and a history: 1,000,000
+// judgements of one assessor are accepted and no more, and one that is undone still counts for the others. The last is a file of
+// several pieces, and 256 runs, two of which have names of 255 bytes.
+const LONG: [Long; 20] = [
+    Long {
+        line: &[(ONE_RUN, 1)],
+        qrels: &[(QRELS, 1)],
+        run: &[("401 Q0 d1 1 9 A", 1), (" ", 4081), ("\n", 1)],
+        input: &[],
+        status: 0,
+        out: "..run A 1.000000 1.000000\n",
         told: "",
     },
-    Padded {
-        file: "a",
-        start: b"401 Q0 d1 1 9 A",
-        byte: b' ',
-        count: 4_082,
-        end: b"\n",
+    Long {
+        line: &[(ONE_RUN, 1)],
+        qrels: &[(QRELS, 1)],
+        run: &[("401 Q0 d1 1 9 A", 1), (" ", 4082), ("\n", 1)],
+        input: &[],
+        status: 1,
+        out: "",
         told: "refused: a line 1: LineTooLong\n",
     },
-    Padded {
-        file: "a",
-        start: b"401 Q0 ",
-        byte: b'd',
-        count: 255,
-        end: b" 1 9 A\n",
+    Long {
+        line: &[(ONE_RUN, 1)],
+        qrels: &[(QRELS, 1)],
+        run: &[("401 Q0 ", 1), ("d", 255), (" 1 9 A\n", 1)],
+        input: &[],
+        status: 0,
+        out: "..run A 0.000000 1.000000\n",
         told: "",
     },
-    Padded {
-        file: "a",
-        start: b"401 Q0 ",
-        byte: b'd',
-        count: 256,
-        end: b" 1 9 A\n",
+    Long {
+        line: &[(ONE_RUN, 1)],
+        qrels: &[(QRELS, 1)],
+        run: &[("401 Q0 ", 1), ("d", 256), (" 1 9 A\n", 1)],
+        input: &[],
+        status: 1,
+        out: "",
         told: "refused: a line 1: NameTooLong\n",
     },
-    Padded {
-        file: "q",
-        start: b"401 0 d1 1",
-        byte: b' ',
-        count: 4_086,
-        end: b"\n",
+    Long {
+        line: &[(ONE_RUN, 1)],
+        qrels: &[("401 0 d1 1", 1), (" ", 4086), ("\n", 1)],
+        run: &[(RUN, 1)],
+        input: &[],
+        status: 0,
+        out: "..run A 1.000000 1.000000\n",
         told: "",
     },
-    Padded {
-        file: "q",
-        start: b"401 0 d1 1",
-        byte: b' ',
-        count: 4_087,
-        end: b"\n",
+    Long {
+        line: &[(ONE_RUN, 1)],
+        qrels: &[("401 0 d1 1", 1), (" ", 4087), ("\n", 1)],
+        run: &[(RUN, 1)],
+        input: &[],
+        status: 1,
+        out: "",
         told: "refused: q line 1: LineTooLong\n",
     },
-    Padded {
-        file: "q",
-        start: b"401 0 ",
-        byte: b'd',
-        count: 255,
-        end: b" 1\n",
+    Long {
+        line: &[(ONE_RUN, 1)],
+        qrels: &[("401 0 ", 1), ("d", 255), (" 1\n", 1)],
+        run: &[(RUN, 1)],
+        input: &[],
+        status: 0,
+        out: "..run A 0.000000 1.000000\n",
         told: "",
     },
-    Padded {
-        file: "q",
-        start: b"401 0 ",
-        byte: b'd',
-        count: 256,
-        end: b" 1\n",
+    Long {
+        line: &[(ONE_RUN, 1)],
+        qrels: &[("401 0 ", 1), ("d", 256), (" 1\n", 1)],
+        run: &[(RUN, 1)],
+        input: &[],
+        status: 1,
+        out: "",
         told: "refused: q line 1: NameTooLong\n",
     },
+    Long {
+        line: &[(SESSION, 1)],
+        qrels: &[(QRELS, 1)],
+        run: &[(RUN, 1)],
+        input: &[("pool 401 1", 1), (" ", 4086), ("\n", 1)],
+        status: 0,
+        out: "pool 1 1 1 0\n",
+        told: "",
+    },
+    Long {
+        line: &[(SESSION, 1)],
+        qrels: &[(QRELS, 1)],
+        run: &[(RUN, 1)],
+        input: &[("x", 4001), ("\n", 1)],
+        status: 0,
+        out: "no BadLine\n",
+        told: "",
+    },
+    Long {
+        line: &[(SESSION, 1)],
+        qrels: &[(QRELS, 1)],
+        run: &[(RUN, 1)],
+        input: &[("judge ann 401 d1 ", 1), ("x", 4079), ("\n", 1)],
+        status: 0,
+        out: "no BadLine\n",
+        told: "",
+    },
+    Long {
+        line: &[(SESSION, 1)],
+        qrels: &[(QRELS, 1)],
+        run: &[(RUN, 1)],
+        input: &[(" ", 4097), ("\n", 1)],
+        status: 0,
+        out: "no LineTooLong\n",
+        told: "",
+    },
+    Long {
+        line: &[(SESSION, 1)],
+        qrels: &[(QRELS, 1)],
+        run: &[(RUN, 1)],
+        input: &[("pool 401 1", 1), (" ", 4087), ("\n", 1)],
+        status: 0,
+        out: "no LineTooLong\n",
+        told: "",
+    },
+    Long {
+        line: &[(ONE_RUN, 1)],
+        qrels: &[(QRELS, 1)],
+        run: &[("401 Q0 d# 1 9 A\n", 10_001)],
+        input: &[],
+        status: 1,
+        out: "",
+        told: "refused: a line 10001: TooDeep\n",
+    },
+    Long {
+        line: &[(ONE_RUN, 1)],
+        qrels: &[(QRELS, 1)],
+        run: &[("401 Q0 d# 1 9 A\n", 10_000)],
+        input: &[],
+        status: 0,
+        out: "..run A 0.000000 1.000000\n",
+        told: "",
+    },
+    Long {
+        line: &[(ONE_RUN, 1)],
+        qrels: &[("# 0 d 1\n", 10_001)],
+        run: &[("0 Q0 d 1 9 A\n", 1)],
+        input: &[],
+        status: 1,
+        out: "",
+        told: "refused: q line 10001: TooManyTopics\n",
+    },
+    Long {
+        line: &[("table --qrels q --measure P_1", 1), (" r#=a", 256)],
+        qrels: &[("# 0 d 1\n", 307)],
+        run: &[("0 Q0 d 1 9 A\n", 1)],
+        input: &[],
+        status: 1,
+        out: "",
+        told: "refused: desk: TooManyCells 10020480\n",
+    },
+    Long {
+        line: &[("table --qrels q --measure P_1", 1), (" r#=a", 256)],
+        qrels: &[("# 0 d 1\n", 306)],
+        run: &[("0 Q0 d 1 9 A\n", 1)],
+        input: &[],
+        status: 0,
+        out: "..pair r254 equal r255 0.000000 0.000000\n",
+        told: "",
+    },
+    Long {
+        line: &[(SESSION, 1)],
+        qrels: &[(QRELS, 1)],
+        run: &[(RUN, 1)],
+        input: &[
+            ("judge ann 401 d1 1\n", 1_000_001),
+            ("undo ann\njudge bob 401 d1 1\njudge ann 401 d1 0\n", 1),
+        ],
+        status: 0,
+        out: "..judged 401 d1 1\nno HistoryFull\nundone 401 d1 1\nno HistoryFull\njudged 401 d1 0\n",
+        told: "",
+    },
+    Long {
+        line: &[
+            ("table --qrels q --measure P_1 ", 1),
+            ("a", 255),
+            ("=a", 1),
+            (" r#=a", 254),
+            (" ", 1),
+            ("b", 255),
+            ("=a", 1),
+        ],
+        qrels: &[("\n", 140_000), (QRELS, 1)],
+        run: &[(RUN, 1)],
+        input: &[],
+        status: 0,
+        out: "..bbbb 0.000000 0.000000\n",
+        told: "",
+    },
 ];
 
-const RUN: &[u8] = b"401 Q0 d1 1 9 A\n";
-
-fn is_padded_told(alloc: Global, padded: &Padded) -> Result<bool, AllocError> {
-    let text = padded.text(alloc)?;
-    if padded.file == "q" {
-        is_told(alloc, ONE_RUN, &[("q", &text), ("a", RUN)], padded.told)
-    } else {
-        is_told(alloc, ONE_RUN, &[("q", QRELS), ("a", &text)], padded.told)
-    }
-}
-
-#[test]
-fn a_line_and_a_name_have_their_limits(rt: HostRuntime) -> Result<(), Fail> {
-    for padded in &PADDED {
-        assert!(rt;
-            is_padded_told(rt.alloc(), padded)?,
-            "{} {}",
-            padded.file,
-            padded.count
-        );
+fn push(alloc: Global, text: &mut String, form: &str, count: u32) -> Result<(), AllocError> {
+    let (start, end) = form.split_once('#').unwrap_or((form, ""));
+    for number in 0..count {
+        text.push_str(start)?;
+        if !end.is_empty() {
+            text.push_str(&format!(in alloc; "{number}{end}")?)?;
+        }
     }
     Ok(())
 }
 
-const HEARD: [Padded; 5] = [
-    Padded {
-        file: "input",
-        start: b"pool 401 1",
-        byte: b' ',
-        count: 4_086,
-        end: b"\n",
-        told: "pool 1 1 1 0\n",
-    },
-    Padded {
-        file: "input",
-        start: b"",
-        byte: b'x',
-        count: 4_001,
-        end: b"\n",
-        told: "no BadLine\n",
-    },
-    Padded {
-        file: "input",
-        start: b"judge ann 401 d1 ",
-        byte: b'x',
-        count: 4_079,
-        end: b"\n",
-        told: "no BadLine\n",
-    },
-    Padded {
-        file: "input",
-        start: b"",
-        byte: b' ',
-        count: 4_097,
-        end: b"\n",
-        told: "no LineTooLong\n",
-    },
-    Padded {
-        file: "input",
-        start: b"pool 401 1",
-        byte: b' ',
-        count: 4_087,
-        end: b"\n",
-        told: "no LineTooLong\n",
-    },
-];
-
-fn is_heard(alloc: Global, padded: &Padded) -> Result<bool, AllocError> {
-    let line = "session --qrels q --measure P_1 a";
-    let text = padded.text(alloc)?;
-    let files: [(&str, &[u8]); 2] = [("q", QRELS), ("a", RUN)];
-    let answer = run_line(alloc, line, &files, &text, SOUND)?;
-    Ok(answer.is(0, padded.told.as_bytes(), b""))
-}
-
-#[test]
-fn a_line_of_a_session_has_its_limit(rt: HostRuntime) -> Result<(), Fail> {
-    for padded in &HEARD {
-        assert!(rt; is_heard(rt.alloc(), padded)?, "{}", padded.count);
+fn text_of(alloc: Global, pieces: Pieces) -> Result<String, AllocError> {
+    let mut text = String::new(alloc);
+    for (form, count) in pieces {
+        push(alloc, &mut text, form, *count)?;
     }
-    Ok(())
+    Ok(text)
 }
 
-// A run with so many documents on one topic.
-fn many_ranks(alloc: Global, ranks: u32) -> Result<Vec<u8>, AllocError> {
-    let mut run = Vec::new(alloc);
-    for rank in 0..ranks {
-        run.extend_from_slice(format!(in alloc; "401 Q0 d{rank} 1 9 A\n")?.as_bytes())?;
+fn is_text(text: &[u8], expected: &str) -> bool {
+    match expected.strip_prefix("..") {
+        Some(ending) => text.ends_with(ending.as_bytes()),
+        None => text == expected.as_bytes(),
     }
-    Ok(run)
 }
 
-fn is_told_of_ranks(alloc: Global, ranks: u32, told: &str) -> Result<bool, AllocError> {
-    let run = many_ranks(alloc, ranks)?;
-    is_told(alloc, ONE_RUN, &[("q", QRELS), ("a", &run)], told)
-}
-
-#[test]
-fn ranks_have_their_limit(rt: HostRuntime) -> Result<(), Fail> {
-    let alloc = rt.alloc();
-    let told = "refused: a line 10001: TooDeep\n";
-    assert!(rt; is_told_of_ranks(alloc, 10_001, told)?);
-    assert!(rt; is_told_of_ranks(alloc, 10_000, "")?);
-    Ok(())
-}
-
-// Judgements of one document on each of so many topics.
-fn many_topics(alloc: Global, topics: u32) -> Result<Vec<u8>, AllocError> {
-    let mut qrels = Vec::new(alloc);
-    for topic in 0..topics {
-        qrels.extend_from_slice(format!(in alloc; "{topic} 0 d 1\n")?.as_bytes())?;
-    }
-    Ok(qrels)
-}
-
-// Whether this is told of runs over judgements of so many topics.
-fn is_told_of_topics(
+fn answer_of(
     alloc: Global,
     line: &str,
-    topics: u32,
-    told: &str,
-) -> Result<bool, AllocError> {
-    let qrels = many_topics(alloc, topics)?;
-    let files: [(&str, &[u8]); 2] = [("q", &qrels), ("a", b"0 Q0 d 1 9 A\n")];
-    is_told(alloc, line, &files, told)
-}
-
-// The table of 256 runs.
-fn many_runs(alloc: Global) -> Result<String, AllocError> {
-    let mut line = String::from_str(alloc, "table --qrels q --measure P_1")?;
-    for run in 0..256u32 {
-        line.push_str(&format!(in alloc; " r{run}=a")?)?;
-    }
-    Ok(line)
-}
-
-#[test]
-fn topics_and_cells_have_their_limits(rt: HostRuntime) -> Result<(), Fail> {
-    let alloc = rt.alloc();
-    let told = "refused: q line 10001: TooManyTopics\n";
-    assert!(rt; is_told_of_topics(alloc, ONE_RUN, 10_001, told)?);
-    let line = many_runs(alloc)?;
-    let told = "refused: desk: TooManyCells 10020480\n";
-    assert!(rt; is_told_of_topics(alloc, &line, 307, told)?);
-    assert!(rt; is_told_of_topics(alloc, &line, 306, "")?);
-    Ok(())
-}
-
-fn many_judgements(alloc: Global) -> Result<Vec<u8>, AllocError> {
-    let mut lines = Vec::new(alloc);
-    for _ in 0..1_000_000u32 {
-        lines.extend_from_slice(b"judge ann 401 d1 1\n")?;
-    }
-    lines.extend_from_slice(
-        b"judge ann 401 d1 1\nundo ann\njudge bob 401 d1 1\njudge ann 401 d1 0\n",
-    )?;
-    Ok(lines)
-}
-
-// 1,000,000 judgements of one assessor are accepted and no more; one that is undone still counts for the others.
-#[test]
-fn a_history_has_its_limit(rt: HostRuntime) -> Result<(), Fail> {
-    let alloc = rt.alloc();
-    let lines = many_judgements(alloc)?;
-    let files: [(&str, &[u8]); 2] = [("q", QRELS), ("a", RUN)];
+    qrels: &[u8],
+    run: &[u8],
+    input: &[u8],
+) -> Result<Answer, AllocError> {
     let large = Outside {
         room: 20_000_000,
         ..SOUND
     };
-    let line = "session --qrels q --measure P_1 a";
-    let answer = run_line(alloc, line, &files, &lines, large)?;
-    let told =
-        b"judged 401 d1 1\nno HistoryFull\nundone 401 d1 1\nno HistoryFull\njudged 401 d1 0\n";
-    assert!(rt; answer.status == 0 && answer.out.ends_with(told));
+    run_line(alloc, line, &[("q", qrels), ("a", run)], input, large)
+}
+
+fn is_answered(alloc: Global, case: &Long) -> Result<bool, AllocError> {
+    let line = text_of(alloc, case.line)?;
+    let qrels = text_of(alloc, case.qrels)?;
+    let run = text_of(alloc, case.run)?;
+    let input = text_of(alloc, case.input)?;
+    let answer = answer_of(
+        alloc,
+        &line,
+        qrels.as_bytes(),
+        run.as_bytes(),
+        input.as_bytes(),
+    )?;
+    Ok(
+        answer.status == case.status
+            && is_text(&answer.out, case.out)
+            && answer.err.as_slice() == case.told.as_bytes(),
+    )
+}
+
+#[test]
+fn limits_are_met_and_passed(rt: HostRuntime) -> Result<(), Fail> {
+    for case in &LONG {
+        assert!(rt;
+            is_answered(rt.alloc(), case)?,
+            "{} {}",
+            case.out,
+            case.told
+        );
+    }
     Ok(())
 }

@@ -3,7 +3,7 @@
 /// Which call of an object fails, counted from 0, if one does.
 pub type FailingCall = Option<u64>;
 
-/// How many bytes the output has room for, how many a call of the input gives and of the output takes at most, and which
+/// How many bytes the output has room for, how many a call of the input gives and of the output takes at most (one at least), and which
 /// of their calls and of those of the files fail.
 #[derive(Clone, Copy)]
 pub struct Outside {

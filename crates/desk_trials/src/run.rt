@@ -12,7 +12,8 @@ use std::sync::ledger::{Blank, Ledger};
 
 const ERROR_ROOM: usize = 2_000;
 
-fn calls(alloc: Global, failing: FailingCall) -> Result<Vec<u64>, AllocError> {
+/// The numbers of calls that fail.
+pub fn calls(alloc: Global, failing: FailingCall) -> Result<Vec<u64>, AllocError> {
     match failing {
         Some(call) => [call].to_vec(alloc),
         None => Ok(Vec::new(alloc)),
@@ -27,8 +28,8 @@ fn words_of(alloc: Global, line: &str) -> Result<Vec<String>, AllocError> {
     Ok(words)
 }
 
-/// A shelf of these files, by name and bytes, of whose calls this one fails.
-pub fn shelf_of(
+// A shelf of these files, by name and bytes, of whose calls this one fails.
+fn shelf_of(
     alloc: Global,
     files: &[(&str, &[u8])],
     failing: FailingCall,
@@ -40,11 +41,9 @@ pub fn shelf_of(
     Ok(MemShelf::new(held, calls(alloc, failing)?))
 }
 
-fn source_of(alloc: Global, lines: &[u8], outside: Outside) -> Result<MemSource, AllocError>
-    requires { 0 < outside.given }
-{
+fn source_of(alloc: Global, lines: &[u8], outside: Outside) -> Result<MemSource, AllocError> {
     let failing = calls(alloc, outside.input)?;
-    Ok(MemSource::new(lines.to_vec(alloc)?, outside.given, failing))
+    Ok(MemSource::new(lines.to_vec(alloc)?, outside.given.max(1), failing))
 }
 
 fn sink_of(
@@ -52,10 +51,8 @@ fn sink_of(
     room: usize,
     taken: usize,
     failing: FailingCall,
-) -> Result<MemSink, AllocError>
-    requires { 0 < taken }
-{
-    MemSink::new(alloc, room, taken, calls(alloc, failing)?).map_err(|_| AllocError)
+) -> Result<MemSink, AllocError> {
+    MemSink::new(alloc, room, taken.max(1), calls(alloc, failing)?).map_err(|_| AllocError)
 }
 
 fn status_of<L: Ledger>(
@@ -83,10 +80,7 @@ pub fn run_over(
     files: &mut MemShelf,
     lines: &[u8],
     outside: Outside,
-) -> Result<Answer, AllocError>
-    requires given { 0 < outside.given }
-    requires taken { 0 < outside.taken }
-{
+) -> Result<Answer, AllocError> {
     let words = words_of(alloc, line)?;
     let mut input = source_of(alloc, lines, outside)?;
     let mut out = sink_of(alloc, outside.room, outside.taken, outside.out)?;
@@ -114,10 +108,7 @@ pub fn run_line(
     files: &[(&str, &[u8])],
     lines: &[u8],
     outside: Outside,
-) -> Result<Answer, AllocError>
-    requires given { 0 < outside.given }
-    requires taken { 0 < outside.taken }
-{
+) -> Result<Answer, AllocError> {
     let mut shelf = shelf_of(alloc, files, outside.files)?;
     run_over(alloc, line, &mut shelf, lines, outside)
 }

@@ -1,85 +1,201 @@
-// Lines of sessions and their replies. The expected texts are worked out by hand.
-ghost use Rattle.std.specs.Prelude.{◌<◌};
+// Sessions. The expected texts are worked out by hand.
 
-use crate::files::FILES;
-use crate::lines::is_cut;
-use crate::outside::{Outside, SOUND};
-use crate::run::run_line;
-use std::alloc::{AllocError, Global};
-use std::test::Fail;
+/// Lines and their replies.
 
-const SESSION: &str = "session --qrels q --measure P_2 a b";
-
-// Lines, and the replies to them.
-const CONVERSATIONS: [(&str, &str); 5] = [
-    (
-        "judge ann 401 d3 1\njudge bob 401 d3 0\nundo ann\nundo bob\nundo bob",
-        "judged 401 d3 1\njudged 401 d3 0\nundone 401 d3 0\nundone 401 d3 -\nno NothingToUndo\n",
-    ),
-    (
-        "redo bob\njudge bob 401 d3 1\nundo bob\n\njudge bob 401 d3 0\nredo bob\n",
-        "no NothingToRedo\njudged 401 d3 1\nundone 401 d3 -\njudged 401 d3 0\nno NothingToRedo\n",
-    ),
-    (
-        "judge ann 401 d3 2\npool 401 1\npool 401 2\nqrels\nundo ann\nredo ann\ncertify A B\nbogus\nquit\nundo ann\n",
-        "judged 401 d3 2\npool 2 2 1 0\npool 3 3 2 0\n401 0 d1 1\n401 0 d2 0\n401 0 d3 2\nundone 401 d3 -\nredone 401 d3 2\ndesk-certificate 1\nmeasure P_2\nlevel 1\nfirst A\nsecond B\nclaim above\ntopics 1\ntopic 401 1\nend\nno BadLine\n",
-    ),
-    (
-        "pair B A\npair A X\npair A A\njudge ann 499 d1 1\njudge ann 401 d9 1\npool 499 1\nquit x",
-        "pair B below A -0.500000 -0.500000\nno UnknownRun\nno SameRun\nno UnknownTopic\nno UnknownDocument\nno UnknownTopic\nno BadLine\n",
-    ),
-    (
-        "next\ntable\n",
-        "next none\nmeasure P_2\nlevel 1\ntopics 1\nruns 2\nrun A 0.500000 1.000000\nrun B 0.000000 0.500000\npair A above B 0.500000 0.500000\n",
-    ),
-];
-
-// Whether a session whose input gives at most so many bytes a call ends with status 0 and these replies.
-fn has_replies(
-    alloc: Global,
-    line: &str,
-    lines: &str,
-    given: usize,
-    replies: &str,
-) -> Result<bool, AllocError>
-    requires { 0 < given }
-{
-    let outside = Outside { given, ..SOUND };
-    let answer = run_line(alloc, line, &FILES, lines.as_bytes(), outside)?;
-    Ok(answer.is(0, replies.as_bytes(), b""))
-}
-
-#[test]
-fn lines_of_a_session_have_their_replies(rt: HostRuntime) -> Result<(), Fail> {
-    let alloc = rt.alloc();
-    for (lines, replies) in &CONVERSATIONS {
-        let replied = has_replies(alloc, SESSION, lines, 1, replies)?
-            && has_replies(alloc, SESSION, lines, 19, replies)?
-            && has_replies(alloc, SESSION, lines, 4096, replies)?;
-        assert!(rt; replied, "{lines}");
-    }
-    Ok(())
-}
-
-// The second read fails: the one whole line of the first 19 bytes has its reply.
-#[test]
-fn a_read_that_fails_ends_the_session(rt: HostRuntime) -> Result<(), Fail> {
-    let outside = Outside {
-        given: 19,
-        input: Some(1),
-        ..SOUND
-    };
-    let lines = b"judge ann 401 d3 1\njudge bob 401 d3 0\n";
-    let answer = run_line(rt.alloc(), SESSION, &FILES, lines, outside)?;
-    assert!(rt; is_cut(&answer, b"judged 401 d3 1\n"));
-    Ok(())
-}
-
-#[test]
-fn the_next_document_is_proposed(rt: HostRuntime) -> Result<(), Fail> {
-    let line = "session --qrels p --measure P_1 e f";
-    let lines = "next\njudge ann 401 d2 1\nnext\n";
-    let replies = "next 401 d2 1\njudged 401 d2 1\nnext none\n";
-    assert!(rt; has_replies(rt.alloc(), line, lines, 4096, replies)?);
-    Ok(())
-}
+pub const REPLIES: &str = "
+$ 0 session --qrels q --measure P_1 a b c D=a
+> pair A X
+no UnknownRun
+> pair X A
+no UnknownRun
+> pair A A
+no SameRun
+> certify X A
+no UnknownRun
+> certify A A
+no SameRun
+> judge ann 499 d1 1
+no UnknownTopic
+> judge ann 401 d9 1
+no UnknownDocument
+> pool 499 1
+no UnknownTopic
+> undo ann
+no NothingToUndo
+> redo ann
+no NothingToRedo
+> bogus
+no BadLine
+> quit now
+no BadLine
+> pool 401 10001
+no BadLine
+> judge ann 401 d1 1001
+no BadLine
+$ 0 session --qrels q --measure P_1 a b c D=a
+> pair A B
+pair A above B 1.000000 1.000000
+> pair B A
+pair B below A -1.000000 -1.000000
+> pair A D
+pair A equal D 0.000000 0.000000
+> pair C A
+pair C open A -1.000000 0.000000
+> certify B A
+desk-certificate 1
+measure P_1
+level 1
+first A
+second B
+claim above
+topics 1
+topic 401 1
+end
+> certify A D
+desk-certificate 1
+measure P_1
+level 1
+first A
+second D
+claim equal
+topics 1
+topic 401 0 0
+end
+$ 0 session --qrels qt --measure recall_3 k l
+> pair A B
+pair A close B -0.000001 0.000001
+> certify A B
+close A B -1 1 -1 1
+> table
+measure recall_3
+level 1
+topics 2
+runs 2
+run A 0.166666 0.166667
+run B 0.166666 0.166667
+pair A close B -0.000001 0.000001
+> next
+next none
+> quit
+> table
+$ 0 session --qrels qn --measure P_1 a b
+> qrels
+401 0 d1 1
+401 0 d2 -1
+> judge ann 401 d2 2
+judged 401 d2 2
+> undo ann
+undone 401 d2 -
+> redo ann
+redone 401 d2 2
+> qrels
+401 0 d1 1
+401 0 d2 2
+> judge bob 401 d1 -5
+judged 401 d1 -
+> undo bob
+undone 401 d1 1
+> redo bob
+redone 401 d1 -
+$ 0 session --qrels qh --measure P_1 --level 1000 a b
+> pair A B
+pair A above B 1.000000 1.000000
+> judge ann 401 d2 1000
+judged 401 d2 1000
+> pair A B
+pair A equal B 0.000000 0.000000
+$ 0 session --qrels q --measure P_2 e f
+> judge ann 401 d3 1
+judged 401 d3 1
+> judge bob 401 d3 0
+judged 401 d3 0
+> undo ann
+undone 401 d3 0
+> undo bob
+undone 401 d3 -
+> undo bob
+no NothingToUndo
+$ 0 session --qrels q --measure P_2 e f
+> redo bob
+no NothingToRedo
+> judge bob 401 d3 1
+judged 401 d3 1
+> undo bob
+undone 401 d3 -
+> \t
+> judge bob 401 d3 0
+judged 401 d3 0
+> redo bob
+no NothingToRedo
+$ 0 session --qrels q --measure P_2 e f
+> judge ann 401 d3 2
+judged 401 d3 2
+> pool 401 1
+pool 2 2 1 0
+> pool 401 2
+pool 3 3 2 0
+> qrels
+401 0 d1 1
+401 0 d2 0
+401 0 d3 2
+> undo ann
+undone 401 d3 -
+> redo ann
+redone 401 d3 2
+> certify A B
+desk-certificate 1
+measure P_2
+level 1
+first A
+second B
+claim above
+topics 1
+topic 401 1
+end
+> bogus
+no BadLine
+> quit
+> undo ann
+$ 0 session --qrels q --measure P_2 e f
+> pair B A
+pair B below A -0.500000 -0.500000
+> pair A X
+no UnknownRun
+> pair A A
+no SameRun
+> judge ann 499 d1 1
+no UnknownTopic
+> judge ann 401 d9 1
+no UnknownDocument
+> pool 499 1
+no UnknownTopic
+> quit x
+no BadLine
+$ 0 session --qrels q --measure P_2 e f
+> next
+next none
+> table
+measure P_2
+level 1
+topics 1
+runs 2
+run A 0.500000 1.000000
+run B 0.000000 0.500000
+pair A above B 0.500000 0.500000
+$ 0 session --qrels qp --measure P_1 a b
+> next
+next 401 d2 1
+> judge ann 401 d2 1
+judged 401 d2 1
+> next
+next none
+$ 0 session --qrels q --measure rbp_0.50 A=x=y
+> next
+next none
+> table
+measure rbp_0.5
+level 1
+topics 1
+runs 1
+run A 0.500000 1.000000
+";
