@@ -1,5 +1,6 @@
 //! The desk of some files.
 ghost use Rattle.std.specs.Prelude.{◌≡◌, ◌⊎◌, ◌<◌, ◌≤◌, ◌++◌, ◌∷◌, map, length, vec_len, IfOk, OnOk};
+ghost use Rattle.desk_model.specs.Limits.{RUN_LIMIT};
 ghost use Rattle.run_reader.specs.declared.limits.TheConstants.{MOST_RUN_ROWS};
 ghost use Rattle.topics_pool.specs.Rows.{total_rows, run_names};
 ghost use Rattle.desk_outside.specs.Calls.{opened_in};
@@ -31,7 +32,7 @@ fn copy_names(alloc: Global, runs: &[RunRows]) -> Result<Vec<Vec<u8>>, AllocErro
 // The desk of the rows of files.
 fn join<'a>(alloc: Global, qrels: Qrels, runs: Vec<RunRows>) -> Result<Desk, Stop<'a>>
     requires some { 0 < vec_len runs }
-    requires few { vec_len runs ≤ 256 }
+    requires few { vec_len runs ≤ RUN_LIMIT }
     requires rows { total_rows runs.items ≤ MOST_RUN_ROWS }
     ensures joins { Joins qrels runs.items result }
     ensures whole { (extent_of (answer_of result) ≡ ToEnd) ⊎ (extent_of (answer_of result) ≡ Somewhere) }

@@ -1,11 +1,12 @@
 // The limit of a file, and the limits of the crates below in numbers.
 ghost use Rattle.std.specs.Prelude.{◌≡◌, pos, negsuc};
 ghost use Rattle.desk_text.specs.declared.line.TheConstants.{LONGEST_LINE};
+ghost use Rattle.desk_model.specs.declared.limits.TheConstants.{MOST_RUNS};
 ghost use Rattle.desk_model.specs.declared.name.TheConstants.Name.{LONGEST};
 ghost use Rattle.qrels_reader.specs.declared.limits.TheConstants.{MOST_TOPICS, MOST_QRELS_ROWS, LEAST_GRADE, GREATEST_GRADE};
 ghost use Rattle.file_rows.specs.declared.limits.TheConstants.{MOST_NAME_BYTES};
 ghost use Rattle.run_reader.specs.declared.limits.TheConstants.{MOST_RANKS, MOST_RUN_ROWS};
-ghost use Rattle.topics_pool.specs.declared.limits.TheConstants.{MOST_CELLS, MOST_RUNS};
+ghost use Rattle.topics_pool.specs.declared.limits.TheConstants.{MOST_CELLS};
 ghost use Rattle.desk_files.specs.declared.limits.TheConstants.{LONGEST_FILE};
 
 /// The most bytes of a file.

@@ -100,9 +100,6 @@ impl Model for RunWords {
 }
 
 impl RunWords {
-    /// The most runs.
-    pub const MOST: usize = 256;
-
     /// These runs.
     pub fn new(words: Vec<RunWord>) -> RunWords
         requires some { 0 < vec_len words }

@@ -6,9 +6,10 @@ ghost use Rattle.desk_words.specs.declared.command.Command.{Command};
 ghost use Rattle.desk_words.specs.declared.command.Job.{Job};
 ghost use Rattle.desk_words.specs.declared.command.Check.{Check};
 
-use crate::command::{Check, Command, Job, RunWords};
+use crate::command::{Check, Command, Job};
 use crate::value::{level, measure, path, runs, seed};
 use command_line::{Given, Row, WordsFault};
+use desk_model::MOST_RUNS;
 use std::alloc::Global;
 
 /// What the first word asks for.
@@ -48,7 +49,7 @@ fn row_of(verb: Verb) -> Row
             flags: &[],
             other: "RUN",
             least: 2,
-            most: RunWords::MOST,
+            most: MOST_RUNS,
         },
         Verb::Demo => Row {
             needed: &[],
@@ -71,7 +72,7 @@ fn runs_from(least: usize) -> Row
         flags: &[],
         other: "RUN",
         least,
-        most: RunWords::MOST,
+        most: MOST_RUNS,
     }
 }
 

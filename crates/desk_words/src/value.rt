@@ -7,7 +7,7 @@ ghost use Rattle.desk_words.specs.declared.command.RunWord.{RunWord};
 
 use crate::command::{Path, RunWord, RunWords};
 use command_line::WordsFault;
-use desk_model::{MeasureName, Name, NameFault, read_measure};
+use desk_model::{MOST_RUNS, MeasureName, Name, NameFault, read_measure};
 use desk_text::plain;
 use std::alloc::Global;
 
@@ -85,7 +85,7 @@ pub fn runs(alloc: Global, values: &[&str]) -> Result<RunWords, WordsFault>
     ensures ok { IfOk result (λ runs. AreRunsOf (map (λ v. v.now) values.now) runs) }
     ensures usage { result ≡ Err WordsFault.Usage → (runs : List RunWord) → AreRunsOf (map (λ v. v.now) values.now) runs → ⊥ }
 {
-    if values.is_empty() || values.len() > RunWords::MOST {
+    if values.is_empty() || values.len() > MOST_RUNS {
         return Err(WordsFault::Usage);
     }
     let words = run_words(alloc, values)?;

@@ -7,7 +7,7 @@ ghost use Rattle.order_bundle.specs.declared.bundle.TopicNames.{TopicNames as Of
 
 use crate::bundle::{BundleTopics, TopicNames};
 use crate::places::topic_line;
-use desk_model::Name;
+use desk_model::{MOST_RUNS, Name};
 use line_forms::places::number_line;
 use line_forms::{FormFault, TextLines};
 use order_certificate::NameList;
@@ -28,7 +28,7 @@ fn last_topic(topics: &[TopicNames]) -> &[u8]
 pub fn runs(alloc: Global, lines: &mut TextLines<'_>) -> Result<NameList, FormFault>
     ensures { IsReading run_places lines.old.rest result lines.new }
 {
-    let count = number_line(lines, b"runs ", 2, 256)?;
+    let count = number_line(lines, b"runs ", 2, MOST_RUNS as u64)?;
     names(alloc, lines, b"run ", count)
 }
 

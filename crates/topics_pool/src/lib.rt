@@ -12,5 +12,5 @@ mod runs;
 pub use build::build_desk;
 pub use fault::DeskFault;
 pub use laws::{desk_is_one, rows_add_up};
-pub use limits::{MOST_CELLS, MOST_RUNS};
+pub use limits::MOST_CELLS;
 pub use runs::repeated_run;
