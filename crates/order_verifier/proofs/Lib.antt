@@ -14,6 +14,7 @@ pub mod Topics
 pub mod Unjudged
 pub mod OnLists
 pub mod Numbered
+pub mod NearPlaces
 pub mod FirstFailing
 pub mod NumbersOnTopics
 pub mod SameNames

@@ -1,5 +1,5 @@
 -- What is listed for each topic, by its number.
-use Rattle.std.specs.Prelude.{◌≡◌, ℕ, Bool, true, false, List, [], All, map, slice_get, slice_index_or, Option, Some}
+use Rattle.std.specs.Prelude.{◌≡◌, ℕ, Bool, true, false, List, [], All, map, slice_get, slice_index_or, Option, Some, unwrap_or}
 use Rattle.desk_model.specs.Book.{Book}
 use Rattle.desk_model.specs.Desk.{Desk}
 use Rattle.desk_model.specs.Name.{AreAscending, number_of}
@@ -24,6 +24,10 @@ is_picked NumberedPicks = true
 -- the number of each of some names among the documents of a topic
 abbrev pub numbers_of : List (List ℕ) → List (List ℕ) → List (Option ℕ)
 numbers_of docs names = map (number_of docs) names
+
+-- that of the name with a number among them, and 0 where it has none
+abbrev pub number_of_pick : List (List ℕ) → List (Option ℕ) → ℕ → ℕ
+number_of_pick docs numbers k = unwrap_or (slice_index_or numbers k (number_of docs [])) 0
 
 -- numbers that are known are those of the names
 abbrev pub AreNumbered : ListForm → List (List ℕ) → List (List ℕ) → List (Option ℕ) → Type 0

@@ -72,22 +72,15 @@ fn least_gain(powers: &Powers, x: Option<u32>, y: Option<u32>, mark: Mark) -> i1
 }
 
 /// What a document at these two ranks adds at most in one completion.
-fn greatest_gain<T: Relevance>(
-    powers: &Powers,
-    x: Option<u32>,
-    y: Option<u32>,
-    relevant: &T,
-    doc: u32,
-) -> i128
+fn greatest_gain(powers: &Powers, x: Option<u32>, y: Option<u32>, is_relevant: bool) -> i128
     requires powers { ArePowers powers.now }
     requires first { IsRankWithin RANK_LIMIT x }
     requires second { IsRankWithin RANK_LIMIT y }
-    requires doc { doc < T.universe relevant.now }
-    ensures gain { result ≡ (if T.truth relevant.now doc then high_share powers.now.top powers.now.bottom x y else pos 0) }
+    ensures gain { result ≡ (if is_relevant then high_share powers.now.top powers.now.bottom x y else pos 0) }
     ensures low { neg_ℤ (pos PARTS_OF_ONE) ≤ℤ result }
     ensures high { result ≤ℤ pos PARTS_OF_ONE }
 {
-    if relevant.is_relevant(doc) {
+    if is_relevant {
         -least_share(powers, y, x)
     } else {
         0
@@ -144,11 +137,14 @@ pub fn upper_end<T: Relevance>(powers: &Powers, a: &Ranking, b: &Ranking, releva
 {
     let mut first = a.by_doc();
     let mut second = b.by_doc();
+    let mut near = 0;
     let mut sum = 0;
     while let Some(doc) = next_document(first, second) {
         let x = next_rank(first, doc);
         let y = next_rank(second, doc);
-        sum += greatest_gain(powers, x, y, relevant, doc);
+        let found = relevant.find_relevant(doc, near);
+        near = found.near;
+        sum += greatest_gain(powers, x, y, found.is_found);
         first = after(first, doc);
         second = after(second, doc);
     }

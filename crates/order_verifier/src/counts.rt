@@ -8,6 +8,7 @@ ghost use Rattle.order_verifier.specs.Counted.{AreAllCounts};
 use crate::ranks::is_within;
 use crate::relevance::Relevance;
 use desk_model::{Mark, Ranking};
+use topic_counts::topic;
 
 /// How many of some documents are judged relevant, and how many can be relevant: those and the
 /// unjudged ones.
@@ -78,11 +79,11 @@ pub fn all_documents(marks: &[Mark]) -> RelevantCounts
     requires { length marks.now ≤ DOCUMENT_LIMIT }
     ensures { AreAllCounts marks.now result }
 {
-    let mut counts = RelevantCounts::NONE;
-    for mark in marks {
-        counts = counts.with(*mark);
+    let all = topic::all_documents(marks);
+    RelevantCounts {
+        relevant: all.relevant,
+        possible: all.relevant + all.unjudged,
     }
-    counts
 }
 
 /// How many of a ranking's first k documents are relevant in one completion.

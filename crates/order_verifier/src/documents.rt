@@ -1,10 +1,14 @@
 //! The documents that a list names, on a topic.
-ghost use Rattle.std.specs.Prelude.{◌≡◌, ℕ, List, ◌<◌, true, [], length, slice_index_or};
+ghost use Rattle.std.specs.Prelude.{◌≡◌, ℕ, List, ◌<◌, ◌≤◌, true, [], length, slice_index_or};
 ghost use Rattle.std.specs.List.{list_any};
+ghost use Rattle.std.specs.List.Sorted.{IsBinarySearchResult, IsSearchInRange};
+ghost use Rattle.std.specs.Ordering.{nat_cmp};
+ghost use Rattle.std.specs.declared.cmp.Ordering.TheVariants.{Greater};
 ghost use Rattle.desk_model.specs.Name.{is_same_name, number_of, AreAscending};
-ghost use Rattle.order_verifier.specs.Rows.{AreKnown, OfRow, names_listed, numbers_of};
+ghost use Rattle.order_verifier.specs.Rows.{AreKnown, OfRow, names_listed, number_of_pick, numbers_of};
 
 use desk_model::{Name, TopicBook};
+use std::cmp::Ordering;
 use std::marker::Model;
 
 /// How a list names documents.
@@ -16,6 +20,13 @@ pub enum ListForm {
     Picks,
     /// The same, where the topic's number of each of the names is known.
     NumberedPicks,
+}
+
+/// Whether a document is found, and a place near which the next one may stand.
+#[derive(Clone, Copy)]
+pub struct Found {
+    pub is_found: bool,
+    pub near: usize,
 }
 
 /// Documents of a topic that a list names: all of some names, or those picked of them by their numbers.
@@ -120,7 +131,27 @@ impl<'a> Documents<'a> {
         match self.form {
             ListForm::Names => is_on(self.names, self.book.doc_name(doc)),
             ListForm::Picks => is_picked(self.names, self.picks, self.book.doc_name(doc)),
-            ListForm::NumberedPicks => has_number(self.book, self.numbers, self.picks, doc),
+            ListForm::NumberedPicks => {
+                find_number(self.book, self.numbers, self.picks, doc, 0).is_found
+            }
+        }
+    }
+
+    /// The same, looked for first at a place of the list, which changes nothing but how soon it is found. For documents
+    /// that ascend, the place that the one before answers is near.
+    pub fn find(&self, doc: u32, near: usize) -> Found
+        requires known { AreKnown self.now.docs self.now.names }
+        requires doc { doc < length self.now.docs }
+        ensures { result.is_found ≡ list_any (λ each. is_same_name each (slice_index_or self.now.docs doc [])) self.now.names }
+    {
+        match self.form {
+            ListForm::NumberedPicks => {
+                find_number(self.book, self.numbers, self.picks, doc, near)
+            }
+            ListForm::Names | ListForm::Picks => Found {
+                is_found: self.has(doc),
+                near,
+            },
         }
     }
 }
@@ -167,15 +198,66 @@ fn is_picked(names: &[Name], picks: &[u32], name: &[u8]) -> bool
     }
 }
 
-/// Whether a document of a topic is one of those picked, by the numbers of the names that lists may pick. Numbers of
-/// ascending names ascend.
-fn has_number(book: &TopicBook, numbers: &[Option<u32>], picks: &[u32], doc: u32) -> bool
+/// How the number of the document at a place of the picks compares with another document's. Past the end it is greater.
+fn order_at(
+    book: &TopicBook,
+    numbers: &[Option<u32>],
+    picks: &[u32],
+    place: usize,
+    doc: u32,
+) -> Ordering
+    ensures within { place < length picks.now → result ≡ nat_cmp (number_of_pick book.now.docs numbers.now (slice_index_or picks.now place 0)) doc }
+    ensures past { length picks.now ≤ place → result ≡ Greater }
+{
+    match picks.get(place) {
+        Some(pick) => number_at(book, numbers, *pick).unwrap_or(0).cmp(&doc),
+        None => Ordering::Greater,
+    }
+}
+
+/// The place of a document among those picked, or between those before it and those after it: looked for near a
+/// place, and else by halving.
+fn place_near(
+    book: &TopicBook,
+    numbers: &[Option<u32>],
+    picks: &[u32],
+    doc: u32,
+    near: usize,
+) -> Result<usize, usize>
+    ensures bound { IsSearchInRange result (length picks.now) }
+    ensures place { IsBinarySearchResult (λ k. nat_cmp (number_of_pick book.now.docs numbers.now k) doc) picks.now result }
+{
+    let here = order_at(book, numbers, picks, near, doc);
+    if here.is_eq() {
+        return Ok(near);
+    }
+    if here.is_gt() && (near == 0 || order_at(book, numbers, picks, near - 1, doc).is_lt()) {
+        return Err(near);
+    }
+    picks.binary_search_by(|pick| number_at(book, numbers, *pick).unwrap_or(0).cmp(&doc))
+}
+
+/// Whether a document of a topic is one of those picked, by the numbers of the names that lists may pick, and the place
+/// after it. Numbers of ascending names ascend.
+fn find_number(
+    book: &TopicBook,
+    numbers: &[Option<u32>],
+    picks: &[u32],
+    doc: u32,
+    near: usize,
+) -> Found
     requires { doc < length book.now.docs }
     ensures { (names : List (List ℕ)) → numbers.now ≡ numbers_of book.now.docs names → AreKnown book.now.docs (names_listed names picks.now true) →
-        result ≡ list_any (λ each. is_same_name each (slice_index_or book.now.docs doc [])) (names_listed names picks.now true) }
+        result.is_found ≡ list_any (λ each. is_same_name each (slice_index_or book.now.docs doc [])) (names_listed names picks.now true) }
 {
-    match picks.binary_search_by(|pick| number_at(book, numbers, *pick).unwrap_or(0).cmp(&doc)) {
-        Ok(_) => true,
-        Err(_) => false,
+    match place_near(book, numbers, picks, doc, near) {
+        Ok(place) => Found {
+            is_found: true,
+            near: place + 1,
+        },
+        Err(place) => Found {
+            is_found: false,
+            near: place,
+        },
     }
 }

@@ -5,7 +5,7 @@ ghost use Rattle.order_verifier.specs.Checks.{AreListed, unranked};
 
 use crate::Relevance;
 use crate::counted::TopicMarks;
-use crate::documents::Documents;
+use crate::documents::{Documents, Found};
 use desk_model::Mark;
 use std::marker::Model;
 
@@ -51,6 +51,20 @@ impl Relevance for Listed<'_> {
             Mark::Relevant => true,
             Mark::Other => false,
             Mark::Unjudged => self.documents.has(doc),
+        }
+    }
+
+    fn find_relevant(&self, doc: u32, near: usize) -> Found {
+        match self.marks.as_slice()[doc as usize] {
+            Mark::Relevant => Found {
+                is_found: true,
+                near,
+            },
+            Mark::Other => Found {
+                is_found: false,
+                near,
+            },
+            Mark::Unjudged => self.documents.find(doc, near),
         }
     }
 }

@@ -1,6 +1,6 @@
 ghost use Rattle.std.specs.Prelude.{◌≡◌, ◌+◌, ◌^◌, ◌≤◌, ◌<◌, ◌&&◌, not, true, false, length, take, if◌then◌else◌};
 ghost use Rattle.desk_model.specs.Completion.{picked_value};
-ghost use Rattle.desk_model.specs.Ranking.{IsRanking};
+ghost use Rattle.desk_model.specs.Ranking.{IsRanking, is_in};
 ghost use Rattle.order_verifier.specs.Least.{AreRankings};
 ghost use Rattle.order_verifier.specs.Own.{CountsOwn, IsOrdered};
 
@@ -70,6 +70,25 @@ impl Own {
         }
     }
 
+    /// The same by the document, where so many of the second ranking are seen. One that is judged not relevant changes
+    /// no count, and is not looked up there.
+    fn with_marked(self, mark: Mark, doc: u32, seen: u32, other: &Ranking) -> Own
+        requires ordered { IsOrdered self }
+        requires relevant { (if picked_value false mark && is_in (take seen other.now) doc then 1 else 0) ≤ self.second.relevant }
+        requires possible { (if picked_value true mark && is_in (take seen other.now) doc then 1 else 0) ≤ self.second.possible }
+        ensures first_relevant { result.first.relevant ≡ self.first.relevant + (if picked_value false mark && not (is_in (take seen other.now) doc) then 1 else 0) }
+        ensures first_possible { result.first.possible ≡ self.first.possible + (if picked_value true mark && not (is_in (take seen other.now) doc) then 1 else 0) }
+        ensures second_relevant { result.second.relevant + (if picked_value false mark && is_in (take seen other.now) doc then 1 else 0) ≡ self.second.relevant }
+        ensures second_possible { result.second.possible + (if picked_value true mark && is_in (take seen other.now) doc then 1 else 0) ≡ self.second.possible }
+    {
+        match mark {
+            Mark::Other => self,
+            Mark::Relevant | Mark::Unjudged => {
+                self.with_next(mark, is_among_first(seen, other, doc))
+            }
+        }
+    }
+
     /// With the document of the first ranking after so many, where there is one. Of the second so many
     /// are seen.
     fn with_document(
@@ -86,7 +105,7 @@ impl Own {
         ensures { CountsOwn marks.now (take (depth + 1) ranking.now) (take seen other.now) result }
     {
         match ranking.docs().get(depth as usize) {
-            Some(doc) => self.with_next(marks[*doc as usize], is_among_first(seen, other, *doc)),
+            Some(doc) => self.with_marked(marks[*doc as usize], *doc, seen, other),
             None => self,
         }
     }

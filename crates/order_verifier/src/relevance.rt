@@ -1,6 +1,8 @@
 ghost use Rattle.std.specs.Prelude.{◌≡◌, ℕ, ◌<◌, Bool};
 ghost use Rattle.desk_model.specs.Score.{true_count};
 
+use crate::documents::Found;
+
 /// Which documents of a topic are relevant in one completion. Documents are numbered from 0.
 pub trait Relevance {
     /// How many documents the topic has.
@@ -17,4 +19,16 @@ pub trait Relevance {
     fn is_relevant(&self, doc: u32) -> bool
         requires { doc < universe self.now }
         ensures { result ≡ truth self.now doc };
+
+    /// The same, looked for first at a place, which changes nothing but how soon it is found. For documents that
+    /// ascend, the place that the one before answers is near.
+    fn find_relevant(&self, doc: u32, near: usize) -> Found
+        requires { doc < universe self.now }
+        ensures { result.is_found ≡ truth self.now doc }
+    {
+        Found {
+            is_found: self.is_relevant(doc),
+            near,
+        }
+    }
 }

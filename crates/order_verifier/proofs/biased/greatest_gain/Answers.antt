@@ -1,4 +1,4 @@
-use Rattle.std.proofs.Common.{◌≡◌, ℕ, ◌-◌, Bool, true, false, Option, pos, neg_ℤ, ◌-ℤ◌, to_z, of_z, arith, refl, ap, ◌∙◌}
+use Rattle.std.proofs.Common.{◌≡◌, ℕ, ◌-◌, Bool, true, false, Option, pos, neg_ℤ, ◌-ℤ◌, to_z, of_z, arith, refl, ap, sym, ◌∙◌}
 use Rattle.std.specs.Int.{w128}
 use Rattle.std.specs.Prelude.{if◌then◌else◌}
 use Rattle.std.proofs.lemmas.Int.{ints}
@@ -21,22 +21,22 @@ negated_share : (top bottom : ℕ) (x y : Option ℕ) → pos 0 -ℤ low_share t
 negated_share top bottom x y = flipped (comes_before x y) (comes_before y x) (low_weight top bottom y) (high_weight top bottom x) (one_first x y)
 
 pub overflow_sub-result : goal.overflow_sub-result
-overflow_sub-result g c = omega (arith, ints, c.least_share.ensures.low, c.least_share.ensures.high)
+overflow_sub-result c = omega (arith, ints, c.least_share.ensures.low, c.least_share.ensures.high)
 
 pub returns-then-is_relevant-clause-gain : goal.returns-then-is_relevant-clause-gain
-returns-then-is_relevant-clause-gain g c =
+returns-then-is_relevant-clause-gain c =
     let powers = c.args.powers.now in
     let share = c.least_share.ensures in
     let same : to_z w128 (of_z w128 (pos 0 -ℤ to_z w128 (of_z w128 c.least_share.result))) ≡ pos 0 -ℤ c.least_share.result = omega (arith, ints, share.low, share.high) in
     same ∙ ap (λ z. pos 0 -ℤ z) share.share ∙ negated_share powers.top powers.bottom c.args.x c.args.y
-    ∙ ap (λ (t : Bool). if t then high_share powers.top powers.bottom c.args.x c.args.y else pos 0) c.if-is_relevant.ensures
+    ∙ ap (λ (t : Bool). if t then high_share powers.top powers.bottom c.args.x c.args.y else pos 0) (sym c.if-is_relevant.true)
 
 pub returns-then-is_relevant-clause-low : goal.returns-then-is_relevant-clause-low
-returns-then-is_relevant-clause-low g c = omega (arith, ints, c.least_share.ensures.low, c.least_share.ensures.high)
+returns-then-is_relevant-clause-low c = omega (arith, ints, c.least_share.ensures.low, c.least_share.ensures.high)
 
 pub returns-then-is_relevant-clause-high : goal.returns-then-is_relevant-clause-high
-returns-then-is_relevant-clause-high g c = omega (arith, ints, c.least_share.ensures.low, c.least_share.ensures.high)
+returns-then-is_relevant-clause-high c = omega (arith, ints, c.least_share.ensures.low, c.least_share.ensures.high)
 
 pub returns-else-is_relevant-clause-gain : goal.returns-else-is_relevant-clause-gain
-returns-else-is_relevant-clause-gain g c =
-    let powers = c.args.powers.now in ap (λ (t : Bool). if t then high_share powers.top powers.bottom c.args.x c.args.y else pos 0) c.if-is_relevant.ensures
+returns-else-is_relevant-clause-gain c =
+    let powers = c.args.powers.now in ap (λ (t : Bool). if t then high_share powers.top powers.bottom c.args.x c.args.y else pos 0) (sym c.if-is_relevant.false)

@@ -1,4 +1,5 @@
-use Rattle.std.proofs.Common.{◌+◌, refl, arith, ◌∙◌, subst, sym}
+use Rattle.std.proofs.Common.{◌+◌, Bool, pos, refl, arith, ap, ◌∙◌, subst, sym}
+use Rattle.std.specs.Prelude.{if◌then◌else◌}
 use Rattle.std.proofs.lemmas.Int.{ints}
 use Rattle.measure_laws.specs.Ranks.{IsRankWithin}
 use Rattle.measure_laws.specs.Shares.{high_share}
@@ -16,8 +17,8 @@ loop-doc-init g c = record {
   total = record { is = refl; low = omega (arith, ints); high = omega (arith, ints) };
 }
 
-pub greatest_gain-sum-requires-clause-doc : goal.greatest_gain-sum-requires-clause-doc
-greatest_gain-sum-requires-clause-doc g c =
+pub find_relevant-found-requires : goal.find_relevant-found-requires
+find_relevant-found-requires g c =
     let a = c.args.a.now in
     let b = c.args.b.now in
     let doc = c.in-Some.doc in
@@ -55,7 +56,8 @@ loop-doc-preserved g c =
     let share = high_share c.args.powers.now.top c.args.powers.now.bottom in
     let known = next_known kept.next doc (g.T.Relevance.universe c.args.relevant.now) a b c.loop-doc.first.now c.loop-doc.second.now c.requires.rankings.first c.requires.rankings.second next in
     let gain = c.greatest_gain-sum in
-    let is = gain_is share (truth doc) a b doc c.next_rank-x.result c.next_rank-y.result gain.result gain.ensures.gain (c.next_rank-x.ensures a next.first_from) (c.next_rank-y.ensures b next.second_from) in
+    let found = ap (λ (t : Bool). if t then share c.next_rank-x.result c.next_rank-y.result else pos 0) c.find_relevant-found.ensures in
+    let is = gain_is share (truth doc) a b doc c.next_rank-x.result c.next_rank-y.result gain.result (gain.ensures.gain ∙ found) (c.next_rank-x.ensures a next.first_from) (c.next_rank-y.ensures b next.second_from) in
     let before = summed_next universe truth share a b c.loop-doc.first.now c.loop-doc.second.now _ kept doc refl next in
     record {
       next = doc + 1;
