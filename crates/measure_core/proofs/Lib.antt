@@ -15,3 +15,7 @@ pub mod NextPair
 pub mod Telling
 pub mod Placing
 pub mod SetBits
+pub mod Pushing
+pub mod Ascending
+pub mod Placed
+pub mod InStep

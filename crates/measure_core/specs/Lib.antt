@@ -5,6 +5,7 @@ pub mod Shifts
 pub mod Pairs
 pub mod Places
 pub mod OneSide
+pub mod Lists
 pub mod Worths
 pub mod Told
 pub mod Bits

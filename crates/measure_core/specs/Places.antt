@@ -1,5 +1,5 @@
 -- Places of two lists whose documents ascend.
-use Rattle.std.specs.Prelude.{ℕ, ◌<◌, nat_le, if◌then◌else◌, List, Option, Some, None}
+use Rattle.std.specs.Prelude.{ℕ, ◌<◌, ◌≤◌, nat_le, if◌then◌else◌, List, Option, Some, None}
 use Rattle.std.specs.List.{AllByRecursion}
 use Rattle.desk_model.specs.Limits.{RANK_LIMIT}
 use Rattle.desk_model.specs.Placed.{IsAscending}
@@ -15,3 +15,7 @@ pub record IsLeft (n : ℕ) (es : List Placed) : Type 0 where
   pub ascending : IsAscending es
   pub within : AllByRecursion (λ (e : Placed). e.doc < n) es
   pub ranks : AllByRecursion (λ (e : Placed). IsRankWithin RANK_LIMIT (Some e.rank)) es
+
+-- no document of a list comes before this one
+abbrev pub BeginsAt : ℕ → List Placed → Type 0
+BeginsAt doc places = AllByRecursion (λ (p : Placed). doc ≤ p.doc) places

@@ -1,4 +1,4 @@
-ghost use Rattle.std.specs.Prelude.{◌≡◌, ℕ, ◌+◌, ◌<◌, All, List, length, pos, IfOk};
+ghost use Rattle.std.specs.Prelude.{◌≡◌, ℕ, ◌+◌, ◌<◌, ◌++◌, All, List, length, pos, IfOk, OnOk};
 ghost use Rattle.desk_model.specs.declared.types.Mark.{Mark as M};
 ghost use Rattle.desk_model.specs.declared.types.MeasureName.{MeasureName as N};
 ghost use Rattle.desk_model.specs.MeasureText.{IsMeasure};
@@ -9,11 +9,13 @@ ghost use Rattle.measure_laws.specs.Weights.{weight_of};
 ghost use Rattle.measure_core.specs.declared.cell.Cell.{Cell as C};
 ghost use Rattle.topic_counts.specs.declared.span.Span.{Span as S};
 ghost use Rattle.measure_core.specs.Laws.{AreMet, IsMet, AreValues, CellIsModest, MeetsLaws};
+ghost use Rattle.measure_core.specs.Lists.{added_documents};
 ghost use Rattle.measure_core.specs.Pairs.{AreAllMet, pair_cells, run_numbers, runs_on};
 ghost use Rattle.measure_core.specs.Shifts.{HaveRoom, AreShifted};
 
 use crate::cell::Cell;
 use crate::kept::KeptCell;
+use crate::lists::push_added;
 use crate::rankings::TopicRankings;
 use crate::room::CellRoom;
 use crate::shift::Shift;
@@ -85,6 +87,28 @@ pub trait Measure: Drop {
         ensures { IfOk result (λ values. AreValues (least_truth (measured self.now) marks.now b.now a.now) (length marks.now) values.items) }
     {
         self.least_case(alloc, b, a, marks)
+    }
+
+    /// Appends the unjudged documents that the least case of a and b makes relevant, by their numbers from 0, ascending.
+    /// Those of the most case are the least ones of b and a.
+    ///
+    /// This body goes over all that `least_case` answers; a measure may have a faster one.
+    ///
+    /// # Errors
+    /// `Memory`: out of memory. It is then not known what `docs` holds.
+    fn push_least_docs(
+        &self,
+        alloc: Global,
+        a: &Ranking,
+        b: &Ranking,
+        marks: &[Mark],
+        docs: &mut Vec<u32>,
+    ) -> Result<(), Memory>
+        requires { AreMet marks.now a.now b.now }
+        ensures { OnOk result (docs.new.items ≡ docs.old.items ++ added_documents marks.now (least_truth (measured self.now) marks.now a.now b.now)) }
+    {
+        let truth = self.least_case(alloc, a, b, marks)?;
+        push_added(marks, &truth, docs)
     }
 
     /// How much a document tells of the difference of a and b.

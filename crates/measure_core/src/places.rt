@@ -11,7 +11,7 @@ use desk_model::Placed;
 
 /// The rank of a place, and 0 where its document comes after that of another.
 #[inline]
-fn rank_unless_after(x: Placed, y: Placed) -> u32
+pub fn rank_unless_after(x: Placed, y: Placed) -> u32
     requires { IsRankWithin RANK_LIMIT (Some x.rank) }
     ensures rank { rank_or_none result ≡ rank_unless_after x y }
     ensures within { result ≤ RANK_LIMIT }

@@ -1,0 +1,77 @@
+use Rattle.std.proofs.Common.{◌≡◌, ℕ, ◌+◌, ◌-◌, ◌<◌, ◌≤◌, Bool, cond, not, ◌&&◌, [], ◌∷◌, ◌++◌, List, take, drop, length, ap, sym, ◌∙◌, arith}
+use Rattle.std.specs.Prelude.{Vec}
+use Rattle.std.specs.declared.alloc.Global.{Global}
+use Rattle.desk_model.specs.Completion.{with_picked}
+use Rattle.desk_model.specs.Mark.{is_unjudged, mark_at}
+use Rattle.desk_model.specs.Ranking.{is_in}
+use Rattle.measure_laws.specs.Classes.{open_in}
+use Rattle.measure_laws.specs.Prefixes.{only_second, neutral}
+use Rattle.measure_core.specs.Lists.{added_documents, own_and_more}
+use Rattle.measure_core.proofs.InStep.{class_both, class_first, found_by, from_next, from_start, left_more, listed_is, next_within}
+use Rattle.measure_core.proofs.Pushing.{all_pushed, cond_pushed, left_from, left_none, left_step, left_whole}
+use Rattle.measure_core.proofs.Walking.{left_whole as places_whole}
+use Rattle.measure_core.proofs.more_lists.push_own_and_more.Goals as goal
+use Rattle.measure_core.proofs.more_lists.push_own_and_more.Goals.{then-lists+in_ok-push, else-lists}
+
+pub loop-doc-init : goal.loop-doc-init
+loop-doc-init c =
+    let marks = c.args.marks.now in
+    let truth = with_picked marks (own_and_more c.args.k c.args.more marks c.args.a.now c.args.b.now) in
+    record {
+      first_in = omega arith;
+      second_in = omega arith;
+      first = from_start c.by_doc-first.result.now;
+      second = from_start c.by_doc-second.result.now;
+      left_both = omega arith;
+      left_first = omega arith;
+      made = ap (λ l. c.args.docs.now.items ++ l) (left_whole (λ doc. is_unjudged (mark_at marks doc) && truth doc) (length marks));
+    }
+
+pub rank_from-x-requires-clause-ranks : goal.rank_from-x-requires-clause-ranks
+rank_from-x-requires-clause-ranks c = let es = c.by_doc-first in (places_whole (length c.args.marks.now) c.args.a.now es.result.now c.requires.first es.ensures.ascending es.ensures.ranks).ranks
+
+pub rank_from-y-requires-clause-ranks : goal.rank_from-y-requires-clause-ranks
+rank_from-y-requires-clause-ranks c = let fs = c.by_doc-second in (places_whole (length c.args.marks.now) c.args.b.now fs.result.now c.requires.second fs.ensures.ascending fs.ensures.ranks).ranks
+
+pub loop-doc-preserved : goal.loop-doc-preserved
+loop-doc-preserved c =
+    let marks = c.args.marks.now in
+    let n = length marks in
+    let k = c.args.k in
+    let a = c.args.a.now in
+    let b = c.args.b.now in
+    let es = c.by_doc-first in
+    let fs = c.by_doc-second in
+    let l = c.loop-doc in
+    let doc = l.doc in
+    let u = is_unjudged (mark_at marks doc) in
+    let i = c.is_by-in_first.result in
+    let j = c.is_by-in_second.result in
+    let in_first : i ≡ is_in (take k a) doc = c.is_by-in_first.ensures ∙ found_by k c.rank_from-x.result doc l.i a es.result.now l.invariant.first c.rank_from-x.ensures es.ensures.ranks in
+    let in_second : j ≡ is_in (take k b) doc = c.is_by-in_second.ensures ∙ found_by k c.rank_from-y.result doc l.j b fs.result.now l.invariant.second c.rank_from-y.ensures fs.ensures.ranks in
+    let test : ℕ → Bool = λ d. is_unjudged (mark_at marks d) && with_picked marks (own_and_more k c.args.more marks a b) d in
+    let tested : test doc ≡ c.lists.result = sym (c.lists.ensures ∙ listed_is marks a b k doc c.args.more l.left i j in_first in_second l.invariant.left_both l.invariant.left_first) in
+    let now = l.docs.items in
+    let lists = c.lists.result in
+    let pushed : c.if-lists.docs.items ≡ cond lists (now ++ doc ∷ []) now = elim c.if-lists.branch [
+      | then-lists+in_ok-push w ↦ ap (λ (v : Vec ℕ Global). v.items) w.docs-is ∙ w.in_ok-push.ensures.items ∙ sym (ap (λ t. cond t (now ++ doc ∷ []) now) w.if-lists.true)
+      | else-lists w ↦ ap (λ (v : Vec ℕ Global). v.items) w.docs-is ∙ sym (ap (λ t. cond t (now ++ doc ∷ []) now) w.if-lists.false)
+    ] in
+    record {
+      first_in = omega (arith, c.gone_on-i.ensures, next_within doc l.i c.rank_from-x.result es.result.now l.invariant.first_in c.rank_from-x.ensures);
+      second_in = omega (arith, c.gone_on-j.ensures, next_within doc l.j c.rank_from-y.result fs.result.now l.invariant.second_in c.rank_from-y.ensures);
+      first = from_next es.result.now doc l.i _ c.rank_from-x.result es.ensures.ascending l.invariant.first c.rank_from-x.ensures (ap (λ m. l.i + m) c.gone_on-i.ensures);
+      second = from_next fs.result.now doc l.j _ c.rank_from-y.result fs.ensures.ascending l.invariant.second c.rank_from-y.ensures (ap (λ m. l.j + m) c.gone_on-j.ensures);
+      left_both = left_more (open_in marks (neutral k a b)) doc c.args.more.both l.left.both c.after-left.result.both _ l.invariant.left_both c.after-left.ensures.both (class_both i j (is_in (take k a) doc) (is_in (take k b) doc) u in_first in_second);
+      left_first = left_more (open_in marks (only_second k b a)) doc c.args.more.first l.left.first c.after-left.result.first _ l.invariant.left_first c.after-left.ensures.first (class_first i j (is_in (take k a) doc) (is_in (take k b) doc) u in_first in_second);
+      made = cond_pushed now (left_from test n doc) (left_from test n (doc + 1)) (c.args.docs.now.items ++ added_documents marks (with_picked marks (own_and_more k c.args.more marks a b))) c.if-lists.docs.items doc lists
+          (left_step test n doc lists c.loop-doc-test.true tested) pushed l.invariant.made;
+    }
+
+pub returns : goal.returns
+returns c =
+    let marks = c.args.marks.now in
+    let n = length marks in
+    let truth = with_picked marks (own_and_more c.args.k c.args.more marks c.args.a.now c.args.b.now) in
+    let test : ℕ → Bool = λ d. is_unjudged (mark_at marks d) && truth d in
+    all_pushed c.loop-doc.docs.items (left_from test n c.loop-doc.doc) (c.args.docs.now.items ++ added_documents marks truth) (left_none test n c.loop-doc.doc (omega (arith, c.loop-doc-test.false))) c.loop-doc.invariant.made

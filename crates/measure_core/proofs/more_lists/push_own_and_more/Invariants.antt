@@ -1,0 +1,24 @@
+use Rattle.std.proofs.Common.{◌≡◌, ◌-◌, ◌≤◌, ◌++◌, length, count_by}
+use Rattle.std.specs.Prelude.{◌&&◌}
+use Rattle.std.specs.List.{range_with_len}
+use Rattle.desk_model.specs.Completion.{with_picked}
+use Rattle.desk_model.specs.Mark.{is_unjudged, mark_at}
+use Rattle.measure_laws.specs.Classes.{open_in}
+use Rattle.measure_laws.specs.Prefixes.{only_second, neutral}
+use Rattle.measure_core.specs.Lists.{added_documents, own_and_more}
+use Rattle.measure_core.proofs.InStep.{AreFrom}
+use Rattle.measure_core.proofs.Pushing.{left_from}
+use Rattle.measure_core.proofs.more_lists.push_own_and_more.Given as goal
+
+abbrev pub invariant-loop-doc : goal.invariant-loop-doc
+invariant-loop-doc l =
+    let truth = with_picked l.marks (own_and_more l.k l.fn.more l.marks l.a l.b) in
+    record {
+      first_in : l.i ≤ length l.first;
+      second_in : l.j ≤ length l.second;
+      first : AreFrom l.first l.doc l.i;
+      second : AreFrom l.second l.doc l.j;
+      left_both : l.left.both ≡ l.fn.more.both - count_by (open_in l.marks (neutral l.k l.a l.b)) (range_with_len 0 l.doc);
+      left_first : l.left.first ≡ l.fn.more.first - count_by (open_in l.marks (only_second l.k l.b l.a)) (range_with_len 0 l.doc);
+      made : l.docs.items ++ left_from (λ doc. is_unjudged (mark_at l.marks doc) && truth doc) (length l.marks) l.doc ≡ l.initial.docs.items ++ added_documents l.marks truth;
+    }

@@ -1,0 +1,13 @@
+use Rattle.std.proofs.Common.{◌≡◌, ◌+◌, ◌-◌, ◌≤◌, length}
+use Rattle.measure_core.proofs.Placed.{AreWalked}
+use Rattle.measure_core.proofs.rank_lists.push_by_ranks.Given as goal
+
+abbrev pub invariant-loop-i : goal.invariant-loop-i
+invariant-loop-i g l = record {
+  first_in : l.i ≤ length l.first;
+  second_in : l.j ≤ length l.second;
+  walked : AreWalked l.marks (g.T.RankTest.test l.test) l.first l.second l.initial.docs.items l.i l.j l.docs.items;
+}
+
+abbrev pub decreases-loop-i : goal.decreases-loop-i
+decreases-loop-i g l = (length l.first - l.i) + (length l.second - l.j)

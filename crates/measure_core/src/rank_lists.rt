@@ -1,0 +1,96 @@
+// Lists of the unjudged documents whose ranks in two rankings pass a test.
+ghost use Rattle.std.specs.Prelude.{◌≡◌, ℕ, ◌++◌, ◌&&◌, Bool as Truth, false, nat_le, length, Option as Maybe, None, Some, OnOk};
+ghost use Rattle.desk_model.specs.Completion.{with_picked};
+ghost use Rattle.desk_model.specs.Limits.{RANK_LIMIT};
+ghost use Rattle.desk_model.specs.Mark.{is_unjudged};
+ghost use Rattle.measure_laws.specs.Ranks.{IsRankWithin};
+ghost use Rattle.measure_core.specs.Laws.{AreMet};
+ghost use Rattle.measure_core.specs.Lists.{added_documents, passes_by_ranks, placed_documents};
+ghost use Rattle.measure_core.specs.Places.{IsLeft, rank_unless_after};
+ghost use Rattle.measure_core.specs.Worths.{rank_or_none};
+
+use crate::places::{rank_unless_after, rest};
+use desk_model::{Mark, Memory, Placed, Ranking};
+use topic_counts::pairs::passed;
+
+/// Which documents of the second of two rankings are listed, by their ranks in both.
+pub trait RankTest {
+    /// What `passes` answers.
+    ghost test: { Self → Maybe ℕ → Maybe ℕ → Truth };
+
+    /// Whether a document with these ranks is listed, from 1; 0 stands for that of an absent document.
+    fn passes(&self, first: u32, second: u32) -> bool
+        ensures { result ≡ test self.now (rank_or_none first) (rank_or_none second) };
+
+    /// A document that the second ranking lacks is not listed.
+    ghost absent: { (t : Self) (first : Maybe ℕ) → test t first None ≡ false };
+}
+
+/// Whether the document of a place in the second ranking is listed, by its rank in the first.
+#[inline]
+fn is_listed<T: RankTest>(test: &T, first: u32, place: Placed, mark: Mark) -> bool
+    requires { IsRankWithin RANK_LIMIT (Some place.rank) }
+    ensures { result ≡ (is_unjudged mark && T.test test.now (rank_or_none first) (Some place.rank)) }
+{
+    (mark == Mark::Unjudged) & test.passes(first, place.rank)
+}
+
+/// Whether a walk goes on from the second of two places, and its document is listed.
+#[inline]
+fn lists_second<T: RankTest>(test: &T, x: Placed, y: Placed, mark: Mark) -> bool
+    requires first { IsRankWithin RANK_LIMIT (Some x.rank) }
+    requires second { IsRankWithin RANK_LIMIT (Some y.rank) }
+    ensures { result ≡ (nat_le y.doc x.doc && (is_unjudged mark && T.test test.now (rank_unless_after x y) (Some y.rank))) }
+{
+    let listed = is_listed(test, rank_unless_after(x, y), y, mark);
+    (y.doc <= x.doc) & listed
+}
+
+/// Appends the unjudged documents of some places that are listed where the first ranking lacks them.
+fn push_rest<T: RankTest>(
+    test: &T,
+    places: &[Placed],
+    marks: &[Mark],
+    docs: &mut Vec<u32>,
+) -> Result<(), Memory>
+    requires { IsLeft (length marks.now) places.now }
+    ensures { OnOk result (docs.new.items ≡ docs.old.items ++ placed_documents marks.now (λ place. T.test test.now None (Some place.rank)) places.now) }
+{
+    for place in places {
+        if is_listed(test, 0, *place, marks[place.doc as usize]) {
+            docs.push(place.doc)?;
+        }
+    }
+    Ok(())
+}
+
+/// Appends the unjudged documents of b whose ranks in a and in b pass a test, ascending, by one walk over both in order
+/// of the documents.
+///
+/// # Errors
+/// `Memory`: out of memory. It is then not known what `docs` holds.
+pub fn push_by_ranks<T: RankTest>(
+    test: &T,
+    a: &Ranking,
+    b: &Ranking,
+    marks: &[Mark],
+    docs: &mut Vec<u32>,
+) -> Result<(), Memory>
+    requires { AreMet marks.now a.now b.now }
+    ensures { OnOk result (docs.new.items ≡ docs.old.items ++ added_documents marks.now (with_picked marks.now (passes_by_ranks (T.test test.now) a.now b.now))) }
+{
+    let first = a.by_doc();
+    let second = b.by_doc();
+    let mut i = 0;
+    let mut j = 0;
+    while i < first.len() && j < second.len() {
+        let x = first[i];
+        let y = second[j];
+        if lists_second(test, x, y, marks[y.doc as usize]) {
+            docs.push(y.doc)?;
+        }
+        i += passed(x, y);
+        j += passed(y, x);
+    }
+    push_rest(test, rest(second, j), marks, docs)
+}
