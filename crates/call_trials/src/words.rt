@@ -1,4 +1,4 @@
-// The flag of a command that takes one, which no command does yet, and the greatest seed.
+// A flag, and the greatest seed.
 use command_line::{Given, Row};
 use desk_words::{Command, read_words};
 use std::alloc::{AllocError, Global};
@@ -53,6 +53,23 @@ fn are_flagged(alloc: Global) -> Result<bool, AllocError> {
     Ok(true)
 }
 
+// How many runs a line asks for, and whether for all their pairs; none where it asks for no certificate.
+fn runs_certified(alloc: Global, line: &str) -> Result<Option<(bool, usize)>, AllocError> {
+    let words = words_of(alloc, line)?;
+    Ok(match read_words(alloc, words.as_slice()) {
+        Ok(Command::Certify(job)) => Some((false, job.runs.as_slice().len())),
+        Ok(Command::CertifyAll(job)) => Some((true, job.runs.as_slice().len())),
+        _ => None,
+    })
+}
+
+fn are_certified(alloc: Global) -> Result<bool, AllocError> {
+    let two = runs_certified(alloc, "certify --qrels q --measure P_1 a b c")?;
+    let all = runs_certified(alloc, "certify a --qrels q --all --measure P_1 b c")?;
+    let other = runs_certified(alloc, "certify --qrels q --measure P_1 a b -- --all")?;
+    Ok(two == Some((false, 3)) && all == Some((true, 3)) && other == Some((false, 3)))
+}
+
 fn is_greatest_seed(alloc: Global) -> Result<bool, AllocError> {
     let words = words_of(alloc, "demo 4294967295")?;
     let command = read_words(alloc, words.as_slice());
@@ -62,6 +79,7 @@ fn is_greatest_seed(alloc: Global) -> Result<bool, AllocError> {
 #[test]
 fn a_flag_and_a_seed_are_read(rt: HostRuntime) -> Result<(), Fail> {
     assert!(rt; are_flagged(rt.alloc())?);
+    assert!(rt; are_certified(rt.alloc())?);
     assert!(rt; is_greatest_seed(rt.alloc())?);
     Ok(())
 }

@@ -1,5 +1,5 @@
 -- No words are of two commands.
-use Rattle.std.proofs.Common.{◌≡◌, ℕ, Bool, true, false, List, [], ◌∷◌, map, refl, ap, sym, subst, ◌∙◌, arith, decimal, inl, inr}
+use Rattle.std.proofs.Common.{◌≡◌, ℕ, Bool, true, false, List, [], ◌∷◌, length, map, refl, ap, sym, subst, ◌∙◌, arith, codes, decimal, inl, inr}
 use Rattle.std.specs.Prelude.{Some, None, find, if◌then◌else◌, unwrap_or}
 use Rattle.std.specs.List.{AllByRecursion}
 use Rattle.std.specs.Str.{bytes_eq}
@@ -10,14 +10,14 @@ use Rattle.command_line.specs.Given.{Values}
 use Rattle.desk_model.specs.declared.types.MeasureName.{MeasureName}
 use Rattle.desk_model.specs.MeasureText.{IsTextOf}
 use Rattle.desk_model.proofs.Decimals.{unique}
-use Rattle.desk_words.specs.Words.{IsCommandAfter, IsLevelOf, IsMeasureOf, Says, SaysCheck, SaysJob, verb_for, verb_of, word_of}
+use Rattle.desk_words.specs.Words.{AsksForAll, AsksForTwo, IsCommandAfter, IsLevelOf, IsMeasureOf, Says, SaysCheck, SaysJob, verb_for, verb_of, word_of}
 use Rattle.desk_words.specs.Laws.{CommandIsUnique}
 use Rattle.desk_words.specs.declared.read.Verb.{Verb}
 use Rattle.desk_words.specs.declared.command.RunWord.{RunWord}
 use Rattle.desk_words.specs.declared.command.Job.{Job}
 use Rattle.desk_words.specs.declared.command.Check.{Check}
 use Rattle.desk_words.specs.declared.command.Command.{Command}
-use Rattle.desk_words.specs.declared.command.Command.TheVariants.{Table, Certify, Session, Verify, Demo}
+use Rattle.desk_words.specs.declared.command.Command.TheVariants.{Table, Certify, CertifyAll, Session, Verify, Demo}
 
 one_value : (values : List Text) (a b : Text) → values ≡ a ∷ [] → values ≡ b ∷ [] → a ≡ b
 one_value values a b e f = let both : a ∷ [] ≡ b ∷ [] = sym e ∙ f in cc
@@ -56,10 +56,16 @@ one_check values a b h k =
     let runs = all_same a.runs b.runs (sym h.runs.each ∙ k.runs.each) in
     λ i. record { qrels = qrels i; cert = cert i; runs = runs i }
 
--- a row for each command
+not_both : (values : Values) → AsksForTwo values → AsksForAll values → ⊥
+not_both values two all = let none : length (values (codes "all")) ≡ 0 = ap length two in omega (arith, none, all)
+
+-- a row for each command; the two of one verb differ by the flag
 one_said : (values : Values) (a b : Command) → verb_for a ≡ verb_for b → Says values a → Says values b → a ≡ b
 one_said values (Table a) (Table b) e h k = ap Table (one_job values a b h k)
-one_said values (Certify a) (Certify b) e h k = ap Certify (one_job values a b h k)
+one_said values (Certify a) (Certify b) e h k = ap Certify (one_job values a b h.0 k.0)
+one_said values (CertifyAll a) (CertifyAll b) e h k = ap CertifyAll (one_job values a b h.0 k.0)
+one_said values (Certify a) (CertifyAll b) e h k = absurd (not_both values h.1 k.1)
+one_said values (CertifyAll a) (Certify b) e h k = absurd (not_both values k.1 h.1)
 one_said values (Session a) (Session b) e h k = ap Session (one_job values a b h k)
 one_said values (Verify a) (Verify b) e h k = ap Verify (one_check values a b h k)
 one_said values (Demo a) (Demo b) e h k = ap Demo (decimal_injective a b (omega (arith, h.1)) (omega (arith, k.1)) (one_value _ (decimal a) (decimal b) h.0 k.0))

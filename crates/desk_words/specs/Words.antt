@@ -15,7 +15,7 @@ use Rattle.desk_words.specs.declared.command.RunWord.{RunWord}
 use Rattle.desk_words.specs.declared.command.Job.{Job}
 use Rattle.desk_words.specs.declared.command.Check.{Check}
 use Rattle.desk_words.specs.declared.command.Command.{Command}
-use Rattle.desk_words.specs.declared.command.Command.TheVariants.{Table, Certify, Session, Verify, Demo}
+use Rattle.desk_words.specs.declared.command.Command.TheVariants.{Table, Certify, CertifyAll, Session, Verify, Demo}
 
 -- the word of each verb
 abbrev pub word_of : Verb → Text
@@ -37,6 +37,10 @@ abbrev pub takes_runs : ℕ → Takes
 takes_runs least =
     record { needed = codes "qrels" ∷ codes "measure" ∷ []; optional = codes "level" ∷ []; flags = []; other = codes "RUN"; least = least; most = RUN_LIMIT }
 
+-- the same, and a flag that asks for all their pairs
+abbrev pub takes_pairs : ℕ → Takes
+takes_pairs least = record (takes_runs least) { flags = codes "all" ∷ [] }
+
 -- a certificate and the runs that it may speak of
 abbrev pub takes_certificate : Takes
 takes_certificate = record { needed = codes "qrels" ∷ codes "cert" ∷ []; optional = []; flags = []; other = codes "RUN"; least = 2; most = RUN_LIMIT }
@@ -47,7 +51,7 @@ takes_seed = record { needed = []; optional = []; flags = []; other = codes "SEE
 -- what the command of each verb takes
 abbrev pub takes : Verb → Takes
 takes verb.Table = takes_runs 1
-takes verb.Certify = takes_runs 2
+takes verb.Certify = takes_pairs 2
 takes verb.Session = takes_runs 1
 takes verb.Verify = takes_certificate
 takes verb.Demo = takes_seed
@@ -103,10 +107,18 @@ pub record SaysCheck (values : Values) (check : Check) : Type 0 where
   pub cert : IsPathOf (values (codes "cert")) check.cert
   pub runs : AreRunsOf (values (codes "RUN")) check.runs
 
+-- the flag for all pairs is given, or not: then the first two runs are the pair
+abbrev pub AsksForAll : Values → Type 0
+AsksForAll values = 0 < length (values (codes "all"))
+
+abbrev pub AsksForTwo : Values → Type 0
+AsksForTwo values = values (codes "all") ≡ []
+
 -- the verb of a command
 abbrev pub verb_for : Command → Verb
 verb_for (Table job) = verb.Table
 verb_for (Certify job) = verb.Certify
+verb_for (CertifyAll job) = verb.Certify
 verb_for (Session job) = verb.Session
 verb_for (Verify check) = verb.Verify
 verb_for (Demo seed) = verb.Demo
@@ -114,7 +126,8 @@ verb_for (Demo seed) = verb.Demo
 -- the values say what the command has beside its verb
 abbrev pub Says : Values → Command → Type 0
 Says values (Table job) = SaysJob values job
-Says values (Certify job) = SaysJob values job
+Says values (Certify job) = SaysJob values job × AsksForTwo values
+Says values (CertifyAll job) = SaysJob values job × AsksForAll values
 Says values (Session job) = SaysJob values job
 Says values (Verify check) = SaysCheck values check
 Says values (Demo seed) = IsSeedOf (values (codes "SEED")) seed

@@ -12,6 +12,8 @@ pub enum Command {
     Table(Job),
     /// Print the certificate of the first two runs.
     Certify(Job),
+    /// Print the certificate of all pairs of the runs.
+    CertifyAll(Job),
     /// Judge documents.
     Session(Job),
     /// Check a certificate.

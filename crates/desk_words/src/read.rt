@@ -1,7 +1,7 @@
 //! The command of the words: its verb, what it takes, and what the values say.
 ghost use Rattle.std.specs.Prelude.{◌≡◌, ℕ, IfOk, Err, map, codes, string_bytes};
 ghost use Rattle.command_line.specs.Given.{values_held};
-ghost use Rattle.desk_words.specs.Words.{IsCommandOf, IsSaid, IsSeedOf, SaysJob, SaysCheck, verb_of, takes, takes_runs};
+ghost use Rattle.desk_words.specs.Words.{IsCommandOf, IsSaid, IsSeedOf, SaysJob, SaysCheck, verb_of, takes, takes_pairs, takes_runs};
 ghost use Rattle.desk_words.specs.declared.command.Command.{Command};
 ghost use Rattle.desk_words.specs.declared.command.Job.{Job};
 ghost use Rattle.desk_words.specs.declared.command.Check.{Check};
@@ -42,7 +42,7 @@ fn row_of(verb: Verb) -> Row
 {
     match verb {
         Verb::Table | Verb::Session => runs_from(1),
-        Verb::Certify => runs_from(2),
+        Verb::Certify => pairs_from(2),
         Verb::Verify => Row {
             needed: &["qrels", "cert"],
             optional: &[],
@@ -76,6 +76,16 @@ fn runs_from(least: usize) -> Row
     }
 }
 
+// Runs under a measure, and the flag that asks for all their pairs.
+fn pairs_from(least: usize) -> Row
+    ensures { result ≡ takes_pairs least }
+{
+    Row {
+        flags: &["all"],
+        ..runs_from(least)
+    }
+}
+
 /// The command that the words say, which are those after the program's name. `Usage` comes exactly where the words are
 /// of no command, unless memory runs out; `Memory` may come at any words.
 pub fn read_words(alloc: Global, words: &[String]) -> Result<Command, WordsFault>
@@ -100,12 +110,25 @@ fn said(alloc: Global, verb: Verb, given: &Given) -> Result<Command, WordsFault>
 {
     match verb {
         Verb::Table => Ok(Command::Table(job(alloc, given)?)),
-        Verb::Certify => Ok(Command::Certify(job(alloc, given)?)),
+        Verb::Certify => certified(alloc, given),
         Verb::Session => Ok(Command::Session(job(alloc, given)?)),
         Verb::Verify => Ok(Command::Verify(check(alloc, given)?)),
         Verb::Demo => Ok(Command::Demo {
             seed: demo_seed(given)?,
         }),
+    }
+}
+
+// The certificate of the first two runs, or with the flag that of all pairs.
+fn certified(alloc: Global, given: &Given) -> Result<Command, WordsFault>
+    ensures ok { IfOk result (λ command. IsSaid Verb.Certify (values_held given.now) command) }
+    ensures usage { result ≡ Err WordsFault.Usage → (command : Command) → IsSaid Verb.Certify (values_held given.now) command → ⊥ }
+{
+    let job = job(alloc, given)?;
+    if given.values("all").is_empty() {
+        Ok(Command::Certify(job))
+    } else {
+        Ok(Command::CertifyAll(job))
     }
 }
 
