@@ -93,6 +93,23 @@ impl Measure for AnyMeasure {
         }
     }
 
+    fn push_least_docs(
+        &self,
+        alloc: Global,
+        a: &Ranking,
+        b: &Ranking,
+        marks: &[Mark],
+        docs: &mut Vec<u32>,
+    ) -> Result<(), Memory> {
+        match self {
+            AnyMeasure::Precision(m) => m.push_least_docs(alloc, a, b, marks, docs),
+            AnyMeasure::Recall(m) => m.push_least_docs(alloc, a, b, marks, docs),
+            AnyMeasure::RPrecision(m) => m.push_least_docs(alloc, a, b, marks, docs),
+            AnyMeasure::Reciprocal(m) => m.push_least_docs(alloc, a, b, marks, docs),
+            AnyMeasure::Biased(m) => m.push_least_docs(alloc, a, b, marks, docs),
+        }
+    }
+
     fn weight(&self, a: &Ranking, b: &Ranking, marks: &[Mark], doc: u32) -> u128 {
         match self {
             AnyMeasure::Precision(m) => m.weight(a, b, marks, doc),

@@ -13,7 +13,7 @@ use crate::own::cell_between;
 use desk_model::{Mark, MeasureName, Memory, Ranking};
 use measure_core::{
     Cell, CellRoom, KeptCell, Measure, Picks, Shift, Steps, TopicRankings, case_values, own_cells,
-    shift_one_side,
+    push_own, shift_one_side,
 };
 use std::alloc::Global;
 use std::marker::Model;
@@ -144,6 +144,17 @@ impl Measure for Precision {
             second: b,
         };
         case_values(alloc, &picks, marks)
+    }
+
+    fn push_least_docs(
+        &self,
+        _alloc: Global,
+        a: &Ranking,
+        b: &Ranking,
+        marks: &[Mark],
+        docs: &mut Vec<u32>,
+    ) -> Result<(), Memory> {
+        push_own(self.k, a, b, marks, docs)
     }
 
     fn weight(&self, a: &Ranking, b: &Ranking, _marks: &[Mark], doc: u32) -> u128 {

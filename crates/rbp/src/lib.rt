@@ -4,6 +4,7 @@
 
 pub mod by_ranks;
 pub mod corrections;
+mod lists;
 pub mod rbp;
 pub mod weights;
 

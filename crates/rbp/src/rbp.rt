@@ -13,11 +13,12 @@ ghost use Rattle.desk_model.specs.MeasureText.{IsPersistence};
 ghost use Rattle.desk_model.specs.declared.types.MeasureName.TheVariants.{Biased as B};
 
 use crate::corrections::{Shares, alone};
+use crate::lists::SecondBefore;
 use crate::weights::{RankWeights, high_weights, low_weights};
 use desk_model::{Mark, MeasureName, Memory, Ranking};
 use measure_core::{
     Cell, CellRoom, KeptCell, KeptWeights, Measure, Picks, Shift, Steps, TopicRankings,
-    case_values, ranked_cells, shift_by_ranks,
+    case_values, push_by_ranks, ranked_cells, shift_by_ranks,
 };
 use std::alloc::Global;
 use std::marker::Model;
@@ -262,6 +263,17 @@ impl Measure for Rbp {
             second: b,
         };
         case_values(alloc, &picks, marks)
+    }
+
+    fn push_least_docs(
+        &self,
+        _alloc: Global,
+        a: &Ranking,
+        b: &Ranking,
+        marks: &[Mark],
+        docs: &mut Vec<u32>,
+    ) -> Result<(), Memory> {
+        push_by_ranks(&SecondBefore, a, b, marks, docs)
     }
 
     fn weight(&self, a: &Ranking, b: &Ranking, _marks: &[Mark], doc: u32) -> u128 {

@@ -1,4 +1,4 @@
-ghost use Rattle.std.specs.Prelude.{◌≡◌, ℕ, ◌+◌, ◌≤◌, max, nat_lt, List, length, IfOk};
+ghost use Rattle.std.specs.Prelude.{◌≡◌, ℕ, ◌+◌, ◌≤◌, ◌++◌, max, nat_lt, List, length, IfOk, OnOk};
 ghost use Rattle.desk_model.specs.Limits.{DEPTH_LIMIT, DOCUMENT_LIMIT, RANK_LIMIT};
 ghost use Rattle.desk_model.specs.Completion.{with_picked};
 ghost use Rattle.desk_model.specs.Score.{true_among};
@@ -7,14 +7,15 @@ ghost use Rattle.desk_model.specs.declared.types.MeasureName.TheVariants.{Recall
 ghost use Rattle.measure_laws.specs.Cases.{picked_where, recall_pick};
 ghost use Rattle.measure_laws.specs.Prefixes.{only_second};
 ghost use Rattle.measure_core.specs.Laws.{AreMet, AreValues};
+ghost use Rattle.measure_core.specs.Lists.{added_documents};
 ghost use Rattle.measure_core.specs.Made.{IsMadeFor};
 ghost use Rattle.measure_core.specs.Numbers.{exact_least};
 ghost use Rattle.recall.specs.LeastCase.{AreCounts, least_relevant};
 
 use desk_model::{Mark, MeasureName, Memory, Ranking};
 use measure_core::{
-    Cell, CellRoom, KeptCell, Measure, OwnMeasure, Picks, Shift, Steps, TopicRankings, case_values,
-    own_cells, shift_one_side,
+    Cell, CellRoom, KeptCell, Measure, More, OwnMeasure, Picks, Shift, Steps, TopicRankings,
+    case_values, own_cells, push_own, push_own_and_more, shift_one_side,
 };
 use std::alloc::Global;
 use std::marker::Model;
@@ -134,6 +135,28 @@ fn least_values(
     case_values(alloc, &ByLead { leads, k, a, b }, marks)
 }
 
+/// Appends the unjudged documents that the least case of two runs makes relevant, ascending.
+fn push_least(
+    k: u32,
+    a: &Ranking,
+    b: &Ranking,
+    marks: &[Mark],
+    docs: &mut Vec<u32>,
+) -> Result<(), Memory>
+    requires { AreMet marks.now a.now b.now }
+    ensures { OnOk result (docs.new.items ≡ docs.old.items ++ added_documents marks.now (with_picked marks.now (recall_pick k marks.now a.now b.now))) }
+{
+    if leads(k, a, b, marks) {
+        let others = More {
+            both: marks.len() as u32,
+            first: 0,
+        };
+        push_own_and_more(k, others, a, b, marks, docs)
+    } else {
+        push_own(k, a, b, marks, docs)
+    }
+}
+
 impl Measure for Recall {
     ghost use Rattle.desk_model.specs.declared.types.MeasureName.TheVariants.{Recall as R};
     ghost use Rattle.measure_core.specs.Numbers.{exact_cell, exact_bounds};
@@ -196,6 +219,17 @@ impl Measure for Recall {
         marks: &[Mark],
     ) -> Result<Vec<bool>, Memory> {
         least_values(alloc, self.k, a, b, marks)
+    }
+
+    fn push_least_docs(
+        &self,
+        _alloc: Global,
+        a: &Ranking,
+        b: &Ranking,
+        marks: &[Mark],
+        docs: &mut Vec<u32>,
+    ) -> Result<(), Memory> {
+        push_least(self.k, a, b, marks, docs)
     }
 
     fn weight(&self, a: &Ranking, b: &Ranking, _marks: &[Mark], doc: u32) -> u128 {

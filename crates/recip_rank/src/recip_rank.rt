@@ -1,4 +1,5 @@
-ghost use Rattle.std.specs.Prelude.{◌≡◌, ◌≤◌, true, length, IfOk};
+ghost use Rattle.std.specs.Prelude.{◌≡◌, ◌≤◌, ◌++◌, true, length, IfOk, OnOk};
+ghost use Rattle.std.specs.Option.{option_to_list};
 ghost use Rattle.desk_model.specs.Limits.{DOCUMENT_LIMIT, RANK_LIMIT};
 ghost use Rattle.desk_model.specs.declared.types.MeasureName.TheVariants.{Reciprocal as R};
 ghost use Rattle.measure_laws.specs.Ranks.{IsRankWithin};
@@ -106,6 +107,16 @@ impl Picks for Chosen {
     }
 }
 
+/// Appends the chosen document, if there is one.
+fn push_choice(choice: Option<u32>, docs: &mut Vec<u32>) -> Result<(), Memory>
+    ensures { OnOk result (docs.new.items ≡ docs.old.items ++ option_to_list choice) }
+{
+    if let Some(doc) = choice {
+        docs.push(doc)?;
+    }
+    Ok(())
+}
+
 impl RankWorth for RecipRank {
     ghost use Rattle.std.specs.Prelude.{refl};
     ghost use Rattle.measure_laws.specs.Weights.{reciprocal_weight};
@@ -180,6 +191,17 @@ impl Measure for RecipRank {
     ) -> Result<Vec<bool>, Memory> {
         let choice = least(a, b, marks).choice;
         case_values(alloc, &Chosen { choice }, marks)
+    }
+
+    fn push_least_docs(
+        &self,
+        _alloc: Global,
+        a: &Ranking,
+        b: &Ranking,
+        marks: &[Mark],
+        docs: &mut Vec<u32>,
+    ) -> Result<(), Memory> {
+        push_choice(least(a, b, marks).choice, docs)
     }
 
     fn weight(&self, a: &Ranking, b: &Ranking, _marks: &[Mark], doc: u32) -> u128 {

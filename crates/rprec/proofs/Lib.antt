@@ -12,3 +12,4 @@ pub mod Packed
 pub mod Counts
 pub mod Pairs
 pub mod Bounds
+pub mod Taken

@@ -5,6 +5,7 @@
 pub mod blocks;
 pub mod extremes;
 pub mod greedy;
+mod lists;
 pub mod pair;
 pub mod prefixes;
 pub mod rprec;

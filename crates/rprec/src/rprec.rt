@@ -1,9 +1,10 @@
-ghost use Rattle.std.specs.Prelude.{◌≡◌, ℕ, ◌+◌, ◌≤◌, List, length, IfOk};
+ghost use Rattle.std.specs.Prelude.{◌≡◌, ℕ, ◌+◌, ◌≤◌, ◌++◌, List, length, IfOk, OnOk};
 ghost use Rattle.desk_model.specs.Limits.{DOCUMENT_LIMIT};
 ghost use Rattle.desk_model.specs.declared.types.Mark.{Mark as M};
 ghost use Rattle.desk_model.specs.declared.types.MeasureName.TheVariants.{RPrecision as R};
-ghost use Rattle.measure_laws.specs.RprecCase.{rprec_truth};
+ghost use Rattle.measure_laws.specs.RprecCase.{rprec_count, rprec_truth};
 ghost use Rattle.measure_core.specs.Laws.{AreMet, AreValues};
+ghost use Rattle.measure_core.specs.Lists.{added_documents};
 ghost use Rattle.measure_core.specs.Made.{IsMadeFor};
 ghost use Rattle.measure_core.specs.Numbers.{exact_least, exact_cell};
 ghost use Rattle.rprec.specs.Greedy.{AreTopic, IsLeast, IsSmallCandidate};
@@ -12,6 +13,7 @@ ghost use Rattle.rprec.specs.Sums.{AreBlockSums};
 
 use crate::extremes::find_extremes;
 use crate::greedy::DepthCandidate;
+use crate::lists::push_wanted;
 use crate::shared::Shared;
 use crate::sums::sums_of_run;
 use crate::values::{values, wanted_for};
@@ -88,6 +90,22 @@ fn cell_of(
     }
 }
 
+/// The number of relevant documents of the least case of two runs.
+fn least_count(a: &Ranking, b: &Ranking, all: Counts, marks: &[Mark]) -> u32
+    requires met { AreMet marks.now a.now b.now }
+    requires topic { AreTopic marks.now all }
+    requires few { all.relevant + all.unjudged ≤ DOCUMENT_LIMIT }
+    ensures count { result ≡ rprec_count marks.now a.now b.now }
+    ensures low { all.relevant ≤ result }
+{
+    let shared = Shared::between(a, b, marks);
+    let first = sums_of_run(a.docs(), marks);
+    let second = sums_of_run(b.docs(), marks);
+    find_extremes(a.docs(), b.docs(), &first, &second, &shared, all, marks)
+        .least
+        .count
+}
+
 /// Whether each document is relevant in the least case of two runs.
 fn least_values(
     alloc: Global,
@@ -99,12 +117,7 @@ fn least_values(
     ensures { IfOk result (λ values. AreValues (rprec_truth marks.now a.now b.now) (length marks.now) values.items) }
 {
     let all = topic(marks);
-    let shared = Shared::between(a, b, marks);
-    let first = sums_of_run(a.docs(), marks);
-    let second = sums_of_run(b.docs(), marks);
-    let count = find_extremes(a.docs(), b.docs(), &first, &second, &shared, all, marks)
-        .least
-        .count;
+    let count = least_count(a, b, all, marks);
     values(
         alloc,
         wanted_for(count, a, b, all, marks),
@@ -113,6 +126,17 @@ fn least_values(
         b,
         marks,
     )
+}
+
+/// Appends the unjudged documents that the least case of two runs makes relevant, ascending.
+fn push_least(a: &Ranking, b: &Ranking, marks: &[Mark], docs: &mut Vec<u32>) -> Result<(), Memory>
+    requires { AreMet marks.now a.now b.now }
+    ensures { OnOk result (docs.new.items ≡ docs.old.items ++ added_documents marks.now (rprec_truth marks.now a.now b.now)) }
+{
+    let all = topic(marks);
+    let count = least_count(a, b, all, marks);
+    let wanted = wanted_for(count, a, b, all, marks);
+    push_wanted(wanted, count, a, b, marks, docs)
 }
 
 impl RankedMeasure for Rprec {
@@ -210,6 +234,17 @@ impl Measure for Rprec {
         marks: &[Mark],
     ) -> Result<Vec<bool>, Memory> {
         least_values(alloc, a, b, marks)
+    }
+
+    fn push_least_docs(
+        &self,
+        _alloc: Global,
+        a: &Ranking,
+        b: &Ranking,
+        marks: &[Mark],
+        docs: &mut Vec<u32>,
+    ) -> Result<(), Memory> {
+        push_least(a, b, marks, docs)
     }
 
     fn weight(&self, a: &Ranking, b: &Ranking, marks: &[Mark], doc: u32) -> u128 {

@@ -10,7 +10,7 @@ ghost use Rattle.rprec.specs.Picks.{picks};
 
 use desk_model::{Mark, Memory, Ranking};
 use std::alloc::Global;
-use topic_counts::counts::{Counts, is_among_first, own_documents};
+use topic_counts::counts::{Counts, is_among_first, own_counts};
 
 /// How many unjudged documents of each class are to be made relevant: of those that the second run
 /// alone has among its first ones, of those that both or neither have, and of the first run's own.
@@ -38,13 +38,12 @@ pub fn wanted_for(count: u32, a: &Ranking, b: &Ranking, all: Counts, marks: &[Ma
     ensures both { result.both ≡ count - judged_count marks.now - size_of (length marks.now) (open_in marks.now (only_second count a.now b.now)) }
     ensures first { result.first ≡ count - judged_count marks.now - size_of (length marks.now) (open_in marks.now (only_second count a.now b.now)) - size_of (length marks.now) (open_in marks.now (neutral count a.now b.now)) }
 {
-    let first = own_documents(count, a, b, marks);
-    let second = own_documents(count, b, a, marks);
+    let own = own_counts(count, a, b, marks);
     let wanted = count - all.relevant;
-    let both = wanted.saturating_sub(second.unjudged);
+    let both = wanted.saturating_sub(own.second.unjudged);
     let others = all
         .unjudged
-        .saturating_sub(first.unjudged + second.unjudged);
+        .saturating_sub(own.first.unjudged + own.second.unjudged);
     Wanted {
         second: wanted,
         both,
