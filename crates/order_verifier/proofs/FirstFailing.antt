@@ -67,14 +67,6 @@ module _ {X : Type 0} (P Q : X → Type 0) where
   seconds [] h = tt
   seconds (x ∷ xs) h = (h.0.1, seconds xs h.1)
 
--- what holds of two lists holds of an item and the one beside it
-pub beside : {A B : Type 0} (R : A → B → Type 0) (xs : List A) (ys : List B) (i : ℕ) (x : A) → AllZip R xs ys → slice_get xs i ≡ Some x → (y : B) × (slice_get ys i ≡ Some y) × R x y
-beside R [] [] i x h at = absurd (cc)
-beside R [] (y ∷ ys) i x h at = absurd h
-beside R (u ∷ xs) [] i x h at = absurd h
-beside R (u ∷ xs) (y ∷ ys) zero x h at = let here : u ≡ x = cc in (y, refl, subst (λ a. R a y) here h.0)
-beside R (u ∷ xs) (y ∷ ys) (suc i) x h at = beside R xs ys i x h.1 at
-
 -- ---- sums of numbers that stand beside a list
 abbrev pub SumsTo : {X : Type 0} → (ℤ → X → Type 0) → List X → ℤ → Type 0
 SumsTo R xs z = (numbers : List ℤ) × AllZip R numbers xs × (z ≡ whole_sum numbers)

@@ -16,6 +16,7 @@ pub mod OnLists
 pub mod Numbered
 pub mod NearPlaces
 pub mod FirstFailing
+pub mod EndSums
 pub mod NumbersOnTopics
 pub mod SameNames
 pub mod ListNames

@@ -8,3 +8,4 @@ pub mod Kinds
 pub mod Refusal
 pub mod Verified
 pub mod Checks
+pub mod CompletionEnds

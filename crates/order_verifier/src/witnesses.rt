@@ -2,11 +2,12 @@
 ghost use Rattle.std.specs.Prelude.{◌≡◌, ◌≤◌, ◌<◌, All, length, MatchOption, MatchResult};
 ghost use Rattle.desk_model.specs.Limits.{DOCUMENT_LIMIT, TOPIC_LIMIT};
 ghost use Rattle.order_certificate.specs.Certificate.{AreLists};
-ghost use Rattle.order_certificate.specs.Evidence.{AreUnjudged, IsLowSum, IsHighSum};
+ghost use Rattle.order_certificate.specs.Evidence.{AreUnjudged};
 ghost use Rattle.desk_model.specs.Verdict.{differs};
 ghost use Rattle.order_certificate.specs.declared.certificate.Evidence.TheVariants.{Open as O};
 ghost use Rattle.order_verifier.specs.Checks.{OfTopic};
-ghost use Rattle.order_verifier.specs.Refusal.{AreCompletions, HasCompletions, HasOther, HasWrongDocument, IsFirstOther, ShowsOf, topics_in};
+ghost use Rattle.order_verifier.specs.CompletionEnds.{AreEndsOn, AreEndSums};
+ghost use Rattle.order_verifier.specs.Refusal.{AreCompletions, HasOther, HasWrongDocument, IsFirstOther, ShowsOf, topics_in};
 ghost use Rattle.order_verifier.specs.Rows.{OfRow, SuitDesk};
 ghost use Rattle.order_verifier.specs.Verified.{FailsBy};
 
@@ -15,6 +16,14 @@ use crate::documents::Documents;
 use crate::failure::Failure;
 use crate::rows::ListRows;
 use order_certificate::{CertificatePlace, WitnessList};
+
+/// The upper end of the difference in a low completion, and the lower end in a high one: on a topic, or summed over
+/// topics.
+#[derive(Clone, Copy)]
+struct CompletionEnds {
+    low: i128,
+    high: i128,
+}
 
 /// Whether two sums, of a low and of a high completion, differ on the order: they are on two sides of 0, or one is 0.
 fn differ(low: i128, high: i128) -> bool
@@ -66,52 +75,52 @@ impl Comparison<'_> {
         }
     }
 
-    /// The same of all topics, in their order.
-    fn first_wrong_document<L: ListRows>(&self, lists: &L) -> Option<CertificatePlace>
+    /// The ends of the differences in the two completions of a topic, or the first document of its lists that is no
+    /// unjudged one.
+    fn ends_on<L: ListRows>(
+        &self,
+        topic: u32,
+        lists: &L,
+    ) -> Result<CompletionEnds, CertificatePlace>
+        requires topic { topic < length (topics_in self.now) }
+        requires row { topic < length (L.witnesses lists.now) }
+        requires lists { All AreLists (L.witnesses lists.now) }
+        requires suits { SuitDesk (L.suits lists.now) self.now.desk }
+        ensures { OfRow (L.witnesses lists.now) topic (λ w. OfTopic (topics_in self.now) topic (λ t. MatchResult result (AreEndsOn self.now (w, t)) (HasOther topic (w, t)))) }
+    {
+        if let Some(place) = self.first_other_on(topic, lists) {
+            return Err(place);
+        }
+        let book = self.topic_book(topic);
+        let low = lists.low(topic, book);
+        let high = lists.high(topic, book);
+        Ok(CompletionEnds {
+            low: self.upper_end(topic, &low),
+            high: self.lower_end(topic, &high),
+        })
+    }
+
+    /// Their sums over the topics, or the first document of all lists that is no unjudged one, in the order of the
+    /// topics. The lists of a topic are read once.
+    fn end_sums<L: ListRows>(&self, lists: &L) -> Result<CompletionEnds, CertificatePlace>
         requires topics { length (L.witnesses lists.now) ≡ length (topics_in self.now) }
         requires few { length (L.witnesses lists.now) ≤ TOPIC_LIMIT }
         requires lists { All AreLists (L.witnesses lists.now) }
         requires suits { SuitDesk (L.suits lists.now) self.now.desk }
-        ensures { MatchOption result (HasCompletions self.now (O (L.witnesses lists.now))) (HasWrongDocument self.now (O (L.witnesses lists.now))) }
+        ensures { MatchResult result (AreEndSums self.now (L.witnesses lists.now)) (HasWrongDocument self.now (O (L.witnesses lists.now))) }
     {
+        let mut low = 0;
+        let mut high = 0;
         for topic in 0..lists.count() {
-            if let Some(place) = self.first_other_on(topic, lists) {
-                return Some(place);
+            match self.ends_on(topic, lists) {
+                Ok(ends) => {
+                    low += ends.low;
+                    high += ends.high;
+                }
+                Err(place) => return Err(place),
             }
         }
-        None
-    }
-
-    /// The sum over the topics of the upper end of the difference in the low completion.
-    fn upper_sum<L: ListRows>(&self, lists: &L) -> i128
-        requires few { length (L.witnesses lists.now) ≤ TOPIC_LIMIT }
-        requires lists { All AreLists (L.witnesses lists.now) }
-        requires suits { SuitDesk (L.suits lists.now) self.now.desk }
-        requires unjudged { HasCompletions self.now (O (L.witnesses lists.now)) }
-        ensures { IsLowSum self.now.measure self.now.first self.now.second (L.witnesses lists.now) (topics_in self.now) result }
-    {
-        let mut sum = 0;
-        for topic in 0..lists.count() {
-            let documents = lists.low(topic, self.topic_book(topic));
-            sum += self.upper_end(topic, &documents);
-        }
-        sum
-    }
-
-    /// The sum over the topics of the lower end of the difference in the high completion.
-    fn lower_sum<L: ListRows>(&self, lists: &L) -> i128
-        requires few { length (L.witnesses lists.now) ≤ TOPIC_LIMIT }
-        requires lists { All AreLists (L.witnesses lists.now) }
-        requires suits { SuitDesk (L.suits lists.now) self.now.desk }
-        requires unjudged { HasCompletions self.now (O (L.witnesses lists.now)) }
-        ensures { IsHighSum self.now.measure self.now.first self.now.second (L.witnesses lists.now) (topics_in self.now) result }
-    {
-        let mut sum = 0;
-        for topic in 0..lists.count() {
-            let documents = lists.high(topic, self.topic_book(topic));
-            sum += self.lower_end(topic, &documents);
-        }
-        sum
+        Ok(CompletionEnds { low, high })
     }
 
     /// Whether lists are two completions that differ on the order of the two runs.
@@ -122,12 +131,15 @@ impl Comparison<'_> {
         requires suits { SuitDesk (L.suits lists.now) self.now.desk }
         ensures { MatchResult result (λ _. ShowsOf self.now (O (L.witnesses lists.now))) (FailsBy self.now (O (L.witnesses lists.now))) }
     {
-        if let Some(place) = self.first_wrong_document(lists) {
-            return Err(Failure::NotCompletion { place });
+        match self.end_sums(lists) {
+            Ok(sums) => {
+                if differ(sums.low, sums.high) {
+                    Ok(())
+                } else {
+                    Err(Failure::NoDifference)
+                }
+            }
+            Err(place) => Err(Failure::NotCompletion { place }),
         }
-        if !differ(self.upper_sum(lists), self.lower_sum(lists)) {
-            return Err(Failure::NoDifference);
-        }
-        Ok(())
     }
 }
