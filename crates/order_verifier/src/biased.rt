@@ -1,6 +1,7 @@
-ghost use Rattle.std.specs.Prelude.{◌≡◌, ◌-◌, ◌<◌, ◌-ℤ◌, ◌≤ℤ◌, pos, neg_ℤ, length, if◌then◌else◌};
+ghost use Rattle.std.specs.Prelude.{◌≡◌, ℕ, List, ◌≤◌, ◌-◌, ◌<◌, ◌-ℤ◌, ◌≤ℤ◌, pos, neg_ℤ, length, if◌then◌else◌};
 ghost use Rattle.desk_model.specs.Completion.{picked_value};
 ghost use Rattle.desk_model.specs.Limits.{PARTS_OF_ONE, RANK_LIMIT};
+ghost use Rattle.desk_model.specs.Ranking.{rank};
 ghost use Rattle.desk_model.specs.declared.types.MeasureName.TheVariants.{Biased as B};
 ghost use Rattle.measure_laws.specs.Ends.{IsUpperEnd};
 ghost use Rattle.measure_laws.specs.Powers.{low_power, high_power, low_weight, high_weight};
@@ -8,11 +9,12 @@ ghost use Rattle.measure_laws.specs.Ranks.{IsRankWithin, comes_before};
 ghost use Rattle.measure_laws.specs.Shares.{low_share, high_share};
 ghost use Rattle.order_verifier.specs.Kinds.{ArePowers};
 ghost use Rattle.order_verifier.specs.Least.{AreRankings, IsLeastLow};
+ghost use Rattle.order_verifier.specs.Walk.{AreFrom};
 
 use crate::ranks::is_before;
 use crate::relevance::Relevance;
 use crate::walk::{after, next_document, next_rank};
-use desk_model::{Mark, Ranking};
+use desk_model::{Mark, Placed, Ranking};
 use topic_counts::{Powers, Span};
 
 /// The weight of a rank in parts of 10^18, and none of an absent one.
@@ -71,16 +73,24 @@ fn least_gain(powers: &Powers, x: Option<u32>, y: Option<u32>, mark: Mark) -> i1
     }
 }
 
-/// What a document at these two ranks adds at most in one completion.
-fn greatest_gain(powers: &Powers, x: Option<u32>, y: Option<u32>, is_relevant: bool) -> i128
+/// What a document adds at most in one completion, by the places of both rankings from it on.
+fn greatest_gain(
+    powers: &Powers,
+    first: &[Placed],
+    second: &[Placed],
+    doc: u32,
+    is_relevant: bool,
+) -> i128
     requires powers { ArePowers powers.now }
-    requires first { IsRankWithin RANK_LIMIT x }
-    requires second { IsRankWithin RANK_LIMIT y }
-    ensures gain { result ≡ (if is_relevant then high_share powers.now.top powers.now.bottom x y else pos 0) }
+    requires places { (a : List ℕ) × (b : List ℕ) × (length a ≤ RANK_LIMIT) × (length b ≤ RANK_LIMIT) × AreFrom doc a first.now × AreFrom doc b second.now }
+    ensures gain { (a : List ℕ) (b : List ℕ) → AreFrom doc a first.now → AreFrom doc b second.now →
+        result ≡ (if is_relevant then high_share powers.now.top powers.now.bottom (rank a doc) (rank b doc) else pos 0) }
     ensures low { neg_ℤ (pos PARTS_OF_ONE) ≤ℤ result }
     ensures high { result ≤ℤ pos PARTS_OF_ONE }
 {
     if is_relevant {
+        let x = next_rank(first, doc);
+        let y = next_rank(second, doc);
         -least_share(powers, y, x)
     } else {
         0
@@ -140,11 +150,9 @@ pub fn upper_end<T: Relevance>(powers: &Powers, a: &Ranking, b: &Ranking, releva
     let mut near = 0;
     let mut sum = 0;
     while let Some(doc) = next_document(first, second) {
-        let x = next_rank(first, doc);
-        let y = next_rank(second, doc);
         let found = relevant.find_relevant(doc, near);
         near = found.near;
-        sum += greatest_gain(powers, x, y, found.is_found);
+        sum += greatest_gain(powers, first, second, doc, found.is_found);
         first = after(first, doc);
         second = after(second, doc);
     }

@@ -199,6 +199,7 @@ fn is_picked(names: &[Name], picks: &[u32], name: &[u8]) -> bool
 }
 
 /// How the number of the document at a place of the picks compares with another document's. Past the end it is greater.
+#[inline(always)]
 fn order_at(
     book: &TopicBook,
     numbers: &[Option<u32>],
@@ -215,8 +216,22 @@ fn order_at(
     }
 }
 
-/// The place of a document among those picked, or between those before it and those after it: looked for near a
-/// place, and else by halving.
+/// The place of a document among those picked, or between those before it and those after it, by halving.
+#[inline(never)]
+fn place_by_halving(
+    book: &TopicBook,
+    numbers: &[Option<u32>],
+    picks: &[u32],
+    doc: u32,
+) -> Result<usize, usize>
+    ensures bound { IsSearchInRange result (length picks.now) }
+    ensures place { IsBinarySearchResult (λ k. nat_cmp (number_of_pick book.now.docs numbers.now k) doc) picks.now result }
+{
+    picks.binary_search_by(|pick| number_at(book, numbers, *pick).unwrap_or(0).cmp(&doc))
+}
+
+/// The same, looked for near a place, and else by halving.
+#[inline(always)]
 fn place_near(
     book: &TopicBook,
     numbers: &[Option<u32>],
@@ -234,11 +249,12 @@ fn place_near(
     if here.is_gt() && (near == 0 || order_at(book, numbers, picks, near - 1, doc).is_lt()) {
         return Err(near);
     }
-    picks.binary_search_by(|pick| number_at(book, numbers, *pick).unwrap_or(0).cmp(&doc))
+    place_by_halving(book, numbers, picks, doc)
 }
 
 /// Whether a document of a topic is one of those picked, by the numbers of the names that lists may pick, and the place
 /// after it. Numbers of ascending names ascend.
+#[inline(always)]
 fn find_number(
     book: &TopicBook,
     numbers: &[Option<u32>],

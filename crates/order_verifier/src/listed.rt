@@ -8,6 +8,7 @@ use crate::counted::TopicMarks;
 use crate::documents::{Documents, Found};
 use desk_model::Mark;
 use std::marker::Model;
+use topic_counts::topic::is_true;
 
 /// A topic's documents, and a list of unjudged ones: those that are judged relevant and those on the list are
 /// relevant.
@@ -54,17 +55,13 @@ impl Relevance for Listed<'_> {
         }
     }
 
+    // The list is asked whatever the mark is, so that no branch depends on marks.
     fn find_relevant(&self, doc: u32, near: usize) -> Found {
-        match self.marks.as_slice()[doc as usize] {
-            Mark::Relevant => Found {
-                is_found: true,
-                near,
-            },
-            Mark::Other => Found {
-                is_found: false,
-                near,
-            },
-            Mark::Unjudged => self.documents.find(doc, near),
+        let listed = self.documents.find(doc, near);
+        let mark = self.marks.as_slice()[doc as usize];
+        Found {
+            is_found: is_true(listed.is_found, mark),
+            near: listed.near,
         }
     }
 }

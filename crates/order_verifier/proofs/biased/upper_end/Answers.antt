@@ -1,10 +1,9 @@
-use Rattle.std.proofs.Common.{◌+◌, Bool, pos, refl, arith, ap, ◌∙◌, subst, sym}
+use Rattle.std.proofs.Common.{◌+◌, Bool, pos, refl, arith, ap, ◌∙◌, sym}
 use Rattle.std.specs.Prelude.{if◌then◌else◌}
 use Rattle.std.proofs.lemmas.Int.{ints}
-use Rattle.measure_laws.specs.Ranks.{IsRankWithin}
+use Rattle.desk_model.specs.Ranking.{rank}
 use Rattle.measure_laws.specs.Shares.{high_share}
-use Rattle.measure_laws.proofs.Ranks.{rank_within}
-use Rattle.order_verifier.proofs.Shares.{gain_is, sum_more, summed_all, summed_next}
+use Rattle.order_verifier.proofs.Shares.{sum_more, summed_all, summed_next}
 use Rattle.order_verifier.proofs.Walks.{from_start, next_is, next_known}
 use Rattle.order_verifier.proofs.biased.upper_end.Goals as goal
 
@@ -26,23 +25,13 @@ find_relevant-found-requires g c =
     let next = next_is kept.next doc a b c.loop-doc.first.now c.loop-doc.second.now kept.first_from kept.second_from c.in-Some.ensures in
     next_known kept.next doc (g.T.Relevance.universe c.args.relevant.now) a b c.loop-doc.first.now c.loop-doc.second.now c.requires.rankings.first c.requires.rankings.second next
 
-pub greatest_gain-sum-requires-clause-first : goal.greatest_gain-sum-requires-clause-first
-greatest_gain-sum-requires-clause-first g c =
+pub greatest_gain-sum-requires-clause-places : goal.greatest_gain-sum-requires-clause-places
+greatest_gain-sum-requires-clause-places g c =
     let a = c.args.a.now in
     let b = c.args.b.now in
-    let doc = c.in-Some.doc in
     let kept = c.loop-doc.invariant in
-    let next = next_is kept.next doc a b c.loop-doc.first.now c.loop-doc.second.now kept.first_from kept.second_from c.in-Some.ensures in
-    subst (IsRankWithin 10000) (sym (c.next_rank-x.ensures a next.first_from)) (rank_within a 10000 doc c.requires.rankings.first.short)
-
-pub greatest_gain-sum-requires-clause-second : goal.greatest_gain-sum-requires-clause-second
-greatest_gain-sum-requires-clause-second g c =
-    let a = c.args.a.now in
-    let b = c.args.b.now in
-    let doc = c.in-Some.doc in
-    let kept = c.loop-doc.invariant in
-    let next = next_is kept.next doc a b c.loop-doc.first.now c.loop-doc.second.now kept.first_from kept.second_from c.in-Some.ensures in
-    subst (IsRankWithin 10000) (sym (c.next_rank-y.ensures b next.second_from)) (rank_within b 10000 doc c.requires.rankings.second.short)
+    let next = next_is kept.next c.in-Some.doc a b c.loop-doc.first.now c.loop-doc.second.now kept.first_from kept.second_from c.in-Some.ensures in
+    (a, b, c.requires.rankings.first.short, c.requires.rankings.second.short, next.first_from, next.second_from)
 
 pub loop-doc-preserved : goal.loop-doc-preserved
 loop-doc-preserved g c =
@@ -56,8 +45,8 @@ loop-doc-preserved g c =
     let share = high_share c.args.powers.now.top c.args.powers.now.bottom in
     let known = next_known kept.next doc (g.T.Relevance.universe c.args.relevant.now) a b c.loop-doc.first.now c.loop-doc.second.now c.requires.rankings.first c.requires.rankings.second next in
     let gain = c.greatest_gain-sum in
-    let found = ap (λ (t : Bool). if t then share c.next_rank-x.result c.next_rank-y.result else pos 0) c.find_relevant-found.ensures in
-    let is = gain_is share (truth doc) a b doc c.next_rank-x.result c.next_rank-y.result gain.result (gain.ensures.gain ∙ found) (c.next_rank-x.ensures a next.first_from) (c.next_rank-y.ensures b next.second_from) in
+    let found = ap (λ (t : Bool). if t then share (rank a doc) (rank b doc) else pos 0) c.find_relevant-found.ensures in
+    let is = gain.ensures.gain a b next.first_from next.second_from ∙ found in
     let before = summed_next universe truth share a b c.loop-doc.first.now c.loop-doc.second.now _ kept doc refl next in
     record {
       next = doc + 1;

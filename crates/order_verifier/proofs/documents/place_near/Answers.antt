@@ -1,8 +1,7 @@
-use Rattle.std.proofs.Common.{◌≡◌, ℕ, ◌+◌, ◌-◌, ◌<◌, length, get_or, ◌∙◌, sym, subst, arith, rules}
+use Rattle.std.proofs.Common.{◌≡◌, ℕ, ◌+◌, ◌-◌, ◌<◌, length, get_or, ◌∙◌, sym, subst, arith}
 use Rattle.std.specs.Ordering.{nat_cmp}
 use Rattle.std.specs.declared.cmp.Ordering.{Ordering}
 use Rattle.std.specs.declared.cmp.Ordering.TheVariants.{Less}
-use Rattle.std.proofs.lemmas.Fn.{always_returns_same}
 use Rattle.order_verifier.specs.Rows.{number_of_pick}
 use Rattle.order_verifier.proofs.NearPlaces.{between, greater_is, last_less}
 use Rattle.order_verifier.proofs.documents.place_near.Goals.{then-near-eq0, else-near-eq0}
@@ -20,7 +19,3 @@ returns-then-is_lt-clause-place c =
           subst (λ (n : ℕ). (n < length picks) × (ord (get_or picks n 0) ≡ Less)) there (last_less ord picks (near - 1) w.order_at.result w.order_at.ensures.within w.order_at.ensures.past (sym w.is_lt.ensures ∙ sym w.value-is ∙ c.if-is_lt.true))
     ] in
     between ord picks near before (λ lt. sym (c.order_at-here.ensures.within lt) ∙ greater_is c.order_at-here.result (sym c.is_gt.ensures ∙ c.if-is_gt.true))
-
-pub returns-clause-place : goal.returns-clause-place
-returns-clause-place c =
-    c.binary_search_by.ensures.position (λ k. nat_cmp (number_of_pick c.args.book.now.docs c.args.numbers.now k) c.args.doc) (always_returns_same _ _ _ (λ a r g called. search rules))
