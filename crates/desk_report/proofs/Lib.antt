@@ -7,6 +7,7 @@ pub mod Rounding
 pub mod Pairing
 pub mod Lines
 pub mod Others
+pub mod Bundles
 pub mod Proposed
 pub mod QrelsTexts
 pub mod Truths

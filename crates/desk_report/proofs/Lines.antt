@@ -150,7 +150,7 @@ module _ (name : MeasureName) (desk : Desk) (marks : List (List Mark)) where
         other_line name desk marks (first ++ 32 ∷ rest) (λ f s g l h e. no_pair (ap (field 0) (sym own ∙ e))) (λ r l h e. absurd (no_run (ap (field 0) (sym own ∙ e.0)))),
       )
 
-  number_in_line : (n : ℕ) → AreInLine (decimal n)
+  pub number_in_line : (n : ℕ) → AreInLine (decimal n)
   number_in_line n = ink_in_line (decimal n) (decimal_ink n)
 
   head_sound : (level topics runs : ℕ) → AllByRecursion (IsSound name desk marks) (head_lines name level topics runs)

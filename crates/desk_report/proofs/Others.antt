@@ -51,7 +51,7 @@ other_word w is no_pair no_run no_certificate = record {
 
 module _ (name : MeasureName) (desk : Desk) (marks : List (List Mark)) where
   -- a line whose first byte is not that of `pair` and `run` claims nothing of runs
-  other_sound : (b : ℕ) (bs : List ℕ) → 32 < b → (b ≡ 112 → ⊥) → (b ≡ 114 → ⊥) → AreInLine (b ∷ bs) → IsSound name desk marks (b ∷ bs)
+  pub other_sound : (b : ℕ) (bs : List ℕ) → 32 < b → (b ≡ 112 → ⊥) → (b ≡ 114 → ⊥) → AreInLine (b ∷ bs) → IsSound name desk marks (b ∷ bs)
   other_sound b bs ink no_pair no_run line = (
     line,
     other_line name desk marks (b ∷ bs)
@@ -60,11 +60,11 @@ module _ (name : MeasureName) (desk : Desk) (marks : List (List Mark)) where
   )
 
   -- ---- numbers and names in a line
-  signed_in_line : (z : ℤ) → AreInLine (signed_decimal z)
+  pub signed_in_line : (z : ℤ) → AreInLine (signed_decimal z)
   signed_in_line (pos n) = ink_in_line (decimal n) (decimal_ink n)
   signed_in_line (negsuc n) = (omega arith, ink_in_line (decimal (suc n)) (decimal_ink (suc n)))
 
-  name_in_line : (text : List ℕ) → is_name text ≡ true → AreInLine text
+  pub name_in_line : (text : List ℕ) → is_name text ≡ true → AreInLine text
   name_in_line text h = ink_in_line text (name_word text h).ink
 
   -- ---- the lines of a certificate
@@ -80,15 +80,15 @@ module _ (name : MeasureName) (desk : Desk) (marks : List (List Mark)) where
   low_highs_sound (b ∷ bs) h =
       (other_sound 116 _ (omega arith) (λ e. omega (arith, e)) (λ e. omega (arith, e)) (in_line-spaced (low_line b) (signed_decimal b.high) (low_in_line b h.0) (signed_in_line b.high)), low_highs_sound bs h.1)
 
-  documents_sound : (names : List (List ℕ)) → AllByRecursion (λ text. is_name text ≡ true) names → AllByRecursion (IsSound name desk marks) (map document_line names)
+  pub documents_sound : (names : List (List ℕ)) → AllByRecursion (λ text. is_name text ≡ true) names → AllByRecursion (IsSound name desk marks) (map document_line names)
   documents_sound [] h = tt
   documents_sound (n ∷ ns) h =
       (other_sound 100 _ (omega arith) (λ e. omega (arith, e)) (λ e. omega (arith, e)) (in_line-append (codes "doc ") n (search rules) (name_in_line n h.0)), documents_sound ns h.1)
 
-  count_in_line : (word topic : List ℕ) (n : ℕ) → AreInLine word → is_name topic ≡ true → AreInLine (count_line word topic n)
+  pub count_in_line : (word topic : List ℕ) (n : ℕ) → AreInLine word → is_name topic ≡ true → AreInLine (count_line word topic n)
   count_in_line word topic n w named = in_line-spaced (word ++ topic) (decimal n) (in_line-append word topic w (name_in_line topic named)) (ink_in_line (decimal n) (decimal_ink n))
 
-  named_in : (names : List (List ℕ)) → AreDocuments names → AllByRecursion (λ text. is_name text ≡ true) names
+  pub named_in : (names : List (List ℕ)) → AreDocuments names → AllByRecursion (λ text. is_name text ≡ true) names
   named_in names are = recursion_from_All (λ text. is_name text ≡ true) names are.ascending.named
 
   witness_sound : (w : TopicWitness) → is_name w.topic ≡ true → AreDocuments w.low → AreDocuments w.high → AllByRecursion (IsSound name desk marks) (witness_lines w)
@@ -102,7 +102,7 @@ module _ (name : MeasureName) (desk : Desk) (marks : List (List Mark)) where
   witnesses_sound [] h k = tt
   witnesses_sound (w ∷ ws) h k = all-append (IsSound name desk marks) (witness_lines w) (flat_map witness_lines ws) (witness_sound w h.0 k.0.0 k.0.1) (witnesses_sound ws h.1 k.1)
 
-  topics_sound : (n : ℕ) → IsSound name desk marks (topics_line n)
+  pub topics_sound : (n : ℕ) → IsSound name desk marks (topics_line n)
   topics_sound n = other_sound 116 _ (omega arith) (λ e. omega (arith, e)) (λ e. omega (arith, e)) (in_line-append (codes "topics ") (decimal n) (search rules) (ink_in_line (decimal n) (decimal_ink n)))
 
   evidence_sound : (e : Evidence) → IsWritable e → AllByRecursion (IsSound name desk marks) (evidence_lines e)

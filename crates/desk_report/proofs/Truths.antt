@@ -13,11 +13,13 @@ use Rattle.desk_model.specs.Named.{book_at, name_at}
 use Rattle.desk_report.specs.Close.{close_line}
 use Rattle.desk_report.specs.Judging.{next_line}
 use Rattle.desk_report.specs.Table.{pair_line, table_text, table_lines, ended}
-use Rattle.order_certificate.specs.Certificate.{IsCertificate, certificate_lines, certificate_text}
-use Rattle.order_certificate.specs.Claim.{ClaimHolds}
-use Rattle.order_certificate.specs.Evidence.{ForEvidence}
-use Rattle.order_certificate.specs.Places.{IsText}
-use Rattle.order_certificate.specs.declared.certificate.Certificate.{Certificate}
+use Rattle.desk_model.specs.MeasureText.{IsMeasure}
+use Rattle.order_certificate.specs.Certificate.{certificate_lines, certificate_text}
+use Rattle.order_bundle.specs.Bundle.{bundle_lines, bundle_text}
+use Rattle.order_bundle.specs.Either.{AnyClaimHolds, AnyEvidenceImpliesClaims, any_measure}
+use Rattle.order_bundle.specs.Places.{IsAnyCertificate, IsAnyText, any_text}
+use Rattle.order_bundle.specs.declared.any_certificate.AnyCertificate.{AnyCertificate}
+use Rattle.order_bundle.specs.declared.any_certificate.AnyCertificate.TheVariants.{One, Many}
 use Rattle.topic_counts.specs.declared.span.Span.{Span}
 use Rattle.measure_laws.specs.Measures.{unit_of}
 use Rattle.pair_table.specs.Orders.{HoldsOfPair, HoldsOfRun, ForEachPair, ForTwoRuns, ForEachRun}
@@ -28,19 +30,21 @@ use Rattle.desk_report.proofs.Spelling.{AreInLine, in_line-spaced, whole_lines-e
 use Rattle.desk_report.proofs.Pairing.{all_weaker}
 use Rattle.desk_report.proofs.Lines.{IsSound, field, two_runs_sound, printed_lines, prefix_all, prefix_true}
 use Rattle.desk_report.proofs.Proposed.{next_is_other, next_rest, rest_in_line, proposal_true}
+use Rattle.desk_report.proofs.Bundles.{bundle_sound}
 use Rattle.desk_report.proofs.Others.{in_line_back, certificate_sound, close_sound, answer_sound, named_sound}
 use Rattle.desk_report.proofs.QrelsTexts.{HasFourFields, qrels_lines, text_of_lines, IsQrelsLine, qrels_sound}
 
 -- a text is written as its certificate is
 abbrev AreWritten : Type 0
-AreWritten = (bytes : List ℕ) (c : Certificate) → IsText bytes c → bytes ≡ certificate_text c
+AreWritten = (bytes : List ℕ) (c : AnyCertificate) → IsAnyText bytes c → bytes ≡ any_text c
 
-certificate_begins : (c : Certificate) → get_or (certificate_text c) 0 0 ≡ 100
-unfolding certificate_text
-certificate_begins c = refl
+certificate_begins : (c : AnyCertificate) → get_or (any_text c) 0 0 ≡ 100
+unfolding certificate_text bundle_text
+certificate_begins (One c) = refl
+certificate_begins (Many b) = refl
 
 -- a text that begins with another byte is no certificate, nor is a prefix of it
-no_certificate : AreWritten → (text : List ℕ) (n : ℕ) (c : Certificate) → (get_or text 0 0 ≡ 100 → ⊥) → IsText (take n text) c → ⊥
+no_certificate : AreWritten → (text : List ℕ) (n : ℕ) (c : AnyCertificate) → (get_or text 0 0 ≡ 100 → ⊥) → IsAnyText (take n text) c → ⊥
 no_certificate written [] zero c other t = other (ap (λ xs. get_or xs 0 0) (written [] c t) ∙ certificate_begins c)
 no_certificate written [] (suc n) c other t = other (ap (λ xs. get_or xs 0 0) (written [] c t) ∙ certificate_begins c)
 no_certificate written (b ∷ bs) zero c other t = let e : 0 ≡ 100 = ap (λ xs. get_or xs 0 0) (written [] c t) ∙ certificate_begins c in absurd (omega (arith, e))
@@ -58,19 +62,25 @@ tables_true pairs runs exact written name desk marks level received bounds total
       claim = λ c t. absurd (no_certificate written text received c (λ e. let two : 109 ≡ 100 = sym (table_begins desk name level (pos (unit_of name)) bounds totals) ∙ e in omega (arith, two)) t);
     }
 
-pub certificates_true : AreWritten → ((c : Certificate) → IsCertificate c → IsText (certificate_text c) c) → ForEvidence (λ c desk marks. ClaimHolds c desk marks) →
-    ((bytes more : List ℕ) (c d : Certificate) → IsText bytes c → IsText (bytes ++ more) d → (more ≡ []) × (c ≡ d)) → CertificatesAreTrue
-unfolding certificate_text
-certificates_true written texts holds alone c desk marks received is valid marked evidence = record { lines = lines; claim = claim }
-  where
-    lines : All (IsTrueLine c.measure desk marks) (whole_lines (take received (certificate_text c)))
-    lines = prefix_true c.measure desk marks (certificate_lines c) received (certificate_sound c.measure desk marks c is)
+-- the lines of a certificate of either version
+lines_true : (c : AnyCertificate) (desk : Desk) (marks : List (List Mark)) (received : ℕ) → IsAnyCertificate c → All (IsTrueLine (any_measure c) desk marks) (whole_lines (take received (any_text c)))
+unfolding certificate_text bundle_text
+lines_true (One c) desk marks received within = prefix_true c.measure desk marks (certificate_lines c) received (certificate_sound c.measure desk marks c within)
+lines_true (Many b) desk marks received within = prefix_true b.measure desk marks (bundle_lines b) received (bundle_sound b.measure desk marks b within)
 
-    claim : (d : Certificate) → IsText (take received (certificate_text c)) d → (d.measure ≡ c.measure) × ClaimHolds d desk marks
+measure_within : (c : AnyCertificate) → IsAnyCertificate c → IsMeasure (any_measure c)
+measure_within (One c) within = within.measure
+measure_within (Many b) within = within.measure
+
+pub certificates_true : ((c : AnyCertificate) → IsAnyCertificate c → IsAnyText (any_text c) c) → AnyEvidenceImpliesClaims →
+    ((bytes more : List ℕ) (c d : AnyCertificate) → IsAnyText bytes c → IsAnyText (bytes ++ more) d → (more ≡ []) × (c ≡ d)) → CertificatesAreTrue
+certificates_true texts holds alone c desk marks received is valid marked evidence = record { lines = lines_true c desk marks received is; claim = claim }
+  where
+    claim : (d : AnyCertificate) → IsAnyText (take received (any_text c)) d → (any_measure d ≡ any_measure c) × AnyClaimHolds d desk marks
     claim d t =
-        let joined : IsText (take received (certificate_text c) ++ drop received (certificate_text c)) c = subst (λ z. IsText z c) (sym (take-append-drop received (certificate_text c))) (texts c is) in
-        let same : d ≡ c = (alone (take received (certificate_text c)) (drop received (certificate_text c)) d c t joined).1 in
-        (ap (λ (z : Certificate). z.measure) same, subst (λ z. ClaimHolds z desk marks) (sym same) (holds c desk marks is.measure valid marked evidence))
+        let joined : IsAnyText (take received (any_text c) ++ drop received (any_text c)) c = subst (λ z. IsAnyText z c) (sym (take-append-drop received (any_text c))) (texts c is) in
+        let same : d ≡ c = (alone (take received (any_text c)) (drop received (any_text c)) d c t joined).1 in
+        (ap any_measure same, subst (λ z. AnyClaimHolds z desk marks) (sym same) (holds c desk marks (measure_within c is) valid marked evidence))
 
 -- the whole lines of a prefix of one line
 sound_lines : (name : MeasureName) (desk : Desk) (marks : List (List Mark)) (line : List ℕ) (received : ℕ) → IsSound name desk marks line → All (IsTrueLine name desk marks) (whole_lines (take received (ended line)))
@@ -105,31 +115,41 @@ pub answer_true : AreWritten → AnswerLinesAreTrue
 answer_true written name desk marks word rest received is line = line_true written name desk marks (word ++ rest) received (answer_sound name desk marks word rest is line) (answer_begins word rest is)
 
 -- ---- the judgements in force
--- the first line of a certificate, which has two fields
-certificate_first : (c : Certificate) → (more : List (List ℕ)) × (whole_lines (certificate_text c) ≡ codes "desk-certificate 1" ∷ more)
-unfolding certificate_text
-certificate_first c =
+-- the first line of a certificate begins with its own word, and has two fields
+record FirstLine (c : AnyCertificate) : Type 0 where
+  line : List ℕ
+  more : List (List ℕ)
+  is : whole_lines (any_text c) ≡ line ∷ more
+  first : field 0 (fields_of line) ≡ codes "desk-certificate"
+  two : length (fields_of line) ≡ 2
+
+certificate_first : (c : AnyCertificate) → FirstLine c
+unfolding certificate_text bundle_text
+certificate_first (One c) =
     let rest : List ℕ = flat_map ended (drop 1 (certificate_lines c)) in
-    (whole_lines rest, whole_lines-ended (codes "desk-certificate 1") rest (search rules))
+    record { line = codes "desk-certificate 1"; more = whole_lines rest; is = whole_lines-ended (codes "desk-certificate 1") rest (search rules); first = refl; two = refl }
+certificate_first (Many b) =
+    let rest : List ℕ = flat_map ended (drop 1 (bundle_lines b)) in
+    record { line = codes "desk-certificate 2"; more = whole_lines rest; is = whole_lines-ended (codes "desk-certificate 2") rest (search rules); first = refl; two = refl }
 
 -- no prefix of lines of four fields is a certificate
-no_certificate_of_four : AreWritten → (lines : List (List ℕ)) (n : ℕ) (c : Certificate) → AllByRecursion AreInLine lines → AllByRecursion HasFourFields lines → IsText (take n (flat_map ended lines)) c → ⊥
+no_certificate_of_four : AreWritten → (lines : List (List ℕ)) (n : ℕ) (c : AnyCertificate) → AllByRecursion AreInLine lines → AllByRecursion HasFourFields lines → IsAnyText (take n (flat_map ended lines)) c → ⊥
 no_certificate_of_four written lines n c in_line four t =
     let first = certificate_first c in
-    let own : whole_lines (take n (flat_map ended lines)) ≡ codes "desk-certificate 1" ∷ first.0 = ap whole_lines (written (take n (flat_map ended lines)) c t) ∙ first.1 in
-    let all : AllByRecursion HasFourFields (codes "desk-certificate 1" ∷ first.0) = subst (AllByRecursion HasFourFields) own (prefix_all HasFourFields lines n in_line four) in
-    let two : 2 ≡ 4 = all.0 in
+    let own : whole_lines (take n (flat_map ended lines)) ≡ first.line ∷ first.more = ap whole_lines (written (take n (flat_map ended lines)) c t) ∙ first.is in
+    let all : AllByRecursion HasFourFields (first.line ∷ first.more) = subst (AllByRecursion HasFourFields) own (prefix_all HasFourFields lines n in_line four) in
+    let two : 2 ≡ 4 = sym first.two ∙ all.0 in
     omega (arith, two)
 
 -- no prefix of a line of another word is a certificate
-no_certificate_of_other : AreWritten → (word rest : List ℕ) (n : ℕ) (c : Certificate) → IsOtherWord word → IsInLine rest → AreInLine (word ++ 32 ∷ rest) → IsText (take n (ended (word ++ 32 ∷ rest))) c → ⊥
+no_certificate_of_other : AreWritten → (word rest : List ℕ) (n : ℕ) (c : AnyCertificate) → IsOtherWord word → IsInLine rest → AreInLine (word ++ 32 ∷ rest) → IsAnyText (take n (ended (word ++ 32 ∷ rest))) c → ⊥
 no_certificate_of_other written word rest n c is line in_line t =
     let own : List ℕ = word ++ 32 ∷ rest in
     let first = certificate_first c in
-    let cut : whole_lines (take n (ended own ++ [])) ≡ codes "desk-certificate 1" ∷ first.0 =
-    ap (λ z. whole_lines (take n z)) (append-nil (ended own)) ∙ ap whole_lines (written (take n (ended own)) c t) ∙ first.1 in
-    let all : AllByRecursion (λ l. l ≡ own) (codes "desk-certificate 1" ∷ first.0) = subst (AllByRecursion (λ l. l ≡ own)) cut (prefix_all (λ l. l ≡ own) (own ∷ []) n (in_line, tt) (refl, tt)) in
-    is.no_certificate (sym (ap (field 0) (ap fields_of all.0 ∙ fields_word word rest (name_word word is.is))))
+    let cut : whole_lines (take n (ended own ++ [])) ≡ first.line ∷ first.more =
+    ap (λ z. whole_lines (take n z)) (append-nil (ended own)) ∙ ap whole_lines (written (take n (ended own)) c t) ∙ first.is in
+    let all : AllByRecursion (λ l. l ≡ own) (first.line ∷ first.more) = subst (AllByRecursion (λ l. l ≡ own)) cut (prefix_all (λ l. l ≡ own) (own ∷ []) n (in_line, tt) (refl, tt)) in
+    is.no_certificate (sym (ap (field 0) (fields_word word rest (name_word word is.is))) ∙ sym (ap (λ l. field 0 (fields_of l)) all.0) ∙ first.first)
 
 pub other_true : AreWritten → OtherLinesAreTrue
 other_true written name desk marks word rest received is line =

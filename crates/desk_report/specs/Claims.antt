@@ -25,11 +25,9 @@ use Rattle.desk_report.specs.Close.{close_line}
 use Rattle.desk_report.specs.Judging.{qrels_text, next_line}
 use Rattle.next_document.specs.Proposal.{Standing, IsProposal, HaveNoWeight, IsNext}
 use Rattle.next_document.specs.declared.proposal.Proposal.{Proposal}
-use Rattle.order_certificate.specs.Certificate.{IsCertificate, certificate_text}
-use Rattle.order_certificate.specs.Places.{IsText}
-use Rattle.order_certificate.specs.Claim.{ClaimHolds}
-use Rattle.order_certificate.specs.Evidence.{IsEvidence}
-use Rattle.order_certificate.specs.declared.certificate.Certificate.{Certificate}
+use Rattle.order_bundle.specs.Either.{AnyClaimHolds, IsAnyEvidence, any_measure}
+use Rattle.order_bundle.specs.Places.{IsAnyCertificate, IsAnyText, any_text}
+use Rattle.order_bundle.specs.declared.any_certificate.AnyCertificate.{AnyCertificate}
 
 -- the desk has a run of this name, and a fact holds of its number
 pub record HoldsByName (desk : Desk) (name : List ℕ) (fact : ℕ → Type 0) : Type 0 where
@@ -107,10 +105,10 @@ ForEachLine fact =
     IsMeasure name → IsDesk desk → AreMarksOf desk marks → AreNumbersIn name desk marks bounds totals →
     All (fact name desk marks) (whole_lines (take received (table_text desk name level (pos (unit_of name)) bounds totals)))
 
--- what received bytes claim of a desk under marks is true: each whole line, and where they are a certificate, that too
+-- what received bytes claim of a desk under marks is true: each whole line, and where they are a certificate of either version, that too: its claim, or all its claims
 pub record IsTrueText (name : MeasureName) (desk : Desk) (marks : List (List Mark)) (received : List ℕ) : Type 0 where
   pub lines : All (IsTrueLine name desk marks) (whole_lines received)
-  pub claim : (c : Certificate) → IsText received c → (c.measure ≡ name) × ClaimHolds c desk marks
+  pub claim : (c : AnyCertificate) → IsAnyText received c → (any_measure c ≡ name) × AnyClaimHolds c desk marks
 
 -- whatever was received of a table is true
 abbrev pub TablesAreTrue : Type 0
@@ -119,11 +117,11 @@ TablesAreTrue =
     IsMeasure name → IsDesk desk → AreMarksOf desk marks → AreNumbersIn name desk marks bounds totals →
     IsTrueText name desk marks (take received (table_text desk name level (pos (unit_of name)) bounds totals))
 
--- whatever was received of a certificate that is evidence is true
+-- whatever was received of a certificate of either version that is evidence is true
 abbrev pub CertificatesAreTrue : Type 0
 CertificatesAreTrue =
-    (c : Certificate) (desk : Desk) (marks : List (List Mark)) (received : ℕ) → IsCertificate c → IsDesk desk → AreMarksOf desk marks → IsEvidence c desk marks →
-    IsTrueText c.measure desk marks (take received (certificate_text c))
+    (c : AnyCertificate) (desk : Desk) (marks : List (List Mark)) (received : ℕ) → IsAnyCertificate c → IsDesk desk → AreMarksOf desk marks → IsAnyEvidence c desk marks →
+    IsTrueText (any_measure c) desk marks (take received (any_text c))
 
 -- whatever was received of the line of two different runs, in either order, is true where its sums are the numbers of the name
 abbrev pub PairLinesAreTrue : Type 0

@@ -3,11 +3,13 @@
 //! What was received of a text claims nothing false, under a measure's name and marks of a desk, where
 //! two things hold. Each whole line received claims nothing false of the runs: a line claims something
 //! only where it is `pair FIRST WORD SECOND LOW HIGH`, or `run NAME LOW HIGH` with LOW and HIGH printed
-//! with a point and six digits. And where what was received is a certificate, it is one of that measure
-//! and its claim holds.
+//! with a point and six digits. And where what was received is a certificate of either version, it is one
+//! of that measure, and its claim holds, or all its claims.
 ghost use Rattle.desk_report.specs.Claims.{TablesAreTrue, CertificatesAreTrue, PairLinesAreTrue, CloseLinesAreTrue, AnswerLinesAreTrue, OtherLinesAreTrue, NextLinesAreTrue, QrelsTextsAreTrue, NoTextIsTrue};
 
-use order_certificate::{certificates_have_texts, evidence_implies_claim, no_text_begins_another};
+use order_bundle::{
+    any_certificates_have_texts, any_evidence_implies_claims, no_any_text_begins_another,
+};
 use pair_table::laws::{
     numbers_hold_in_every_completion, numbers_of_two_runs_hold, precision_is_exact,
 };
@@ -22,7 +24,7 @@ pub fn printed_tables_are_true()
 {
     numbers_hold_in_every_completion();
     precision_is_exact();
-    certificates_have_texts();
+    any_certificates_have_texts();
 }
 
 /// Whatever was received of the line of two different runs, in either order, claims nothing false, where
@@ -31,23 +33,23 @@ pub fn printed_pair_lines_are_true()
     ensures { PairLinesAreTrue }
 {
     numbers_of_two_runs_hold();
-    certificates_have_texts();
+    any_certificates_have_texts();
 }
 
-/// Whatever was received of the text of a certificate that is evidence claims nothing false.
+/// Whatever was received of the text of a certificate of either version that is evidence claims nothing false.
 pub fn printed_certificates_are_true()
     ensures { CertificatesAreTrue }
 {
-    certificates_have_texts();
-    evidence_implies_claim();
-    no_text_begins_another();
+    any_certificates_have_texts();
+    any_evidence_implies_claims();
+    no_any_text_begins_another();
 }
 
 /// Whatever was received of a close line claims nothing false.
 pub fn close_lines_are_true()
     ensures { CloseLinesAreTrue }
 {
-    certificates_have_texts();
+    any_certificates_have_texts();
 }
 
 /// Whatever was received of the line that tells what checking a certificate answered claims nothing
@@ -55,7 +57,7 @@ pub fn close_lines_are_true()
 pub fn answer_lines_are_true()
     ensures { AnswerLinesAreTrue }
 {
-    certificates_have_texts();
+    any_certificates_have_texts();
 }
 
 /// Whatever was received of a line whose first word is not `pair`, `run` or `desk-certificate` claims
@@ -63,7 +65,7 @@ pub fn answer_lines_are_true()
 pub fn other_lines_are_true()
     ensures { OtherLinesAreTrue }
 {
-    certificates_have_texts();
+    any_certificates_have_texts();
 }
 
 /// Whatever was received of the line of what is to be judged next claims nothing false of the runs, and what
@@ -72,7 +74,7 @@ pub fn other_lines_are_true()
 pub fn next_lines_are_true()
     ensures { NextLinesAreTrue }
 {
-    certificates_have_texts();
+    any_certificates_have_texts();
 }
 
 /// Whatever was received of the judgements in force, as the text of a judgements file, claims nothing
@@ -81,12 +83,12 @@ pub fn next_lines_are_true()
 pub fn qrels_texts_are_true()
     ensures { QrelsTextsAreTrue }
 {
-    certificates_have_texts();
+    any_certificates_have_texts();
 }
 
 /// A text without bytes claims nothing false.
 pub fn no_text_is_true()
     ensures { NoTextIsTrue }
 {
-    certificates_have_texts();
+    any_certificates_have_texts();
 }
