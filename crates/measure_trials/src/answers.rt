@@ -15,7 +15,8 @@ use std::sync::ledger::{Blank, Ledger};
 use std::test::Fail;
 use topic_counts::Span;
 
-/// The cell and both cases of two runs, the bounds of the first, and the weight of a document.
+/// The cell and both cases of two runs, the documents of the least one, the bounds of the first, and the weight of a
+/// document.
 #[derive(Drop)]
 pub struct Answers {
     pub unit: i128,
@@ -24,6 +25,7 @@ pub struct Answers {
     pub weight: u128,
     pub least_case: Vec<bool>,
     pub most_case: Vec<bool>,
+    pub least_docs: Vec<u32>,
 }
 
 pub fn ranking(rt: &impl Abort, alloc: Global, docs: &[u32], universe: u32) -> Result<Ranking, Fail>
@@ -63,6 +65,8 @@ fn answers_of(
     requires universe { length marks.now ≤ 100 }
     requires doc { doc < length marks.now }
 {
+    let mut least_docs = Vec::new(alloc);
+    measure.push_least_docs(alloc, first, second, marks, &mut least_docs)?;
     Ok(Answers {
         unit: measure.unit(),
         cell: cell_once::<Brand>(measure, first, second, marks, Blank::new(1)),
@@ -70,6 +74,7 @@ fn answers_of(
         weight: measure.weight(first, second, marks, doc),
         least_case: measure.least_case(alloc, first, second, marks)?,
         most_case: measure.most_case(alloc, first, second, marks)?,
+        least_docs,
     })
 }
 

@@ -5,6 +5,8 @@
 #[cfg(test)]
 mod answers;
 #[cfg(test)]
+mod list_tests;
+#[cfg(test)]
 mod model;
 #[cfg(test)]
 mod plain;
