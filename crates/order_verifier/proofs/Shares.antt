@@ -95,8 +95,3 @@ least_gain_is share marks a b n x y mark gain e ex ey em =
     e ∙ ap (λ (o : Option ℕ). if picked_value (comes_before y o) mark then share o y else pos 0) ex
     ∙ ap (λ (o : Option ℕ). if picked_value (comes_before o (rank a n)) mark then share (rank a n) o else pos 0) ey
     ∙ ap (λ (m : Mark). if picked_value (comes_before (rank b n) (rank a n)) m then share (rank a n) (rank b n) else pos 0) em
-
--- and in one completion
-pub gain_is : (share : Option ℕ → Option ℕ → ℤ) (truth : Bool) (a b : List ℕ) (n : ℕ) (x y : Option ℕ) (gain : ℤ) → gain ≡ (if truth then share x y else pos 0) → x ≡ rank a n → y ≡ rank b n →
-    gain ≡ (if truth then share (rank a n) (rank b n) else pos 0)
-gain_is share truth a b n x y gain e ex ey = e ∙ ap (λ (o : Option ℕ). if truth then share o y else pos 0) ex ∙ ap (λ (o : Option ℕ). if truth then share (rank a n) o else pos 0) ey
