@@ -13,7 +13,7 @@ use std::alloc::Global;
 use std::marker::Brand;
 use std::sync::ledger::{Blank, Ledger};
 use std::test::Fail;
-use table_bundle::bundle_of;
+use table_bundle::{bundle_of, table_bundle_length};
 
 const QRELS: &[u8] = b"401 0 d1 1\n401 0 d2 0\n";
 
@@ -26,8 +26,12 @@ const C: &[u8] = b"401 Q0 z1 1 2 C\n401 Q0 z2 2 1 C\n";
 const TEXT: &[u8] =
     b"desk-certificate 2\nmeasure recall_1\nlevel 1\nruns 3\nrun A\nrun B\nrun C\ntopics 1\ntopic 401 1\ndoc z1\nclaims 3\nclaim above 0 1\nbound 333333333333333333\nclaim open 0 2\nlow 1\npick 0\nhigh 0\nclaim open 1 2\nlow 1\npick 0\nhigh 0\nend\n";
 
-// The text of the bundle of three runs in this order.
-fn text_of<L: Ledger>(alloc: Global, blank: Blank, files: [&[u8]; 3]) -> Result<Vec<u8>, Fail>
+// The text of the bundle of three runs in this order, and how long it is by the count that makes no bundle.
+fn text_of<L: Ledger>(
+    alloc: Global,
+    blank: Blank,
+    files: [&[u8]; 3],
+) -> Result<(Vec<u8>, u64), Fail>
     requires name { blank.name ≡ L.name }
     requires parts { blank.parts ≡ L.parts }
     requires some { 0 < blank.parts }
@@ -37,18 +41,19 @@ fn text_of<L: Ledger>(alloc: Global, blank: Blank, files: [&[u8]; 3]) -> Result<
     let marks = marks_of(alloc, &desk)?;
     let measure = AnyMeasure::new(alloc, MeasureName::Recall(1))?;
     let table = Table::new(alloc, &desk, &marks, measure, &mut steps)?;
+    let bytes = table_bundle_length(alloc, &table, &desk, &marks, 1)?;
     let bundle = bundle_of(alloc, &table, &desk, &marks, 1)?;
     let text = write_bundle(alloc, &bundle)?;
-    Ok(text)
+    Ok((text, bytes))
 }
 
-fn bundle_text(alloc: Global, files: [&[u8]; 3]) -> Result<Vec<u8>, Fail> {
+fn bundle_text(alloc: Global, files: [&[u8]; 3]) -> Result<(Vec<u8>, u64), Fail> {
     text_of::<Brand>(alloc, Blank::new(1), files)
 }
 
 #[test]
 fn all_pairs_in_one(rt: HostRuntime) -> Result<(), Fail> {
-    let text = bundle_text(rt.alloc(), [A, B, C])?;
+    let (text, _) = bundle_text(rt.alloc(), [A, B, C])?;
     assert_eq!(rt; text.as_slice(), TEXT);
     Ok(())
 }
@@ -56,7 +61,14 @@ fn all_pairs_in_one(rt: HostRuntime) -> Result<(), Fail> {
 // Runs are numbered by their names, in whatever order they are given.
 #[test]
 fn runs_go_by_name(rt: HostRuntime) -> Result<(), Fail> {
-    let text = bundle_text(rt.alloc(), [C, B, A])?;
+    let (text, _) = bundle_text(rt.alloc(), [C, B, A])?;
     assert_eq!(rt; text.as_slice(), TEXT);
+    Ok(())
+}
+
+#[test]
+fn length_is_known_before(rt: HostRuntime) -> Result<(), Fail> {
+    let (_, bytes) = bundle_text(rt.alloc(), [A, B, C])?;
+    assert_eq!(rt; bytes, TEXT.len() as u64);
     Ok(())
 }

@@ -1,4 +1,4 @@
-// How long the text of a bundle is, counted without making it.
+//! How long the text of a bundle is, counted without making it: the bytes of its parts, each line with its line feed.
 ghost use Rattle.std.specs.Prelude.{◌≡◌, ◌≤◌, ◌+◌, ◌*◌, ◌^◌, ◌++◌, All, length, decimal, map, flat_map};
 ghost use Rattle.std.specs.Fmt.{signed_decimal};
 ghost use Rattle.desk_model.specs.Limits.{DOCUMENT_LIMIT, RUN_LIMIT, TOPIC_LIMIT};
@@ -10,8 +10,8 @@ use crate::bundle::{Bound, Bundle, PairClaim, PairEvidence, Picks, TopicNames};
 use desk_model::{MeasureName, Name};
 use itoa::Buffer;
 
-// How many digits a number has.
-fn digits(number: u64) -> u64
+/// How many digits a number has.
+pub fn digits(number: u64) -> u64
     ensures count { result ≡ length (decimal number) }
     ensures few { result ≤ 40 }
 {
@@ -106,16 +106,16 @@ fn both_bounds_length(bounds: &[Bound]) -> u64
     bytes
 }
 
-// The numbers of two runs.
-fn runs_text_length(first: u32, second: u32) -> u64
+/// The numbers of two runs: `first second`.
+pub fn runs_text_length(first: u32, second: u32) -> u64
     ensures count { result ≡ length (runs_text first second) }
     ensures few { result ≤ 81 }
 {
     digits(u64::from(first)) + digits(u64::from(second)) + 1
 }
 
-// A claim with its evidence.
-fn claim_length(claim: &PairClaim) -> u64
+/// The lines of a claim with its evidence.
+pub fn claim_length(claim: &PairClaim) -> u64
     requires { HasFewRows claim.now }
     ensures count { result ≡ text_length (claim_lines claim.now) }
     ensures few { result ≤ 23000002000200 }
@@ -142,8 +142,8 @@ fn each_claim_length(claims: &[PairClaim]) -> u64
     bytes
 }
 
-// Names, each after a word.
-fn names_length(word: &[u8], names: &[Name]) -> u64
+/// The lines of names, each after a word.
+pub fn names_length(word: &[u8], names: &[Name]) -> u64
     requires word { length word.now ≤ 10 }
     requires few { length names.now ≤ DOCUMENT_LIMIT }
     ensures count { result ≡ text_length (map (λ name. word.now ++ name) names.now) }
@@ -196,8 +196,8 @@ fn measure_length(measure: &MeasureName) -> u64
     }
 }
 
-// The first lines: which form it is, and what the runs are compared by.
-fn opening_length(measure: &MeasureName, level: u32) -> u64
+/// The first lines: which form it is, and what the runs are compared by.
+pub fn opening_length(measure: &MeasureName, level: u32) -> u64
     requires { IsMeasure measure.now }
     ensures count { result ≡ text_length (opening_lines measure.now level) }
     ensures few { result ≤ 200 }

@@ -5,7 +5,7 @@ pub mod any_certificate;
 pub mod bundle;
 mod claims;
 pub mod laws;
-mod length;
+pub mod length;
 mod places;
 mod reading;
 mod topics;

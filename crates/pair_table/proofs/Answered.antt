@@ -3,13 +3,15 @@ use Rattle.std.proofs.Common.{◌≡◌, ◌≢◌, ℕ, ◌<◌, List, length, 
 use Rattle.std.specs.Prelude.{slice_get}
 use Rattle.desk_model.specs.Desk.{Desk, IsDesk, AreMarksOf, topics_under}
 use Rattle.desk_model.specs.Extremes.{Ends}
-use Rattle.desk_model.specs.Verdict.{verdict}
+use Rattle.desk_model.specs.Order.{Topic}
+use Rattle.desk_model.specs.Verdict.{totals_of, verdict}
 use Rattle.desk_model.specs.declared.types.Mark.{Mark}
 use Rattle.desk_model.specs.declared.types.MeasureName.{MeasureName}
 use Rattle.desk_model.specs.declared.types.Totals.{Totals}
 use Rattle.desk_model.specs.declared.types.Verdict.{Verdict}
 use Rattle.desk_model.specs.declared.types.Verdict.TheVariants.{Above, Below, Equal, Open, Close}
 use Rattle.topic_counts.specs.declared.span.Span.{Span}
+use Rattle.measure_laws.proofs.Unique.{named_ends_unique}
 use Rattle.measure_core.specs.Laws.{AreMet}
 use Rattle.measure_core.specs.Made.{HasEnds, AreNumbersOfName}
 use Rattle.measure_core.specs.declared.cell.Cell.{Cell}
@@ -22,9 +24,8 @@ use Rattle.pair_table.specs.declared.evidence.EvidenceFault.{EvidenceFault}
 use Rattle.pair_table.specs.declared.evidence.EvidenceFault.TheVariants.{Close as CloseBy, Memory}
 use Rattle.pair_table.proofs.DeskTopics.{topics_met}
 use Rattle.pair_table.proofs.Listing.{there_number}
-use Rattle.pair_table.proofs.Named.{pair_unique, ends_one}
 use Rattle.pair_table.proofs.Orders.{MetBy}
-use Rattle.pair_table.proofs.Zips.{zip_then}
+use Rattle.pair_table.proofs.Zips.{zip_then, zip_unique_first}
 
 -- ---- from one kind of ends to another
 module _ (Has Has' : HaveEnds) (gives : (m : List Mark) (a b : List ℕ) (e : Ends) → AreMet m a b → Has m a b e → Has' m a b e) (measure : MeasureName) (desk : Desk) (marks : List (List Mark)) (level : ℕ) (is_desk : IsDesk desk) (known : AreMarksOf desk marks) where
@@ -62,7 +63,12 @@ same_certificate : (m m' : MeasureName) (l l' : ℕ) (f f' s s' : List ℕ) (e e
 same_certificate m m' l l' f f' s s' e e' p q r t u =
     ap (λ x. certificate x l f s e) p ∙ ap (λ x. certificate m' x f s e) q ∙ ap (λ x. certificate m' l' x s e) r ∙ ap (λ x. certificate m' l' f' x e) t ∙ ap (λ x. certificate m' l' f' s' x) u
 
-module _ (name : MeasureName) (desk : Desk) (marks : List (List Mark)) (level : ℕ) where
+-- by whichever ends two rankings have, where they have one kind of them
+module _ (Has : HaveEnds) (one : (m : List Mark) (a b : List ℕ) (e f : Ends) → Has m a b e → Has m a b f → e ≡ f) (name : MeasureName) (desk : Desk) (marks : List (List Mark)) (level : ℕ) where
+  same_ends : (a b : ℕ) (ends others : List Ends) → AreEndsBy Has (topics_under desk marks) a b ends → AreEndsBy Has (topics_under desk marks) a b others → ends ≡ others
+  same_ends a b ends others h g =
+      zip_unique_first (λ (e : Ends) (topic : Topic). Has topic.marks (topic.ranking a) (topic.ranking b) e) (λ e f topic x y. one topic.marks (topic.ranking a) (topic.ranking b) e f x y) ends others (topics_under desk marks) h g
+
   one_run : (run : ℕ) (x y : List ℕ) → slice_get desk.runs run ≡ Some x → slice_get desk.runs run ≡ Some y → x ≡ y
   one_run run x y e f = cc
 
@@ -73,30 +79,33 @@ module _ (name : MeasureName) (desk : Desk) (marks : List (List Mark)) (level : 
       (one_run a c.first d.first (there_number desk.runs c.first a h.runs.0) (there_number desk.runs d.first a k.runs.0))
       (one_run b c.second d.second (there_number desk.runs c.second b h.runs.1) (there_number desk.runs d.second b k.runs.1)) same
 
-  one_said : (a b : ℕ) (c d : Certificate) (v : Verdict) → SaysOfVerdict (HasEnds name) name desk marks level a b c v → SaysOfVerdict (HasEnds name) name desk marks level a b d v → c ≡ d
+  one_said : (a b : ℕ) (c d : Certificate) (v : Verdict) → SaysOfVerdict Has name desk marks level a b c v → SaysOfVerdict Has name desk marks level a b d v → c ≡ d
   one_said a b c d Above h k =
-      one_compared a b c d h.compares k.compares (h.bounds ∙ ap (λ ends. AboveBy (bounds_of _ desk ends)) (ends_one name (topics_under desk marks) a b h.ends k.ends h.named k.named) ∙ sym k.bounds)
+      one_compared a b c d h.compares k.compares (h.bounds ∙ ap (λ ends. AboveBy (bounds_of _ desk ends)) (same_ends a b h.ends k.ends h.named k.named) ∙ sym k.bounds)
   one_said a b c d Below h k =
-      one_compared b a c d h.compares k.compares (h.bounds ∙ ap (λ ends. AboveBy (bounds_of _ desk ends)) (ends_one name (topics_under desk marks) b a h.ends k.ends h.named k.named) ∙ sym k.bounds)
+      one_compared b a c d h.compares k.compares (h.bounds ∙ ap (λ ends. AboveBy (bounds_of _ desk ends)) (same_ends b a h.ends k.ends h.named k.named) ∙ sym k.bounds)
   one_said a b c d Equal h k =
-      one_compared a b c d h.compares k.compares (h.bounds ∙ ap (λ ends. EqualBy (bounds_of _ desk ends)) (ends_one name (topics_under desk marks) a b h.ends k.ends h.named k.named) ∙ sym k.bounds)
+      one_compared a b c d h.compares k.compares (h.bounds ∙ ap (λ ends. EqualBy (bounds_of _ desk ends)) (same_ends a b h.ends k.ends h.named k.named) ∙ sym k.bounds)
   one_said a b c d Open h k = one_compared a b c d h.compares k.compares (h.cases ∙ sym k.cases)
   one_said a b c d Close h k = absurd h
 
-  one_sums : (a b : ℕ) (t u : Totals) → ArePairSums (HasEnds name) (topics_under desk marks) a b t → ArePairSums (HasEnds name) (topics_under desk marks) a b u → t ≡ u
-  one_sums a b t u h k = pair_unique name (topics_under desk marks) a b t u h k
+  one_sums : (a b : ℕ) (t u : Totals) → ArePairSums Has (topics_under desk marks) a b t → ArePairSums Has (topics_under desk marks) a b u → t ≡ u
+  one_sums a b t u h k = h.summed ∙ ap totals_of (same_ends a b h.ends k.ends h.named k.named) ∙ sym k.summed
 
   -- a close verdict has no certificate
-  none_close : (a b : ℕ) (c : Certificate) (sums : Totals) → IsCertificateOf (HasEnds name) name desk marks level a b c → ArePairSums (HasEnds name) (topics_under desk marks) a b sums → verdict sums ≡ Close → ⊥
-  none_close a b c sums h k close = subst (SaysOfVerdict (HasEnds name) name desk marks level a b c) (ap verdict (one_sums a b h.sums sums h.summed k) ∙ close) h.says
+  none_close : (a b : ℕ) (c : Certificate) (sums : Totals) → IsCertificateOf Has name desk marks level a b c → ArePairSums Has (topics_under desk marks) a b sums → verdict sums ≡ Close → ⊥
+  none_close a b c sums h k close = subst (SaysOfVerdict Has name desk marks level a b c) (ap verdict (one_sums a b h.sums sums h.summed k) ∙ close) h.says
+
+  pub one_answer_by : (a b : ℕ) (answer other : Result Certificate EvidenceFault) → IsAnswered Has name desk marks level a b answer → IsAnswered Has name desk marks level a b other → answer ≢ Err Memory → other ≢ Err Memory → answer ≡ other
+  one_answer_by a b (Ok c) (Ok d) h k m n =
+      ap Ok (one_said a b c d (verdict h.sums) h.says
+      (subst (SaysOfVerdict Has name desk marks level a b d) (ap verdict (one_sums a b k.sums h.sums k.summed h.summed)) k.says))
+  one_answer_by a b (Ok c) (Err (CloseBy sums)) h k m n = absurd (none_close a b c sums h k.0 k.1)
+  one_answer_by a b (Err (CloseBy sums)) (Ok d) h k m n = absurd (none_close a b d sums k h.0 h.1)
+  one_answer_by a b (Err (CloseBy sums)) (Err (CloseBy others)) h k m n = ap (λ t. Err (CloseBy t)) (one_sums a b sums others h.0 k.0)
+  one_answer_by a b (Err Memory) other h k m n = absurd (m refl)
+  one_answer_by a b answer (Err Memory) h k m n = absurd (n refl)
 
 pub one_answer : (name : MeasureName) (desk : Desk) (marks : List (List Mark)) (level a b : ℕ) (answer other : Result Certificate EvidenceFault) →
     IsAnswered (HasEnds name) name desk marks level a b answer → IsAnswered (HasEnds name) name desk marks level a b other → answer ≢ Err Memory → other ≢ Err Memory → answer ≡ other
-one_answer name desk marks level a b (Ok c) (Ok d) h k m n =
-    ap Ok (one_said name desk marks level a b c d (verdict h.sums) h.says
-    (subst (SaysOfVerdict (HasEnds name) name desk marks level a b d) (ap verdict (one_sums name desk marks level a b k.sums h.sums k.summed h.summed)) k.says))
-one_answer name desk marks level a b (Ok c) (Err (CloseBy sums)) h k m n = absurd (none_close name desk marks level a b c sums h k.0 k.1)
-one_answer name desk marks level a b (Err (CloseBy sums)) (Ok d) h k m n = absurd (none_close name desk marks level a b d sums k h.0 h.1)
-one_answer name desk marks level a b (Err (CloseBy sums)) (Err (CloseBy others)) h k m n = ap (λ t. Err (CloseBy t)) (one_sums name desk marks level a b sums others h.0 k.0)
-one_answer name desk marks level a b (Err Memory) other h k m n = absurd (m refl)
-one_answer name desk marks level a b answer (Err Memory) h k m n = absurd (n refl)
+one_answer name desk marks level a b = one_answer_by (HasEnds name) (named_ends_unique name) name desk marks level a b

@@ -1,16 +1,19 @@
 -- The runs of a desk in ascending order of their names.
-use Rattle.std.proofs.Common.{◌≡◌, ◌≢◌, ℕ, ◌<◌, ◌≤◌, true, List, [], length, map, Some, ap, sym, ◌∙◌, arith}
+use Rattle.std.proofs.Common.{◌≡◌, ◌≢◌, ℕ, ◌*◌, ◌/◌, ◌-◌, ◌<◌, ◌≤◌, true, List, [], length, map, Some, ap, sym, ◌∙◌, arith}
 use Rattle.std.specs.Prelude.{All, slice_index, IsPermutation}
 use Rattle.std.proofs.lemmas.List.{get_or-map, length-map}
 use Rattle.std.proofs.lemmas.List.FromFn.{get_or-range_with_len, length-range_with_len}
 use Rattle.std.proofs.lemmas.List.Sorted.{All-permutation, length_permutation}
 use Rattle.std.proofs.lemmas.Option.{slice_get-get_or}
+use Rattle.std.proofs.Math.Nat.{mul-le-mul_right}
 use Rattle.desk_model.specs.Desk.{Desk, IsDesk}
 use Rattle.desk_model.specs.Name.{is_name, number_of}
+use Rattle.desk_model.specs.Pairs.{pairs_of}
 use Rattle.measure_core.specs.Pairs.{run_numbers}
 use Rattle.order_bundle.specs.Bundle.{AreBundleRuns}
 use Rattle.order_bundle.specs.Evidence.{name_at}
 use Rattle.pair_table.proofs.Listing.{number_there}
+use Rattle.pair_table.proofs.PairNumbers.{length-pairs}
 use Rattle.table_bundle.specs.Drafts.{IsNameOrder}
 use Rattle.table_bundle.proofs.Ascending.{names_moved, one_number}
 
@@ -20,6 +23,15 @@ module _ (desk : Desk) (is_desk : IsDesk desk) (order : List ℕ) (ordered : IsN
 
   pub length-order : length order ≡ n
   length-order = length_permutation (run_numbers n) order ordered.moved ∙ length-range_with_len 0 n
+
+  -- there are no more pairs than claims of a bundle
+  pub few_pairs : length (pairs_of (run_numbers (length order))) ≤ 32640
+  few_pairs =
+      let m = length order in
+      let most : m ≤ 256 = omega (arith, length-order, is_desk.runs) in
+      let product : m * (m - 1) ≤ 256 * (m - 1) = mul-le-mul_right (m - 1) most in
+      let pairs_are : length (pairs_of (run_numbers m)) ≡ m * (m - 1) / 2 = length-pairs m in
+      omega (arith, most, product, pairs_are)
 
   pub order_within : All (λ run. run < n) order
   order_within = All-permutation (λ run. run < n) (run_numbers n) order ordered.moved (λ k d lt.

@@ -10,3 +10,9 @@ pub mod Following
 pub mod Made
 pub mod InOrder
 pub mod Standing
+pub mod Exchange
+pub mod ListLengths
+pub mod Spread
+pub mod Pairing
+pub mod Total
+pub mod Settled

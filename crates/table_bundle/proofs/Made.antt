@@ -4,7 +4,6 @@ use Rattle.std.specs.Prelude.{◌&&◌, filter, flat_map, slice_index}
 use Rattle.std.specs.List.{AllZip, AllByRecursion, enumerate_from, range_with_len, zip}
 use Rattle.std.proofs.lemmas.List.{length-map}
 use Rattle.std.proofs.lemmas.List.Elements.{All-from_recursion, recursion_from_All}
-use Rattle.std.proofs.Math.Nat.{mul-le-mul_right}
 use Rattle.desk_model.specs.Book.{Book, IsBook}
 use Rattle.desk_model.specs.Desk.{Desk, IsDesk, AreMarksOf, topics_under}
 use Rattle.desk_model.specs.Extremes.{Ends}
@@ -40,7 +39,6 @@ use Rattle.pair_table.specs.Numbers.{HasCellEnds}
 use Rattle.pair_table.specs.Sums.{cell_ends, pair_sums}
 use Rattle.pair_table.proofs.Certified.{bound_from, desk_topics, witness_from}
 use Rattle.pair_table.proofs.Evident.{Sized}
-use Rattle.pair_table.proofs.PairNumbers.{length-pairs}
 use Rattle.pair_table.proofs.Saying.{answered_by, cells_named, summed_cells}
 use Rattle.pair_table.proofs.Zips.{IsPairBelow, pairs_below}
 use Rattle.table_bundle.specs.Bundles.{if_held, listed_topics, IsBundleOf, IsHeldOf, IsSaidOf}
@@ -48,7 +46,7 @@ use Rattle.table_bundle.specs.Drafts.{all_documents, bounds_by, claim_above, dra
 use Rattle.table_bundle.proofs.Choosing.{kept_documents}
 use Rattle.table_bundle.proofs.Drafted.{all_held, each_held, held_on, sized, IsHeldOn}
 use Rattle.table_bundle.proofs.Following.{claims_follow, length-held, IsHeldOnPair, IsOnPair}
-use Rattle.table_bundle.proofs.InOrder.{at_within, length-names, length-order, number_in_order, runs_moved, runs_of_bundle}
+use Rattle.table_bundle.proofs.InOrder.{at_within, few_pairs, length-names, length-order, number_in_order, runs_moved, runs_of_bundle}
 use Rattle.table_bundle.proofs.Listed.{picked_are_listed, whole}
 use Rattle.table_bundle.proofs.Replacing.{claims_picked, evidence_kept, evidence_on_kept, witness, IsPicked}
 
@@ -92,7 +90,7 @@ zip_made_of : {A B C : Type 0} (R : A → C → Type 0) (P : A → Type 0) (Q : 
 zip_made_of R P Q f g h [] p q = tt
 zip_made_of R P Q f g h (x ∷ xs) p q = (h x p.0 q.0, zip_made_of R P Q f g h xs p.1 q.1)
 
-all_made : {A B : Type 0} (P : A → Type 0) (Q : B → Type 0) (f : A → B) → ((x : A) → P x → Q (f x)) → (xs : List A) → AllByRecursion P xs → AllByRecursion Q (map f xs)
+pub all_made : {A B : Type 0} (P : A → Type 0) (Q : B → Type 0) (f : A → B) → ((x : A) → P x → Q (f x)) → (xs : List A) → AllByRecursion P xs → AllByRecursion Q (map f xs)
 all_made P Q f h [] p = tt
 all_made P Q f h (x ∷ xs) p = (h x p.0, all_made P Q f h xs p.1)
 
@@ -281,14 +279,7 @@ module _ (name : MeasureName) (cell : List Mark → List ℕ → List ℕ → Ce
   docs_from t (x ∷ bs) are = (kept_documents (is_picked_by claims t) x.docs are.0.ascending are.0.documents are.0.small, docs_from (t + 1) bs are.1)
 
   claims_few : length made.claims ≤ 32640
-  claims_few =
-      let n = length order in
-      let most : n ≤ 256 = omega (arith, length-order desk is_desk order ordered, is_desk.runs) in
-      let product : n * (n - 1) ≤ 256 * (n - 1) = mul-le-mul_right (n - 1) most in
-      let pairs_are : length pairs ≡ n * (n - 1) / 2 = length-pairs n in
-      let held_are : length held ≡ length pairs = length-map pairs draft in
-      let kept : length made.claims ≡ length claims = length-map claims (replaced places) in
-      omega (arith, most, product, pairs_are, held_are, kept, length-held held)
+  claims_few = omega (arith, few_pairs desk is_desk order ordered, length-map pairs draft, length-map claims (replaced places), length-held held)
 
   form : IsBundle made
   form = record {
@@ -311,7 +302,7 @@ module _ (name : MeasureName) (cell : List Mark → List ℕ → List ℕ → Ce
   written_each (c ∷ cs) on picked =
       ap (λ x. x ∷ map (written_out made) (map (replaced places) cs)) (written_same c on.0 picked.0) ∙ ap (λ xs. written_out (over_all name level desk order claims) c ∷ xs) (written_each cs on.1 picked.1)
 
-  made_bundle : IsBundleOf (HasCellEnds cell) name desk marks level made
+  pub made_bundle : IsBundleOf (HasCellEnds cell) name desk marks level made
   made_bundle = record {
     form = form;
     by_measure = refl;

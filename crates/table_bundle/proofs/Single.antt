@@ -1,41 +1,43 @@
--- There is one bundle by a measure's name.
+-- There is one bundle of a table, by whichever ends two rankings have, where they have one kind of them.
 use Rattle.std.proofs.Common.{◌≡◌, ℕ, List, [], ◌∷◌, ◌++◌, length, map, Option, Some, None, Ok, Err, refl, ap, sym, subst, ◌∙◌}
 use Rattle.std.specs.Prelude.{flat_map}
 use Rattle.std.specs.List.{AllZip}
 use Rattle.std.proofs.lemmas.Option.{same_Some}
 use Rattle.desk_model.specs.Desk.{Desk}
+use Rattle.desk_model.specs.Extremes.{Ends}
 use Rattle.desk_model.specs.Name.{number_of}
 use Rattle.desk_model.specs.Pairs.{pairs_of}
 use Rattle.desk_model.specs.declared.types.Mark.{Mark}
 use Rattle.desk_model.specs.declared.types.MeasureName.{MeasureName}
-use Rattle.measure_core.specs.Made.{HasEnds}
 use Rattle.measure_core.specs.Pairs.{run_numbers}
+use Rattle.measure_core.specs.declared.cell.Cell.{Cell}
 use Rattle.order_bundle.specs.Bundle.{Bundle, IsBundle}
 use Rattle.order_bundle.specs.Evidence.{name_at, written_out}
 use Rattle.order_bundle.specs.declared.bundle.PairClaim.{PairClaim}
 use Rattle.order_bundle.specs.declared.bundle.TopicNames.{TopicNames}
+use Rattle.pair_table.specs.Numbers.{HaveEnds, HasCellEnds}
 use Rattle.pair_table.specs.declared.evidence.EvidenceFault.TheVariants.{Close as CloseBy}
-use Rattle.pair_table.proofs.Answered.{one_answer}
+use Rattle.pair_table.proofs.Answered.{one_answer_by}
 use Rattle.table_bundle.specs.Bundles.{if_held, listed_topics, IsBundleOf, IsHeldOf, IsSaidOf}
 use Rattle.table_bundle.proofs.Ascending.{one_order}
 use Rattle.table_bundle.proofs.WrittenOnce.{all_fit, same_claims}
 
-module _ (name : MeasureName) (desk : Desk) (marks : List (List Mark)) (level : ℕ) where
+module _ (Has : HaveEnds) (one : (m : List Mark) (a b : List ℕ) (e f : Ends) → Has m a b e → Has m a b f → e ≡ f) (name : MeasureName) (desk : Desk) (marks : List (List Mark)) (level : ℕ) where
   abbrev Holds : Bundle → ℕ × ℕ → Option PairClaim → Type 0
-  Holds x pair held = IsHeldOf (HasEnds name) name desk marks level x pair held
+  Holds x pair held = IsHeldOf Has name desk marks level x pair held
 
   -- ---- each claim is written out alike
   module _ (x y : Bundle) where
-    same_said : (a b : ℕ) (held other : Option PairClaim) → IsSaidOf (HasEnds name) name desk marks level a b x held → IsSaidOf (HasEnds name) name desk marks level a b y other → map (written_out x) (if_held held) ≡ map (written_out y) (if_held other)
+    same_said : (a b : ℕ) (held other : Option PairClaim) → IsSaidOf Has name desk marks level a b x held → IsSaidOf Has name desk marks level a b y other → map (written_out x) (if_held held) ≡ map (written_out y) (if_held other)
     same_said a b None None h k = refl
     same_said a b (Some c) None h k =
-        let same : Ok (written_out x c) ≡ Err (CloseBy k.0) = one_answer name desk marks level a b (Ok (written_out x c)) (Err (CloseBy k.0)) h (k.1, k.2) (λ e. cc) (λ e. cc) in
+        let same : Ok (written_out x c) ≡ Err (CloseBy k.0) = one_answer_by Has one name desk marks level a b (Ok (written_out x c)) (Err (CloseBy k.0)) h (k.1, k.2) (λ e. cc) (λ e. cc) in
         absurd (cc)
     same_said a b None (Some d) h k =
-        let same : Err (CloseBy h.0) ≡ Ok (written_out y d) = one_answer name desk marks level a b (Err (CloseBy h.0)) (Ok (written_out y d)) (h.1, h.2) k (λ e. cc) (λ e. cc) in
+        let same : Err (CloseBy h.0) ≡ Ok (written_out y d) = one_answer_by Has one name desk marks level a b (Err (CloseBy h.0)) (Ok (written_out y d)) (h.1, h.2) k (λ e. cc) (λ e. cc) in
         absurd (cc)
     same_said a b (Some c) (Some d) h k =
-        let same : Ok (written_out x c) ≡ Ok (written_out y d) = one_answer name desk marks level a b (Ok (written_out x c)) (Ok (written_out y d)) h k (λ e. cc) (λ e. cc) in
+        let same : Ok (written_out x c) ≡ Ok (written_out y d) = one_answer_by Has one name desk marks level a b (Ok (written_out x c)) (Ok (written_out y d)) h k (λ e. cc) (λ e. cc) in
         let one : written_out x c ≡ written_out y d = cc in
         ap (λ z. z ∷ []) one
 
@@ -49,7 +51,7 @@ module _ (name : MeasureName) (desk : Desk) (marks : List (List Mark)) (level : 
           let first : h.first ≡ k.first = same_Some h.first k.first (sym h.first_named ∙ ap (λ rs. number_of desk.runs (name_at rs pair.0)) runs ∙ k.first_named) in
           let second : h.second ≡ k.second = same_Some h.second k.second (sym h.second_named ∙ ap (λ rs. number_of desk.runs (name_at rs pair.1)) runs ∙ k.second_named) in
           same_said k.first k.second held other
-          (subst (λ n. IsSaidOf (HasEnds name) name desk marks level k.first n x held) second (subst (λ n. IsSaidOf (HasEnds name) name desk marks level n h.second x held) first h.said)) k.said
+          (subst (λ n. IsSaidOf Has name desk marks level k.first n x held) second (subst (λ n. IsSaidOf Has name desk marks level n h.second x held) first h.said)) k.said
 
       all_same : (pairs : List (ℕ × ℕ)) (held other : List (Option PairClaim)) → AllZip (Holds x) pairs held → AllZip (Holds y) pairs other → map (written_out x) (flat_map if_held held) ≡ map (written_out y) (flat_map if_held other)
       all_same [] [] [] h k = refl
@@ -70,7 +72,7 @@ module _ (name : MeasureName) (desk : Desk) (marks : List (List Mark)) (level : 
   abbrev bundle : MeasureName → ℕ → List (List ℕ) → List TopicNames → List PairClaim → Bundle
   bundle m l rs ts cs = record { measure = m; level = l; runs = rs; topics = ts; claims = cs }
 
-  pub one_bundle : (x y : Bundle) → IsBundleOf (HasEnds name) name desk marks level x → IsBundleOf (HasEnds name) name desk marks level y → x ≡ y
+  pub one_bundle : (x y : Bundle) → IsBundleOf Has name desk marks level x → IsBundleOf Has name desk marks level y → x ≡ y
   one_bundle x y h k =
       let runs : x.runs ≡ y.runs = one_order desk.runs x.runs y.runs h.runs k.runs h.form.runs.ascending.ascending k.form.runs.ascending.ascending in
       let others : AllZip (Holds y) (pairs_of (run_numbers (length x.runs))) k.held = subst (λ rs. AllZip (Holds y) (pairs_of (run_numbers (length rs))) k.held) (sym runs) k.each_pair in
@@ -84,3 +86,8 @@ module _ (name : MeasureName) (desk : Desk) (marks : List (List Mark)) (level : 
       let same : map (written_out x) x.claims ≡ map (written_out x) y.claims = subst (λ z. map (written_out x) x.claims ≡ map (written_out z) z.claims) heads written in
       let claims : x.claims ≡ y.claims = same_claims x h.form x.claims y.claims (all_fit (length x.runs) x.topics None x.claims h.form.claims.ascending) (all_fit (length x.runs) x.topics None y.claims form.claims.ascending) same in
       ap (with_claims x) claims ∙ sym heads
+
+-- by the cells of a measure
+pub one_bundle_by_cells : (cell : List Mark → List ℕ → List ℕ → Cell) (name : MeasureName) (desk : Desk) (marks : List (List Mark)) (level : ℕ) (x y : Bundle) →
+    IsBundleOf (HasCellEnds cell) name desk marks level x → IsBundleOf (HasCellEnds cell) name desk marks level y → x ≡ y
+one_bundle_by_cells cell = one_bundle (HasCellEnds cell) (λ m a b e f h k. h ∙ sym k)

@@ -1,10 +1,9 @@
 -- How a bundle is made: first claims that pick documents by their numbers in the topic, then the documents that some claim picks, numbered anew.
-use Rattle.std.specs.Prelude.{ℕ, ◌<◌, Bool, false, ◌&&◌, ◌||◌, List, [], All, length, map, filter, flat_map, slice_index, slice_index_or, Option, Some, None, ℤ, pos, IsPermutation}
+use Rattle.std.specs.Prelude.{◌≢◌, ℕ, ◌<◌, Bool, false, ◌||◌, List, [], All, length, map, filter, flat_map, slice_index, slice_index_or, Option, Some, None, ℤ, pos, IsPermutation}
 use Rattle.std.specs.List.{enumerate_from, list_any, range_with_len, zip}
 use Rattle.desk_model.specs.Book.{Book}
 use Rattle.desk_model.specs.Desk.{Desk}
 use Rattle.desk_model.specs.Extremes.{Ends}
-use Rattle.desk_model.specs.Mark.{is_unjudged, mark_at}
 use Rattle.desk_model.specs.Name.{AreAscending}
 use Rattle.desk_model.specs.Order.{Topic}
 use Rattle.desk_model.specs.Pairs.{pairs_of}
@@ -15,6 +14,7 @@ use Rattle.desk_model.specs.declared.types.MeasureName.{MeasureName}
 use Rattle.desk_model.specs.declared.types.Verdict.{Verdict}
 use Rattle.desk_model.specs.declared.types.Verdict.TheVariants as of_pair
 use Rattle.measure_laws.specs.Cases.{least_truth}
+use Rattle.measure_core.specs.Lists.{added_documents}
 use Rattle.measure_core.specs.Pairs.{run_numbers}
 use Rattle.measure_core.specs.declared.cell.Cell.{Cell}
 use Rattle.order_bundle.specs.Bundle.{Bundle}
@@ -27,6 +27,7 @@ use Rattle.order_bundle.specs.declared.bundle.Picks.{Picks}
 use Rattle.order_bundle.specs.declared.bundle.TopicNames.{TopicNames}
 use Rattle.pair_table.specs.Sums.{cell_ends, pair_sums}
 use Rattle.table_bundle.specs.Bundles.{if_held}
+use Rattle.table_bundle.specs.declared.pairs.NamedPair.{NamedPair}
 
 -- ---- runs
 -- numbers of all runs of a desk, ascending by name
@@ -34,17 +35,28 @@ pub record IsNameOrder (desk : Desk) (order : List ℕ) : Type 0 where
   pub moved : IsPermutation (run_numbers (length desk.runs)) order
   pub ascending : AreAscending (map (name_at desk.runs) order)
 
--- ---- claims that pick documents by their numbers in the topic
--- the unjudged documents that a completion of a topic makes relevant, ascending
-abbrev pub relevant_documents : List Mark → (ℕ → Bool) → List ℕ
-relevant_documents marks truth = filter (λ doc. is_unjudged (mark_at marks doc) && truth doc) (range_with_len 0 (length marks))
+-- the runs at two places of an order
+abbrev pub named_pair : List ℕ → ℕ × ℕ → NamedPair
+named_pair order pair = record { at = record { first = pair.0; second = pair.1 }; first = slice_index order pair.0; second = slice_index order pair.1 }
 
--- those of the least and of the most case of two runs
+-- all pairs of runs in an order
+abbrev pub pairs_in : List ℕ → List NamedPair
+pairs_in order = map (named_pair order) (pairs_of (run_numbers (length order)))
+
+-- two different runs of so many
+pub record IsRunPair (runs : ℕ) (p : NamedPair) : Type 0 where
+  pub different : p.first ≢ p.second
+  pub first : p.first < runs
+  pub second : p.second < runs
+
+-- ---- claims that pick documents by their numbers in the topic
+-- the unjudged documents that the least and the most case of two rankings make relevant, ascending
+abbrev pub case_picks : MeasureName → List Mark → List ℕ → List ℕ → Picks
+case_picks measure marks a b = record { low = added_documents marks (least_truth measure marks a b); high = added_documents marks (least_truth measure marks b a) }
+
+-- those of two runs on a topic
 abbrev pub picks_on : MeasureName → ℕ → ℕ → Topic → Picks
-picks_on measure a b topic = record {
-  low = relevant_documents topic.marks (least_truth measure topic.marks (topic.ranking a) (topic.ranking b));
-  high = relevant_documents topic.marks (least_truth measure topic.marks (topic.ranking b) (topic.ranking a));
-}
+picks_on measure a b topic = case_picks measure topic.marks (topic.ranking a) (topic.ranking b)
 
 -- the lower end of each least difference, and beside it a number that its ends give
 abbrev pub bounds_by : (Ends → ℤ) → List Ends → List Bound
@@ -63,6 +75,14 @@ draft_by cell measure topics pair a b of_pair.Close = None
 
 abbrev pub draft_of : (List Mark → List ℕ → List ℕ → Cell) → MeasureName → List Topic → ℕ × ℕ → ℕ → ℕ → Option PairClaim
 draft_of cell measure topics pair a b = draft_by cell measure topics pair a b (verdict (pair_sums cell topics a b))
+
+-- that of two runs at their places
+abbrev pub draft_on : (List Mark → List ℕ → List ℕ → Cell) → MeasureName → List Topic → NamedPair → Option PairClaim
+draft_on cell measure topics p = draft_of cell measure topics (p.at.first, p.at.second) p.first p.second
+
+-- the claims on some pairs
+abbrev pub drafts_on : (List Mark → List ℕ → List ℕ → Cell) → MeasureName → List Topic → List NamedPair → List PairClaim
+drafts_on cell measure topics pairs = flat_map if_held (map (draft_on cell measure topics) pairs)
 
 -- that of each pair of runs in an order
 abbrev pub drafts_held : (List Mark → List ℕ → List ℕ → Cell) → MeasureName → List Topic → List ℕ → List (Option PairClaim)

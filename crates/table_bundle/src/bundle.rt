@@ -8,6 +8,7 @@ ghost use Rattle.table_bundle.specs.Bundles.{IsBundleOf};
 
 use crate::claims::all_claims;
 use crate::order::{run_names, runs_by_name};
+use crate::pairs::named_pairs;
 use crate::places::{picked_documents, replaced_claims};
 use desk_model::{Desk, Marks, Memory};
 use measure_core::Measure;
@@ -40,7 +41,8 @@ pub fn bundle_of<M: Measure>(
     let measure = table.measure().name();
     let order = runs_by_name(alloc, desk)?;
     let runs = run_names(alloc, desk, &order)?;
-    let claims = all_claims(alloc, table, desk, marks, &order)?;
+    let pairs = named_pairs(alloc, &order)?;
+    let claims = all_claims(alloc, table, desk, marks, &pairs)?;
     let (topics, places) = picked_documents(alloc, desk, &claims)?;
     let claims = replaced_claims(alloc, claims, &places)?;
     Ok(Bundle {

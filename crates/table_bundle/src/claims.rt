@@ -1,5 +1,5 @@
 // The claims of a table, on all documents of each topic.
-ghost use Rattle.std.specs.Prelude.{◌≡◌, ◌≢◌, ◌<◌, List, length, map, pos, IfOk, if◌then◌else◌};
+ghost use Rattle.std.specs.Prelude.{◌≡◌, ◌≢◌, ◌<◌, All, List, length, map, pos, IfOk, if◌then◌else◌};
 ghost use Rattle.std.specs.List.{AllZip};
 ghost use Rattle.desk_model.specs.Desk.{AreMarksOf, topics_under};
 ghost use Rattle.desk_model.specs.Extremes.{Ends};
@@ -7,9 +7,10 @@ ghost use Rattle.measure_core.specs.Made.{ends_of};
 ghost use Rattle.measure_core.specs.declared.cell.Cell.{Cell as C};
 ghost use Rattle.order_bundle.specs.declared.bundle.PairEvidence.TheVariants.{Above as AboveBy, Equal as EqualBy, Open as OpenBy};
 ghost use Rattle.pair_table.specs.Kept.{IsCellOf, StandsFor};
-ghost use Rattle.table_bundle.specs.Drafts.{bounds_by, draft_of, drafts, picks_on, IsNameOrder};
+ghost use Rattle.table_bundle.specs.Drafts.{bounds_by, draft_of, drafts_on, picks_on, IsRunPair};
 
 use crate::lists::pair_picks;
+use crate::pairs::NamedPair;
 use desk_model::{Desk, Marks, Memory, PairPlaces, Verdict};
 use measure_core::{Cell, Measure};
 use order_bundle::{Bound, PairBounds, PairClaim, PairEvidence};
@@ -103,8 +104,8 @@ fn open<M: Measure>(
     })
 }
 
-// The claim on runs a and b, which stand at two places among the names, and none where their verdict is close.
-fn claim_of_pair<M: Measure>(
+/// The claim on runs a and b, which stand at two places among the names, and none where their verdict is close.
+pub fn claim_of_pair<M: Measure>(
     alloc: Global,
     table: &Table<M>,
     desk: &Desk,
@@ -134,31 +135,25 @@ fn claim_of_pair<M: Measure>(
     Ok(Some(claim))
 }
 
-/// The claim on each pair of runs whose verdict is not close, in the order of the places of the two runs in `order`.
+/// The claims on pairs whose verdict is not close.
 pub fn all_claims<M: Measure>(
     alloc: Global,
     table: &Table<M>,
     desk: &Desk,
     marks: &Marks,
-    order: &[u32],
+    pairs: &[NamedPair],
 ) -> Result<Vec<PairClaim>, Memory>
-    requires order { IsNameOrder desk.now order.now }
+    requires pairs { All (IsRunPair (length desk.now.runs)) pairs.now }
     requires marks { AreMarksOf desk.now marks.now }
     requires stands { StandsFor (M.cell_of table.now.measure) (M.bounds_of table.now.measure) desk.now marks.now table.now }
-    ensures { IfOk result (λ claims. claims.items ≡ drafts (M.cell_of table.now.measure) (M.measured table.now.measure) (topics_under desk.now marks.now) order.now) }
+    ensures { IfOk result (λ claims. claims.items ≡ drafts_on (M.cell_of table.now.measure) (M.measured table.now.measure) (topics_under desk.now marks.now) pairs.now) }
 {
-    desk.valid();
-    let runs = order.len() as u32;
-    let pairs = table.all_totals().len();
     let mut claims = Vec::new(alloc);
-    let mut at = PairPlaces::START;
-    for _pair in 0..pairs {
-        let first = order[at.first as usize];
-        let second = order[at.second as usize];
-        if let Some(claim) = claim_of_pair(alloc, table, desk, marks, at, first, second)? {
+    for pair in pairs {
+        let claim = claim_of_pair(alloc, table, desk, marks, pair.at, pair.first, pair.second)?;
+        if let Some(claim) = claim {
             claims.push(claim)?;
         }
-        at = at.next(runs);
     }
     Ok(claims)
 }

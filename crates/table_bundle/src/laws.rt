@@ -30,9 +30,12 @@ pub fn bundles_are_evidence()
         IsBundleOf (HasEnds name) name desk marks level b → ClaimsHold b desk marks }
 {}
 
-/// There is one bundle by a measure's name at most.
+/// There is one bundle at most, by a measure's name and by the cells of any measure.
 pub fn bundle_is_one()
-    ensures { (name : MeasureName) (desk : Desk) (marks : List (List Mark)) (level : ℕ) (a b : Bundle) →
+    ensures names { (name : MeasureName) (desk : Desk) (marks : List (List Mark)) (level : ℕ) (a b : Bundle) →
         IsBundleOf (HasEnds name) name desk marks level a →
         IsBundleOf (HasEnds name) name desk marks level b → a ≡ b }
+    ensures cells { (cell : List Mark → List ℕ → List ℕ → Cell) (name : MeasureName) (desk : Desk) (marks : List (List Mark)) (level : ℕ) (a b : Bundle) →
+        IsBundleOf (HasCellEnds cell) name desk marks level a →
+        IsBundleOf (HasCellEnds cell) name desk marks level b → a ≡ b }
 {}

@@ -6,7 +6,8 @@ use Rattle.desk_model.proofs.Nested.{take-there}
 use Rattle.measure_laws.specs.Cases.{least_truth}
 use Rattle.order_bundle.specs.declared.bundle.Picks.{Picks}
 use Rattle.pair_table.proofs.DeskTopics.{met_at}
-use Rattle.table_bundle.specs.Drafts.{picks_on, relevant_documents}
+use Rattle.measure_core.specs.Lists.{added_documents}
+use Rattle.table_bundle.specs.Drafts.{picks_on}
 use Rattle.table_bundle.proofs.lists.pair_picks.Goals as goal
 
 pub topic-requires : goal.topic-requires
@@ -29,7 +30,7 @@ loop-topic-preserved g c =
     let topics = topics_under desk c.args.marks.now in
     let f = picks_on measure c.args.first c.args.second in
     let there = topic_there desk c.args.marks.now t m c.topic.ensures in
-    let case = λ (u v : List ℕ). relevant_documents m (least_truth measure m u v) in
+    let case = λ (u v : List ℕ). added_documents m (least_truth measure m u v) in
     let low = c.in_ok-next.ensures.low ∙ ap₂ case c.ranking-a.ensures.ranking c.ranking-b.ensures.ranking in
     let high = c.in_ok-next.ensures.high ∙ ap₂ case c.ranking-b.ensures.ranking c.ranking-a.ensures.ranking in
     record {

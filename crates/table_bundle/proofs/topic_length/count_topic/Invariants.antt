@@ -1,0 +1,12 @@
+use Rattle.std.proofs.Common.{◌≡◌, ℕ, ◌*◌, ◌<◌, ◌≤◌, length, get_or, take}
+use Rattle.std.specs.List.{sum_by}
+use Rattle.table_bundle.specs.Lengths.{all_picks, heads_length, lists_on, times, topic_with}
+use Rattle.table_bundle.proofs.topic_length.count_topic.Given as goal
+
+abbrev pub invariant-loop-pair : goal.invariant-loop-pair
+invariant-loop-pair g l = record {
+  bytes : l.bytes ≡ sum_by heads_length (lists_on (g.M.Measure.measured l.measure) (take l.pair-index l.pairs) (topic_with l.desk l.topic l.marks));
+  few : l.bytes ≤ 100 * l.pair-index;
+  size : length l.counts.items ≡ length l.marks;
+  counted : (doc : ℕ) → doc < length l.marks → get_or l.counts.items doc 0 ≡ times (all_picks (lists_on (g.M.Measure.measured l.measure) (take l.pair-index l.pairs) (topic_with l.desk l.topic l.marks))) doc;
+}

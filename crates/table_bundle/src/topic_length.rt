@@ -1,0 +1,183 @@
+// How long the lines of a topic are: its documents that lists of open pairs pick, and these lists. No list is kept.
+ghost use Rattle.std.specs.Prelude.{◌≡◌, ℕ, ◌*◌, ◌<◌, ◌≤◌, All, length, decimal, slice_get, slice_index, Some, IfOk, OnOk};
+ghost use Rattle.std.specs.List.{sum, sum_by};
+ghost use Rattle.desk_model.specs.Desk.{AreMarksOf, ranking_of};
+ghost use Rattle.desk_model.specs.Limits.{DOCUMENT_LIMIT, TOPIC_LIMIT};
+ghost use Rattle.measure_laws.specs.Cases.{least_truth};
+ghost use Rattle.measure_core.specs.Laws.{AreMet};
+ghost use Rattle.measure_core.specs.Lists.{added_documents};
+ghost use Rattle.order_bundle.specs.Bundle.{CLAIM_LIMIT, topic_lines};
+ghost use Rattle.order_bundle.specs.Lengths.{text_length};
+ghost use Rattle.table_bundle.specs.Drafts.{case_picks, names_where, IsRunPair};
+ghost use Rattle.table_bundle.specs.Lengths.{all_picks, both_lists, heads_length, is_counted, lists_on, picks_length_by, times, topic_lengths, topic_with, AreCounted, HaveRoomFor, LIST_LIMIT};
+
+use crate::pairs::NamedPair;
+use desk_model::{Desk, Mark, Marks, Memory, Ranking, TopicBook};
+use measure_core::Measure;
+use order_bundle::length::digits;
+use std::alloc::Global;
+
+// Counts each document of a list once more.
+fn count_list(counts: &mut [u32], list: &[u32])
+    requires within { All (λ doc. doc < length counts.old) list.now }
+    requires room { HaveRoomFor counts.old list.now }
+    ensures { AreCounted counts.old list.now counts.new }
+{
+    for doc in list {
+        counts[*doc as usize] += 1;
+    }
+}
+
+// Counts the documents of the least case of two rankings, and answers how many digits their number has. The documents
+// are found in a list whose contents are anything.
+fn count_least<M: Measure>(
+    alloc: Global,
+    measure: &M,
+    a: &Ranking,
+    b: &Ranking,
+    marks: &[Mark],
+    docs: &mut Vec<u32>,
+    counts: &mut [u32],
+) -> Result<u64, Memory>
+    requires met { AreMet marks.now a.now b.now }
+    requires size { length counts.old ≡ length marks.now }
+    requires room { HaveRoomFor counts.old (added_documents marks.now (least_truth (M.measured measure.now) marks.now a.now b.now)) }
+    ensures digits { IfOk result (λ digits. digits ≡ length (decimal (length (added_documents marks.now (least_truth (M.measured measure.now) marks.now a.now b.now))))) }
+    ensures few { IfOk result (λ digits. digits ≤ 40) }
+    ensures counts { OnOk result (AreCounted counts.old (added_documents marks.now (least_truth (M.measured measure.now) marks.now a.now b.now)) counts.new) }
+{
+    docs.clear();
+    measure.push_least_docs(alloc, a, b, marks, docs)?;
+    count_list(counts, docs);
+    Ok(digits(docs.len() as u64))
+}
+
+// Counts the documents of both lists of a pair on a topic, and answers how long the lines are that begin them.
+fn count_lists<M: Measure>(
+    alloc: Global,
+    measure: &M,
+    a: &Ranking,
+    b: &Ranking,
+    marks: &[Mark],
+    docs: &mut Vec<u32>,
+    counts: &mut [u32],
+) -> Result<u64, Memory>
+    requires met { AreMet marks.now a.now b.now }
+    requires size { length counts.old ≡ length marks.now }
+    requires room { HaveRoomFor counts.old (both_lists (case_picks (M.measured measure.now) marks.now a.now b.now)) }
+    ensures bytes { IfOk result (λ bytes. bytes ≡ heads_length (case_picks (M.measured measure.now) marks.now a.now b.now)) }
+    ensures few { IfOk result (λ bytes. bytes ≤ 100) }
+    ensures counts { OnOk result (AreCounted counts.old (both_lists (case_picks (M.measured measure.now) marks.now a.now b.now)) counts.new) }
+{
+    let low = count_least(alloc, measure, a, b, marks, docs, counts)?;
+    let high = count_least(alloc, measure, b, a, marks, docs, counts)?;
+    Ok(low + high + 11)
+}
+
+// How often the lists of pairs on a topic pick each document, and how long the lines are that begin these lists.
+fn count_topic<M: Measure>(
+    alloc: Global,
+    measure: &M,
+    desk: &Desk,
+    topic: u32,
+    marks: &[Mark],
+    pairs: &[NamedPair],
+) -> Result<(u64, Vec<u32>), Memory>
+    requires topic { topic < length desk.now.topics }
+    requires pairs { All (IsRunPair (length desk.now.runs)) pairs.now }
+    requires few { length pairs.now ≤ CLAIM_LIMIT }
+    requires met { All (λ pair. AreMet marks.now (ranking_of desk.now pair.first topic) (ranking_of desk.now pair.second topic)) pairs.now }
+    ensures bytes { IfOk result (λ made. made.0 ≡ sum_by heads_length (lists_on (M.measured measure.now) pairs.now (topic_with desk.now topic marks.now))) }
+    ensures few { IfOk result (λ made. made.0 ≤ 100 * length pairs.now) }
+    ensures size { IfOk result (λ made. length made.1.items ≡ length marks.now) }
+    ensures counts { IfOk result (λ made. (doc : ℕ) → doc < length marks.now → slice_index made.1.items doc ≡ times (all_picks (lists_on (M.measured measure.now) pairs.now (topic_with desk.now topic marks.now))) doc) }
+{
+    let mut docs = Vec::new(alloc);
+    let mut counts = vec![in alloc; 0; marks.len()]?;
+    let mut bytes = 0;
+    for pair in pairs {
+        let a = desk.ranking(pair.first, topic);
+        let b = desk.ranking(pair.second, topic);
+        bytes += count_lists(alloc, measure, a, b, marks, &mut docs, &mut counts)?;
+    }
+    Ok((bytes, counts))
+}
+
+// The lines of a topic with the documents that are counted.
+fn documents_length(book: &TopicBook, counts: &[u32]) -> u64
+    requires { length counts.now ≡ length book.now.docs }
+    ensures bytes { result ≡ text_length (topic_lines (record { topic = book.now.name; docs = names_where (is_counted counts.now) book.now.docs })) }
+    ensures few { result ≤ 6650000400 }
+{
+    let mut bytes = 0;
+    let mut documents = 0;
+    for doc in 0..book.doc_count() {
+        if counts[doc as usize] > 0 {
+            bytes += book.doc_name(doc).len() as u64 + 5;
+            documents += 1;
+        }
+    }
+    bytes + book.name().len() as u64 + digits(documents) + 8
+}
+
+// The lines of all picks, by how often each document is picked.
+fn picks_length(counts: &[u32]) -> u64
+    requires size { length counts.now ≤ DOCUMENT_LIMIT }
+    requires few { All (λ times. times ≤ LIST_LIMIT) counts.now }
+    ensures bytes { result ≡ picks_length_by counts.now }
+    ensures few { result ≤ 3002880 * length counts.now }
+{
+    let mut bytes = 0;
+    let mut place = 0;
+    for times in counts {
+        if *times > 0 {
+            bytes += u64::from(*times) * (digits(place) + 6);
+            place += 1;
+        }
+    }
+    bytes
+}
+
+// The lines of a topic with the documents that lists of pairs pick, and these lists.
+fn topic_length<M: Measure>(
+    alloc: Global,
+    measure: &M,
+    desk: &Desk,
+    marks: &Marks,
+    topic: u32,
+    pairs: &[NamedPair],
+) -> Result<u64, Memory>
+    requires topic { topic < length desk.now.topics }
+    requires marks { AreMarksOf desk.now marks.now }
+    requires pairs { All (IsRunPair (length desk.now.runs)) pairs.now }
+    requires few { length pairs.now ≤ CLAIM_LIMIT }
+    ensures bytes { IfOk result (λ bytes. slice_get (topic_lengths (M.measured measure.now) desk.now marks.now pairs.now) topic ≡ Some bytes) }
+    ensures few { IfOk result (λ bytes. bytes ≤ 75078653264400) }
+{
+    desk.valid();
+    let topic_marks = marks.topic(topic);
+    let (heads, counts) = count_topic(alloc, measure, desk, topic, topic_marks, pairs)?;
+    Ok(heads + documents_length(desk.topic(topic), &counts) + picks_length(&counts))
+}
+
+/// The lines of all topics with the documents that lists of pairs pick, and these lists.
+pub fn topics_length<M: Measure>(
+    alloc: Global,
+    measure: &M,
+    desk: &Desk,
+    marks: &Marks,
+    pairs: &[NamedPair],
+) -> Result<u64, Memory>
+    requires marks { AreMarksOf desk.now marks.now }
+    requires pairs { All (IsRunPair (length desk.now.runs)) pairs.now }
+    requires few { length pairs.now ≤ CLAIM_LIMIT }
+    ensures bytes { IfOk result (λ bytes. bytes ≡ sum (topic_lengths (M.measured measure.now) desk.now marks.now pairs.now)) }
+    ensures few { IfOk result (λ bytes. bytes ≤ 75078653264400 * TOPIC_LIMIT) }
+{
+    desk.valid();
+    let mut bytes = 0;
+    for topic in 0..desk.topic_count() {
+        bytes += topic_length(alloc, measure, desk, marks, topic, pairs)?;
+    }
+    Ok(bytes)
+}
