@@ -24,7 +24,7 @@ pub enum ListForm {
 
 /// Whether a document is found, and a place near which the next one may stand.
 #[derive(Clone, Copy)]
-pub struct Found {
+pub struct FoundNear {
     pub is_found: bool,
     pub near: usize,
 }
@@ -139,7 +139,7 @@ impl<'a> Documents<'a> {
 
     /// The same, looked for first at a place of the list, which changes nothing but how soon it is found. For documents
     /// that ascend, the place that the one before answers is near.
-    pub fn find(&self, doc: u32, near: usize) -> Found
+    pub fn find(&self, doc: u32, near: usize) -> FoundNear
         requires known { AreKnown self.now.docs self.now.names }
         requires doc { doc < length self.now.docs }
         ensures { result.is_found ≡ list_any (λ each. is_same_name each (slice_index_or self.now.docs doc [])) self.now.names }
@@ -148,7 +148,7 @@ impl<'a> Documents<'a> {
             ListForm::NumberedPicks => {
                 find_number(self.book, self.numbers, self.picks, doc, near)
             }
-            ListForm::Names | ListForm::Picks => Found {
+            ListForm::Names | ListForm::Picks => FoundNear {
                 is_found: self.has(doc),
                 near,
             },
@@ -261,17 +261,17 @@ fn find_number(
     picks: &[u32],
     doc: u32,
     near: usize,
-) -> Found
+) -> FoundNear
     requires { doc < length book.now.docs }
     ensures { (names : List (List ℕ)) → numbers.now ≡ numbers_of book.now.docs names → AreKnown book.now.docs (names_listed names picks.now true) →
         result.is_found ≡ list_any (λ each. is_same_name each (slice_index_or book.now.docs doc [])) (names_listed names picks.now true) }
 {
     match place_near(book, numbers, picks, doc, near) {
-        Ok(place) => Found {
+        Ok(place) => FoundNear {
             is_found: true,
             near: place + 1,
         },
-        Err(place) => Found {
+        Err(place) => FoundNear {
             is_found: false,
             near: place,
         },

@@ -5,7 +5,7 @@ ghost use Rattle.order_verifier.specs.Checks.{AreListed, unranked};
 
 use crate::Relevance;
 use crate::counted::TopicMarks;
-use crate::documents::{Documents, Found};
+use crate::documents::{Documents, FoundNear};
 use desk_model::Mark;
 use std::marker::Model;
 use topic_counts::topic::is_true;
@@ -56,10 +56,10 @@ impl Relevance for Listed<'_> {
     }
 
     // The list is asked whatever the mark is, so that no branch depends on marks.
-    fn find_relevant(&self, doc: u32, near: usize) -> Found {
+    fn find_relevant(&self, doc: u32, near: usize) -> FoundNear {
         let listed = self.documents.find(doc, near);
         let mark = self.marks.as_slice()[doc as usize];
-        Found {
+        FoundNear {
             is_found: is_true(listed.is_found, mark),
             near: listed.near,
         }

@@ -1,7 +1,7 @@
 ghost use Rattle.std.specs.Prelude.{◌≡◌, ℕ, ◌<◌, Bool};
 ghost use Rattle.desk_model.specs.Score.{true_count};
 
-use crate::documents::Found;
+use crate::documents::FoundNear;
 
 /// Which documents of a topic are relevant in one completion. Documents are numbered from 0.
 pub trait Relevance {
@@ -22,11 +22,11 @@ pub trait Relevance {
 
     /// The same, looked for first at a place, which changes nothing but how soon it is found. For documents that
     /// ascend, the place that the one before answers is near.
-    fn find_relevant(&self, doc: u32, near: usize) -> Found
+    fn find_relevant(&self, doc: u32, near: usize) -> FoundNear
         requires { doc < universe self.now }
         ensures { result.is_found ≡ truth self.now doc }
     {
-        Found {
+        FoundNear {
             is_found: self.is_relevant(doc),
             near,
         }
