@@ -8,7 +8,6 @@ use crate::counted::TopicMarks;
 use crate::documents::{Documents, FoundNear};
 use desk_model::Mark;
 use std::marker::Model;
-use topic_counts::topic::is_true;
 
 /// A topic's documents, and a list of unjudged ones: those that are judged relevant and those on the list are
 /// relevant.
@@ -55,13 +54,17 @@ impl Relevance for Listed<'_> {
         }
     }
 
-    // The list is asked whatever the mark is, so that no branch depends on marks.
     fn find_relevant(&self, doc: u32, near: usize) -> FoundNear {
-        let listed = self.documents.find(doc, near);
-        let mark = self.marks.as_slice()[doc as usize];
-        FoundNear {
-            is_found: is_true(listed.is_found, mark),
-            near: listed.near,
+        match self.marks.as_slice()[doc as usize] {
+            Mark::Relevant => FoundNear {
+                is_found: true,
+                near,
+            },
+            Mark::Other => FoundNear {
+                is_found: false,
+                near,
+            },
+            Mark::Unjudged => self.documents.find(doc, near),
         }
     }
 }

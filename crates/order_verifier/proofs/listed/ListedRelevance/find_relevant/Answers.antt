@@ -2,8 +2,8 @@ use Rattle.order_verifier.specs.Checks.{unranked}
 use Rattle.order_verifier.proofs.Unjudged.{known_names}
 use Rattle.order_verifier.proofs.listed.ListedRelevance.find_relevant.Goals as goal
 
-pub find-listed-requires-clause-known : goal.find-listed-requires-clause-known
-find-listed-requires-clause-known c =
+pub find-requires-clause-known : goal.find-requires-clause-known
+find-requires-clause-known c =
     let h = c.self.invariant in
     record {
       docs_ascend = h.docs;
