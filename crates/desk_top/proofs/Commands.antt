@@ -4,7 +4,7 @@ use Rattle.std.specs.Prelude.{codes}
 use Rattle.command_line.specs.Given.{Values}
 use Rattle.desk_words.specs.Words.{IsCommandOf, IsLevelOf, SaysJob}
 use Rattle.desk_words.specs.declared.command.Command.{Command}
-use Rattle.desk_words.specs.declared.command.Command.TheVariants.{Table, Certify, Session, Verify, Demo}
+use Rattle.desk_words.specs.declared.command.Command.TheVariants.{Table, Certify, CertifyAll, Session, Verify, Demo}
 use Rattle.desk_words.specs.declared.command.Job.{Job}
 use Rattle.desk_words.proofs.Values.{run_count}
 use Rattle.desk_model.specs.MeasureText.{IsMeasure}
@@ -14,10 +14,10 @@ use Rattle.desk_top.specs.declared.status.Status.TheVariants as statuses
 use Rattle.desk_top.specs.Answer.{Answer, AreAlwaysTrue}
 use Rattle.desk_top.specs.Conversation.{setting_on}
 use Rattle.desk_top.specs.Report.{IsAsked}
-use Rattle.desk_top.specs.Meaning.{session_meaning, usage_meaning, meaning_of, PrintsTable, PrintsCertificate}
+use Rattle.desk_top.specs.Meaning.{session_meaning, usage_meaning, meaning_of, PrintsTable, PrintsCertificate, PrintsAllPairs}
 use Rattle.desk_top.specs.Meets.{IsTruthful}
 use Rattle.desk_top.specs.Truths.{PrintsTruth}
-use Rattle.desk_top.proofs.Truth.{on_desk_true, printed_table_true, printed_certificate_true, check_is_truthful}
+use Rattle.desk_top.proofs.Truth.{on_desk_true, printed_table_true, printed_certificate_true, printed_all_pairs_true, check_is_truthful}
 use Rattle.desk_top.proofs.Showing.{demo_is_truthful}
 use Rattle.desk_top.proofs.Replying.{replies_are_true}
 
@@ -33,7 +33,8 @@ job_asked values least job says enough = record { measure = says.measure.2; leve
 pub asked : (words : List (List ℕ)) (command : Command) → IsCommandOf words command → (meaning_of command).asked
 asked [] command h = absurd h
 asked (word ∷ rest) (Table job) h = job_asked h.1.values 1 job h.1.said.says h.1.given.allowed.enough
-asked (word ∷ rest) (Certify job) h = job_asked h.1.values 2 job h.1.said.says h.1.given.allowed.enough
+asked (word ∷ rest) (Certify job) h = job_asked h.1.values 2 job h.1.said.says.0 h.1.given.allowed.enough
+asked (word ∷ rest) (CertifyAll job) h = job_asked h.1.values 2 job h.1.said.says.0 h.1.given.allowed.enough
 asked (word ∷ rest) (Session job) h = job_asked h.1.values 1 job h.1.said.says h.1.given.allowed.enough
 asked (word ∷ rest) (Verify check) h = tt
 asked (word ∷ rest) (Demo seed) h = tt
@@ -49,6 +50,7 @@ usage_is_truthful found input answer is = subst (λ (a : Answer). AreAlwaysTrue 
 pub command_is_truthful : PrintsTruth → (command : Command) → (meaning_of command).asked → IsTruthful (meaning_of command)
 command_is_truthful laws (Table job) asked = on_desk_true laws job 1 (statuses.Done ∷ []) PrintsTable (printed_table_true laws) asked.measure
 command_is_truthful laws (Certify job) asked = on_desk_true laws job 2 (statuses.Done ∷ statuses.Close ∷ []) PrintsCertificate (printed_certificate_true laws) asked.measure
+command_is_truthful laws (CertifyAll job) asked = on_desk_true laws job 2 (statuses.Done ∷ statuses.Refused ∷ []) PrintsAllPairs (printed_all_pairs_true laws) asked.measure
 command_is_truthful laws (Session job) asked = session_is_truthful laws job asked.measure
 command_is_truthful laws (Verify check) asked = check_is_truthful laws check
 command_is_truthful laws (Demo seed) asked = demo_is_truthful laws seed

@@ -1,5 +1,5 @@
 -- What is made of the files of a command.
-use Rattle.std.proofs.Common.{◌≡◌, ℕ, ◌+◌, List, [], ◌∷◌, refl, sym, subst, arith, append-nil, inl, inr}
+use Rattle.std.proofs.Common.{◌≡◌, ℕ, ◌+◌, List, [], ◌∷◌, refl, ap, sym, subst, arith, append-nil, inl, inr}
 use Rattle.std.specs.Result.{IsErrAnd}
 use Rattle.std.specs.Prelude.{Option, Some, None, Result, Ok, Err, IfSome, IsSomeAnd}
 use Rattle.desk_outside.specs.Outside.{Files}
@@ -22,17 +22,22 @@ use Rattle.desk_files.specs.declared.stop.Stop.TheVariants as kept
 use Rattle.desk_files.proofs.Opening.{may_open_qrels}
 use Rattle.desk_files.proofs.Checking.{check_opens_qrels}
 use Rattle.desk_report.specs.Reports.{Subject, cells_of, IsSubjectOf, IsCertifiedAs}
+use Rattle.bundle_report.specs.Bundled.{IsBundledAs}
+use Rattle.bundle_report.specs.declared.report.Bundled.{Bundled}
+use Rattle.bundle_report.specs.declared.report.Bundled.TheVariants as bundled
 use Rattle.desk_report.specs.declared.reports.Certified.{Certified}
 use Rattle.desk_report.specs.declared.reports.Certified.TheVariants as certified
 use Rattle.desk_top.specs.declared.status.Status.{Status}
-use Rattle.desk_top.specs.declared.status.Status.TheVariants.{Done, Close}
+use Rattle.desk_top.specs.declared.outcome.Outcome.{Outcome as Made}
+use Rattle.desk_top.specs.declared.outcome.Outcome.TheVariants as made
+use Rattle.desk_top.specs.declared.status.Status.TheVariants.{Done, Close, Refused as Refused-status}
 use Rattle.desk_top.specs.Status.{GoesWithText}
 use Rattle.desk_top.specs.Answer.{About, OfRuns}
-use Rattle.desk_top.specs.Outcome.{Outcome, Prints}
-use Rattle.desk_top.specs.Report.{sources_of, subject_of, shown_as, IsTabled}
+use Rattle.desk_top.specs.Outcome.{Outcome, Prints, Refuses}
+use Rattle.desk_top.specs.Report.{sources_of, subject_of, shown_as, IsShownAs, IsTabled}
 use Rattle.desk_top.specs.declared.work.DeskTable.{DeskTable}
 use Rattle.desk_top.specs.Loading.{Loading, MayCome, OpensFiles, desk_loading, check_loading}
-use Rattle.desk_top.specs.Meaning.{Meaning, desk_meaning, PrintsCertificate}
+use Rattle.desk_top.specs.Meaning.{Meaning, desk_meaning, PrintsCertificate, PrintsAllPairs}
 use Rattle.desk_top.specs.Works.{CountsFor, MakesText, MakesOutcome, StopsLoading, Works}
 use Rattle.desk_top.proofs.Marking.{marks_known}
 
@@ -111,6 +116,19 @@ shown_makes job rows desk ranked before after counted (certified.Certificate tex
     (desk_makes job 2 (Done ∷ Close ∷ []) PrintsCertificate rows desk ranked text.items Done tt (inl (text.items, is, refl)), desk_counts job 2 (Done ∷ Close ∷ []) PrintsCertificate rows desk ranked before after counted)
 shown_makes job rows desk ranked before after counted (certified.Close text) is =
     (desk_makes job 2 (Done ∷ Close ∷ []) PrintsCertificate rows desk ranked text.items Close tt (inr (text.items, is, refl)), desk_counts job 2 (Done ∷ Close ∷ []) PrintsCertificate rows desk ranked before after counted)
+
+-- the certificate of all pairs, or that its text would be too long
+pub all_shown_makes : (job : Job) (rows : Loaded) (desk : Desk) → IsDeskOf rows.qrels rows.runs desk → (before after : ℕ) → after ≡ before + cells_of desk → (answer : Bundled) → IsBundledAs (subject_of job desk) answer →
+    (outcome : Made) → IsShownAs answer outcome → MakesOutcome (desk_meaning job 2 (Done ∷ Refused-status ∷ []) PrintsAllPairs) before after rows outcome
+all_shown_makes job rows desk ranked before after counted (bundled.Bundle text) is outcome shown =
+    subst (MakesOutcome (desk_meaning job 2 (Done ∷ Refused-status ∷ []) PrintsAllPairs) before after rows) (sym shown)
+    (desk_makes job 2 (Done ∷ Refused-status ∷ []) PrintsAllPairs rows desk ranked text.items Done tt (inl (text.items, is, refl)), desk_counts job 2 (Done ∷ Refused-status ∷ []) PrintsAllPairs rows desk ranked before after counted)
+all_shown_makes job rows desk ranked before after counted (bundled.TooLong bytes) is (made.Refuses line) shown = (
+  λ input. (Refuses line.items, record { desk = desk; ranked = ranked; holds = inr (bytes, is, ap Refuses shown) }, refl),
+  desk_counts job 2 (Done ∷ Refused-status ∷ []) PrintsAllPairs rows desk ranked before after counted,
+)
+all_shown_makes job rows desk ranked before after counted (bundled.TooLong bytes) is (made.Prints text status) shown = absurd shown
+all_shown_makes job rows desk ranked before after counted (bundled.TooLong bytes) is (made.Holds other measure level) shown = absurd shown
 
 -- what a desk with its table speaks of
 module _ {M : Type 0} (measured : MeasureName) (cell : List Mark → List ℕ → List ℕ → Cell) (bound : List Mark → List ℕ → Span) (job : Job) (known : Option Files) (on : DeskTable M) (is : IsTabled measured cell bound job known on) where

@@ -28,6 +28,8 @@ use Rattle.bundle_verifier.specs.Either.{IsAnyVerified}
 use Rattle.bundle_verifier.specs.declared.rejected.BundleRejected.{BundleRejected}
 use Rattle.pair_table.specs.Numbers.{HaveEnds}
 use Rattle.pair_table.specs.Evidence.{SaysOfVerdict}
+use Rattle.order_bundle.specs.Bundle.{Bundle, bundle_text}
+use Rattle.bundle_report.specs.Bundled.{IsAllPairsText}
 use Rattle.desk_report.specs.Claims.{IsTrueText}
 use Rattle.desk_report.specs.Reports.{Subject, IsTableText, IsCertificateText, IsCloseText, run_name}
 use Rattle.desk_files.specs.Files.{Stop}
@@ -38,7 +40,7 @@ use Rattle.desk_top.specs.Answer.{Answer, Saying, About, OfRuns, OfCheck, text_o
 use Rattle.desk_top.specs.Outcome.{Outcome, Prints, Refuses, answer_of, IsOutcome, PrintsText}
 use Rattle.desk_top.specs.Report.{subject_of, HasDeskOf}
 use Rattle.desk_top.specs.Verification.{rejection_text, verification_text, PrintsCheck}
-use Rattle.desk_top.specs.Meaning.{Meaning, AnswersOn, IsAnswer, desk_meaning, check_meaning, PrintsTable, PrintsCertificate}
+use Rattle.desk_top.specs.Meaning.{Meaning, AnswersOn, IsAnswer, desk_meaning, check_meaning, PrintsTable, PrintsCertificate, PrintsAllPairs}
 use Rattle.desk_top.specs.Meets.{Call, HasAnswer, IsGiven, GivesAnswer, OutputFailed, FilesFailed, Stopped, Meets, ReceivesPart, SaysTruth, IsTruthful}
 use Rattle.desk_top.specs.Truths.{PrintsTruth}
 use Rattle.desk_top.proofs.Marking.{marks_known}
@@ -163,7 +165,14 @@ module _ (laws : PrintsTruth) where
       let c = is.certificate in
       let shown = laws.evidence s.measure s.desk s.marks s.level a b c m is.valid known is.runs.different is.runs.first is.runs.second is.of_pair in
       let named : c.measure ≡ s.measure = measure_answered (HasEnds s.measure) s.measure s.desk s.marks s.level a b c (verdict is.of_pair.sums) is.of_pair.says in
-      subst (SubjectIsTrue s n) (sym is.is) (subst (λ m. IsTrueText m s.desk s.marks (take n (certificate_text c))) named (laws.certificates c s.desk s.marks n is.within is.valid known shown))
+      subst (SubjectIsTrue s n) (sym is.is) (subst (λ m. IsTrueText m s.desk s.marks (take n (certificate_text c))) named (laws.certificates (One c) s.desk s.marks n is.within is.valid known shown))
+
+  pub all_pairs_are_true : (s : Subject) (text : List ℕ) (n : ℕ) → AreMarksOf s.desk s.marks → IsAllPairsText s text → SubjectIsTrue s n text
+  all_pairs_are_true s text n known is =
+      let b : Bundle = is.bundle in
+      let of = is.on.of_pairs in
+      let shown = laws.bundles s.measure s.desk s.marks s.level b is.on.valid known of in
+      subst (SubjectIsTrue s n) (sym is.is) (subst (λ m. IsTrueText m s.desk s.marks (take n (bundle_text b))) of.by_measure (laws.certificates (Many b) s.desk s.marks n of.form is.on.valid known shown))
 
   pub close_is_true : (s : Subject) (a b : ℕ) (text : List ℕ) (n : ℕ) → IsCloseText s a b text → SubjectIsTrue s n text
   close_is_true s a b text n is =
@@ -198,6 +207,10 @@ module _ (laws : PrintsTruth) where
   pub printed_certificate_true : (s : Subject) (outcome : Outcome) → AreMarksOf s.desk s.marks → IsMeasure s.measure → PrintsCertificate s outcome → IsTrueOutcome outcome
   printed_certificate_true s outcome known m (inl is) = one_text_is_true Done (OfRuns s) (IsCertificateText s 0 1) (λ text n holds. certificate_is_true s 0 1 text n m known holds) outcome is
   printed_certificate_true s outcome known m (inr is) = one_text_is_true Close (OfRuns s) (IsCloseText s 0 1) (λ text n holds. close_is_true s 0 1 text n holds) outcome is
+
+  pub printed_all_pairs_true : (s : Subject) (outcome : Outcome) → AreMarksOf s.desk s.marks → IsMeasure s.measure → PrintsAllPairs s outcome → IsTrueOutcome outcome
+  printed_all_pairs_true s outcome known m (inl is) = one_text_is_true Done (OfRuns s) (IsAllPairsText s) (λ text n holds. all_pairs_are_true s text n known holds) outcome is
+  printed_all_pairs_true s outcome known m (inr (bytes, long, is)) = subst IsTrueOutcome (sym is) tt
 
   -- the line of a check: where it is `accepted`, all that the certificate claims holds
   check_true : (found : Loaded × AnyCertificate) (outcome : Outcome) → PrintsCheck found outcome → IsTrueOutcome outcome

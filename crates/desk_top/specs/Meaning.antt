@@ -6,13 +6,15 @@ use Rattle.desk_words.specs.Words.{IsCommandOf}
 use Rattle.desk_words.specs.declared.command.Check.{Check}
 use Rattle.desk_words.specs.declared.command.Job.{Job}
 use Rattle.desk_words.specs.declared.command.Command.{Command}
-use Rattle.desk_words.specs.declared.command.Command.TheVariants.{Table, Certify, Verify, Session, Demo}
+use Rattle.desk_words.specs.declared.command.Command.TheVariants.{Table, Certify, CertifyAll, Verify, Session, Demo}
 use Rattle.desk_files.specs.Files.{Stop}
+use Rattle.bundle_report.specs.Bundled.{HasTooManyBytes, IsAllPairsText}
 use Rattle.desk_report.specs.Reports.{Subject, IsTableText, IsCertificateText, IsCloseText, cells_of}
 use Rattle.desk_top.specs.declared.status.Status.{Status}
 use Rattle.desk_top.specs.declared.status.Status.TheVariants as statuses
+use Rattle.desk_top.specs.Told.{too_long_line}
 use Rattle.desk_top.specs.Answer.{OfRuns, Answer, usage, stop_answer}
-use Rattle.desk_top.specs.Outcome.{Outcome, IsOutcome, PrintsText}
+use Rattle.desk_top.specs.Outcome.{Outcome, Refuses, IsOutcome, PrintsText}
 use Rattle.desk_top.specs.Report.{IsAsked, HasDeskOf, subject_of}
 use Rattle.desk_top.specs.Verification.{PrintsCheck}
 use Rattle.desk_top.specs.Conversation.{setting_on, IsSession, session_cells}
@@ -97,10 +99,19 @@ PrintsTable s outcome = PrintsText statuses.Done (OfRuns s) (IsTableText s) outc
 abbrev pub PrintsCertificate : Subject → Outcome → Type 0
 PrintsCertificate s outcome = PrintsText statuses.Done (OfRuns s) (IsCertificateText s 0 1) outcome ⊎ PrintsText statuses.Close (OfRuns s) (IsCloseText s 0 1) outcome
 
+-- its text would have too many bytes, and the line tells how many
+abbrev pub RefusesLength : Subject → Outcome → Type 0
+RefusesLength s outcome = (bytes : ℕ) × HasTooManyBytes s bytes × (outcome ≡ Refuses (too_long_line bytes))
+
+-- the certificate of all pairs, or that its text would be too long
+abbrev pub PrintsAllPairs : Subject → Outcome → Type 0
+PrintsAllPairs s outcome = PrintsText statuses.Done (OfRuns s) (IsAllPairsText s) outcome ⊎ RefusesLength s outcome
+
 -- what a command means
 abbrev pub meaning_of : Command → Meaning
 meaning_of (Table job) = desk_meaning job 1 (statuses.Done ∷ []) PrintsTable
 meaning_of (Certify job) = desk_meaning job 2 (statuses.Done ∷ statuses.Close ∷ []) PrintsCertificate
+meaning_of (CertifyAll job) = desk_meaning job 2 (statuses.Done ∷ statuses.Refused ∷ []) PrintsAllPairs
 meaning_of (Verify check) = check_meaning check
 meaning_of (Session job) = session_meaning job
 meaning_of (Demo seed) = demo_meaning seed

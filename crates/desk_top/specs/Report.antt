@@ -12,12 +12,15 @@ use Rattle.order_certificate.specs.Certificate.{IsLevel}
 use Rattle.topics_pool.specs.Rows.{IsDeskOf}
 use Rattle.desk_report.specs.Reports.{Subject, subject, IsTableOn}
 use Rattle.desk_files.specs.Load.{Sources, sources, Loaded, Reads}
+use Rattle.bundle_report.specs.declared.report.Bundled.{Bundled}
+use Rattle.bundle_report.specs.declared.report.Bundled.TheVariants as bundled
 use Rattle.desk_report.specs.declared.reports.Certified.{Certified}
 use Rattle.desk_report.specs.declared.reports.Certified.TheVariants as certified
 use Rattle.desk_top.specs.declared.status.Status.TheVariants.{Done, Close}
 use Rattle.desk_top.specs.declared.outcome.Outcome.{Outcome as Made}
 use Rattle.desk_top.specs.declared.outcome.Outcome.TheVariants as made
 use Rattle.desk_top.specs.declared.work.DeskTable.{DeskTable}
+use Rattle.desk_top.specs.Told.{too_long_line}
 
 -- what the desk of a job is read from
 abbrev pub sources_of : Job → Sources
@@ -41,6 +44,12 @@ subject_of job desk = subject job.measure job.level desk (marks_in job desk)
 abbrev pub shown_as : Certified → Made
 shown_as (certified.Certificate text) = made.Prints text Done
 shown_as (certified.Close text) = made.Prints text Close
+
+-- what was made of the answer to all pairs: their text, or the line that tells how many bytes it would have
+abbrev pub IsShownAs : Bundled → Made → Type 0
+IsShownAs (bundled.Bundle text) outcome = outcome ≡ made.Prints text Done
+IsShownAs (bundled.TooLong bytes) (made.Refuses line) = line.items ≡ too_long_line bytes
+IsShownAs (bundled.TooLong bytes) outcome = ⊥
 
 -- rows make a desk, of which something holds
 pub record HasDeskOf (rows : Loaded) (fact : Desk → Type 0) : Type 0 where

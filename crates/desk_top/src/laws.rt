@@ -8,6 +8,7 @@ use desk_report::claims::{
 };
 use order_bundle::any_evidence_implies_claims;
 use pair_table::evidence_laws::certificates_are_evidence;
+use table_bundle::laws::bundles_are_evidence;
 
 /// Whatever was received of a printed text claims nothing false.
 pub fn printed_texts_are_true()
@@ -23,5 +24,6 @@ pub fn printed_texts_are_true()
     qrels_texts_are_true();
     no_text_is_true();
     certificates_are_evidence();
+    bundles_are_evidence();
     any_evidence_implies_claims();
 }

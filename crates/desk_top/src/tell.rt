@@ -3,7 +3,7 @@ ghost use Rattle.std.specs.Prelude.{◌≡◌, ◌++◌, OnOk, IfOk, decimal};
 ghost use Rattle.desk_files.specs.Views.{refusal_of};
 ghost use Rattle.desk_outside.specs.Seen.{sink};
 ghost use Rattle.desk_top.specs.Status.{status_line};
-ghost use Rattle.desk_top.specs.Told.{TellsRefusal, TellsStop, WritesLine, fault_word, fault_text, refusal_text, refusal_line, long_input_line};
+ghost use Rattle.desk_top.specs.Told.{TellsRefusal, TellsStop, WritesLine, fault_word, fault_text, refusal_text, refusal_line, long_input_line, too_long_line};
 
 use crate::status::Status;
 use desk_files::{Refusal, Stop};
@@ -90,6 +90,16 @@ pub fn push_number(line: &mut Vec<u8>, number: u64) -> Result<(), AllocError>
     ensures { OnOk result (line.new.items ≡ line.old.items ++ decimal number) }
 {
     line.extend_from_slice(Buffer::new().format(number).as_bytes())
+}
+
+/// The line of a certificate of all pairs whose text would have so many bytes, which are too many.
+pub fn too_long_line(alloc: Global, bytes: u64) -> Result<Vec<u8>, AllocError>
+    ensures { IfOk result (λ line. line.items ≡ too_long_line bytes) }
+{
+    let mut line = Vec::from_slice(alloc, b"refused: certificate: TooLong ")?;
+    push_number(&mut line, bytes)?;
+    line.push(b'\n')?;
+    Ok(line)
 }
 
 fn push_fault(line: &mut Vec<u8>, number: u64, fault: LineFault) -> Result<(), AllocError>

@@ -8,15 +8,17 @@ ghost use Rattle.desk_report.specs.Reports.{cells_of};
 ghost use Rattle.desk_words.specs.declared.command.Command.TheVariants as commands;
 ghost use Rattle.desk_top.specs.Loading.{desk_loading, OpensWithin};
 ghost use Rattle.desk_top.specs.Meaning.{meaning_of};
-ghost use Rattle.desk_top.specs.Report.{IsAsked, IsTabled, shown_as};
+ghost use Rattle.desk_top.specs.Report.{IsAsked, IsShownAs, IsTabled, shown_as};
 ghost use Rattle.desk_top.specs.Works.{StopsLoading, Works};
 
 use crate::demo::demo_outcome;
 use crate::outcome::Outcome;
 use crate::session::session_outcome;
 use crate::status::Status;
+use crate::tell::too_long_line;
 use crate::tools::Tools;
 use crate::verify::check_outcome;
+use bundle_report::{Bundled, bundle_report};
 use desk_files::{Stop, load_desk};
 use desk_model::{Desk, Marks};
 use desk_outside::Shelf;
@@ -24,6 +26,7 @@ use desk_report::{Certified, certified_report, table_report};
 use desk_words::{Command, Job};
 use measure_core::{Maker, Measure, Steps};
 use pair_table::{Table, table_on};
+use std::alloc::{AllocError, Global};
 use std::sync::ledger::Ledger;
 
 /// The desk of some files, the marks that they give its documents, and a table of these marks.
@@ -113,6 +116,41 @@ pub fn certificate_outcome<'a, F: Shelf, P: Maker, L: Ledger>(
     Ok(shown(answer))
 }
 
+// What shows the orders of all pairs, or that their text would be too long.
+fn all_shown(alloc: Global, answer: Bundled) -> Result<Outcome, AllocError>
+    ensures { IfOk result (IsShownAs answer) }
+{
+    match answer {
+        Bundled::Bundle(text) => Ok(Outcome::Prints {
+            text,
+            status: Status::Done,
+        }),
+        Bundled::TooLong { bytes } => {
+            let line = too_long_line(alloc, bytes)?;
+            Ok(Outcome::Refuses { line })
+        }
+    }
+}
+
+/// The certificate of all pairs of runs, or the line that tells how long it would be.
+pub fn all_pairs_outcome<'a, F: Shelf, P: Maker, L: Ledger>(
+    tools: &Tools<'_, P>,
+    job: &'a Job,
+    files: &mut F,
+    steps: &mut Steps<L>,
+) -> Result<Outcome, Stop<'a>>
+    requires { IsAsked 2 job.now }
+    ensures works { Works (meaning_of (commands.CertifyAll job.now)) (shelf (F.state files.old) (F.state files.new)) steps.old steps.new result }
+    ensures opened { OpensWithin (desk_loading job.now) (shelf (F.state files.old) (F.state files.new)) }
+    ensures reads { ReadsFiles (extent_of (answer_of result)) (F.state files.old).calls (F.state files.new).calls }
+    ensures files { (F.state files.new).files ≡ (F.state files.old).files }
+{
+    let on = tabled(tools, job, files, steps)?;
+    let answer = bundle_report(tools.alloc, &on.desk, &on.marks, job.level, &on.table)?;
+    let outcome = all_shown(tools.alloc, answer)?;
+    Ok(outcome)
+}
+
 /// What a command makes of what its files come to. A new command is one more case.
 pub fn outcome_of<'a, F: Shelf, P: Maker, L: Ledger>(
     tools: &Tools<'_, P>,
@@ -129,6 +167,7 @@ pub fn outcome_of<'a, F: Shelf, P: Maker, L: Ledger>(
     match command {
         Command::Table(job) => table_outcome(tools, job, files, steps),
         Command::Certify(job) => certificate_outcome(tools, job, files, steps),
+        Command::CertifyAll(job) => all_pairs_outcome(tools, job, files, steps),
         Command::Session(job) => session_outcome(tools.alloc, files, job),
         Command::Verify(check) => check_outcome(tools.alloc, files, check),
         Command::Demo { seed } => demo_outcome(tools, *seed, steps),

@@ -1,0 +1,51 @@
+use Rattle.std.proofs.Common.{[], ◌∷◌, refl, sym}
+use Rattle.desk_words.specs.declared.command.Command.TheVariants as commands
+use Rattle.desk_outside.specs.Seen.{shelf}
+use Rattle.desk_files.specs.declared.stop.Stop.TheVariants as kept
+use Rattle.desk_top.specs.declared.status.Status.TheVariants.{Done, Refused}
+use Rattle.desk_top.specs.Meaning.{meaning_of, PrintsAllPairs}
+use Rattle.desk_top.specs.Report.{subject_of}
+use Rattle.desk_top.specs.Works.{Works}
+use Rattle.desk_files.proofs.InTurn.{files_handed_on, memory_after}
+use Rattle.desk_top.proofs.Reporting.{handed_on, desk_works, desk_memory, all_shown_makes, tabled_subject, tabled_marks}
+use Rattle.desk_top.proofs.work.all_pairs_outcome.Goals as goal
+
+pub bundle_report-requires-clause-marks : goal.bundle_report-requires-clause-marks
+bundle_report-requires-clause-marks g c = tabled_marks _ _ _ c.args.job.now _ c.in_ok-on.on c.in_ok-on.ensures.on
+
+pub returns-in_err-answer-clause-works : goal.returns-in_err-answer-clause-works
+returns-in_err-answer-clause-works g c =
+    let job = c.args.job.now in
+    let on = c.in_ok-on.on in
+    let is = c.in_ok-on.ensures.on in
+    let files = shelf (g.F.Shelf.state c.args.files.now) (g.F.Shelf.state c.tabled.new.files) in
+    handed_on (Works (meaning_of (commands.CertifyAll job)) files c.args.steps.now c.tabled.new.steps) c.from_residual-in_err-answer.result kept.Memory c.from_residual-in_err-answer.ensures.1
+    (desk_memory job 2 (Done ∷ Refused ∷ []) PrintsAllPairs is.rows on.desk is.ranked files is.read _ _ c.in_ok-on.ensures.steps kept.Memory refl)
+
+pub returns-in_err-outcome-clause-works : goal.returns-in_err-outcome-clause-works
+returns-in_err-outcome-clause-works g c =
+    let job = c.args.job.now in
+    let on = c.in_ok-on.on in
+    let is = c.in_ok-on.ensures.on in
+    let files = shelf (g.F.Shelf.state c.args.files.now) (g.F.Shelf.state c.tabled.new.files) in
+    handed_on (Works (meaning_of (commands.CertifyAll job)) files c.args.steps.now c.tabled.new.steps) c.from_residual-in_err-outcome.result kept.Memory c.from_residual-in_err-outcome.ensures.1
+    (desk_memory job 2 (Done ∷ Refused ∷ []) PrintsAllPairs is.rows on.desk is.ranked files is.read _ _ c.in_ok-on.ensures.steps kept.Memory refl)
+
+pub returns-clause-works : goal.returns-clause-works
+returns-clause-works g c =
+    let job = c.args.job.now in
+    let on = c.in_ok-on.on in
+    let is = c.in_ok-on.ensures.on in
+    let files = shelf (g.F.Shelf.state c.args.files.now) (g.F.Shelf.state c.tabled.new.files) in
+    let answer = c.in_ok-answer.ensures (subject_of job on.desk) refl (sym is.marked) (tabled_subject _ _ _ job _ on is) in
+    desk_works job 2 (Done ∷ Refused ∷ []) PrintsAllPairs is.rows on.desk is.ranked files is.read _ _ c.in_ok-on.ensures.steps c.in_ok-outcome.outcome
+    (all_shown_makes job is.rows on.desk is.ranked _ _ c.in_ok-on.ensures.steps c.in_ok-answer.answer answer c.in_ok-outcome.outcome c.in_ok-outcome.ensures)
+
+pub returns-in_err-on-clause-reads : goal.returns-in_err-on-clause-reads
+returns-in_err-on-clause-reads g c = files_handed_on _ _ c.from_residual.result c.in_err-on.field-0.0 c.from_residual.ensures.1 c.in_err-on.ensures.reads
+
+pub returns-in_err-answer-clause-reads : goal.returns-in_err-answer-clause-reads
+returns-in_err-answer-clause-reads g c = memory_after _ _ c.from_residual-in_err-answer.result c.from_residual-in_err-answer.ensures.1 c.in_ok-on.ensures.reads
+
+pub returns-in_err-outcome-clause-reads : goal.returns-in_err-outcome-clause-reads
+returns-in_err-outcome-clause-reads g c = memory_after _ _ c.from_residual-in_err-outcome.result c.from_residual-in_err-outcome.ensures.1 c.in_ok-on.ensures.reads
