@@ -1,7 +1,7 @@
 //! What a measure is, by a trait with laws, and what measures share on a topic: the rankings, the cells of all pairs
 //! of runs, for measures that look at the documents that one of two runs alone has among its first k, and for those
 //! that look at the ranks of the documents of both; and quick passes over two rankings, which add the weights of their
-//! documents to totals or take them back.
+//! documents to totals or take them back, or list the documents that a least case makes relevant.
 #![tactic(auto)]
 
 pub mod bits;
