@@ -2,10 +2,11 @@
 use Rattle.std.proofs.Common.{◌≡◌, ◌⊎◌, inl, inr, ℕ, zero, suc, ◌+◌, ◌-◌, ◌<◌, ◌≤◌, Bool, true, false, not, nat_eq, nat_lt, ◌&&◌, ◌||◌, List, [], ◌∷◌, drop, length, take, count_by, slice_index_or, Option, Some, None, refl, ap, sym, subst, ◌∙◌, arith}
 use Rattle.std.specs.Prelude.{if◌then◌else◌}
 use Rattle.std.specs.List.{AllByRecursion, range_with_len}
+use Rattle.std.proofs.Math.Bool.{and-false}
 use Rattle.std.proofs.Math.Seq.{drop-cons, drop-nil}
 use Rattle.std.proofs.lemmas.Bool.Decides.{nat_tests}
 use Rattle.std.proofs.lemmas.List.{drop_all}
-use Rattle.small_lemmas.proofs.Tests.{apart_below}
+use Rattle.small_lemmas.proofs.Tests.{apart_below, neither}
 use Rattle.desk_model.specs.Completion.{with_picked}
 use Rattle.desk_model.specs.Limits.{RANK_LIMIT}
 use Rattle.desk_model.specs.Mark.{is_unjudged, mark_at}
@@ -15,7 +16,7 @@ use Rattle.desk_model.specs.declared.placed.Placed.{Placed}
 use Rattle.desk_model.specs.declared.types.Mark.{Mark}
 use Rattle.desk_model.specs.declared.types.Mark.TheVariants.{Unjudged, Relevant, Other}
 use Rattle.desk_model.proofs.Counts.{one_if, nat_eq-true}
-use Rattle.measure_laws.specs.Classes.{open_in}
+use Rattle.measure_laws.specs.Classes.{is_among_first, open_in, size_of}
 use Rattle.measure_laws.specs.Prefixes.{only_second, neutral}
 use Rattle.measure_laws.specs.Ranks.{IsRankWithin}
 use Rattle.measure_laws.proofs.RprecEnds.{count_more}
@@ -162,3 +163,41 @@ next_within doc i r whole in_range e = at (before_end i (length whole) in_range)
         let none : nat_lt 0 r ≡ false = none_rank r (e ∙ ap (λ qs. lookup qs doc) (drop_all i whole end)) in
         let here : one_if (nat_lt 0 r) ≡ 0 = ap one_if none in
         omega (arith, in_range, here)
+
+-- ---- where none of the others is left to be listed
+pub size_more : (class : ℕ → Bool) (doc n : ℕ) → doc ≤ n → size_of doc class ≤ size_of n class
+size_more class doc zero h = let same : doc ≡ 0 = omega arith in subst (λ m. size_of m class ≤ size_of 0 class) (sym same) (omega arith)
+size_more class doc (suc n) h = at (last doc n h) (λ le. size_more class doc n le)
+  where
+    last : (m n : ℕ) → m ≤ suc n → (m ≤ n) ⊎ (m ≡ suc n)
+    last m n h = grind arith
+
+    at : (doc ≤ n) ⊎ (doc ≡ suc n) → (doc ≤ n → size_of doc class ≤ size_of n class) → size_of doc class ≤ size_of (suc n) class
+    at (inl le) shorter = omega (arith, shorter le, count_more class n)
+    at (inr same) shorter = subst (λ m. size_of m class ≤ size_of (suc n) class) (sym same) (omega arith)
+
+none_past : (class : ℕ → Bool) (wanted left doc d : ℕ) → nat_lt 0 left ≡ false → left ≡ wanted - size_of doc class → doc ≤ d → is_among_first wanted class d ≡ false
+none_past class wanted left doc d none e lt = ap (λ b. class d && b) (over (size_of d class) (omega (arith, zero_left left none, e, size_more class doc d lt))) ∙ and-false (class d)
+  where
+    zero_left : (m : ℕ) → nat_lt 0 m ≡ false → m ≡ 0
+    zero_left m h = grind (arith, nat_tests)
+
+    over : (m : ℕ) → wanted ≤ m → nat_lt m wanted ≡ false
+    over m h = grind (arith, nat_tests)
+
+none_more : (t : Bool) → (t || (false || false)) ≡ t
+none_more true = refl
+none_more false = refl
+
+pub left_own : (marks : List Mark) (a b : List ℕ) (k doc n d : ℕ) (more left : More) (x y : Option ℕ) → (n ≤ doc) ⊎ ((nat_lt 0 left.both || nat_lt 0 left.first) ≡ false) →
+    left.both ≡ more.both - count_by (open_in marks (neutral k a b)) (range_with_len 0 doc) → left.first ≡ more.first - count_by (open_in marks (only_second k b a)) (range_with_len 0 doc) → doc ≤ d → d < doc + (n - doc) → x ≡ rank a d → y ≡ rank b d →
+    (is_unjudged (mark_at marks d) && with_picked marks (own_and_more k more marks a b) d) ≡ (is_unjudged (mark_at marks d) && (is_by k y && not (is_by k x)))
+left_own marks a b k doc n d more left x y (inl end) eb ef lo hi ex ey = absurd (omega (arith, end, lo, hi))
+left_own marks a b k doc n d more left x y (inr none) eb ef lo hi ex ey =
+    let both = neither (nat_lt 0 left.both) (nat_lt 0 left.first) none in
+    let s = only_second k a b d in
+    let own : own_and_more k more marks a b d ≡ s =
+    ap (λ t. s || (t || is_among_first more.first (open_in marks (only_second k b a)) d)) (none_past (open_in marks (neutral k a b)) more.both left.both doc d both.0 eb lo)
+    ∙ ap (λ t. s || (false || t)) (none_past (open_in marks (only_second k b a)) more.first left.first doc d both.1 ef lo) ∙ none_more s in
+    open_picked (own_and_more k more marks a b d) (mark_at marks d) ∙ ap (λ t. is_unjudged (mark_at marks d) && t)
+    (own ∙ ap (λ t. t && not (is_in (take k a) d)) (rank_by k d b ∙ ap (is_by k) (sym ey)) ∙ ap (λ t. is_by k y && not t) (rank_by k d a ∙ ap (is_by k) (sym ex)))

@@ -58,19 +58,19 @@ module _ (marks : List Mark) where
     later m n h e = grind (arith, nat_tests)
 
     pub placed_are : (whole : ℕ → Bool) (n low : ℕ) (ps : List Placed) → IsAscending ps → AllByRecursion (λ (p : Placed). low ≤ p.doc) ps → AllByRecursion (λ (p : Placed). p.doc < low + n) ps →
-        ((d : ℕ) → low ≤ d → whole d ≡ (is_unjudged (mark_at marks d) && test (look d) (lookup ps d))) → filter whole (range_with_len low n) ≡ placed_documents marks by_look ps
+        ((d : ℕ) → low ≤ d → d < low + n → whole d ≡ (is_unjudged (mark_at marks d) && test (look d) (lookup ps d))) → filter whole (range_with_len low n) ≡ placed_documents marks by_look ps
     placed_are whole zero low [] up from to same = refl
     placed_are whole zero low (p ∷ ps) up from to same = absurd (omega (arith, from.0, to.0))
     placed_are whole (suc n) low [] up from to same =
         let rest = filter whole (range_with_len (low + 1) n) in
-        let fails : whole low ≡ false = same low (omega arith) ∙ ap (λ b. is_unjudged (mark_at marks low) && b) (absent (look low)) ∙ and-false (is_unjudged (mark_at marks low)) in
-        ap (λ b. cond b (low ∷ rest) rest) fails ∙ placed_are whole n (low + 1) [] tt tt tt (λ d lo. same d (omega (arith, lo)))
+        let fails : whole low ≡ false = same low (omega arith) (omega arith) ∙ ap (λ b. is_unjudged (mark_at marks low) && b) (absent (look low)) ∙ and-false (is_unjudged (mark_at marks low)) in
+        ap (λ b. cond b (low ∷ rest) rest) fails ∙ placed_are whole n (low + 1) [] tt tt tt (λ d lo hi. same d (omega (arith, lo)) (omega (arith, hi)))
     placed_are whole (suc n) low (p ∷ ps) up from to same =
         at (nat_eq p.doc low) refl
         (λ is. placed_are whole n (low + 1) ps up.1 (weaker_places (λ q. p.doc < q.doc) (λ q. low + 1 ≤ q.doc) (λ q lt. omega (arith, lt, is)) ps up.0) (weaker_places (λ q. q.doc < low + suc n) (λ q. q.doc < low + 1 + n) (λ q lt. omega (arith, lt)) ps to.1)
-        (λ d lo. same d (omega (arith, lo)) ∙ ap (λ (b : Bool). is_unjudged (mark_at marks d) && test (look d) (if b then Some p.rank else lookup ps d)) (apart_below p.doc d (omega (arith, lo, is)))))
+        (λ d lo hi. same d (omega (arith, lo)) (omega (arith, hi)) ∙ ap (λ (b : Bool). is_unjudged (mark_at marks d) && test (look d) (if b then Some p.rank else lookup ps d)) (apart_below p.doc d (omega (arith, lo, is)))))
         (λ lt. placed_are whole n (low + 1) (p ∷ ps) up (omega (arith, lt), weaker_places (λ q. p.doc < q.doc) (λ q. low + 1 ≤ q.doc) (λ q h. omega (arith, lt, h)) ps up.0) (weaker_places (λ q. q.doc < low + suc n) (λ q. q.doc < low + 1 + n) (λ q h. omega (arith, h)) (p ∷ ps) to)
-        (λ d lo. same d (omega (arith, lo))))
+        (λ d lo hi. same d (omega (arith, lo)) (omega (arith, hi))))
       where
         rest : List ℕ
         rest = filter whole (range_with_len (low + 1) n)
@@ -79,13 +79,13 @@ module _ (marks : List Mark) where
         at true e here after =
             let is : p.doc ≡ low = nat_eq-true p.doc low e in
             let tested : whole low ≡ (is_unjudged (mark_at marks p.doc) && by_look p) =
-            same low (omega arith) ∙ ap (λ (b : Bool). is_unjudged (mark_at marks low) && test (look low) (if b then Some p.rank else lookup ps low)) e ∙ ap (λ d. is_unjudged (mark_at marks d) && test (look d) (Some p.rank)) (sym is) in
+            same low (omega arith) (omega arith) ∙ ap (λ (b : Bool). is_unjudged (mark_at marks low) && test (look low) (if b then Some p.rank else lookup ps low)) e ∙ ap (λ d. is_unjudged (mark_at marks d) && test (look d) (Some p.rank)) (sym is) in
             ap (λ b. cond b (low ∷ rest) rest) tested ∙ ap (λ d. cond (is_unjudged (mark_at marks p.doc) && by_look p) (d ∷ rest) rest) (sym is)
             ∙ ap (λ l. cond (is_unjudged (mark_at marks p.doc) && by_look p) (p.doc ∷ l) l) (here is) ∙ sym (placed_cons by_look p ps)
         at false e here after =
             let lt : low < p.doc = later low p.doc from.0 e in
             let gone : lookup (p ∷ ps) low ≡ None = absent_below low (p ∷ ps) (lt, further low p.doc ps (omega (arith, lt)) up.0) in
-            let fails : whole low ≡ false = same low (omega arith) ∙ ap (λ (r : Option ℕ). is_unjudged (mark_at marks low) && test (look low) r) gone ∙ ap (λ b. is_unjudged (mark_at marks low) && b) (absent (look low)) ∙ and-false (is_unjudged (mark_at marks low)) in
+            let fails : whole low ≡ false = same low (omega arith) (omega arith) ∙ ap (λ (r : Option ℕ). is_unjudged (mark_at marks low) && test (look low) r) gone ∙ ap (λ b. is_unjudged (mark_at marks low) && b) (absent (look low)) ∙ and-false (is_unjudged (mark_at marks low)) in
             ap (λ b. cond b (low ∷ rest) rest) fails ∙ after lt
 
 -- ---- the walk over two lists

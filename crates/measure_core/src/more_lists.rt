@@ -13,6 +13,9 @@ ghost use Rattle.measure_core.specs.OneSide.{is_by};
 ghost use Rattle.measure_core.specs.Places.{BeginsAt};
 ghost use Rattle.measure_core.specs.Worths.{rank_or_none};
 
+use crate::own_lists::SecondAlone;
+use crate::places::rest;
+use crate::rank_lists::push_places;
 use desk_model::{Mark, Memory, Placed, Ranking};
 
 /// How many unjudged documents are listed beside those that the second of two rankings alone has among its first k: of
@@ -24,6 +27,13 @@ pub struct More {
 }
 
 impl More {
+    /// Whether some are left to be listed.
+    fn is_some(self) -> bool
+        ensures { result ≡ (nat_lt 0 self.both || nat_lt 0 self.first) }
+    {
+        (self.both > 0) | (self.first > 0)
+    }
+
     /// Whether one more document is listed.
     fn lists(self, mark: Mark, in_first: bool, in_second: bool) -> bool
         ensures { result ≡ (is_unjudged mark && ((in_second && not in_first) || (((not (in_second && not in_first) && not (in_first && not in_second)) && nat_lt 0 self.both) || ((in_first && not in_second) && nat_lt 0 self.first)))) }
@@ -82,7 +92,8 @@ fn gone_on(rank: u32) -> usize
 }
 
 /// Appends the unjudged documents that b has among its first k and a has not, and with them the first ones of the
-/// others, as many of each kind as are wanted, all ascending, by one walk over the marks and both rankings.
+/// others, as many of each kind as are wanted, all ascending: by one walk over the marks and both rankings while some of the
+/// others are wanted, and then over the rankings alone.
 ///
 /// # Errors
 /// `Memory`: out of memory. It is then not known what `docs` holds.
@@ -102,7 +113,8 @@ pub fn push_own_and_more(
     let mut i = 0;
     let mut j = 0;
     let mut left = more;
-    for doc in 0..marks.len() as u32 {
+    let mut doc = 0;
+    while (doc as usize) < marks.len() && left.is_some() {
         let mark = marks[doc as usize];
         let x = rank_from(first, i, doc);
         let y = rank_from(second, j, doc);
@@ -114,6 +126,14 @@ pub fn push_own_and_more(
         left = left.after(mark, in_first, in_second);
         i += gone_on(x);
         j += gone_on(y);
+        doc += 1;
     }
-    Ok(())
+    // Of the documents that are left only the second run's own are listed.
+    push_places(
+        &SecondAlone { k },
+        rest(first, i),
+        rest(second, j),
+        marks,
+        docs,
+    )
 }

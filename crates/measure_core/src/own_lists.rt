@@ -18,8 +18,8 @@ const LOOKED_UP: u32 = 128;
 
 /// The documents that the second ranking alone has at one of its first k ranks.
 #[derive(Clone, Copy)]
-struct SecondAlone {
-    k: u32,
+pub(crate) struct SecondAlone {
+    pub(crate) k: u32,
 }
 
 impl RankTest for SecondAlone {

@@ -3,6 +3,7 @@ ghost use Rattle.std.specs.Prelude.{◌≡◌, ℕ, ◌++◌, ◌&&◌, Bool as 
 ghost use Rattle.desk_model.specs.Completion.{with_picked};
 ghost use Rattle.desk_model.specs.Limits.{RANK_LIMIT};
 ghost use Rattle.desk_model.specs.Mark.{is_unjudged};
+ghost use Rattle.desk_model.specs.Placed.{lookup};
 ghost use Rattle.measure_laws.specs.Ranks.{IsRankWithin};
 ghost use Rattle.measure_core.specs.Laws.{AreMet};
 ghost use Rattle.measure_core.specs.Lists.{added_documents, passes_by_ranks, placed_documents};
@@ -64,6 +65,33 @@ fn push_rest<T: RankTest>(
     Ok(())
 }
 
+/// Appends the unjudged documents of the second of two lists of places that are listed by their ranks in both, ascending,
+/// by one walk over both.
+pub(crate) fn push_places<T: RankTest>(
+    test: &T,
+    first: &[Placed],
+    second: &[Placed],
+    marks: &[Mark],
+    docs: &mut Vec<u32>,
+) -> Result<(), Memory>
+    requires first { IsLeft (length marks.now) first.now }
+    requires second { IsLeft (length marks.now) second.now }
+    ensures { OnOk result (docs.new.items ≡ docs.old.items ++ placed_documents marks.now (λ place. T.test test.now (lookup first.now place.doc) (Some place.rank)) second.now) }
+{
+    let mut i = 0;
+    let mut j = 0;
+    while i < first.len() && j < second.len() {
+        let x = first[i];
+        let y = second[j];
+        if lists_second(test, x, y, marks[y.doc as usize]) {
+            docs.push(y.doc)?;
+        }
+        i += passed(x, y);
+        j += passed(y, x);
+    }
+    push_rest(test, rest(second, j), marks, docs)
+}
+
 /// Appends the unjudged documents of b whose ranks in a and in b pass a test, ascending, by one walk over both in order
 /// of the documents.
 ///
@@ -79,18 +107,5 @@ pub fn push_by_ranks<T: RankTest>(
     requires { AreMet marks.now a.now b.now }
     ensures { OnOk result (docs.new.items ≡ docs.old.items ++ added_documents marks.now (with_picked marks.now (passes_by_ranks (T.test test.now) a.now b.now))) }
 {
-    let first = a.by_doc();
-    let second = b.by_doc();
-    let mut i = 0;
-    let mut j = 0;
-    while i < first.len() && j < second.len() {
-        let x = first[i];
-        let y = second[j];
-        if lists_second(test, x, y, marks[y.doc as usize]) {
-            docs.push(y.doc)?;
-        }
-        i += passed(x, y);
-        j += passed(y, x);
-    }
-    push_rest(test, rest(second, j), marks, docs)
+    push_places(test, a.by_doc(), b.by_doc(), marks, docs)
 }

@@ -1,5 +1,5 @@
 -- The first documents of a class, as many as are wanted.
-use Rattle.std.proofs.Common.{◌≡◌, ◌⊎◌, inl, inr, ℕ, zero, suc, ◌+◌, ◌-◌, ◌<◌, ◌≤◌, Bool, true, false, cond, nat_lt, ◌&&◌, ◌||◌, not, List, [], ◌∷◌, ◌++◌, take, length, count_by, refl, ap, sym, subst, ◌∙◌, arith}
+use Rattle.std.proofs.Common.{◌≡◌, ℕ, zero, suc, ◌+◌, ◌-◌, ◌<◌, ◌≤◌, Bool, true, false, cond, nat_lt, ◌&&◌, ◌||◌, not, List, [], ◌∷◌, ◌++◌, take, length, count_by, refl, ap, sym, subst, ◌∙◌, arith}
 use Rattle.std.specs.Prelude.{filter}
 use Rattle.std.specs.List.{range_with_len}
 use Rattle.std.proofs.Math.Bool.{and-false}
@@ -14,6 +14,7 @@ use Rattle.measure_laws.specs.Prefixes.{only_second, neutral}
 use Rattle.measure_laws.proofs.RprecEnds.{count_more}
 use Rattle.measure_core.specs.Lists.{added_documents, own_and_more}
 use Rattle.measure_core.specs.declared.more_lists.More.{More}
+use Rattle.measure_core.proofs.InStep.{size_more}
 use Rattle.measure_core.proofs.Pushing.{among_many, among_none, filter_same, open_picked}
 use Rattle.rprec.specs.Picks.{picks}
 use Rattle.rprec.specs.declared.values.Wanted.{Wanted}
@@ -69,17 +70,6 @@ module _ (class : ℕ → Bool) (j : ℕ) where
   first_taken n = let all : j - 0 ≡ j = omega arith in first_taken_from n 0 ∙ ap (λ m. take m (filter class (range_with_len 0 n))) all
 
 -- ---- the documents that are wanted
-size_more : (class : ℕ → Bool) (doc n : ℕ) → doc ≤ n → size_of doc class ≤ size_of n class
-size_more class doc zero h = let same : doc ≡ 0 = omega arith in subst (λ m. size_of m class ≤ size_of 0 class) (sym same) (omega arith)
-size_more class doc (suc n) h = at (last doc n h) (λ le. size_more class doc n le)
-  where
-    last : (m n : ℕ) → m ≤ suc n → (m ≤ n) ⊎ (m ≡ suc n)
-    last m n h = grind arith
-
-    at : (doc ≤ n) ⊎ (doc ≡ suc n) → (doc ≤ n → size_of doc class ≤ size_of n class) → size_of doc class ≤ size_of (suc n) class
-    at (inl le) shorter = omega (arith, shorter le, count_more class n)
-    at (inr same) shorter = subst (λ m. size_of m class ≤ size_of (suc n) class) (sym same) (omega arith)
-
 -- where more are wanted than the second run has of its own, all of those are
 pub all_own : (marks : List Mark) (a b : List ℕ) (r doc : ℕ) (w : Wanted) → doc < length marks → size_of (length marks) (open_in marks (only_second r a b)) < w.second → is_unjudged (mark_at marks doc) ≡ true →
     let more : More = record { both = w.both; first = w.first } in own_and_more r more marks a b doc ≡ picks w marks a b r doc

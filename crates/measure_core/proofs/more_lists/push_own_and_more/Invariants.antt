@@ -14,6 +14,7 @@ abbrev pub invariant-loop-doc : goal.invariant-loop-doc
 invariant-loop-doc l =
     let truth = with_picked l.marks (own_and_more l.k l.fn.more l.marks l.a l.b) in
     record {
+      doc_in : l.doc ≤ length l.marks;
       first_in : l.i ≤ length l.first;
       second_in : l.j ≤ length l.second;
       first : AreFrom l.first l.doc l.i;
@@ -22,3 +23,6 @@ invariant-loop-doc l =
       left_first : l.left.first ≡ l.fn.more.first - count_by (open_in l.marks (only_second l.k l.b l.a)) (range_with_len 0 l.doc);
       made : l.docs.items ++ left_from (λ doc. is_unjudged (mark_at l.marks doc) && truth doc) (length l.marks) l.doc ≡ l.initial.docs.items ++ added_documents l.marks truth;
     }
+
+abbrev pub decreases-loop-doc : goal.decreases-loop-doc
+decreases-loop-doc l = length l.marks - l.doc

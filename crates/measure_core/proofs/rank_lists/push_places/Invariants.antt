@@ -1,6 +1,6 @@
 use Rattle.std.proofs.Common.{◌≡◌, ◌+◌, ◌-◌, ◌≤◌, length}
 use Rattle.measure_core.proofs.Placed.{AreWalked}
-use Rattle.measure_core.proofs.rank_lists.push_by_ranks.Given as goal
+use Rattle.measure_core.proofs.rank_lists.push_places.Given as goal
 
 abbrev pub invariant-loop-i : goal.invariant-loop-i
 invariant-loop-i g l = record {
