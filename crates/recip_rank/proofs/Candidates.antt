@@ -1,5 +1,5 @@
 -- What one chosen document does to the first true rank of a run, and why the walk may stop at the first relevant document.
-use Rattle.std.proofs.Common.{◌≡◌, ℕ, zero, suc, ◌+◌, ◌<◌, ◌≤◌, Bool, true, false, cond, nat_eq, List, [], ◌∷◌, ◌++◌, map, filter, length, take, drop, get_or, Option, Some, None, arith, refl, ap, ◌∙◌, sym, subst}
+use Rattle.std.proofs.Common.{◌≡◌, ℕ, zero, suc, ◌+◌, ◌<◌, ◌≤◌, Bool, true, false, cond, nat_eq, ◌||◌, List, [], ◌∷◌, ◌++◌, map, filter, length, take, drop, get_or, Option, Some, None, arith, refl, ap, ◌∙◌, sym, subst}
 use Rattle.std.specs.Prelude.{if◌then◌else◌}
 use Rattle.std.specs.List.{IsDistinct, AllByRecursion, position_from}
 use Rattle.desk_model.specs.Mark.{is_unjudged, mark_at}
@@ -12,7 +12,7 @@ use Rattle.measure_laws.proofs.Picks.{NoGreater, NoGreater-trans, first_least-ap
 use Rattle.measure_laws.proofs.RecallEnds.{every}
 use Rattle.measure_laws.proofs.FirstRanks.{choice_first}
 use Rattle.measure_laws.proofs.ReciprocalEnds.{IsAtMostOther, from_parts, more_true, same_order}
-use Rattle.std.proofs.lemmas.List.{take_more}
+use Rattle.std.proofs.lemmas.List.{append_assoc, take-append-drop, take_more}
 use Rattle.std.proofs.lemmas.Grind.{common_steps}
 use Rattle.std.proofs.lemmas.Bool.{eq-eqb, le-ltb}
 use Rattle.desk_model.specs.Score.{first_true, reciprocal}
@@ -84,6 +84,10 @@ all_right : (P : ℕ → Type 0) (xs ys : List ℕ) → AllByRecursion P (xs ++ 
 all_right P [] ys h = h
 all_right P (x ∷ xs) ys h = all_right P xs ys h.1
 
+all_left : (P : ℕ → Type 0) (xs ys : List ℕ) → AllByRecursion P (xs ++ ys) → AllByRecursion P xs
+all_left P [] ys h = tt
+all_left P (x ∷ xs) ys h = (h.0, all_left P xs ys h.1)
+
 all_both : (P Q R : ℕ → Type 0) → ((d : ℕ) → P d → Q d → R d) → (xs : List ℕ) → AllByRecursion P xs → AllByRecursion Q xs → AllByRecursion R xs
 all_both P Q R join [] h k = tt
 all_both P Q R join (x ∷ xs) h k = (join x h.0 k.0, all_both P Q R join xs h.1 k.1)
@@ -133,6 +137,49 @@ choice_stops marks a xs ys y distinct judged =
     let rest = weaker (λ e. AllByRecursion (λ x. nat_eq e x ≡ false) xs) (λ e. is_smaller (value (Some e)) (value best) ≡ false) worse (y ∷ ys) (distinct_parts xs (y ∷ ys) distinct) in
     sym (ap (first_least value None) (unjudged-append marks xs (y ∷ ys)) ∙ first_least-append value None (unjudged_of marks xs) (unjudged_of marks (y ∷ ys))
     ∙ first_least-stays value best (unjudged_of marks (y ∷ ys)) (candidates_all marks (λ c. is_smaller (value c) (value best) ≡ false) (y ∷ ys) rest))
+
+-- nor after the first one that leaves the first run's rank as it is
+all_right_of : {X : Type 0} (P : X → Type 0) (xs ys : List X) → AllByRecursion P (xs ++ ys) → AllByRecursion P ys
+all_right_of P [] ys h = h
+all_right_of P (x ∷ xs) ys h = all_right_of P xs ys h.1
+
+either_true : (marks : List Mark) (d e x : ℕ) → nat_eq e x ≡ false → with_choice marks None x ≡ false → (with_choice marks (Some d) x || with_choice marks (Some e) x) ≡ with_choice marks (Some d) x
+either_true marks d e x apart unseen = ap (λ b. with_choice marks (Some d) x || b) (ap (λ v. picked_value v (mark_at marks x)) apart ∙ unseen) ∙ none (with_choice marks (Some d) x)
+  where
+    none : (b : Bool) → (b || false) ≡ b
+    none true = refl
+    none false = refl
+
+right_true : (b c : Bool) → c ≡ true → (b || c) ≡ true
+right_true true c h = refl
+right_true false c h = h
+
+pub choice_settled : (marks : List Mark) (a xs ys : List ℕ) (d : ℕ) → let b = (xs ++ d ∷ []) ++ ys in IsDistinct nat_eq b → mark_at marks d ≡ Unjudged → AllByRecursion (λ x. with_choice marks None x ≡ false) xs →
+    first_true (with_choice marks (Some d)) a ≡ first_true (with_choice marks None) a → first_least (reciprocal_scores marks a b) None (unjudged_of marks (xs ++ d ∷ [])) ≡ reciprocal_choice marks a b
+choice_settled marks a xs ys d distinct open' unseen same =
+    let b = (xs ++ d ∷ []) ++ ys in
+    let whole : b ≡ xs ++ d ∷ ys = append_assoc xs (d ∷ []) ys in
+    let value = reciprocal_scores marks a b in
+    let positive = λ (x : Option ℕ). let p : ArePositive (value x) = record { first = reciprocal-den (first_true (with_choice marks x) a); second = reciprocal-den (first_true (with_choice marks x) b) } in p in
+    let cs = unjudged_of marks (xs ++ d ∷ []) in
+    let best = first_least value None cs in
+    let listed : cs ≡ unjudged_of marks xs ++ Some d ∷ [] = unjudged-append marks xs (d ∷ []) ∙ ap (λ m. unjudged_of marks xs ++ map Some (cond (is_unjudged m) (d ∷ []) [])) open' in
+    let below : NoGreater (value best) (value (Some d)) = (all_right_of (λ c. NoGreater (value best) (value c)) (unjudged_of marks xs) (Some d ∷ []) (subst (AllByRecursion (λ c. NoGreater (value best) (value c))) listed (first_least-least value positive None cs).1)).0 in
+    let here : with_choice marks (Some d) d ≡ true = ap (λ b. picked_value b (mark_at marks d)) (eq-eqb d d refl) ∙ ap (picked_value true) open' in
+    let worse : (e : ℕ) → AllByRecursion (λ x. nat_eq e x ≡ false) (xs ++ d ∷ []) → is_smaller (value (Some e)) (value best) ≡ false = λ e apart.
+    let before : IsAtMostOther (value (Some d)).first (value (Some e)).first = subst (λ (o : Option ℕ). IsAtMostOther (reciprocal o) (value (Some e)).first) (sym same)
+    (more_true (with_choice marks None) (with_choice marks (Some e)) 1 a (omega arith) (every (λ x. with_choice marks None x ≡ true → with_choice marks (Some e) x ≡ true) (λ x. stays_true (mark_at marks x) (nat_eq e x)) a)) in
+    let one : ℕ → Bool = λ x. with_choice marks (Some d) x || with_choice marks (Some e) x in
+    let until : AllByRecursion (λ x. one x ≡ with_choice marks (Some d) x) xs = all_both (λ x. nat_eq e x ≡ false) (λ x. with_choice marks None x ≡ false) (λ x. one x ≡ with_choice marks (Some d) x) (λ x f g. either_true marks d e x f g) xs (all_left (λ x. nat_eq e x ≡ false) xs (d ∷ []) apart) unseen in
+    let even : first_true one b ≡ first_true (with_choice marks (Some d)) b =
+    ap (first_true one) whole ∙ same_until one (with_choice marks (Some d)) 1 d xs ys until (ap (λ t. t || with_choice marks (Some e) d) here) here ∙ ap (first_true (with_choice marks (Some d))) (sym whole) in
+    let after : IsAtMostOther (value (Some e)).second (value (Some d)).second = subst (λ (o : Option ℕ). IsAtMostOther (value (Some e)).second (reciprocal o)) even
+    (more_true (with_choice marks (Some e)) one 1 b (omega arith) (every (λ x. with_choice marks (Some e) x ≡ true → one x ≡ true) (λ x. right_true (with_choice marks (Some d) x) (with_choice marks (Some e) x)) b)) in
+    not_smaller (value (Some e)) (value best)
+    (NoGreater-trans (value best) (value (Some d)) (value (Some e)) (positive (Some d)) below (from_parts (value (Some d)).first (value (Some d)).second (value (Some e)).first (value (Some e)).second before after)) in
+    let rest = weaker (λ e. AllByRecursion (λ x. nat_eq e x ≡ false) (xs ++ d ∷ [])) (λ e. is_smaller (value (Some e)) (value best) ≡ false) worse ys (distinct_parts (xs ++ d ∷ []) ys distinct) in
+    sym (ap (first_least value None) (unjudged-append marks (xs ++ d ∷ []) ys) ∙ first_least-append value None cs (unjudged_of marks ys)
+    ∙ first_least-stays value best (unjudged_of marks ys) (candidates_all marks (λ c. is_smaller (value c) (value best) ≡ false) ys rest))
 
 -- ---- the walk over the second ranking
 -- the best candidate after p documents, none of which is judged relevant
@@ -212,6 +259,16 @@ walk_stops marks a b p d best rb lt e judged w =
   where
     parts : (xs : List ℕ) (i : ℕ) → i < length xs → take i xs ++ get_or xs i 0 ∷ drop (i + 1) xs ≡ xs
     parts xs i h = grind (arith, common_steps)
+
+-- or after an unjudged one that leaves the first run's rank as it is
+pub walk_settles : (marks : List Mark) (a b : List ℕ) (p d : ℕ) (judged : Option ℕ) (next best earlier_best : Candidate) → IsRanking (length marks) b → p < length b → d ≡ get_or b p 0 → mark_at marks d ≡ Unjudged →
+    judged ≡ first_true (with_choice marks None) a → next.firsts.first ≡ judged → AreFirsts marks a b next → next.choice ≡ Some d → Walked marks a b p earlier_best → Walked marks a b (p + 1) best → best.choice ≡ reciprocal_choice marks a b
+walk_settles marks a b p d judged next best earlier_best rb lt e open' ej same firsts chosen before w =
+    let longer : take (p + 1) b ≡ take p b ++ d ∷ [] = take_more b p 0 lt ∙ ap (λ x. take p b ++ x ∷ []) (sym e) in
+    let whole : (take p b ++ d ∷ []) ++ drop (p + 1) b ≡ b = ap (λ xs. xs ++ drop (p + 1) b) (sym longer) ∙ take-append-drop (p + 1) b in
+    let stays : first_true (with_choice marks (Some d)) a ≡ first_true (with_choice marks None) a = ap (λ c. first_true (with_choice marks c) a) (sym chosen) ∙ sym firsts.first ∙ same ∙ ej in
+    w.choice ∙ ap (λ xs. first_least (reciprocal_scores marks a b) None (unjudged_of marks xs)) longer ∙ ap (λ ys. first_least (reciprocal_scores marks a ys) None (unjudged_of marks (take p b ++ d ∷ []))) (sym whole)
+    ∙ choice_settled marks a (take p b) (drop (p + 1) b) d (subst (IsDistinct nat_eq) (sym whole) rb.distinct) open' before.unseen stays ∙ ap (reciprocal_choice marks a) whole
 
 -- or at the end
 pub walk_ends : (marks : List Mark) (a b : List ℕ) (p : ℕ) (best : Candidate) → length b ≤ p → Walked marks a b p best → best.choice ≡ reciprocal_choice marks a b

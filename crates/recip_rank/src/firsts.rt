@@ -1,4 +1,4 @@
-ghost use Rattle.std.specs.Prelude.{◌≡◌, ◌^◌, ◌≤◌, ◌<◌, length, All};
+ghost use Rattle.std.specs.Prelude.{◌≡◌, ◌^◌, ◌≤◌, ◌<◌, length, All, if◌then◌else◌};
 ghost use Rattle.desk_model.specs.Limits.{PARTS_OF_ONE, RANK_LIMIT};
 ghost use Rattle.desk_model.specs.Completion.{with_picked};
 ghost use Rattle.measure_laws.specs.Ranks.{IsRankWithin, earlier};
@@ -111,8 +111,24 @@ fn is_less(s: Firsts, t: Firsts) -> bool
         < c.num * d.den * (a.den * b.den) + b.num * a.den * (c.den * d.den)
 }
 
+/// The one of two candidates with the smaller difference, and of equal ones the second.
+fn better(c: Candidate, best: Candidate) -> Candidate
+    requires c_first { IsRankWithin RANK_LIMIT c.firsts.first }
+    requires c_second { IsRankWithin RANK_LIMIT c.firsts.second }
+    requires best_first { IsRankWithin RANK_LIMIT best.firsts.first }
+    requires best_second { IsRankWithin RANK_LIMIT best.firsts.second }
+    ensures { result ≡ (if is_smaller (scores_at c.firsts.first c.firsts.second) (scores_at best.firsts.first best.firsts.second) then c else best) }
+{
+    if is_less(c.firsts, best.firsts) {
+        c
+    } else {
+        best
+    }
+}
+
 /// The choice with the least difference: none, or the first of b's unjudged documents with it. No
-/// document after b's first judged relevant one can lower the difference.
+/// document after b's first judged relevant one can lower the difference, nor one after the first that leaves a's
+/// first rank as it is.
 pub fn least(a: &Ranking, b: &Ranking, marks: &[Mark]) -> Candidate
     requires { AreMet marks.now a.now b.now }
     ensures choice { result.choice ≡ reciprocal_choice marks.now a.now b.now }
@@ -136,11 +152,10 @@ pub fn least(a: &Ranking, b: &Ranking, marks: &[Mark]) -> Candidate
                     first: earlier_of(judged, rank_in(a, *doc)),
                     second: Some(place as u32 + 1),
                 };
-                if is_less(firsts, best.firsts) {
-                    best = Candidate {
-                        choice: Some(*doc),
-                        firsts,
-                    };
+                let choice = Some(*doc);
+                best = better(Candidate { choice, firsts }, best);
+                if firsts.first == judged {
+                    return best;
                 }
             }
         }
