@@ -1,5 +1,5 @@
 -- What is asked of each command beside its statuses: one answer, in whole lines.
-use Rattle.std.proofs.Common.{◌≡◌, ◌≢◌, ℕ, List, [], ◌∷◌, length, map, refl, ap, ap₂, sym, subst, ◌∙◌, inl, inr}
+use Rattle.std.proofs.Common.{◌≡◌, ◌≢◌, ℕ, List, [], ◌∷◌, length, map, refl, ap, ap₂, sym, subst, ◌∙◌, inl, inr, arith}
 use Rattle.std.specs.Prelude.{Result, Ok, Err}
 use Rattle.std.specs.List.{AllByRecursion, Contains}
 use Rattle.desk_outside.specs.Inputs.{Input}
@@ -24,6 +24,9 @@ use Rattle.pair_table.specs.declared.evidence.EvidenceFault.TheVariants.{Close a
 use Rattle.pair_table.proofs.Answered.{one_answer}
 use Rattle.pair_table.proofs.Named.{pair_unique}
 use Rattle.pair_table.proofs.Zips.{zip_unique}
+use Rattle.order_bundle.specs.Bundle.{Bundle, bundle_text}
+use Rattle.bundle_report.specs.Bundled.{HasTooManyBytes, IsAllPairsText, IsBundleOn}
+use Rattle.desk_top.specs.Told.{too_long_line}
 use Rattle.desk_report.specs.Reports.{Subject, IsCertificateText, IsCloseText}
 use Rattle.demo_desk.specs.Demo.{SayRuns, IsDemoDesk, demo_runs, used_before_runs}
 use Rattle.demo_desk.specs.Summary.{summary_lines}
@@ -38,15 +41,15 @@ use Rattle.desk_files.specs.Load.{Loaded}
 use Rattle.desk_top.specs.declared.status.Status.{Status}
 use Rattle.desk_top.specs.declared.status.Status.TheVariants as statuses
 use Rattle.desk_top.specs.Answer.{About, OfRuns, Saying, Answer, marks_for}
-use Rattle.desk_top.specs.Outcome.{Outcome, Prints, answer_of, IsOutcome, PrintsText}
+use Rattle.desk_top.specs.Outcome.{Outcome, Prints, Refuses, answer_of, IsOutcome, PrintsText}
 use Rattle.desk_top.specs.Report.{subject_of, HasDeskOf}
 use Rattle.desk_top.specs.Verification.{PrintsCheck, verification}
 use Rattle.desk_top.specs.Conversation.{setting_on, IsSession, sayings, status_at, told_at}
 use Rattle.desk_top.specs.Showing.{demo_subject, AreDemoTexts, PrintsDemo, demo_sayings}
-use Rattle.desk_top.specs.Meaning.{Meaning, desk_meaning, PrintsCertificate}
+use Rattle.desk_top.specs.Meaning.{Meaning, desk_meaning, PrintsCertificate, PrintsAllPairs}
 use Rattle.desk_top.proofs.Marking.{marks_known}
 use Rattle.desk_laws.specs.Answered.{EndsLastLine}
-use Rattle.desk_laws.specs.Fixed.{DeskIsOne, VerifierIsOne}
+use Rattle.desk_laws.specs.Fixed.{BundleIsOne, DeskIsOne, VerifierIsOne}
 use Rattle.desk_laws.proofs.LineEnds.{replies_end, told_ends}
 
 -- an answer's texts and its line end with their last line
@@ -124,6 +127,26 @@ module _ (s : Subject) where
   certificate_one first second (inl h) (inr k) = absurd (not_close h.0 k.0 h.1 k.1)
   certificate_one first second (inr h) (inl k) = absurd (not_close k.0 h.0 k.1 h.1)
   certificate_one first second (inr h) (inr k) = text_one statuses.Close (OfRuns s) (IsCloseText s 0 1) (λ t u x y. one_certified s 0 1 t u (inr x) (inr y)) first second h k
+
+-- the certificate of all pairs, or that its text would be too long
+module _ (bundle_one : BundleIsOne) (s : Subject) where
+  -- the texts of the bundle are as long
+  one_length : (b other : Bundle) → IsBundleOn s b → IsBundleOn s other → length (bundle_text b) ≡ length (bundle_text other)
+  one_length b other h k = ap (λ x. length (bundle_text x)) (bundle_one s.measure s.desk s.marks s.level b other h.of_pairs k.of_pairs)
+
+  one_bundle_text : (text other : List ℕ) → IsAllPairsText s text → IsAllPairsText s other → text ≡ other
+  one_bundle_text text other h k = h.is ∙ ap bundle_text (bundle_one s.measure s.desk s.marks s.level h.bundle k.bundle h.on.of_pairs k.on.of_pairs) ∙ sym k.is
+
+  not_too_long : (text : List ℕ) (bytes : ℕ) → IsAllPairsText s text → HasTooManyBytes s bytes → ⊥
+  not_too_long text bytes h k = omega (arith, h.short, k.long, k.counted, ap length h.is, one_length h.bundle k.bundle h.on k.on)
+
+  pub all_pairs_one : (first second : Outcome) → PrintsAllPairs s first → PrintsAllPairs s second → first ≡ second
+  all_pairs_one first second (inl h) (inl k) = text_one statuses.Done (OfRuns s) (IsAllPairsText s) one_bundle_text first second h k
+  all_pairs_one first second (inl h) (inr k) = absurd (not_too_long h.0 k.0 h.1 k.1)
+  all_pairs_one first second (inr h) (inl k) = absurd (not_too_long k.0 h.0 k.1 h.1)
+  all_pairs_one first second (inr h) (inr k) =
+      let same : h.0 ≡ k.0 = h.1.counted ∙ one_length h.1.bundle k.1.bundle h.1.on k.1.on ∙ sym k.1.counted in
+      h.2 ∙ ap (λ bytes. Refuses (too_long_line bytes)) same ∙ sym k.2
 
 -- ---- a check
 abbrev IsVerificationOf : AnyCertificate → Desk → Result (Unit {0}) BundleRejected → Outcome → Type 0

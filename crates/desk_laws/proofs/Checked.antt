@@ -1,4 +1,4 @@
--- Evidence for a desk is evidence for that desk again.
+-- Evidence for a desk is evidence for that desk again, and what is evidence is accepted.
 use Rattle.std.proofs.Common.{◌≡◌, ℕ, List, [], ◌∷◌, map, Option, Result, Ok, Err, ℤ, refl, ap, ap₂, sym, subst, ◌∙◌}
 use Rattle.std.specs.List.{zip}
 use Rattle.desk_model.specs.Book.{Book}
@@ -12,10 +12,12 @@ use Rattle.order_certificate.specs.Claim.{NamedTopic, named_topics}
 use Rattle.order_certificate.specs.Certificate.{IsCertificate, certificate_text}
 use Rattle.order_certificate.specs.Evidence.{IsEvidence, Shows}
 use Rattle.order_certificate.specs.declared.certificate.Certificate.{Certificate}
+use Rattle.order_bundle.specs.Bundle.{Bundle, IsBundle, bundle_text}
 use Rattle.order_bundle.specs.Either.{any_level}
+use Rattle.order_bundle.specs.Evidence.{IsBundleEvidence}
 use Rattle.order_bundle.specs.Places.{IsAnyCertificate, IsAnyText, any_text}
 use Rattle.order_bundle.specs.declared.any_certificate.AnyCertificate.{AnyCertificate}
-use Rattle.order_bundle.specs.declared.any_certificate.AnyCertificate.TheVariants.{One}
+use Rattle.order_bundle.specs.declared.any_certificate.AnyCertificate.TheVariants.{One, Many}
 use Rattle.measure_core.specs.Made.{HasEnds}
 use Rattle.pair_table.specs.Evidence.{SaysOfVerdict}
 use Rattle.pair_table.proofs.Evident.{answered_evidence}
@@ -23,11 +25,16 @@ use Rattle.judge_session.specs.declared.change.Change.{Change}
 use Rattle.bundle_verifier.specs.Either.{IsAnyVerified}
 use Rattle.bundle_verifier.specs.declared.rejected.BundleRejected.{BundleRejected}
 use Rattle.order_verifier.proofs.Answers.{rejected_no_evidence}
+use Rattle.bundle_verifier.proofs.Refused.{reason_refused}
+use Rattle.desk_top.specs.Report.{marks_in}
+use Rattle.desk_top.specs.Truths.{BundlesAreEvidence}
+use Rattle.desk_top.proofs.Marking.{marks_known}
 use Rattle.session_replies.specs.Replies.{Setting, all_in_force, marks_after}
 use Rattle.session_replies.proofs.Marks.{marks_of_desk}
 use Rattle.desk_files.specs.Load.{sources}
 use Rattle.desk_laws.specs.Replaced.{IsJudgedDesk, IsDeskAgain, AreFilesWith, ComesAgain, marks_by}
 use Rattle.desk_laws.specs.Accepted.{CertificatesAreAccepted}
+use Rattle.desk_laws.specs.AllPairs.{AllPairsAreAccepted}
 use Rattle.session_stream.specs.Text.{changes_over}
 use Rattle.desk_laws.proofs.Again.{come_again}
 use Rattle.desk_laws.proofs.Grading.{grades_of_session}
@@ -77,6 +84,10 @@ accepted : (c : Certificate) (desk : Desk) (marks : List (List Mark)) (answer : 
 accepted c desk marks (Ok done) h is = refl
 accepted c desk marks (Err rejected) h is = absurd (rejected_no_evidence c desk marks rejected.why is.1 h)
 
+accepted_bundle : (b : Bundle) (desk : Desk) (marks : List (List Mark)) (answer : Result (Unit {0}) BundleRejected) → IsBundleEvidence b desk marks → IsAnyVerified (Many b) desk marks answer → answer ≡ Ok tt
+accepted_bundle b desk marks (Ok done) h is = refl
+accepted_bundle b desk marks (Err rejected) h is = absurd (reason_refused b desk marks is.0 is.1 h)
+
 -- ---- the law
 module _ (one : (bytes : List ℕ) (c d : AnyCertificate) → IsAnyText bytes c → IsAnyText bytes d → c ≡ d) (texts : (c : AnyCertificate) → IsAnyCertificate c → IsAnyText (any_text c) c) where
   -- the text of a certificate of one pair is of no other certificate
@@ -97,3 +108,17 @@ module _ (one : (bytes : List ℕ) (c d : AnyCertificate) → IsAnyText bytes c 
       accepted d desk (map (file_marks d.level) desk.topics) answer
       (subst (λ l. IsEvidence d desk (map (file_marks l) desk.topics)) (sym level) (evidence_again d s.desk desk grades s.level is evidence))
       (subst (λ e. IsAnyVerified e desk (map (file_marks (any_level e)) desk.topics) answer) (its_own text c d h.within h.is of_text) verified)
+
+  -- so is that of all pairs
+  its_own_bundle : (text : List ℕ) (c : AnyCertificate) (b : Bundle) → IsBundle b → text ≡ bundle_text b → IsAnyText text c → c ≡ Many b
+  its_own_bundle text c b within is of_text = one text c (Many b) of_text (subst (λ t. IsAnyText t (Many b)) (sym is) (texts (Many b) within))
+
+  pub all_pairs_accepted : BundlesAreEvidence → AllPairsAreAccepted
+  all_pairs_accepted evident job desk text c answer h of_text verified =
+      let b : Bundle = h.bundle in
+      let of = h.on.of_pairs in
+      let same : c ≡ Many b = its_own_bundle text c b of.form h.is of_text in
+      let shown = evident job.measure desk (marks_in job desk) job.level b h.on.valid (marks_known job.level desk h.on.valid) of in
+      accepted_bundle b desk (map (file_marks b.level) desk.topics) answer
+      (subst (λ l. IsBundleEvidence b desk (map (file_marks l) desk.topics)) (sym of.at_level) shown)
+      (subst (λ e. IsAnyVerified e desk (map (file_marks (any_level e)) desk.topics) answer) same verified)

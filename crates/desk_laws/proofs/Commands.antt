@@ -6,8 +6,9 @@ use Rattle.desk_outside.specs.Inputs.{Input, Whole, Cut, bytes_in}
 use Rattle.desk_words.specs.declared.command.Check.{Check}
 use Rattle.desk_words.specs.declared.command.Job.{Job}
 use Rattle.desk_words.specs.declared.command.Command.{Command}
-use Rattle.desk_words.specs.declared.command.Command.TheVariants.{Table, Certify, Session, Verify, Demo}
+use Rattle.desk_words.specs.declared.command.Command.TheVariants.{Table, Certify, CertifyAll, Session, Verify, Demo}
 use Rattle.bundle_verifier.specs.declared.rejected.BundleRejected.{BundleRejected}
+use Rattle.bundle_report.specs.Bundled.{IsAllPairsText}
 use Rattle.desk_report.specs.Reports.{Subject, IsTableText, IsCertificateText, IsCloseText}
 use Rattle.desk_report.specs.Table.{ended}
 use Rattle.session_replies.proofs.Unique.{one_table}
@@ -24,11 +25,11 @@ use Rattle.desk_top.specs.Verification.{PrintsCheck, verification_status}
 use Rattle.desk_top.specs.Conversation.{status_at}
 use Rattle.desk_top.specs.Showing.{PrintsDemo}
 use Rattle.desk_top.specs.Loading.{desk_loading, check_loading, no_loading}
-use Rattle.desk_top.specs.Meaning.{Meaning, check_meaning, session_meaning, demo_meaning, desk_meaning, meaning_of, PrintsTable, PrintsCertificate}
-use Rattle.desk_laws.specs.Fixed.{CheckIsOne, AnswersAreFixed}
-use Rattle.desk_laws.proofs.LineEnds.{table_text_ends, certificate_text_ends, close_text_ends, next_text_ends, verification_ends, summary_ends, line_ends}
+use Rattle.desk_top.specs.Meaning.{Meaning, check_meaning, session_meaning, demo_meaning, desk_meaning, meaning_of, PrintsTable, PrintsCertificate, PrintsAllPairs}
+use Rattle.desk_laws.specs.Fixed.{BundleIsOne, CheckIsOne, AnswersAreFixed}
+use Rattle.desk_laws.proofs.LineEnds.{all_pairs_text_ends, too_long_ends, table_text_ends, certificate_text_ends, close_text_ends, next_text_ends, verification_ends, summary_ends, line_ends}
 use Rattle.desk_laws.proofs.Statuses.{IsLawfulLoading, HasEnds, EndsIn}
-use Rattle.desk_laws.proofs.Answering.{EndsLines, HasLines, HasOneAnswer, IsMadeLawfully, outcome_ends, outcome_lines, outcome_one, text_status, text_lines, text_one, on_desk_ends, on_desk_lines, on_desk_one, certificate_one, check_one, session_lines, session_one, demo_one}
+use Rattle.desk_laws.proofs.Answering.{EndsLines, HasLines, HasOneAnswer, IsMadeLawfully, outcome_ends, outcome_lines, outcome_one, text_status, text_lines, text_one, on_desk_ends, on_desk_lines, on_desk_one, all_pairs_one, certificate_one, check_one, session_lines, session_one, demo_one}
 
 -- what holds of a command: of what it reads, of its statuses, of its lines, and that it has one answer
 pub record IsLawful (meaning : Meaning) : Type 0 where
@@ -71,6 +72,17 @@ prints_certificate = record { status = status; lines = lines; one = certificate_
     lines : (s : Subject) (outcome : Outcome) → PrintsCertificate s outcome → EndsLines (answer_of outcome)
     lines s outcome (inl is) = text_lines statuses.Done (OfRuns s) (IsCertificateText s 0 1) (certificate_text_ends s 0 1) outcome is
     lines s outcome (inr is) = text_lines statuses.Close (OfRuns s) (IsCloseText s 0 1) (close_text_ends s 0 1) outcome is
+
+prints_all_pairs : BundleIsOne → IsMadeLawfully (statuses.Done ∷ statuses.Refused ∷ []) PrintsAllPairs
+prints_all_pairs bundle_one = record { status = status; lines = lines; one = all_pairs_one bundle_one }
+  where
+    status : (s : Subject) (outcome : Outcome) → PrintsAllPairs s outcome → Contains (statuses.Done ∷ statuses.Refused ∷ []) (answer_of outcome).status
+    status s outcome (inl is) = text_status (statuses.Done ∷ statuses.Refused ∷ []) statuses.Done (OfRuns s) (IsAllPairsText s) (the_first statuses.Done (statuses.Refused ∷ [])) outcome is
+    status s outcome (inr (bytes, long, is)) = subst (λ o. Contains (statuses.Done ∷ statuses.Refused ∷ []) (answer_of o).status) (sym is) (the_second statuses.Done statuses.Refused [])
+
+    lines : (s : Subject) (outcome : Outcome) → PrintsAllPairs s outcome → EndsLines (answer_of outcome)
+    lines s outcome (inl is) = text_lines statuses.Done (OfRuns s) (IsAllPairsText s) (all_pairs_text_ends s) outcome is
+    lines s outcome (inr (bytes, long, is)) = subst (λ o. EndsLines (answer_of o)) (sym is) (record { said = tt; told = too_long_ends bytes })
 
 -- ---- statuses
 check_ends : (check : Check) → HasEnds (check_meaning check)
@@ -150,6 +162,7 @@ demo fixed seed = record {
 pub command_is_lawful : AnswersAreFixed → (command : Command) → IsLawful (meaning_of command)
 command_is_lawful fixed (Table job) = on_desk fixed job 1 (statuses.Done ∷ []) PrintsTable prints_table
 command_is_lawful fixed (Certify job) = on_desk fixed job 2 (statuses.Done ∷ statuses.Close ∷ []) PrintsCertificate prints_certificate
+command_is_lawful fixed (CertifyAll job) = on_desk fixed job 2 (statuses.Done ∷ statuses.Refused ∷ []) PrintsAllPairs (prints_all_pairs fixed.bundle)
 command_is_lawful fixed (Session job) = session fixed job
 command_is_lawful fixed (Verify check) = check_of fixed check
 command_is_lawful fixed (Demo seed) = demo fixed seed

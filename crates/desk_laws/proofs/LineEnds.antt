@@ -1,11 +1,13 @@
 -- Texts whose last line is ended.
 use Rattle.std.proofs.Common.{◌≡◌, ℕ, List, [], ◌∷◌, ◌++◌, flat_map, map, refl, ap, sym, subst, ◌∙◌, inl, inr, append-nil, append_assoc}
-use Rattle.std.specs.Prelude.{codes, length, slice_index_or, ◌*◌, Option, Some, None, Result, Ok, Err, Bool, true, false, MatchBool, nat_eq}
+use Rattle.std.specs.Prelude.{codes, decimal, length, slice_index_or, ◌*◌, Option, Some, None, Result, Ok, Err, Bool, true, false, MatchBool, nat_eq}
 use Rattle.std.specs.List.{AllByRecursion, zip}
 use Rattle.desk_model.specs.Book.{Book}
 use Rattle.desk_model.specs.Desk.{Desk}
 use Rattle.desk_model.specs.Name.{number_of}
 use Rattle.order_certificate.specs.Certificate.{certificate_text, certificate_lines}
+use Rattle.order_bundle.specs.Bundle.{bundle_text, bundle_lines}
+use Rattle.bundle_report.specs.Bundled.{IsAllPairsText}
 use Rattle.bundle_verifier.specs.declared.rejected.BundleRejected.{BundleRejected}
 use Rattle.judge_session.specs.Request.{Judge, Undo, Redo, Table, Pair, Certify, Pool, Next, Qrels, Quit, Heard, Blank, TooLong, Bad, Asked, heard_of}
 use Rattle.judge_session.specs.InForce.{judgeable, grade_in_force}
@@ -25,7 +27,7 @@ use Rattle.desk_files.specs.Files.{Stop, Outside, Memory, Refused}
 use Rattle.desk_top.specs.Answer.{Saying, text_of, stop_line}
 use Rattle.desk_top.specs.Conversation.{sayings, told_at}
 use Rattle.desk_top.specs.Verification.{rejection_text, verification_text}
-use Rattle.desk_top.specs.Told.{refusal_text}
+use Rattle.desk_top.specs.Told.{refusal_text, too_long_line}
 use Rattle.desk_laws.specs.Answered.{EndsLastLine}
 
 -- a text after a text
@@ -55,6 +57,13 @@ table_ends desk measure level unit bounds totals = lines_end (table_lines desk m
 certificate_ends : (c : _) → EndsLastLine (certificate_text c)
 unfolding certificate_text
 certificate_ends c = lines_end (certificate_lines c)
+
+bundle_ends : (b : _) → EndsLastLine (bundle_text b)
+unfolding bundle_text
+bundle_ends b = lines_end (bundle_lines b)
+
+pub all_pairs_text_ends : (s : Subject) (text : List ℕ) → IsAllPairsText s text → EndsLastLine text
+all_pairs_text_ends s text is = subst EndsLastLine (sym is.is) (bundle_ends is.bundle)
 
 pub table_text_ends : (s : Subject) (text : List ℕ) → IsTableText s text → EndsLastLine text
 table_text_ends s text is = subst EndsLastLine (sym is.is) (table_ends _ _ _ _ _ _)
@@ -86,6 +95,9 @@ pub told_ends : (end : End) → EndsLastLine (told_at end)
 told_ends Done = inl refl
 told_ends InputTooLong = inr (codes "refused: input: InputTooLong", refl)
 told_ends Failed = inr (codes "fault: outside", refl)
+
+pub too_long_ends : (bytes : ℕ) → EndsLastLine (too_long_line bytes)
+too_long_ends bytes = inr (codes "refused: certificate: TooLong " ++ decimal bytes, refl)
 
 -- ---- the replies of a session
 refusal_ends : (reason : List ℕ) → EndsLastLine (refusal reason)

@@ -1,22 +1,23 @@
--- A certificate of a session passes the check of the command.
-use Rattle.std.proofs.Common.{◌≡◌, ℕ, List, ap, sym, subst, ◌∙◌, inl, inr}
+-- A certificate of a session, and one of all pairs, pass the check of the command.
+use Rattle.std.proofs.Common.{◌≡◌, ℕ, List, ap, ap₂, sym, subst, ◌∙◌, inl, inr}
 use Rattle.std.specs.Prelude.{◌⊎◌, Some, Option, Result, Ok, Err, codes, length, ◌≤◌, Bool, if◌then◌else◌}
 use Rattle.std.proofs.lemmas.Bool.{le-leb}
-use Rattle.desk_outside.specs.Outside.{Files}
+use Rattle.desk_outside.specs.Outside.{Files, Rose}
 use Rattle.desk_outside.specs.Seen.{ReceivedAll}
 use Rattle.desk_words.specs.declared.command.Check.{Check}
+use Rattle.desk_words.specs.declared.command.Job.{Job}
 use Rattle.desk_words.specs.declared.command.Command.TheVariants.{Verify}
 use Rattle.desk_model.specs.Desk.{Desk}
 use Rattle.order_bundle.specs.Places.{IsAnyCertificate, IsAnyText, any_text}
 use Rattle.order_bundle.specs.declared.any_certificate.AnyCertificate.{AnyCertificate}
-use Rattle.order_bundle.specs.declared.any_certificate.AnyCertificate.TheVariants.{One}
+use Rattle.order_bundle.specs.declared.any_certificate.AnyCertificate.TheVariants.{One, Many}
 use Rattle.bundle_verifier.specs.Either.{IsAnyVerified}
 use Rattle.bundle_verifier.specs.declared.rejected.BundleRejected.{BundleRejected}
 use Rattle.topics_pool.specs.Rows.{IsDeskOf}
 use Rattle.session_replies.specs.Replies.{Setting}
 use Rattle.session_replies.specs.State.{IsSetting}
 use Rattle.desk_files.specs.Files.{Refused, FileTooLong, whole_file}
-use Rattle.desk_files.specs.Load.{Sources, sources, loaded}
+use Rattle.desk_files.specs.Load.{Sources, Loaded, sources, loaded}
 use Rattle.desk_files.specs.Checks.{CheckComes}
 use Rattle.desk_files.specs.declared.limits.TheConstants.{LONGEST_FILE}
 use Rattle.desk_top.specs.declared.status.Status.{Status}
@@ -27,7 +28,9 @@ use Rattle.desk_top.specs.Verification.{PrintsCheck, verification}
 use Rattle.desk_top.specs.Meaning.{IsAnswer, check_meaning}
 use Rattle.desk_top.specs.Meets.{Call, IsGiven, Meets}
 use Rattle.desk_laws.specs.Accepted.{CertificatesAreAccepted, IsCheckOfSession, ChecksAccept}
-use Rattle.desk_laws.specs.Fixed.{CheckIsOne}
+use Rattle.desk_laws.specs.AllPairs.{AllPairsAreAccepted, AllPairsPass, IsCheckOfAllPairs}
+use Rattle.desk_laws.specs.Laws.{IsCallOver}
+use Rattle.desk_laws.specs.Fixed.{CheckIsOne, DeskIsOne}
 use Rattle.desk_laws.proofs.Commands.{check_lawful}
 use Rattle.desk_laws.proofs.Statuses.{Ways, ways, on_found}
 
@@ -35,53 +38,93 @@ use Rattle.desk_laws.proofs.Statuses.{Ways, ways, on_found}
 short_file : (path : List ℕ) (held : Option (List ℕ)) (bytes : List ℕ) → held ≡ Some bytes → length bytes ≤ LONGEST_FILE → whole_file path held ≡ Ok bytes
 short_file path held bytes is short = ap (whole_file path) is ∙ ap (λ (b : Bool). if b then Ok bytes else Err (Refused (FileTooLong path))) (le-leb (length bytes) LONGEST_FILE short)
 
-module _ (accepted : CertificatesAreAccepted) (one : CheckIsOne) (texts : (c : AnyCertificate) → IsAnyCertificate c → IsAnyText (any_text c) c) where
-  module _ (s : Setting) (lines : List (List ℕ)) (files again : Files) (from : Sources) (check : Check) (words : List (List ℕ)) (call : Call) (status : Status) (setting : IsSetting s) (h : IsCheckOfSession s lines files again from check words call status) where
+-- ---- a check whose certificate the verifier accepts
+-- files come to these rows and this certificate, which is accepted over the desk of the rows
+record ComesToAccepted (files : Files) (check : Check) : Type 0 where
+  rows : Loaded
+  claimed : AnyCertificate
+  comes : CheckComes files check (Ok (rows, claimed))
+  passes : (desk : Desk) (answer : Result (Unit {0}) BundleRejected) → IsDeskOf rows.qrels rows.runs desk → IsAnyVerified claimed desk (marks_for claimed desk) answer → answer ≡ Ok tt
+
+module _ (one : CheckIsOne) (files : Files) (check : Check) (words : List (List ℕ)) (call : Call) (status : Status) (found : ComesToAccepted files check) (over : IsCallOver words (Verify check) files call status) where
+  -- so the command says that
+  printed : (outcome : Outcome) → PrintsCheck (found.rows, found.claimed) outcome → (status ≡ (answer_of outcome).status) → ReceivedAll call.out (text_of (answer_of outcome).said) → (status ≡ Done) × ReceivedAll call.out (codes "accepted\n")
+  printed outcome is ended received =
+      let is_ok = found.passes is.desk is.answer is.ranked is.verified in
+      let same : outcome ≡ verification found.claimed is.desk (Ok tt) = is.is ∙ ap (verification found.claimed is.desk) is_ok in
+      (ended ∙ ap (λ o. (answer_of o).status) same, subst (λ o. ReceivedAll call.out (text_of (answer_of o).said)) same received)
+
+  meets : Meets (check_meaning check) call status
+  meets = over.ends.meets.command (Verify check) over.asks
+
+  on : (answer : Answer) → IsGiven call status answer → IsOutcome (PrintsCheck (found.rows, found.claimed)) answer → (status ≡ Done) × ReceivedAll call.out (codes "accepted\n")
+  on answer given (outcome, is, same) =
+      printed outcome is (given.ended ∙ ap (λ (a : Answer). a.status) same) (subst (λ (a : Answer). ReceivedAll call.out (text_of a.said)) same given.text)
+
+  accepts : (Rose call.files.before call.files.after → ⊥) → (Rose call.out.before call.out.after → ⊥) → ((status ≡ Done) × ReceivedAll call.out (codes "accepted\n")) ⊎ (status ≡ Memory)
+  accepts calm still = at (ways (check_meaning check) call status meets)
+    where
+      at : Ways (check_meaning check) call status meets → ((status ≡ Done) × ReceivedAll call.out (codes "accepted\n")) ⊎ (status ≡ Memory)
+      at (inl gives) =
+          inl (on gives.answer gives.holds
+          (on_found (check_meaning check) (check_lawful one check) files gives.input gives.answer (found.rows, found.claimed) found.comes (subst (λ k. IsAnswer (check_meaning check) k gives.input gives.answer) over.known gives.is)))
+      at (inr (inl failed)) = absurd (still failed.0)
+      at (inr (inr (inl failed))) = absurd (calm failed.1)
+      at (inr (inr (inr memory))) = inr memory
+
+module _ (one : CheckIsOne) (texts : (c : AnyCertificate) → IsAnyCertificate c → IsAnyText (any_text c) c) where
+  -- ---- of a session
+  module _ (accepted : CertificatesAreAccepted) (s : Setting) (lines : List (List ℕ)) (files again : Files) (from : Sources) (check : Check) (words : List (List ℕ)) (call : Call) (status : Status) (setting : IsSetting s) (h : IsCheckOfSession s lines files again from check words call status) where
     abbrev claimed : AnyCertificate
     claimed = One h.shown.certificate
 
     is_text : IsAnyText h.certificate claimed
     is_text = subst (λ t. IsAnyText t claimed) (sym h.shown.is) (texts claimed h.shown.within)
 
-    comes : CheckComes again check (Ok (h.later, claimed))
-    comes = (h.loads_again, (h.certificate, short_file check.cert (again check.cert) h.certificate h.held h.short, is_text))
+    of_session : ComesToAccepted again check
+    of_session = record {
+      rows = h.later;
+      claimed = claimed;
+      comes = (h.loads_again, (h.certificate, short_file check.cert (again check.cert) h.certificate h.held h.short, is_text));
+      passes = λ desk answer ranked verified.
+          accepted s lines files again from check.qrels desk h.a h.b h.certificate claimed answer setting (record {
+            rows = h.rows;
+            loads = h.loads;
+            of_rows = h.of_rows;
+            text = h.judgements;
+            replied = h.replied;
+            with_text = h.with_judgements;
+            later = h.later;
+            loads_again = subst (λ runs. loaded again (sources check.qrels runs) ≡ Ok h.later) h.same_runs h.loads_again;
+            of_later = ranked;
+          }) h.shown is_text verified;
+    }
 
-    -- the verifier accepts it over the desk of these files
-    passes : (desk : Desk) (answer : Result (Unit {0}) BundleRejected) → IsDeskOf h.later.qrels h.later.runs desk → IsAnyVerified claimed desk (marks_for claimed desk) answer → answer ≡ Ok tt
-    passes desk answer ranked verified =
-        accepted s lines files again from check.qrels desk h.a h.b h.certificate claimed answer setting (record {
-          rows = h.rows;
-          loads = h.loads;
-          of_rows = h.of_rows;
-          text = h.judgements;
-          replied = h.replied;
-          with_text = h.with_judgements;
-          later = h.later;
-          loads_again = subst (λ runs. loaded again (sources check.qrels runs) ≡ Ok h.later) h.same_runs h.loads_again;
-          of_later = ranked;
-        }) h.shown is_text verified
+  pub all_pass : CertificatesAreAccepted → ChecksAccept
+  all_pass accepted s lines files again from check words call status setting h =
+      accepts one again check words call status (of_session accepted s lines files again from check words call status setting h) h.over h.calm h.still
 
-    -- so the command says that
-    printed : (outcome : Outcome) → PrintsCheck (h.later, claimed) outcome → (status ≡ (answer_of outcome).status) → ReceivedAll call.out (text_of (answer_of outcome).said) → (status ≡ Done) × ReceivedAll call.out (codes "accepted\n")
-    printed outcome is ended received =
-        let is_ok = passes is.desk is.answer is.ranked is.verified in
-        let same : outcome ≡ verification claimed is.desk (Ok tt) = is.is ∙ ap (verification claimed is.desk) is_ok in
-        (ended ∙ ap (λ o. (answer_of o).status) same, subst (λ o. ReceivedAll call.out (text_of (answer_of o).said)) same received)
+  -- ---- of all pairs
+  module _ (accepted : AllPairsAreAccepted) (desk_one : DeskIsOne) (job : Job) (files : Files) (check : Check) (words : List (List ℕ)) (call : Call) (status : Status) (h : IsCheckOfAllPairs job files check words call status) where
+    abbrev all_claimed : AnyCertificate
+    all_claimed = Many h.shown.bundle
 
-  pub all_pass : ChecksAccept
-  all_pass s lines files again from check words call status setting h = at (ways (check_meaning check) call status meets)
-    where
-      meets : Meets (check_meaning check) call status
-      meets = h.over.ends.meets.command (Verify check) h.over.asks
+    is_text_of_all : IsAnyText h.certificate all_claimed
+    is_text_of_all = subst (λ t. IsAnyText t all_claimed) (sym h.shown.is) (texts all_claimed h.shown.on.of_pairs.form)
 
-      on : (answer : Answer) → IsGiven call status answer → IsOutcome (PrintsCheck (h.later, One h.shown.certificate)) answer → (status ≡ Done) × ReceivedAll call.out (codes "accepted\n")
-      on answer given (outcome, is, same) =
-          printed s lines files again from check words call status setting h outcome is (given.ended ∙ ap (λ (a : Answer). a.status) same) (subst (λ (a : Answer). ReceivedAll call.out (text_of a.said)) same given.text)
+    of_all_pairs : ComesToAccepted files check
+    of_all_pairs = record {
+      rows = h.rows;
+      claimed = all_claimed;
+      comes = (
+        ap₂ (λ qrels runs. loaded files (sources qrels runs)) h.same_judgements h.same_runs ∙ h.loads,
+        (h.certificate, short_file check.cert (files check.cert) h.certificate h.held h.shown.short, is_text_of_all),
+      );
+      passes = λ desk answer ranked verified.
+          let same : desk ≡ h.desk = desk_one h.rows.qrels h.rows.runs desk h.desk ranked h.of_rows in
+          accepted job h.desk h.certificate all_claimed answer h.shown is_text_of_all (subst (λ d. IsAnyVerified all_claimed d (marks_for all_claimed d) answer) same verified);
+    }
 
-      at : Ways (check_meaning check) call status meets → ((status ≡ Done) × ReceivedAll call.out (codes "accepted\n")) ⊎ (status ≡ Memory)
-      at (inl gives) =
-          inl (on gives.answer gives.holds
-          (on_found (check_meaning check) (check_lawful one check) again gives.input gives.answer (h.later, One h.shown.certificate) (comes s lines files again from check words call status setting h) (subst (λ k. IsAnswer (check_meaning check) k gives.input gives.answer) h.over.known gives.is)))
-      at (inr (inl failed)) = absurd (h.still failed.0)
-      at (inr (inr (inl failed))) = absurd (h.calm failed.1)
-      at (inr (inr (inr memory))) = inr memory
+  pub all_pairs_pass : AllPairsAreAccepted → DeskIsOne → AllPairsPass
+  all_pairs_pass accepted desk_one job files check words call status h =
+      accepts one files check words call status (of_all_pairs accepted desk_one job files check words call status h) h.over h.calm h.still

@@ -4,4 +4,5 @@ pub mod Fixed
 pub mod Settled
 pub mod Replaced
 pub mod Accepted
+pub mod AllPairs
 pub mod Example

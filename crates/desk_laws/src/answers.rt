@@ -7,6 +7,7 @@ use bundle_verifier::any_answers_are_one;
 use next_document::laws::next_is_one;
 use order_bundle::{any_first_bad_line_is_unique, any_text_and_certificate_are_one};
 use session_replies::laws::replies_are_one;
+use table_bundle::laws::bundle_is_one;
 use topics_pool::desk_is_one;
 
 // What fixes the answer of a call over known files.
@@ -17,6 +18,7 @@ fn answers_are_fixed()
     any_first_bad_line_is_unique();
     desk_is_one();
     any_answers_are_one();
+    bundle_is_one();
     replies_are_one();
     next_is_one();
 }

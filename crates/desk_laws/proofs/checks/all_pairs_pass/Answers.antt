@@ -1,0 +1,8 @@
+use Rattle.desk_files.proofs.Checking.{one_check}
+use Rattle.desk_laws.proofs.Passing.{all_pairs_pass}
+use Rattle.desk_laws.proofs.checks.all_pairs_pass.Goals as goal
+
+pub returns : goal.returns
+returns c =
+    all_pairs_pass (one_check c.any_text_and_certificate_are_one.ensures.certificate c.any_first_bad_line_is_unique.ensures.unique c.any_first_bad_line_is_unique.ensures.none) c.any_certificates_have_texts.ensures.text
+    c.all_pairs_are_accepted.ensures c.desk_is_one.ensures
