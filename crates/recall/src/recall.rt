@@ -5,6 +5,7 @@ ghost use Rattle.desk_model.specs.Score.{true_among};
 ghost use Rattle.desk_model.specs.declared.types.Mark.{Mark as M};
 ghost use Rattle.desk_model.specs.declared.types.MeasureName.TheVariants.{Recall as R};
 ghost use Rattle.measure_laws.specs.Cases.{picked_where, recall_pick};
+ghost use Rattle.measure_laws.specs.Classes.{open_in, size_of};
 ghost use Rattle.measure_laws.specs.Prefixes.{only_second};
 ghost use Rattle.measure_core.specs.Laws.{AreMet, AreValues};
 ghost use Rattle.measure_core.specs.Lists.{added_documents};
@@ -86,13 +87,15 @@ pub(crate) fn least_span(first: Counts, second: Counts, all: Counts) -> Span
 }
 
 /// Whether the first run has more relevant documents among its first k than the second, where of the
-/// unjudged ones exactly those are relevant that the second run alone has there.
-fn leads(k: u32, a: &Ranking, b: &Ranking, marks: &[Mark]) -> bool
-    requires { AreMet marks.now a.now b.now }
+/// unjudged ones exactly those are relevant that the second run alone has there, `own` in number.
+fn leads(k: u32, own: usize, a: &Ranking, b: &Ranking, marks: &[Mark]) -> bool
+    requires met { AreMet marks.now a.now b.now }
+    requires own { own ≡ size_of (length marks.now) (open_in marks.now (only_second k a.now b.now)) }
     ensures { result ≡ nat_lt (true_among (with_picked marks.now (only_second k a.now b.now)) k b.now) (true_among (with_picked marks.now (only_second k a.now b.now)) k a.now) }
 {
-    let own = own_counts(k, a, b, marks);
-    own.second.relevant + own.second.unjudged < own.first.relevant
+    // Relevant documents that both have there count on both sides.
+    let first = prefix_documents(k, a, marks).relevant as usize;
+    first > own && first > own + prefix_documents(k, b, marks).relevant as usize
 }
 
 /// The documents of the second run's first k alone, and where the first run leads those that both or neither have there.
@@ -131,7 +134,8 @@ fn least_values(
     requires { AreMet marks.now a.now b.now }
     ensures { IfOk result (λ values. AreValues (with_picked marks.now (recall_pick k marks.now a.now b.now)) (length marks.now) values.items) }
 {
-    let leads = leads(k, a, b, marks);
+    let own = own_counts(k, a, b, marks).second.unjudged as usize;
+    let leads = leads(k, own, a, b, marks);
     case_values(alloc, &ByLead { leads, k, a, b }, marks)
 }
 
@@ -146,15 +150,17 @@ fn push_least(
     requires { AreMet marks.now a.now b.now }
     ensures { OnOk result (docs.new.items ≡ docs.old.items ++ added_documents marks.now (with_picked marks.now (recall_pick k marks.now a.now b.now))) }
 {
-    if leads(k, a, b, marks) {
+    let start = docs.len();
+    push_own(k, a, b, marks, docs)?;
+    if leads(k, docs.len() - start, a, b, marks) {
+        docs.truncate(start);
         let others = More {
             both: marks.len() as u32,
             first: 0,
         };
-        push_own_and_more(k, others, a, b, marks, docs)
-    } else {
-        push_own(k, a, b, marks, docs)
+        return push_own_and_more(k, others, a, b, marks, docs);
     }
+    Ok(())
 }
 
 impl Measure for Recall {
