@@ -1,5 +1,5 @@
 -- A bundle by the cells of a table is one of what the table speaks of.
-use Rattle.std.proofs.Common.{◌≡◌, ℕ, List, ap, sym, subst}
+use Rattle.std.proofs.Common.{◌≡◌, ℕ, List, sym, subst}
 use Rattle.desk_model.specs.Desk.{Desk, IsDesk, AreMarksOf}
 use Rattle.desk_model.specs.declared.types.Mark.{Mark}
 use Rattle.desk_model.specs.declared.types.MeasureName.{MeasureName}

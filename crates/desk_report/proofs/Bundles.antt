@@ -12,8 +12,8 @@ use Rattle.desk_model.specs.Name.{is_name}
 use Rattle.desk_model.specs.declared.types.Mark.{Mark}
 use Rattle.desk_model.specs.declared.types.MeasureName.{MeasureName}
 use Rattle.desk_model.proofs.Words.{IsWord, name_word, fields_word, fields_last}
-use Rattle.order_certificate.specs.Certificate.{AreDocuments, document_line}
-use Rattle.order_bundle.specs.Bundle.{Bundle, IsBundle, both_bounds_line, bound_line, bundle_lines, claim_lines, claims_lines, evidence_lines, list_lines, number_line, opening_lines, pick_line, picks_lines, run_line, runs_lines, runs_text, topic_lines, topics_lines}
+use Rattle.order_certificate.specs.Certificate.{AreDocuments}
+use Rattle.order_bundle.specs.Bundle.{Bundle, IsBundle, both_bounds_line, bound_line, bundle_lines, claim_lines, claims_lines, evidence_lines, list_lines, opening_lines, pick_line, picks_lines, run_line, runs_lines, runs_text, topic_lines, topics_lines}
 use Rattle.order_bundle.specs.declared.bundle.Bound.{Bound}
 use Rattle.order_bundle.specs.declared.bundle.PairClaim.{PairClaim}
 use Rattle.order_bundle.specs.declared.bundle.PairEvidence.{PairEvidence}
@@ -21,8 +21,8 @@ use Rattle.order_bundle.specs.declared.bundle.PairEvidence.TheVariants.{Above, E
 use Rattle.order_bundle.specs.declared.bundle.Picks.{Picks}
 use Rattle.order_bundle.specs.declared.bundle.TopicNames.{TopicNames}
 use Rattle.desk_report.proofs.Spelling.{AreInLine, ink_in_line, in_line-append, in_line-spaced}
-use Rattle.desk_report.proofs.Texts.{decimal_ink, measure_ink}
-use Rattle.desk_report.proofs.Lines.{IsSound, word, other_line, worded_line, field, number_in_line}
+use Rattle.desk_report.proofs.Texts.{measure_ink}
+use Rattle.desk_report.proofs.Lines.{IsSound, word, other_line, worded_line, number_in_line}
 use Rattle.desk_report.proofs.Others.{other_sound, signed_in_line, name_in_line, documents_sound, count_in_line, named_in, topics_sound}
 
 module _ (name : MeasureName) (desk : Desk) (marks : List (List Mark)) where

@@ -1,4 +1,4 @@
-// Certificates of many pairs, as `verify` answers them. The answers are worked out by hand.
+// Certificates of many pairs, as `certify --all` prints them and `verify` answers them. The texts and answers are worked out by hand.
 use crate::cuts::is_survived;
 use crate::outside::{Answer, SOUND};
 use crate::run::run_line;
@@ -13,16 +13,70 @@ const THREE_CLAIMS: &str =
 const EQUAL: &str =
     "desk-certificate 2\nmeasure recall_1\nlevel 1\nruns 2\nrun A\nrun D\ntopics 1\ntopic 401 0\nclaims 1\nclaim equal 1 0\nbound 0 0\nend\n";
 
+const OF_TWO_TOPICS: &[u8] =
+    b"401 0 d1 1\n401 0 d2 1\n401 0 d3 1\n401 0 n1 0\n401 0 n2 0\n402 0 d1 1\n402 0 d2 1\n402 0 d3 1\n402 0 n1 0\n402 0 n2 0\n";
+
 const NO_CLAIM: &str =
     "desk-certificate 2\nmeasure rbp_0.5\nlevel 1\nruns 2\nrun A\nrun C\ntopics 1\ntopic 401 0\nclaims 0\nend\n";
 
-// What a check answers.
+/// What `certify --all` prints with these words, and the words with which it is accepted.
+struct Printed {
+    asked: &'static str,
+    out: &'static str,
+    checked: &'static str,
+}
+
+// Numbers go by names: Z is above A, and the lists of C and Z are those of Z and C exchanged. D is A. Of A and B each topic's third
+// is rounded apart, so the pair is close and has no claim.
+const PRINTED: [Printed; 6] = [
+    Printed {
+        asked: "certify --all --qrels q --measure recall_1 a b c",
+        out: THREE_CLAIMS,
+        checked: OF_THREE,
+    },
+    Printed {
+        asked: "certify --qrels q c --measure recall_1 b --all a",
+        out: THREE_CLAIMS,
+        checked: "verify --qrels q --cert v c b a",
+    },
+    Printed {
+        asked: "certify --all --qrels q --measure recall_1 Z=a A=b",
+        out: "desk-certificate 2\nmeasure recall_1\nlevel 1\nruns 2\nrun A\nrun Z\ntopics 1\ntopic 401 0\nclaims 1\nclaim above 1 0\nbound 1000000000000000000\nend\n",
+        checked: "verify --qrels q --cert v Z=a A=b",
+    },
+    Printed {
+        asked: "certify --all --qrels q --measure P_1 Z=a c",
+        out: "desk-certificate 2\nmeasure P_1\nlevel 1\nruns 2\nrun C\nrun Z\ntopics 1\ntopic 401 1\ndoc z1\nclaims 1\nclaim open 0 1\nlow 0\nhigh 1\npick 0\nend\n",
+        checked: "verify --qrels q --cert v Z=a c",
+    },
+    Printed {
+        asked: "certify --all --qrels q --measure recip_rank --level 1 D=a -- a",
+        out: "desk-certificate 2\nmeasure recip_rank\nlevel 1\nruns 2\nrun A\nrun D\ntopics 1\ntopic 401 0\nclaims 1\nclaim equal 0 1\nbound 0 0\nend\n",
+        checked: "verify --qrels q --cert v a D=a",
+    },
+    Printed {
+        asked: "certify --all --qrels qt --measure recall_3 k l",
+        out: "desk-certificate 2\nmeasure recall_3\nlevel 1\nruns 2\nrun A\nrun B\ntopics 2\ntopic 401 0\ntopic 402 0\nclaims 0\nend\n",
+        checked: "verify --qrels qt --cert v k l",
+    },
+];
+
+// What a call answers, over these files and this certificate.
 fn checked(alloc: Global, line: &str, certificate: &[u8]) -> Result<Answer, AllocError> {
-    let files: [(&str, &[u8]); 5] = [
+    let files: [(&str, &[u8]); 8] = [
         ("q", b"401 0 d1 1\n401 0 d2 0\n"),
         ("a", b"401 Q0 d1 1 9 A\n"),
         ("b", b"401 Q0 d2 1 9 B\n"),
         ("c", b"401 Q0 z1 1 2 C\n401 Q0 z2 2 1 C\n"),
+        ("qt", OF_TWO_TOPICS),
+        (
+            "k",
+            b"401 Q0 n1 1 3 A\n401 Q0 n2 2 2 A\n401 Q0 d1 3 1 A\n402 Q0 n1 1 1 A\n",
+        ),
+        (
+            "l",
+            b"401 Q0 n1 1 1 B\n402 Q0 n1 1 3 B\n402 Q0 n2 2 2 B\n402 Q0 d1 3 1 B\n",
+        ),
         ("v", certificate),
     ];
     run_line(alloc, line, &files, b"", SOUND)
@@ -33,6 +87,23 @@ const OF_THREE: &str = "verify --qrels q --cert v a b c";
 fn is_accepted(alloc: Global, line: &str, certificate: &str) -> Result<bool, AllocError> {
     let answer = checked(alloc, line, certificate.as_bytes())?;
     Ok(answer.is(0, b"accepted\n", b""))
+}
+
+// Whether it is printed so, and accepted.
+fn is_printed(alloc: Global, printed: &Printed) -> Result<bool, AllocError> {
+    let answer = checked(alloc, printed.asked, b"")?;
+    Ok(
+        answer.is(0, printed.out.as_bytes(), b"")
+            && is_accepted(alloc, printed.checked, printed.out)?,
+    )
+}
+
+#[test]
+fn bundles_are_printed(rt: HostRuntime) -> Result<(), Fail> {
+    for printed in &PRINTED {
+        assert!(rt; is_printed(rt.alloc(), printed)?, "{}", printed.asked);
+    }
+    Ok(())
 }
 
 #[test]

@@ -2,9 +2,32 @@
 
 /// Those that `certify` prints, each of which `verify` accepts.
 
-// Where z1 is relevant A scores 1/2 under recall_1 and Rprec. Under rbp_0.4 the least difference of A and B is 0.6 less B's tail. With
+// In the first, A has one of three relevant documents where z1 and z2 are. In the others, where z1 is relevant A scores 1/2 under recall_1 and Rprec. Under rbp_0.4 the least difference of A and B is 0.6 less B's tail. With
 // z1 relevant A is not above C, else it is.
 pub const CERTIFIED: &str = "
+$ 0 certify --all --qrels q --measure recall_1 a b d
+desk-certificate 2
+measure recall_1
+level 1
+runs 3
+run A
+run B
+run C
+topics 1
+topic 401 1
+doc z1
+claims 3
+claim above 0 1
+bound 333333333333333333
+claim open 0 2
+low 1
+pick 0
+high 0
+claim open 1 2
+low 1
+pick 0
+high 0
+end
 $ 0 certify --qrels q --measure P_1 a b c D=a
 desk-certificate 1
 measure P_1

@@ -19,6 +19,19 @@ run C 0.000000 0.500000
 pair A above B 0.333333 1.000000
 pair A open C 0.000000 1.000000
 pair B open C -0.500000 0.000000
+$ 0 certify --all --qrels q --measure recall_1 a b
+desk-certificate 2
+measure recall_1
+level 1
+runs 2
+run A
+run B
+topics 1
+topic 401 0
+claims 1
+claim above 0 1
+bound 1000000000000000000
+end
 $ 0 verify --qrels q --cert v a b d
 accepted
 $ 0 session --qrels q --measure P_2 e f
@@ -109,7 +122,7 @@ fn is_told_of_each_part(alloc: Global, call: Call<'_>, sound: Outside) -> Result
     Ok(true)
 }
 
-// Whether this is so of three calls, whose input gives and whose output takes at most so many bytes.
+// Whether this is so of four calls, whose input gives and whose output takes at most so many bytes.
 fn are_told(alloc: Global, given: usize, taken: usize) -> Result<bool, AllocError> {
     let sound = Outside {
         given,
@@ -122,7 +135,7 @@ fn are_told(alloc: Global, given: usize, taken: usize) -> Result<bool, AllocErro
             return Ok(false);
         }
     }
-    Ok(parts.len() == 3)
+    Ok(parts.len() == 4)
 }
 
 #[test]

@@ -17,6 +17,8 @@ $ 1 table --qrels q --measure P_1 a1
 refused: a1 line 1: BadByte
 $ 1 certify --qrels q --measure P_1 b a2
 refused: a2 line 1: BadFieldCount
+$ 1 certify --all --qrels q --measure P_1 b a2
+refused: a2 line 1: BadFieldCount
 $ 1 session --qrels q --measure P_1 a3
 > table
 refused: a3 line 1: BadScore
@@ -54,6 +56,8 @@ $ 3 table --qrels x --measure P_1 a
 fault: outside
 $ 3 certify --qrels q --measure P_1 a x
 fault: outside
+$ 3 certify --qrels q --measure P_1 a -- --all
+fault: outside
 $ 3 verify --qrels q --cert x a b
 fault: outside
 $ 3 session --qrels q --measure P_1 x
@@ -77,7 +81,19 @@ $ 2 table --measure P_2 a
 usage: desk COMMAND --qrels FILE --measure NAME [--level N] RUN...
 $ 2 certify --qrels q --measure P_2 a
 usage: desk COMMAND --qrels FILE --measure NAME [--level N] RUN...
+$ 2 certify --all --qrels q --measure P_2 a
+usage: desk COMMAND --qrels FILE --measure NAME [--level N] RUN...
+$ 2 certify --all --qrels q --measure P_2 --all a b
+usage: desk COMMAND --qrels FILE --measure NAME [--level N] RUN...
+$ 2 certify --all=1 --qrels q --measure P_2 a b
+usage: desk COMMAND --qrels FILE --measure NAME [--level N] RUN...
+$ 2 session --all --qrels q --measure P_2 a b
+usage: desk COMMAND --qrels FILE --measure NAME [--level N] RUN...
+$ 2 verify --all --qrels q --cert v a b
+usage: desk COMMAND --qrels FILE --measure NAME [--level N] RUN...
 $ 2 verify --qrels q --cert v --level 2 a b
+usage: desk COMMAND --qrels FILE --measure NAME [--level N] RUN...
+$ 2 demo --all 7
 usage: desk COMMAND --qrels FILE --measure NAME [--level N] RUN...
 $ 2 demo 7 8
 usage: desk COMMAND --qrels FILE --measure NAME [--level N] RUN...

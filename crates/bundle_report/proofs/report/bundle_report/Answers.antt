@@ -1,5 +1,4 @@
 use Rattle.order_bundle.specs.declared.any_certificate.AnyCertificate.TheVariants.{Many}
-use Rattle.bundle_report.specs.Bundled.{IsBundleOn}
 use Rattle.bundle_report.proofs.Naming.{bundle_on}
 use Rattle.bundle_report.proofs.report.bundle_report.Goals as goal
 
