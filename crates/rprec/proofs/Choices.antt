@@ -1,25 +1,20 @@
 -- The greedy choice for each number of relevant documents, in counts.
-use Rattle.std.proofs.Common.{◌≡◌, ℕ, suc, ◌+◌, ◌-◌, ◌*◌, ◌<◌, ◌≤◌, min, max, Bool, true, false, ◌&&◌, nat_lt, List, length, take, count_by, arith, refl, ap, ◌∙◌, sym, subst}
+use Rattle.std.proofs.Common.{◌≡◌, ℕ, ◌+◌, ◌-◌, ◌≤◌, min, true, false, ◌&&◌, List, length, take, count_by, arith, refl, sym, subst}
 use Rattle.std.specs.List.{range_with_len}
-use Rattle.std.proofs.Math.Nat.{mul-le-mul_right, mul-pos}
-use Rattle.std.proofs.lemmas.Bool.Decides.{nat_tests}
 use Rattle.std.proofs.lemmas.List.{length-take}
 use Rattle.std.proofs.Math.Bool.{and-true}
-use Rattle.small_lemmas.proofs.Tests.{same_difference}
-use Rattle.desk_model.specs.Mark.{mark_at}
 use Rattle.desk_model.specs.Classes.{only_count}
 use Rattle.desk_model.specs.Completion.{with_picked}
 use Rattle.desk_model.specs.Ranking.{IsRanking}
 use Rattle.desk_model.specs.Score.{true_among, true_count}
 use Rattle.desk_model.specs.declared.types.Mark.{Mark}
 use Rattle.desk_model.proofs.Counts.{count_by-agree}
-use Rattle.measure_laws.specs.Prefixes.{only_second, neutral}
 use Rattle.measure_laws.specs.Differences.{is_smaller}
-use Rattle.measure_laws.specs.Classes.{is_unjudged, open_in, size_of, judged_count}
+use Rattle.measure_laws.specs.Classes.{open_in, size_of, judged_count}
 use Rattle.measure_laws.specs.RprecCase.{greedy_truth, greedy_scores}
-use Rattle.measure_laws.proofs.RecallEnds.{every, over-max}
+use Rattle.measure_laws.proofs.RecallEnds.{every}
 use Rattle.measure_laws.specs.LeastDifference.{IsPossible}
-use Rattle.measure_laws.proofs.LeastDifferences.{among_few, greedy_lead, open_size}
+use Rattle.measure_laws.proofs.LeastDifferences.{greedy_lead, open_size}
 use Rattle.measure_laws.proofs.RprecEnds.{count_picked}
 use Rattle.measure_laws.proofs.Stretches.{class_sizes, greedy_smaller}
 use Rattle.topic_counts.specs.declared.counts.Counts.{Counts}

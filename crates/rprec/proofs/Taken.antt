@@ -1,9 +1,9 @@
 -- The first documents of a class, as many as are wanted.
-use Rattle.std.proofs.Common.{◌≡◌, ℕ, zero, suc, ◌+◌, ◌-◌, ◌<◌, ◌≤◌, Bool, true, false, cond, nat_lt, ◌&&◌, ◌||◌, not, List, [], ◌∷◌, ◌++◌, take, length, count_by, refl, ap, sym, subst, ◌∙◌, arith}
+use Rattle.std.proofs.Common.{◌≡◌, ℕ, zero, suc, ◌+◌, ◌-◌, ◌<◌, ◌≤◌, Bool, true, false, cond, nat_lt, ◌&&◌, ◌||◌, List, [], ◌∷◌, take, length, refl, ap, sym, ◌∙◌, arith}
 use Rattle.std.specs.Prelude.{filter}
 use Rattle.std.specs.List.{range_with_len}
-use Rattle.std.proofs.Math.Bool.{and-false}
 use Rattle.std.proofs.lemmas.Bool.Decides.{nat_tests}
+use Rattle.std.proofs.lemmas.List.Sums.{length-filter}
 use Rattle.desk_model.specs.Completion.{picked_value, with_picked}
 use Rattle.desk_model.specs.Mark.{is_unjudged, mark_at}
 use Rattle.desk_model.specs.declared.types.Mark.{Mark}
@@ -86,6 +86,13 @@ open_own s t Other = refl
 no_others : (t : Bool) → (t || (false || false)) ≡ t
 no_others true = refl
 no_others false = refl
+
+-- as many of the second run's own are listed as it has
+pub own_listed : (marks : List Mark) (a b : List ℕ) (r : ℕ) → length (added_documents marks (with_picked marks (only_second r a b))) ≡ size_of (length marks) (open_in marks (only_second r a b))
+own_listed marks a b r =
+    let own = only_second r a b in
+    ap (λ (l : List ℕ). length l) (filter_same (λ doc. is_unjudged (mark_at marks doc) && with_picked marks own doc) (open_in marks own) 0 (length marks) (λ doc from to. open_picked (own doc) (mark_at marks doc)))
+    ∙ length-filter (open_in marks own) (range_with_len 0 (length marks))
 
 -- where no others are wanted, those that are wanted are the first ones of its own
 pub own_alone : (marks : List Mark) (a b : List ℕ) (r : ℕ) (w : Wanted) → w.both ≡ 0 → w.first ≡ 0 → added_documents marks (with_picked marks (picks w marks a b r)) ≡ take w.second (added_documents marks (with_picked marks (only_second r a b)))

@@ -49,6 +49,16 @@ impl<'p> RunPair<'p> {
         best_beyond(end, self.steps(), self.all, self.best(judged))
     }
 
+    /// The least candidate of the first run against the second.
+    fn least_of_all(&self) -> DepthCandidate
+        requires { IsPair self.now }
+        ensures { IsLeast self.now.marks.now self.now.a.now self.now.b.now result }
+    {
+        let start = self.prefixes_at(self.all.relevant);
+        let end = self.prefixes_at(self.all.relevant + self.steps());
+        self.least(start, end)
+    }
+
     /// The least candidates of both, and of the swapped runs.
     fn extremes(&self) -> Extremes
         requires { IsPair self.now }
@@ -68,8 +78,43 @@ impl<'p> RunPair<'p> {
 }
 
 /// The smallest number of relevant documents at which a completion has the least difference of all
-/// completions, and what that gives, for two runs and for the runs swapped. No number of relevant
-/// documents is left out.
+/// completions, and what that gives. No number of relevant documents is left out.
+pub fn find_least(
+    a: &[u32],
+    b: &[u32],
+    first: &RunSums,
+    second: &RunSums,
+    shared: &Shared,
+    all: Counts,
+    marks: &[Mark],
+) -> DepthCandidate
+    requires a { IsRanking (length marks.now) a.now }
+    requires b { IsRanking (length marks.now) b.now }
+    requires first { AreBlockSums marks.now a.now first.now.numbers }
+    requires second { AreBlockSums marks.now b.now second.now.numbers }
+    requires shared { AreShared marks.now a.now b.now shared.now.counts }
+    requires topic { AreTopic marks.now all }
+    requires few { all.relevant + all.unjudged ≤ DOCUMENT_LIMIT }
+    ensures least { IsLeast marks.now a.now b.now result }
+    ensures low { all.relevant ≤ result.count }
+{
+    let longest = longest(a, b);
+    let both = sums_of_shared(shared, longest);
+    let pair = RunPair {
+        a,
+        b,
+        first,
+        second,
+        both: &both,
+        shared,
+        marks,
+        all,
+        longest,
+    };
+    pair.least_of_all()
+}
+
+/// The same for two runs and for the runs swapped.
 pub fn find_extremes(
     a: &[u32],
     b: &[u32],

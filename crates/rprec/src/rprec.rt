@@ -11,9 +11,9 @@ ghost use Rattle.rprec.specs.Greedy.{AreTopic, IsLeast, IsSmallCandidate};
 ghost use Rattle.rprec.specs.Shared.{AreShared};
 ghost use Rattle.rprec.specs.Sums.{AreBlockSums};
 
-use crate::extremes::find_extremes;
+use crate::extremes::{find_extremes, find_least};
 use crate::greedy::DepthCandidate;
-use crate::lists::push_wanted;
+use crate::lists::push_chosen;
 use crate::shared::Shared;
 use crate::sums::sums_of_run;
 use crate::values::{values, wanted_for};
@@ -101,9 +101,7 @@ fn least_count(a: &Ranking, b: &Ranking, all: Counts, marks: &[Mark]) -> u32
     let shared = Shared::between(a, b, marks);
     let first = sums_of_run(a.docs(), marks);
     let second = sums_of_run(b.docs(), marks);
-    find_extremes(a.docs(), b.docs(), &first, &second, &shared, all, marks)
-        .least
-        .count
+    find_least(a.docs(), b.docs(), &first, &second, &shared, all, marks).count
 }
 
 /// Whether each document is relevant in the least case of two runs.
@@ -135,8 +133,7 @@ fn push_least(a: &Ranking, b: &Ranking, marks: &[Mark], docs: &mut Vec<u32>) -> 
 {
     let all = topic(marks);
     let count = least_count(a, b, all, marks);
-    let wanted = wanted_for(count, a, b, all, marks);
-    push_wanted(wanted, count, a, b, marks, docs)
+    push_chosen(count, a, b, all, marks, docs)
 }
 
 impl RankedMeasure for Rprec {

@@ -1,4 +1,4 @@
-use Rattle.std.proofs.Common.{◌≡◌, ℕ, Bool, length, IfOk, subst}
+use Rattle.std.proofs.Common.{ℕ, Bool, length, IfOk, subst}
 use Rattle.desk_model.specs.Completion.{with_picked}
 use Rattle.measure_laws.specs.RprecCase.{greedy_truth}
 use Rattle.measure_core.specs.Laws.{AreValues}
