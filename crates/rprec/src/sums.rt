@@ -9,9 +9,6 @@ use crate::shared::Shared;
 use desk_model::Mark;
 use measure_core::{BLOCK, RunSums};
 
-/// How many blocks the longest run has.
-const BLOCKS: u32 = 1000;
-
 /// For each number of blocks, from 0, how many unjudged documents two runs share up to there.
 #[derive(Drop)]
 pub struct SharedSums {
@@ -33,17 +30,37 @@ fn with_documents(number: u32, start: u32, end: u32, docs: &[u32], marks: &[Mark
     longer
 }
 
+/// Sets the numbers of all blocks after some.
+fn set_after(numbers: &mut [u32], blocks: u32, number: u32)
+    requires { blocks < length numbers.old }
+    ensures before { (block : ℕ) → block ≤ blocks → slice_index_or numbers.new block 0 ≡ slice_index_or numbers.old block 0 }
+    ensures after { (block : ℕ) → blocks < block → block < length numbers.old → slice_index_or numbers.new block 0 ≡ number }
+{
+    numbers[blocks as usize + 1..].fill(number);
+}
+
+/// How many blocks some documents take up.
+fn blocks_of(docs: &[u32]) -> u32
+    requires { length docs.now ≤ RANK_LIMIT }
+    ensures whole { length docs.now ≤ 10 * result }
+    ensures few { result ≤ 1000 }
+{
+    (docs.len() as u32 + BLOCK - 1) / BLOCK
+}
+
 /// The counts of a run's documents up to the end of each block, both in one number.
 pub fn sums_of_run(docs: &[u32], marks: &[Mark]) -> RunSums
     requires { IsRanking (length marks.now) docs.now }
     ensures { AreBlockSums marks.now docs.now result.numbers }
 {
+    let blocks = blocks_of(docs);
     let mut numbers = [0; 1001];
     let mut number = 0;
-    for block in 0..BLOCKS {
+    for block in 0..blocks {
         number = with_documents(number, block * BLOCK, (block + 1) * BLOCK, docs, marks);
         numbers[block as usize + 1] = number;
     }
+    set_after(&mut numbers, blocks, number);
     RunSums { numbers }
 }
 

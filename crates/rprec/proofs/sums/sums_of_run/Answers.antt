@@ -12,5 +12,5 @@ loop-block-preserved c =
     record {
       number = number;
       long = length-set c.loop-block.numbers (c.loop-block.block + 1) c.with_documents-number.result ∙ c.loop-block.invariant.long;
-      each = sums_next f c.loop-block.numbers c.loop-block.block c.with_documents-number.result c.loop-block.invariant.long c.loop-block-test.true c.loop-block.invariant.each number;
+      each = sums_next f c.loop-block.numbers c.loop-block.block c.with_documents-number.result c.loop-block.invariant.long (omega (arith, c.loop-block-test.true, c.blocks_of-blocks.ensures.few)) c.loop-block.invariant.each number;
     }
