@@ -14,9 +14,10 @@ ghost use Rattle.measure_core.specs.Numbers.{exact_least};
 ghost use Rattle.recall.specs.LeastCase.{AreCounts, least_relevant};
 
 use desk_model::{Mark, MeasureName, Memory, Ranking};
+use marked_lists::push_own_marked;
 use measure_core::{
     Cell, CellRoom, KeptCell, Measure, More, OwnMeasure, Picks, Shift, Steps, TopicRankings,
-    case_values, own_cells, push_own, push_own_and_more, shift_one_side,
+    case_values, own_cells, push_own_and_more, shift_one_side,
 };
 use std::alloc::Global;
 use std::marker::Model;
@@ -141,6 +142,7 @@ fn least_values(
 
 /// Appends the unjudged documents that the least case of two runs makes relevant, ascending.
 fn push_least(
+    alloc: Global,
     k: u32,
     a: &Ranking,
     b: &Ranking,
@@ -151,7 +153,7 @@ fn push_least(
     ensures { OnOk result (docs.new.items ≡ docs.old.items ++ added_documents marks.now (with_picked marks.now (recall_pick k marks.now a.now b.now))) }
 {
     let start = docs.len();
-    push_own(k, a, b, marks, docs)?;
+    push_own_marked(alloc, k, a, b, marks, docs)?;
     if leads(k, docs.len() - start, a, b, marks) {
         docs.truncate(start);
         let others = More {
@@ -229,13 +231,13 @@ impl Measure for Recall {
 
     fn push_least_docs(
         &self,
-        _alloc: Global,
+        alloc: Global,
         a: &Ranking,
         b: &Ranking,
         marks: &[Mark],
         docs: &mut Vec<u32>,
     ) -> Result<(), Memory> {
-        push_least(self.k, a, b, marks, docs)
+        push_least(alloc, self.k, a, b, marks, docs)
     }
 
     fn weight(&self, a: &Ranking, b: &Ranking, _marks: &[Mark], doc: u32) -> u128 {

@@ -7,12 +7,15 @@ ghost use Rattle.rprec.specs.Greedy.{AreTopic};
 
 use crate::values::wanted_for;
 use desk_model::{Mark, Memory, Ranking};
-use measure_core::{More, push_own, push_own_and_more};
+use marked_lists::push_own_marked;
+use measure_core::{More, push_own_and_more};
+use std::alloc::Global;
 use topic_counts::counts::Counts;
 
 /// Appends the unjudged documents that the greedy choice makes relevant where a topic is to have so many relevant ones,
 /// ascending: the first of the second run's own ones, and where those are too few all of them and some of the others.
 pub fn push_chosen(
+    alloc: Global,
     count: u32,
     a: &Ranking,
     b: &Ranking,
@@ -27,7 +30,7 @@ pub fn push_chosen(
 {
     let chosen = (count - all.relevant) as usize;
     let start = docs.len();
-    push_own(count, a, b, marks, docs)?;
+    push_own_marked(alloc, count, a, b, marks, docs)?;
     if docs.len() - start >= chosen {
         docs.truncate(start + chosen);
         return Ok(());

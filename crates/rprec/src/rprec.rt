@@ -127,13 +127,19 @@ fn least_values(
 }
 
 /// Appends the unjudged documents that the least case of two runs makes relevant, ascending.
-fn push_least(a: &Ranking, b: &Ranking, marks: &[Mark], docs: &mut Vec<u32>) -> Result<(), Memory>
+fn push_least(
+    alloc: Global,
+    a: &Ranking,
+    b: &Ranking,
+    marks: &[Mark],
+    docs: &mut Vec<u32>,
+) -> Result<(), Memory>
     requires { AreMet marks.now a.now b.now }
     ensures { OnOk result (docs.new.items ≡ docs.old.items ++ added_documents marks.now (rprec_truth marks.now a.now b.now)) }
 {
     let all = topic(marks);
     let count = least_count(a, b, all, marks);
-    push_chosen(count, a, b, all, marks, docs)
+    push_chosen(alloc, count, a, b, all, marks, docs)
 }
 
 impl RankedMeasure for Rprec {
@@ -235,13 +241,13 @@ impl Measure for Rprec {
 
     fn push_least_docs(
         &self,
-        _alloc: Global,
+        alloc: Global,
         a: &Ranking,
         b: &Ranking,
         marks: &[Mark],
         docs: &mut Vec<u32>,
     ) -> Result<(), Memory> {
-        push_least(a, b, marks, docs)
+        push_least(alloc, a, b, marks, docs)
     }
 
     fn weight(&self, a: &Ranking, b: &Ranking, marks: &[Mark], doc: u32) -> u128 {

@@ -42,7 +42,7 @@ leads-requires-clause-own c =
     let marks = c.args.marks.now in
     let before = c.args.docs.now.items in
     let own = added_documents marks (with_picked marks (only_second c.args.k c.args.a.now c.args.b.now)) in
-    let long : length c.push_own.new.docs.items ≡ length before + length own = ap (λ (l : List ℕ). length l) c.in_ok-push_own.ensures ∙ length-append before own in
+    let long : length c.push_own_marked.new.docs.items ≡ length before + length own = ap (λ (l : List ℕ). length l) c.in_ok-push_own_marked.ensures ∙ length-append before own in
     omega (arith, long, c.len.ensures, c.len-start.ensures, own_listed c.args.k marks c.args.a.now c.args.b.now)
 
 pub returns-then-leads : goal.returns-then-leads
@@ -57,7 +57,7 @@ returns-then-leads c =
     let own = added_documents marks (with_picked marks (only_second k a b)) in
     let start : c.len-start.result ≡ length before + 0 = omega (arith, c.len-start.ensures) in
     let cut : c.truncate.new.self.items ≡ before =
-    c.truncate.ensures.items ∙ ap₂ (λ (m : ℕ) (l : List ℕ). take m l) start c.in_ok-push_own.ensures ∙ take-append-add before own 0 ∙ append-nil before in
+    c.truncate.ensures.items ∙ ap₂ (λ (m : ℕ) (l : List ℕ). take m l) start c.in_ok-push_own_marked.ensures ∙ take-append-add before own 0 ∙ append-nil before in
     let leads : true ≡ nat_lt (true_among (with_picked marks (only_second k a b)) k b) (true_among (with_picked marks (only_second k a b)) k a) = sym c.if-leads.true ∙ c.leads.ensures in
     let same : added_documents marks (with_picked marks (own_and_more k more marks a b)) ≡ added_documents marks (with_picked marks (recall_pick k marks a b)) =
     picked_same marks (own_and_more k more marks a b) (recall_pick k marks a b) (λ doc lt unjudged. all_others marks a b k doc more refl refl lt unjudged ∙ ap (λ t. picked_where t k a b doc) leads) in
@@ -74,4 +74,4 @@ returns c =
     let leads : false ≡ nat_lt (true_among (with_picked marks (only_second k a b)) k b) (true_among (with_picked marks (only_second k a b)) k a) = sym c.if-leads.false ∙ c.leads.ensures in
     let same : added_documents marks (with_picked marks (only_second k a b)) ≡ added_documents marks (with_picked marks (recall_pick k marks a b)) =
     picked_same marks (only_second k a b) (recall_pick k marks a b) (λ doc lt unjudged. no_others k a b doc ∙ ap (λ t. picked_where t k a b doc) leads) in
-    c.in_ok-push_own.ensures ∙ ap (λ ds. before ++ ds) same
+    c.in_ok-push_own_marked.ensures ∙ ap (λ ds. before ++ ds) same

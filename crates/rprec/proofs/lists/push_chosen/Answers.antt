@@ -26,7 +26,7 @@ returns-then-len-start c =
     let w : Wanted = record { second = chosen; both = 0; first = 0 } in
     let own = added_documents marks (with_picked marks (only_second r a b)) in
     let size = size_of (length marks) (open_in marks (only_second r a b)) in
-    let long : length c.push_own.new.docs.items ≡ length before + length own = ap (λ (l : List ℕ). length l) c.in_ok-push_own.ensures ∙ length-append before own in
+    let long : length c.push_own_marked.new.docs.items ≡ length before + length own = ap (λ (l : List ℕ). length l) c.in_ok-push_own_marked.ensures ∙ length-append before own in
     let many : chosen ≤ size = omega (arith, long, c.len.ensures, c.len-start.ensures, own_listed marks a b r, c.if-len-start.true) in
     let second : chosen ≡ r - judged_count marks = omega (arith, c.requires.topic.relevant) in
     let both : 0 ≡ r - judged_count marks - size = omega (arith, second, many) in
@@ -34,7 +34,7 @@ returns-then-len-start c =
     let end : c.len-start.result + chosen ≡ length before + chosen = omega (arith, c.len-start.ensures) in
     let greedy : take chosen own ≡ added_documents marks (with_picked marks (greedy_pick marks a b r)) =
     sym (own_alone marks a b r w refl refl) ∙ ap (λ (pick : ℕ → Bool). added_documents marks (with_picked marks pick)) (picks_are marks a b r w second both first) in
-    c.truncate.ensures.items ∙ ap₂ (λ (m : ℕ) (l : List ℕ). take m l) end c.in_ok-push_own.ensures ∙ take-append-add before own chosen ∙ ap (λ ds. before ++ ds) greedy
+    c.truncate.ensures.items ∙ ap₂ (λ (m : ℕ) (l : List ℕ). take m l) end c.in_ok-push_own_marked.ensures ∙ take-append-add before own chosen ∙ ap (λ ds. before ++ ds) greedy
 
 pub returns : goal.returns
 returns c =
@@ -49,11 +49,11 @@ returns c =
     let now = c.push_own_and_more.new.docs.items in
     let own = added_documents marks (with_picked marks (only_second r a b)) in
     let size = size_of (length marks) (open_in marks (only_second r a b)) in
-    let long : length c.push_own.new.docs.items ≡ length before + length own = ap (λ (l : List ℕ). length l) c.in_ok-push_own.ensures ∙ length-append before own in
+    let long : length c.push_own_marked.new.docs.items ≡ length before + length own = ap (λ (l : List ℕ). length l) c.in_ok-push_own_marked.ensures ∙ length-append before own in
     let many : size < w.second = omega (arith, long, c.len.ensures, c.len-start.ensures, own_listed marks a b r, c.if-len-start.false, c.requires.topic.relevant, is.second) in
     let start : c.len-start.result ≡ length before + 0 = omega (arith, c.len-start.ensures) in
     let cut : c.truncate-2.new.self.items ≡ before =
-    c.truncate-2.ensures.items ∙ ap₂ (λ (m : ℕ) (l : List ℕ). take m l) start c.in_ok-push_own.ensures ∙ take-append-add before own 0 ∙ append-nil before in
+    c.truncate-2.ensures.items ∙ ap₂ (λ (m : ℕ) (l : List ℕ). take m l) start c.in_ok-push_own_marked.ensures ∙ take-append-add before own 0 ∙ append-nil before in
     let same : added_documents marks (with_picked marks (own_and_more r more marks a b)) ≡ added_documents marks (with_picked marks (greedy_pick marks a b r)) =
     picked_same marks (own_and_more r more marks a b) (picks w marks a b r) (λ doc lt unjudged. all_own marks a b r doc w lt many unjudged)
     ∙ ap (λ (pick : ℕ → Bool). added_documents marks (with_picked marks pick)) (picks_are marks a b r w is.second is.both is.first) in
