@@ -6,7 +6,7 @@ returns c = record {
   check = one_check c.any_text_and_certificate_are_one.ensures.certificate c.any_first_bad_line_is_unique.ensures.unique c.any_first_bad_line_is_unique.ensures.none;
   desk = c.desk_is_one.ensures;
   verifier = c.any_answers_are_one.ensures;
-  bundle = c.bundle_is_one.ensures;
+  bundle = c.bundle_is_one.ensures.names;
   replies = c.replies_are_one.ensures;
   next = c.next_is_one.ensures;
 }
