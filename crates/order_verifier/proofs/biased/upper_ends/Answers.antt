@@ -1,4 +1,4 @@
-use Rattle.std.proofs.Common.{◌≡◌, ◌+◌, Bool, Some, pos, refl, arith, ap, ◌∙◌, sym}
+use Rattle.std.proofs.Common.{Bool, Some, pos, refl, arith, ap, ◌∙◌, sym}
 use Rattle.std.specs.Prelude.{if◌then◌else◌}
 use Rattle.std.proofs.lemmas.Int.{ints}
 use Rattle.desk_model.specs.Ranking.{rank}

@@ -1,10 +1,7 @@
-use Rattle.std.proofs.Common.{◌≡◌, ap, sym, subst, ◌∙◌, to_z, of_z, arith}
-use Rattle.std.specs.Int.{w128}
+use Rattle.std.proofs.Common.{◌≡◌, ap, sym, subst, ◌∙◌}
 use Rattle.std.specs.Prelude.{Some}
-use Rattle.std.proofs.lemmas.Int.{ints}
 use Rattle.std.proofs.lemmas.List.Elements.{recursion_from_All}
 use Rattle.desk_model.specs.Name.{AreAscending}
-use Rattle.measure_laws.specs.Shares.{IsModest}
 use Rattle.small_lemmas.proofs.Lists.{all_there}
 use Rattle.order_certificate.specs.Certificate.{AreLists}
 use Rattle.order_certificate.specs.Evidence.{AreUnjudged}

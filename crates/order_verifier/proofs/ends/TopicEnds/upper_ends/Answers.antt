@@ -1,5 +1,3 @@
-use Rattle.std.proofs.Common.{◌≡◌, to_z, of_z, arith, subst, sym}
-use Rattle.measure_laws.specs.Shares.{IsModest}
 use Rattle.order_verifier.specs.Kinds.{name_of}
 use Rattle.order_verifier.proofs.Named.{kind_measure, upper_modest}
 use Rattle.order_verifier.proofs.ends.TopicEnds.upper_ends.Goals as goal
