@@ -107,14 +107,31 @@ impl<'a> Comparison<'a> {
         }
     }
 
-    /// Whether a list names an unjudged document of a topic at a place.
-    pub fn is_unjudged(&self, topic: u32, documents: &Documents<'_>, place: u32) -> bool
+    /// The marks of the documents of a topic.
+    pub fn topic_marks(&self, topic: u32) -> &[Mark]
+        requires { topic < length (topics_in self.now) }
+        ensures { slice_get self.now.marks topic ≡ Some result.now }
+    {
+        self.marks.of_topic(topic)
+    }
+
+    /// Whether a list names an unjudged document of a topic with these marks at a place.
+    #[inline(always)]
+    pub fn is_unjudged(
+        &self,
+        topic: u32,
+        marks: &[Mark],
+        documents: &Documents<'_>,
+        place: u32,
+    ) -> bool
         requires place { place < length documents.now.names }
+        requires marks { slice_get self.now.marks topic ≡ Some marks.now }
         requires topic { OfTopic (topics_in self.now) topic (λ t. documents.now.docs ≡ t.docs) }
         ensures { OfRow documents.now.names place (λ name. OfTopic (topics_in self.now) topic (λ t. IsTrue result ↔ AreUnjudged t (name ∷ []))) }
     {
+        let _desk = self.desk;
         match documents.number(place) {
-            Some(doc) => is_open(self.marks.of_topic(topic)[doc as usize]),
+            Some(doc) => is_open(marks[doc as usize]),
             None => false,
         }
     }

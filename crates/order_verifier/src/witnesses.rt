@@ -32,8 +32,9 @@ impl Comparison<'_> {
         requires few { length documents.now.names ≤ DOCUMENT_LIMIT }
         ensures { OfTopic (topics_in self.now) topic (λ t. MatchOption result (AreUnjudged t documents.now.names) (IsFirstOther t documents.now.names)) }
     {
+        let marks = self.topic_marks(topic);
         for document in 0..documents.len() as u32 {
-            if !self.is_unjudged(topic, documents, document) {
+            if !self.is_unjudged(topic, marks, documents, document) {
                 return Some(document);
             }
         }
