@@ -8,6 +8,7 @@ pub mod Names
 pub mod Shown
 pub mod WordParts
 pub mod Plain
+pub mod Digits
 pub mod Sequel
 pub mod Loops
 pub mod Texts

@@ -95,6 +95,17 @@ impl<'a> TextLines<'a> {
         Some(line)
     }
 
+    /// Takes what comes before these bytes, as one line.
+    #[inline(always)]
+    pub(crate) fn take_up_to(&mut self, rest: &'a [u8])
+        ensures { self.new ≡ record { last = self.old.rest; rest = rest.now } }
+    {
+        *self = TextLines {
+            last: self.rest,
+            rest,
+        };
+    }
+
     /// The bytes from the line on that was taken last.
     pub fn last(&self) -> &'a [u8]
         ensures { result.now ≡ self.now.last }

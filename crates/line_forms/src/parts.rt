@@ -136,6 +136,43 @@ pub fn number_of(line: &[u8], word: &[u8], least: u64, most: u64) -> Result<u32,
     }
 }
 
+/// The number from `least` on, below `end`, after a word.
+pub fn number_below_of(line: &[u8], word: &[u8], least: u64, end: u64) -> Result<u32, FormFault>
+    requires { end ≤ DOCUMENT_LIMIT }
+    ensures { IsPartOf (λ n. word.now ++ decimal n) (λ n. (least ≤ n) × (n < end)) line.now result }
+{
+    let number = number_of(line, word, least, end)?;
+    if u64::from(number) == end {
+        return Err(FormFault::Bad);
+    }
+    Ok(number)
+}
+
+/// The number that a text begins with and a line feed ends, and the text after that; none also for 0 and for numbers
+/// of more than nine digits.
+#[inline(always)]
+pub fn ended_number(text: &[u8]) -> Option<(u32, &[u8])>
+    ensures { IfSome result (λ p. text.now ≡ decimal p.0 ++ 10 ∷ p.1.now) }
+{
+    if text.is_empty() || text[0] == b'0' || !text[0].is_ascii_digit() {
+        return None;
+    }
+    let mut number = u32::from(text[0] - b'0');
+    let mut digits = 1;
+    while digits < text.len() && number < 100_000_000 {
+        let byte = text[digits];
+        if byte == b'\n' {
+            return Some((number, &text[digits + 1..]));
+        }
+        if !byte.is_ascii_digit() {
+            return None;
+        }
+        number = number * 10 + u32::from(byte - b'0');
+        digits += 1;
+    }
+    None
+}
+
 /// The name after a word, if it is greater than the one before it, and a number up to `most`.
 pub fn name_and_count_of(
     alloc: Global,

@@ -1,11 +1,14 @@
 //! Lines of the commonest kinds, each taken at its place.
-ghost use Rattle.std.specs.Prelude.{◌≡◌, ◌≢◌, ◌≤◌};
+ghost use Rattle.std.specs.Prelude.{◌≡◌, ◌≢◌, ◌++◌, ◌<◌, ◌≤◌, decimal, IfSome};
 ghost use Rattle.desk_model.specs.Limits.{DOCUMENT_LIMIT};
+ghost use Rattle.line_forms.specs.Form.{ended};
 ghost use Rattle.line_forms.specs.Places.{fixed_place, later_name_place, name_and_count_place, name_place, number_place};
 ghost use Rattle.line_forms.specs.Reading.{IsReading, IsFreeOf};
 
-use crate::lines::{FormFault, TextLines};
-use crate::parts::{fixed_of, later_name_of, name_and_count_of, name_of, number_of};
+use crate::lines::{FormFault, TextLines, after};
+use crate::parts::{
+    ended_number, fixed_of, later_name_of, name_and_count_of, name_of, number_below_of, number_of,
+};
 use desk_model::Name;
 use std::alloc::Global;
 
@@ -61,6 +64,56 @@ pub fn number_line(
     match lines.next_line() {
         Some(line) => number_of(line, word, least, most),
         None => Err(FormFault::Bad),
+    }
+}
+
+/// Takes a word and a number from `least` on, below `end`, a line of any other form too.
+#[inline(never)]
+fn any_number_line(
+    lines: &mut TextLines<'_>,
+    word: &[u8],
+    least: u64,
+    end: u64,
+) -> Result<u32, FormFault>
+    requires word { IsFreeOf 10 word.now }
+    requires end { end ≤ DOCUMENT_LIMIT }
+    ensures { IsReading (number_place word.now (λ n. (least ≤ n) × (n < end))) lines.old.rest result lines.new }
+{
+    match lines.next_line() {
+        Some(line) => number_below_of(line, word, least, end),
+        None => Err(FormFault::Bad),
+    }
+}
+
+/// The number that bytes begin with after a word, and what follows its line, if it is there and simple to read.
+#[inline(always)]
+fn simple_number<'a>(text: &'a [u8], word: &[u8]) -> Option<(u32, &'a [u8])>
+    ensures { IfSome result (λ p. text.now ≡ ended (word.now ++ decimal p.0) ++ p.1.now) }
+{
+    match after(text, word) {
+        Some(number) => ended_number(number),
+        None => None,
+    }
+}
+
+/// Takes a word and a number from `least` on, below `end`.
+#[inline(always)]
+pub fn number_below_line(
+    lines: &mut TextLines<'_>,
+    word: &[u8],
+    least: u64,
+    end: u64,
+) -> Result<u32, FormFault>
+    requires word { IsFreeOf 10 word.now }
+    requires end { end ≤ DOCUMENT_LIMIT }
+    ensures { IsReading (number_place word.now (λ n. (least ≤ n) × (n < end))) lines.old.rest result lines.new }
+{
+    match simple_number(lines.rest(), word) {
+        Some((number, rest)) if least <= u64::from(number) && u64::from(number) < end => {
+            lines.take_up_to(rest);
+            Ok(number)
+        }
+        _ => any_number_line(lines, word, least, end),
     }
 }
 

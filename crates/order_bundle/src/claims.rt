@@ -19,7 +19,7 @@ use line_forms::{FormFault, TextLines};
 use order_certificate::places::Claim;
 use std::alloc::Global;
 
-// So many numbers of so many documents.
+// So many numbers of so many documents. Room is taken for no more numbers than there are documents.
 fn picks(
     alloc: Global,
     lines: &mut TextLines<'_>,
@@ -29,7 +29,7 @@ fn picks(
     requires { docs ≤ DOCUMENT_LIMIT }
     ensures { IsReading (pick_places docs count) lines.old.rest result lines.new }
 {
-    let mut picks = Vec::new(alloc);
+    let mut picks = Vec::with_capacity(alloc, docs.min(u64::from(count)) as usize)?;
     let mut least = 0;
     while picks.len() < count as usize {
         let pick = pick_line(lines, least, docs)?;

@@ -16,7 +16,7 @@ use crate::bundle::Bound;
 use desk_model::Name;
 use line_forms::lines::{after, cut};
 use line_forms::parts::{count, number, number_of};
-use line_forms::places::name_and_count_line;
+use line_forms::places::{name_and_count_line, number_below_line};
 use line_forms::{FormFault, TextLines};
 use order_certificate::places::Claim;
 use std::alloc::Global;
@@ -105,18 +105,6 @@ fn both_bounds_of(line: &[u8]) -> Result<Bound, FormFault>
         Some(high) => Ok(Bound { low, high }),
         None => Err(FormFault::Bad),
     }
-}
-
-// A number from `least` on, below `docs`.
-fn pick_of(line: &[u8], least: u64, docs: u64) -> Result<u32, FormFault>
-    requires { docs ≤ DOCUMENT_LIMIT }
-    ensures { IsPartOf pick_line (IsPick docs least) line.now result }
-{
-    let pick = number_of(line, b"pick ", least, MOST_DOCUMENTS)?;
-    if u64::from(pick) >= docs {
-        return Err(FormFault::Bad);
-    }
-    Ok(pick)
 }
 
 // The claim that a line begins with, and the text after it and a space.
@@ -226,14 +214,12 @@ pub fn both_bounds_line(lines: &mut TextLines<'_>) -> Result<Bound, FormFault>
 }
 
 /// Takes the number of one of so many documents, from `least` on.
+#[inline(always)]
 pub fn pick_line(lines: &mut TextLines<'_>, least: u64, docs: u64) -> Result<u32, FormFault>
     requires { docs ≤ DOCUMENT_LIMIT }
     ensures { IsReading (pick_place docs least) lines.old.rest result lines.new }
 {
-    match lines.next_line() {
-        Some(line) => pick_of(line, least, docs),
-        None => Err(FormFault::Bad),
-    }
+    number_below_line(lines, b"pick ", least, docs)
 }
 
 // A number of documents after a word.

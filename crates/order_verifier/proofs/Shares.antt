@@ -88,6 +88,18 @@ summed_all universe truth share a b first second sum h nothing e =
     let whole : h.next + (universe - h.next) ≡ universe = omega (arith, h.within) in
     subst (λ (m : ℕ). IsSum truth m share a b sum) whole (sum_absent truth h.next (universe - h.next) share a b sum (record { nothing = nothing; ranks = λ d le lt. none_left_of h.next a b first second h.first_from h.second_from e d le }) h.total)
 
+-- with one more document the walk goes on after it
+pub summed_more : (universe : ℕ) (truth : ℕ → Bool) (share : Option ℕ → Option ℕ → ℤ) (a b : List ℕ) (first second later_first later_second : List Placed) (sum gain : ℤ) → universe ≤ 25000000 → (h : AreSummed universe truth share a b first second sum) → (doc : ℕ) → share None None ≡ pos 0 →
+    IsNextOf h.next doc a b first second → doc < universe → gain ≡ (if truth doc then share (rank a doc) (rank b doc) else pos 0) → neg_ℤ (pos (10 ^ 18)) ≤ℤ gain → gain ≤ℤ pos (10 ^ 18) → AreFrom (doc + 1) a later_first → AreFrom (doc + 1) b later_second →
+    AreSummed universe truth share a b later_first later_second (to_z w128 (of_z w128 (sum +ℤ to_z w128 (of_z w128 gain))))
+summed_more universe truth share a b first second later_first later_second sum gain few h doc nothing next known is low high from from' = record {
+  next = doc + 1;
+  within = omega (arith, known);
+  first_from = from;
+  second_from = from';
+  total = sum_more truth doc share a b sum gain (omega (arith, known, few)) (summed_next universe truth share a b first second sum h doc nothing next) is low high;
+}
+
 -- what a document adds in the least case
 pub least_gain_is : (share : Option ℕ → Option ℕ → ℤ) (marks : List Mark) (a b : List ℕ) (n : ℕ) (x y : Option ℕ) (mark : Mark) (gain : ℤ) → gain ≡ (if picked_value (comes_before y x) mark then share x y else pos 0) →
     x ≡ rank a n → y ≡ rank b n → mark ≡ mark_at marks n → gain ≡ (if biased_truth marks a b n then share (rank a n) (rank b n) else pos 0)

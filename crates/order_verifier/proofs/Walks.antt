@@ -1,9 +1,9 @@
 -- One step of the walk over the documents of two rankings.
+use mir.Val.{bool_byte}
 use Rattle.std.proofs.Common.{◌≡◌, ◌≢◌, ℕ, ◌+◌, ◌-◌, ◌<◌, ◌≤◌, min, Bool, true, false, nat_eq, List, [], ◌∷◌, length, take, drop, slice_index_or, ◌⊎◌, inl, inr, Option, Some, None, unwrap_or, arith, refl, ap, ◌∙◌, sym, subst}
-use Rattle.std.specs.Prelude.{if◌then◌else◌}
+use Rattle.std.specs.Prelude.{◌↔◌, IsTrue, if◌then◌else◌}
 use Rattle.std.specs.List.{AllByRecursion}
 use Rattle.std.proofs.lemmas.Bool.{cases_lt, eq-eqb}
-use Rattle.std.proofs.lemmas.Bool.Decides.{nat_tests}
 use Rattle.std.proofs.lemmas.List.{take_all, length-drop}
 use Rattle.std.proofs.lemmas.List.Elements.{recursion_from_All}
 use Rattle.desk_model.proofs.Counts.{nat_eq-true}
@@ -82,6 +82,13 @@ next_is n doc xs ys [] (y ∷ fs) h k e =
     record { later = omega (arith, same, k.from.0); first_from = from_none n doc xs h (omega (arith, same, k.from.0)); second_from = from_first n doc ys y fs k (omega (arith, same, k.from.0)) (omega (arith, same)); begins = inr (ap (λ n. Some n) same) }
 next_is n doc xs ys (x ∷ es) (y ∷ fs) h k e = next_by n doc (min x.doc y.doc) xs ys x y es fs h k refl (ap (λ (o : Option ℕ). unwrap_or o 0) (sym e))
 
+-- it is the next one of both in either order
+pub next_swapped : (x y z : Option ℕ) → z ≡ earlier x y → z ≡ earlier y x
+next_swapped None None z e = e
+next_swapped None (Some y) z e = e
+next_swapped (Some x) None z e = e
+next_swapped (Some x) (Some y) z e = e ∙ ap (λ n. Some n) (omega arith)
+
 -- neither has a document from there to the next one
 pub none_before : (n doc : ℕ) (xs ys : List ℕ) (first second : List Placed) → AreFrom n xs first → AreFrom n ys second → IsNextOf n doc xs ys first second → (d : ℕ) → n ≤ d → d < doc → (rank xs d ≡ None) × (rank ys d ≡ None)
 none_before n doc xs ys first second h k next d le lt = (gap n doc d xs first h next.first_from le lt, gap n doc d ys second k next.second_from le lt)
@@ -140,29 +147,32 @@ pub rank_here : (doc : ℕ) (docs : List ℕ) (places : List Placed) (d : Placed
 rank_here doc docs [] d h k same = absurd (omega (arith, k))
 rank_here doc docs (e ∷ es) d h k same = rank_first doc docs e es h same
 
-pub after_here : (doc : ℕ) (docs : List ℕ) (places : List Placed) (d : Placed) → AreFrom doc docs places → 0 < length places → (slice_index_or places 0 d).doc ≡ doc → AreFrom (doc + 1) docs (drop 1 places)
-after_here doc docs [] d h k same = absurd (omega (arith, k))
-after_here doc docs (e ∷ es) d h k same = after_first doc docs e es h same
-
 pub rank_other : (doc : ℕ) (docs : List ℕ) (places : List Placed) (d : Placed) → AreFrom doc docs places → (0 < length places → (slice_index_or places 0 d).doc ≢ doc) → None ≡ rank docs doc
 rank_other doc docs [] d h other = rank_later doc docs [] h tt
 rank_other doc docs (e ∷ es) d h other = rank_later doc docs (e ∷ es) h (all_later doc docs e es h (other (omega arith)))
 
-pub after_other : (doc : ℕ) (docs : List ℕ) (places : List Placed) (d : Placed) → AreFrom doc docs places → (0 < length places → (slice_index_or places 0 d).doc ≢ doc) → AreFrom (doc + 1) docs places
-after_other doc docs [] d h other = after_later doc docs [] h tt
-after_other doc docs (e ∷ es) d h other = after_later doc docs (e ∷ es) h (all_later doc docs e es h (other (omega arith)))
-
-pub some_left : (n : ℕ) (b : Bool) → b ≡ nat_eq n 0 → b ≡ false → 0 < n
-some_left n b e f = grind (arith, nat_tests, sym e ∙ f)
-
 pub none_left : (n : ℕ) (b : Bool) → b ≡ nat_eq n 0 → b ≡ true → n ≡ 0
 none_left n b e f = nat_eq-true n 0 (sym e ∙ f)
 
-pub rest_is : (places : List Placed) → take (length places - 1) (drop 1 places) ≡ drop 1 places
-rest_is places = take_all (length places - 1) (drop 1 places) (omega (arith, length-drop 1 places))
+-- what is left of places after the first of them
+rest_is : (places : List Placed) (n : ℕ) → n ≤ length places → take (length places - n) (drop n places) ≡ drop n places
+rest_is places n le = take_all (length places - n) (drop n places) (omega (arith, length-drop n places))
 
--- another document is not the first
-pub not_first : (doc : ℕ) (places : List Placed) (d : Placed) → (0 < length places → (slice_index_or places 0 d).doc ≢ doc) → first_of places ≡ Some doc → ⊥
-not_first doc [] d other e = cc
-not_first doc (x ∷ es) d other e =
-    let same : x.doc ≡ doc = ap (λ (o : Option ℕ). unwrap_or o 0) e in other (omega arith) same
+after_taken : (doc : ℕ) (docs : List ℕ) (places : List Placed) → AreFrom doc docs places → first_of places ≡ Some doc → AreFrom (doc + 1) docs (drop 1 places)
+after_taken doc docs [] h e = absurd (cc)
+after_taken doc docs (x ∷ es) h e = after_first doc docs x es h (ap (λ (o : Option ℕ). unwrap_or o 0) e)
+
+after_kept : (doc : ℕ) (docs : List ℕ) (places : List Placed) → AreFrom doc docs places → (first_of places ≢ Some doc) → AreFrom (doc + 1) docs places
+after_kept doc docs [] h other = after_later doc docs [] h tt
+after_kept doc docs (x ∷ es) h other = after_later doc docs (x ∷ es) h (all_later doc docs x es h (λ same. other (ap (λ n. Some n) same)))
+
+some_first : (doc : ℕ) (places : List Placed) → first_of places ≡ Some doc → 1 ≤ length places
+some_first doc [] e = absurd (cc)
+some_first doc (x ∷ es) e = omega arith
+
+-- where one place is passed if it is the document's, and else none
+pub after_passed : (doc : ℕ) (docs : List ℕ) (places : List Placed) (b : Bool) (passed : ℕ) → AreFrom doc docs places → (IsTrue b ↔ (first_of places ≡ Some doc)) → passed ≡ bool_byte b → AreFrom (doc + 1) docs (take (length places - passed) (drop passed places))
+after_passed doc docs places true passed h is e =
+    subst (λ n. AreFrom (doc + 1) docs (take (length places - n) (drop n places))) (sym e) (subst (AreFrom (doc + 1) docs) (sym (rest_is places 1 (some_first doc places (is.0 refl)))) (after_taken doc docs places h (is.0 refl)))
+after_passed doc docs places false passed h is e =
+    subst (λ n. AreFrom (doc + 1) docs (take (length places - n) (drop n places))) (sym e) (subst (AreFrom (doc + 1) docs) (sym (rest_is places 0 (omega arith))) (after_kept doc docs places h (λ first. let no : false ≡ true = is.1 first in absurd (cc))))

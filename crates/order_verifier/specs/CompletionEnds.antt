@@ -7,7 +7,7 @@ use Rattle.order_certificate.specs.Evidence.{IsHighSum, IsLowSum, listed_truth}
 use Rattle.order_certificate.specs.declared.certificate.Evidence.TheVariants.{Open}
 use Rattle.order_certificate.specs.declared.certificate.TopicWitness.{TopicWitness}
 use Rattle.order_verifier.specs.Refusal.{AreCompletions, Compared, HasCompletions, topics_in}
-use Rattle.order_verifier.specs.declared.witnesses.CompletionEnds.{CompletionEnds}
+use Rattle.order_verifier.specs.declared.completion.CompletionEnds.{CompletionEnds}
 
 -- the upper end on a topic in the completion of its low list
 abbrev pub IsLowEnd : Compared → ℤ → TopicWitness × NamedTopic → Type 0

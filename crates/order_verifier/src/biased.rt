@@ -11,6 +11,7 @@ ghost use Rattle.order_verifier.specs.Kinds.{ArePowers};
 ghost use Rattle.order_verifier.specs.Least.{AreRankings, IsLeastLow};
 ghost use Rattle.order_verifier.specs.Walk.{AreFrom};
 
+use crate::completion::UpperEnds;
 use crate::ranks::is_before;
 use crate::relevance::Relevance;
 use crate::walk::{after, next_document, next_rank};
@@ -137,24 +138,40 @@ pub fn least_low(powers: &Powers, a: &Ranking, b: &Ranking, marks: &[Mark]) -> i
     sum - tail_most(powers, b)
 }
 
-/// The upper end of the difference under rank-biased precision in one completion, where b has a tail
-/// of 10^24 relevant places: the upper shares of the relevant documents, less what that tail adds at
-/// least.
-pub fn upper_end<T: Relevance>(powers: &Powers, a: &Ranking, b: &Ranking, relevant: &T) -> i128
+/// The upper ends of the differences under rank-biased precision in two completions: of a's score less b's in the low
+/// one, where b has a tail of 10^24 relevant places, and of b's less a's in the high one, where a has it. Each is the
+/// upper shares of the relevant documents, less what that tail adds at least. Both are summed in one walk.
+pub fn upper_ends<T: Relevance>(
+    powers: &Powers,
+    a: &Ranking,
+    b: &Ranking,
+    low: &T,
+    high: &T,
+) -> UpperEnds
     requires powers { ArePowers powers.now }
-    requires rankings { AreRankings (T.universe relevant.now) a.now b.now }
-    ensures { IsUpperEnd (B powers.now.top powers.now.bottom) (T.universe relevant.now) (T.truth relevant.now) a.now b.now result }
+    requires low { AreRankings (T.universe low.now) a.now b.now }
+    requires high { AreRankings (T.universe high.now) b.now a.now }
+    ensures low { IsUpperEnd (B powers.now.top powers.now.bottom) (T.universe low.now) (T.truth low.now) a.now b.now result.low }
+    ensures high { IsUpperEnd (B powers.now.top powers.now.bottom) (T.universe high.now) (T.truth high.now) b.now a.now result.high }
 {
     let mut first = a.by_doc();
     let mut second = b.by_doc();
-    let mut near = 0;
-    let mut sum = 0;
+    let mut near_low = 0;
+    let mut near_high = 0;
+    let mut low_sum = 0;
+    let mut high_sum = 0;
     while let Some(doc) = next_document(first, second) {
-        let found = relevant.find_relevant(doc, near);
-        near = found.near;
-        sum += greatest_gain(powers, first, second, doc, found.is_found);
+        let in_low = low.find_relevant(doc, near_low);
+        let in_high = high.find_relevant(doc, near_high);
+        near_low = in_low.near;
+        near_high = in_high.near;
+        low_sum += greatest_gain(powers, first, second, doc, in_low.is_found);
+        high_sum += greatest_gain(powers, second, first, doc, in_high.is_found);
         first = after(first, doc);
         second = after(second, doc);
     }
-    sum - tail_least(powers, b)
+    UpperEnds {
+        low: low_sum - tail_least(powers, b),
+        high: high_sum - tail_least(powers, a),
+    }
 }

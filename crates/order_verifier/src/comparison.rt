@@ -10,6 +10,7 @@ ghost use Rattle.order_verifier.specs.Refusal.{OfEnds, topics_in};
 ghost use Rattle.order_verifier.specs.Rows.{OfRow};
 
 use crate::TopicEnds;
+use crate::completion::CompletionEnds;
 use crate::counted::DeskMarks;
 use crate::documents::Documents;
 use crate::listed::Listed;
@@ -106,54 +107,61 @@ impl<'a> Comparison<'a> {
         }
     }
 
-    /// Whether a list names an unjudged document of a topic at a place.
-    pub fn is_unjudged(&self, topic: u32, documents: &Documents<'_>, place: u32) -> bool
+    /// The marks of the documents of a topic.
+    pub fn topic_marks(&self, topic: u32) -> &[Mark]
+        requires { topic < length (topics_in self.now) }
+        ensures { slice_get self.now.marks topic ≡ Some result.now }
+    {
+        self.marks.of_topic(topic)
+    }
+
+    /// Whether a list names an unjudged document of a topic with these marks at a place.
+    #[inline(always)]
+    pub fn is_unjudged(
+        &self,
+        topic: u32,
+        marks: &[Mark],
+        documents: &Documents<'_>,
+        place: u32,
+    ) -> bool
         requires place { place < length documents.now.names }
+        requires marks { slice_get self.now.marks topic ≡ Some marks.now }
         requires topic { OfTopic (topics_in self.now) topic (λ t. documents.now.docs ≡ t.docs) }
         ensures { OfRow documents.now.names place (λ name. OfTopic (topics_in self.now) topic (λ t. IsTrue result ↔ AreUnjudged t (name ∷ []))) }
     {
+        let _desk = self.desk;
         match documents.number(place) {
-            Some(doc) => is_open(self.marks.of_topic(topic)[doc as usize]),
+            Some(doc) => is_open(marks[doc as usize]),
             None => false,
         }
     }
 
-    /// The same two runs, swapped.
-    fn swapped(&self) -> Comparison<'a>
-        ensures { result ≡ record { measure = self.now.measure; desk = self.now.desk; marks = self.now.marks; first = self.now.second; second = self.now.first } }
-    {
-        Comparison {
-            ends: self.ends,
-            desk: self.desk,
-            marks: self.marks,
-            runs: RunNumbers {
-                first: self.runs.second,
-                second: self.runs.first,
-            },
-        }
-    }
-
-    /// The upper end of the difference on a topic in the completion that a list stands for.
-    pub fn upper_end(&self, topic: u32, documents: &Documents<'_>) -> i128
-        requires ascending { AreAscending documents.now.names }
-        requires topic { OfTopic (topics_in self.now) topic (λ t. (documents.now.docs ≡ t.docs) × AreUnjudged t documents.now.names) }
-        ensures upper { OfTopic (topics_in self.now) topic (λ t. IsUpperEnd self.now.measure (length t.topic.marks) (listed_truth t documents.now.names) (t.topic.ranking self.now.first) (t.topic.ranking self.now.second) result) }
-        ensures modest { IsModest result }
+    /// The ends of the differences on a topic in the completions that two lists stand for: the upper end in that of the
+    /// low list, and the lower end in that of the high one.
+    pub fn completion_ends(
+        &self,
+        topic: u32,
+        low: &Documents<'_>,
+        high: &Documents<'_>,
+    ) -> CompletionEnds
+        requires low_ascends { AreAscending low.now.names }
+        requires high_ascends { AreAscending high.now.names }
+        requires low_topic { OfTopic (topics_in self.now) topic (λ t. (low.now.docs ≡ t.docs) × AreUnjudged t low.now.names) }
+        requires high_topic { OfTopic (topics_in self.now) topic (λ t. (high.now.docs ≡ t.docs) × AreUnjudged t high.now.names) }
+        ensures low { OfTopic (topics_in self.now) topic (λ t. IsUpperEnd self.now.measure (length t.topic.marks) (listed_truth t low.now.names) (t.topic.ranking self.now.first) (t.topic.ranking self.now.second) result.low) }
+        ensures high { OfTopic (topics_in self.now) topic (λ t. IsLowerEnd self.now.measure (length t.topic.marks) (listed_truth t high.now.names) (t.topic.ranking self.now.first) (t.topic.ranking self.now.second) result.high) }
+        ensures low_modest { IsModest result.low }
+        ensures high_modest { IsModest result.high }
     {
         let first = self.desk.ranking(self.runs.first, topic);
         let second = self.desk.ranking(self.runs.second, topic);
         let marks = self.marks.topic(topic);
-        let listed = Listed::new(&marks, documents);
-        self.ends.upper_end(first, second, &listed)
-    }
-
-    /// The lower end of it.
-    pub fn lower_end(&self, topic: u32, documents: &Documents<'_>) -> i128
-        requires ascending { AreAscending documents.now.names }
-        requires topic { OfTopic (topics_in self.now) topic (λ t. (documents.now.docs ≡ t.docs) × AreUnjudged t documents.now.names) }
-        ensures lower { OfTopic (topics_in self.now) topic (λ t. IsLowerEnd self.now.measure (length t.topic.marks) (listed_truth t documents.now.names) (t.topic.ranking self.now.first) (t.topic.ranking self.now.second) result) }
-        ensures modest { IsModest result }
-    {
-        -self.swapped().upper_end(topic, documents)
+        let low = Listed::new(&marks, low);
+        let high = Listed::new(&marks, high);
+        let ends = self.ends.upper_ends(first, second, &low, &high);
+        CompletionEnds {
+            low: ends.low,
+            high: -ends.high,
+        }
     }
 }

@@ -139,6 +139,7 @@ impl<'a> Documents<'a> {
 
     /// The same, looked for first at a place of the list, which changes nothing but how soon it is found. For documents
     /// that ascend, the place that the one before answers is near.
+    #[inline(always)]
     pub fn find(&self, doc: u32, near: usize) -> FoundNear
         requires known { AreKnown self.now.docs self.now.names }
         requires doc { doc < length self.now.docs }

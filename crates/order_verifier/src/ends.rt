@@ -5,6 +5,7 @@ ghost use Rattle.measure_laws.specs.Ends.{HasEnds, IsUpperEnd};
 ghost use Rattle.measure_laws.specs.Shares.{IsModest};
 ghost use Rattle.order_verifier.specs.Least.{AreRankings};
 
+use crate::completion::UpperEnds;
 use crate::counted::TopicMarks;
 use crate::kind::Kind;
 use crate::relevance::Relevance;
@@ -68,6 +69,18 @@ impl TopicEnds {
         ensures upper { IsUpperEnd self.now (T.universe relevant.now) (T.truth relevant.now) a.now b.now result }
         ensures modest { IsModest result }
     {
-        self.kind.upper_end(a, b, relevant)
+        self.upper_ends(a, b, relevant, relevant).low
+    }
+
+    /// The same in two completions: of a's score less b's in the low one, and of b's less a's in the high one.
+    pub fn upper_ends<T: Relevance>(&self, a: &Ranking, b: &Ranking, low: &T, high: &T) -> UpperEnds
+        requires low { AreRankings (T.universe low.now) a.now b.now }
+        requires high { AreRankings (T.universe high.now) b.now a.now }
+        ensures low { IsUpperEnd self.now (T.universe low.now) (T.truth low.now) a.now b.now result.low }
+        ensures high { IsUpperEnd self.now (T.universe high.now) (T.truth high.now) b.now a.now result.high }
+        ensures low_modest { IsModest result.low }
+        ensures high_modest { IsModest result.high }
+    {
+        self.kind.upper_ends(a, b, low, high)
     }
 }

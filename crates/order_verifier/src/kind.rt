@@ -1,3 +1,4 @@
+use crate::completion::UpperEnds;
 use crate::counted::TopicMarks;
 use crate::relevance::Relevance;
 use crate::{biased, precision, recall, reciprocal, rprecision};
@@ -40,18 +41,33 @@ impl Kind {
         }
     }
 
-    /// The upper end of the difference in one completion.
-    pub fn upper_end<T: Relevance>(&self, a: &Ranking, b: &Ranking, relevant: &T) -> i128
+    /// The upper ends of the differences in two completions, a's score less b's and b's less a's. Under rank-biased
+    /// precision both rankings are walked over once.
+    pub fn upper_ends<T: Relevance>(&self, a: &Ranking, b: &Ranking, low: &T, high: &T) -> UpperEnds
         requires kind { IsKind self.now }
-        requires rankings { AreRankings (T.universe relevant.now) a.now b.now }
-        ensures { IsUpperEnd (name_of self.now) (T.universe relevant.now) (T.truth relevant.now) a.now b.now result }
+        requires low { AreRankings (T.universe low.now) a.now b.now }
+        requires high { AreRankings (T.universe high.now) b.now a.now }
+        ensures low { IsUpperEnd (name_of self.now) (T.universe low.now) (T.truth low.now) a.now b.now result.low }
+        ensures high { IsUpperEnd (name_of self.now) (T.universe high.now) (T.truth high.now) b.now a.now result.high }
     {
         match self {
-            Kind::Precision(k) => precision::upper_end(*k, a, b, relevant),
-            Kind::Recall(k) => recall::upper_end(*k, a, b, relevant),
-            Kind::RPrecision => rprecision::upper_end(a, b, relevant),
-            Kind::Reciprocal => reciprocal::upper_end(a, b, relevant),
-            Kind::Biased(powers) => biased::upper_end(powers, a, b, relevant),
+            Kind::Precision(k) => UpperEnds {
+                low: precision::upper_end(*k, a, b, low),
+                high: precision::upper_end(*k, b, a, high),
+            },
+            Kind::Recall(k) => UpperEnds {
+                low: recall::upper_end(*k, a, b, low),
+                high: recall::upper_end(*k, b, a, high),
+            },
+            Kind::RPrecision => UpperEnds {
+                low: rprecision::upper_end(a, b, low),
+                high: rprecision::upper_end(b, a, high),
+            },
+            Kind::Reciprocal => UpperEnds {
+                low: reciprocal::upper_end(a, b, low),
+                high: reciprocal::upper_end(b, a, high),
+            },
+            Kind::Biased(powers) => biased::upper_ends(powers, a, b, low, high),
         }
     }
 }

@@ -5,6 +5,7 @@
 pub mod biased;
 mod bounds;
 pub mod comparison;
+pub mod completion;
 pub mod counted;
 pub mod counts;
 pub mod difference;

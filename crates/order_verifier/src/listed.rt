@@ -54,6 +54,7 @@ impl Relevance for Listed<'_> {
         }
     }
 
+    #[inline(always)]
     fn find_relevant(&self, doc: u32, near: usize) -> FoundNear {
         match self.marks.as_slice()[doc as usize] {
             Mark::Relevant => FoundNear {

@@ -1,5 +1,5 @@
 // A walk over the documents of two rankings, ascending by document.
-ghost use Rattle.std.specs.Prelude.{◌≡◌, ℕ, ◌+◌, ◌<◌, ◌≤◌, List, Some, length};
+ghost use Rattle.std.specs.Prelude.{◌≡◌, ◌↔◌, ℕ, ◌+◌, ◌<◌, ◌≤◌, IsTrue, List, Some, length};
 ghost use Rattle.desk_model.specs.Ranking.{rank};
 ghost use Rattle.measure_laws.specs.Ranks.{earlier};
 ghost use Rattle.order_verifier.specs.Walk.{AreFrom, first_of};
@@ -35,15 +35,19 @@ pub fn next_rank(places: &[Placed], doc: u32) -> Option<u32>
     }
 }
 
-/// The places of the documents after one, by those from it on.
+/// Whether the first of some places is that of a document.
+fn begins_with(places: &[Placed], doc: u32) -> bool
+    ensures { IsTrue result ↔ (first_of places.now ≡ Some doc) }
+{
+    !places.is_empty() && places[0].doc == doc
+}
+
+/// The places of the documents after one, by those from it on. No branch depends on which document comes first.
 pub fn after(places: &[Placed], doc: u32) -> &[Placed]
     ensures from { (docs : List ℕ) → AreFrom doc docs places.now → AreFrom (doc + 1) docs result.now }
     ensures shorter { length result.now ≤ length places.now }
     ensures taken { first_of places.now ≡ Some doc → length result.now < length places.now }
 {
-    if !places.is_empty() && places[0].doc == doc {
-        &places[1..]
-    } else {
-        places
-    }
+    let passed = usize::from(begins_with(places, doc));
+    &places[passed..]
 }

@@ -12,18 +12,11 @@ ghost use Rattle.order_verifier.specs.Rows.{OfRow, SuitDesk};
 ghost use Rattle.order_verifier.specs.Verified.{FailsBy};
 
 use crate::comparison::Comparison;
+use crate::completion::CompletionEnds;
 use crate::documents::Documents;
 use crate::failure::Failure;
 use crate::rows::ListRows;
 use order_certificate::{CertificatePlace, WitnessList};
-
-/// The upper end of the difference in a low completion, and the lower end in a high one: on a topic, or summed over
-/// topics.
-#[derive(Clone, Copy)]
-struct CompletionEnds {
-    low: i128,
-    high: i128,
-}
 
 /// Whether two sums, of a low and of a high completion, differ on the order: they are on two sides of 0, or one is 0.
 fn differ(low: i128, high: i128) -> bool
@@ -39,8 +32,9 @@ impl Comparison<'_> {
         requires few { length documents.now.names ≤ DOCUMENT_LIMIT }
         ensures { OfTopic (topics_in self.now) topic (λ t. MatchOption result (AreUnjudged t documents.now.names) (IsFirstOther t documents.now.names)) }
     {
+        let marks = self.topic_marks(topic);
         for document in 0..documents.len() as u32 {
-            if !self.is_unjudged(topic, documents, document) {
+            if !self.is_unjudged(topic, marks, documents, document) {
                 return Some(document);
             }
         }
@@ -94,10 +88,7 @@ impl Comparison<'_> {
         let book = self.topic_book(topic);
         let low = lists.low(topic, book);
         let high = lists.high(topic, book);
-        Ok(CompletionEnds {
-            low: self.upper_end(topic, &low),
-            high: self.lower_end(topic, &high),
-        })
+        Ok(self.completion_ends(topic, &low, &high))
     }
 
     /// Their sums over the topics, or the first document of all lists that is no unjudged one, in the order of the

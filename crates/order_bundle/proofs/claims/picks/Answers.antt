@@ -12,7 +12,7 @@ use Rattle.order_bundle.proofs.claims.picks.Goals as goal
 
 pub returns-in_err-pick : goal.returns-in_err-pick
 returns-in_err-pick c =
-    let p = err_from_is_err_and c.from_residual.result c.from_residual.ensures.1 in
+    let p = err_from_is_err_and c.from_residual-in_err-pick.result c.from_residual-in_err-pick.ensures.1 in
     let picks = c.loop-lines.picks.items in
     let docs = c.args.docs in
     let fails = subst (λ z. IsReading (pick_place docs z) c.loop-lines.lines.rest (Err c.in_err-pick.field-0.0) c.pick_line.new.lines) c.loop-lines.invariant.least c.in_err-pick.ensures in

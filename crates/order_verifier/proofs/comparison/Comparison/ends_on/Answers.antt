@@ -1,10 +1,7 @@
-use Rattle.std.proofs.Common.{◌≡◌, ap, sym, subst, ◌∙◌, to_z, of_z, arith}
-use Rattle.std.specs.Int.{w128}
+use Rattle.std.proofs.Common.{◌≡◌, ap, sym, subst, ◌∙◌}
 use Rattle.std.specs.Prelude.{Some}
-use Rattle.std.proofs.lemmas.Int.{ints}
 use Rattle.std.proofs.lemmas.List.Elements.{recursion_from_All}
 use Rattle.desk_model.specs.Name.{AreAscending}
-use Rattle.measure_laws.specs.Shares.{IsModest}
 use Rattle.small_lemmas.proofs.Lists.{all_there}
 use Rattle.order_certificate.specs.Certificate.{AreLists}
 use Rattle.order_certificate.specs.Evidence.{AreUnjudged}
@@ -24,15 +21,15 @@ low-low-requires-clause-suits g c = c.requires.suits c.args.topic c.topic_book-b
 pub high-high-requires-clause-suits : goal.high-high-requires-clause-suits
 high-high-requires-clause-suits g c = c.requires.suits c.args.topic c.topic_book-book.result.now c.topic_book-book.ensures.book
 
-pub upper_end-requires-clause-ascending : goal.upper_end-requires-clause-ascending
-upper_end-requires-clause-ascending g c =
+pub completion_ends-requires-clause-low_ascends : goal.completion_ends-requires-clause-low_ascends
+completion_ends-requires-clause-low_ascends g c =
     let ws = g.L.ListRows.witnesses c.args.lists.now in
     let row = c.low-low.ensures in
     let lists = all_there AreLists ws c.args.topic row.0 (recursion_from_All AreLists ws c.requires.lists) row.1 in
     subst AreAscending (sym (ap (λ (l : ListedOn). l.names) row.2)) lists.0.ascending.ascending
 
-pub upper_end-requires-clause-topic : goal.upper_end-requires-clause-topic
-upper_end-requires-clause-topic g c =
+pub completion_ends-requires-clause-low_topic : goal.completion_ends-requires-clause-low_topic
+completion_ends-requires-clause-low_topic g c =
     let row = c.low-low.ensures in
     let known = c.in_default.ensures in
     let of = known.2 in
@@ -40,15 +37,15 @@ upper_end-requires-clause-topic g c =
     let docs = ap (λ (l : ListedOn). l.docs) row.2 ∙ of_topic (topics_in c.args.self.now) c.args.topic of.0 of.1 c.topic_book-book.ensures.docs in
     (of.0, of.1, (docs, subst (AreUnjudged of.0) (sym names) of.2.0))
 
-pub lower_end-requires-clause-ascending : goal.lower_end-requires-clause-ascending
-lower_end-requires-clause-ascending g c =
+pub completion_ends-requires-clause-high_ascends : goal.completion_ends-requires-clause-high_ascends
+completion_ends-requires-clause-high_ascends g c =
     let ws = g.L.ListRows.witnesses c.args.lists.now in
     let row = c.high-high.ensures in
     let lists = all_there AreLists ws c.args.topic row.0 (recursion_from_All AreLists ws c.requires.lists) row.1 in
     subst AreAscending (sym (ap (λ (l : ListedOn). l.names) row.2)) lists.1.ascending.ascending
 
-pub lower_end-requires-clause-topic : goal.lower_end-requires-clause-topic
-lower_end-requires-clause-topic g c =
+pub completion_ends-requires-clause-high_topic : goal.completion_ends-requires-clause-high_topic
+completion_ends-requires-clause-high_topic g c =
     let row = c.high-high.ensures in
     let known = c.in_default.ensures in
     let of = known.2 in
@@ -67,10 +64,8 @@ returns g c =
     let other = c.high-high.ensures in
     let low_names = ap (λ (l : ListedOn). l.names) row.2 ∙ ap (λ (u : TopicWitness). u.low) (one_row (sym row.1 ∙ known.1)) in
     let high_names = ap (λ (l : ListedOn). l.names) other.2 ∙ ap (λ (u : TopicWitness). u.high) (one_row (sym other.1 ∙ known.1)) in
-    let low = subst (λ names. IsLowEnd v c.upper_end.result (record w { low = names }, t)) low_names (of_topic (topics_in v) c.args.topic t of.1 c.upper_end.ensures.upper) in
-    let high = subst (λ names. IsHighEnd v c.lower_end.result (record w { high = names }, t)) high_names (of_topic (topics_in v) c.args.topic t of.1 c.lower_end.ensures.lower) in
-    let low_read : to_z w128 (of_z w128 c.upper_end.result) ≡ c.upper_end.result = omega (arith, ints, c.upper_end.ensures.modest) in
-    let high_read : to_z w128 (of_z w128 c.lower_end.result) ≡ c.lower_end.result = omega (arith, ints, c.lower_end.ensures.modest) in (
+    let ends = c.completion_ends.result in
+    let are = c.completion_ends.ensures in (
       w,
       known.1,
       (
@@ -78,10 +73,10 @@ returns g c =
         of.1,
         record {
           unjudged = of.2;
-          low = subst (λ z. IsLowEnd v z (w, t)) (sym low_read) low;
-          high = subst (λ z. IsHighEnd v z (w, t)) (sym high_read) high;
-          low_modest = subst IsModest (sym low_read) c.upper_end.ensures.modest;
-          high_modest = subst IsModest (sym high_read) c.lower_end.ensures.modest;
+          low = subst (λ names. IsLowEnd v ends.low (record w { low = names }, t)) low_names (of_topic (topics_in v) c.args.topic t of.1 are.low);
+          high = subst (λ names. IsHighEnd v ends.high (record w { high = names }, t)) high_names (of_topic (topics_in v) c.args.topic t of.1 are.high);
+          low_modest = are.low_modest;
+          high_modest = are.high_modest;
         },
       ),
     )
