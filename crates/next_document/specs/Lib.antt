@@ -4,3 +4,5 @@ pub mod Total
 pub mod Best
 pub mod Kept
 pub mod Moved
+pub mod Marked
+pub mod Shown

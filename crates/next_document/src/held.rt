@@ -1,16 +1,14 @@
 // The verdicts that totals stand for, changed one by one.
-ghost use Rattle.std.specs.Prelude.{◌≡◌, ◌≢◌, ℕ, ◌<◌, [], length, map, slice_index_or, MatchOption};
-ghost use Rattle.desk_model.specs.Desk.{IsDesk, AreMarksOf};
-ghost use Rattle.desk_model.specs.MeasureText.{IsMeasure};
+ghost use Rattle.std.specs.Prelude.{◌≡◌, ℕ, length, map, MatchOption};
 ghost use Rattle.desk_model.specs.Pairs.{pairs_of};
-ghost use Rattle.measure_core.specs.Shifts.{IsShifted, HaveRoom, AreShifted};
-ghost use Rattle.next_document.specs.Total.{standing};
-ghost use Rattle.next_document.specs.Kept.{AreOver, AreTotalsBut};
-ghost use Rattle.next_document.specs.Moved.{pair_weights, counted, HaveCounted, AreMoved};
+ghost use Rattle.measure_core.specs.Shifts.{IsShifted};
+ghost use Rattle.next_document.specs.Total.{holding};
+ghost use Rattle.next_document.specs.Kept.{AreTotalsBut};
+ghost use Rattle.next_document.specs.Moved.{counted, HaveRoomBut, AreShiftedBut, HaveCountedBut, AreMovedBut};
 
-use crate::topic_totals::shift_pair;
+use crate::standing::{PairStanding, TopicStanding};
 use crate::total::is_unsettled;
-use desk_model::{Desk, Marks, PairPlaces, Verdict};
+use desk_model::{PairPlaces, Verdict};
 use measure_core::{Measure, Shift};
 
 /// What is done with the weights of a pair whose verdict changes: nothing where both count or neither does.
@@ -25,92 +23,61 @@ fn shift_between(before: Verdict, after: Verdict) -> Option<Shift>
     }
 }
 
-/// Adds the weights of a pair to the totals of all topics but one, or takes them back.
-fn shift_others<M: Measure>(
-    measure: &M,
-    desk: &Desk,
-    marks: &Marks,
-    pair: PairPlaces,
-    shift: Shift,
-    changed: u32,
-    totals: &mut [Vec<u128>],
-)
-    requires marks { AreMarksOf desk.now marks.now }
-    requires first { pair.first < length desk.now.runs }
-    requires second { pair.second < length desk.now.runs }
-    requires over { AreOver marks.now (map (λ each. each.items) totals.old) }
-    requires room { (topic : ℕ) → topic < length marks.now → topic ≢ changed →
-        HaveRoom shift (pair_weights (M.measured measure.now) desk.now marks.now pair topic) (slice_index_or (map (λ each. each.items) totals.old) topic []) }
-    ensures over { AreOver marks.now (map (λ each. each.items) totals.new) }
-    ensures shifted { (topic : ℕ) → topic < length marks.now → topic ≢ changed →
-        AreShifted shift (pair_weights (M.measured measure.now) desk.now marks.now pair topic) (slice_index_or (map (λ each. each.items) totals.old) topic []) (slice_index_or (map (λ each. each.items) totals.new) topic []) }
-{
-    for topic in 0..desk.topic_count() {
-        if topic != changed {
-            let totals = &mut totals[topic as usize];
-            shift_pair(measure, desk, marks, pair, topic, shift, totals);
+impl<'a, M: Measure> PairStanding<'a, M> {
+    ghost use Rattle.next_document.specs.Shown.{shown_at};
+
+    /// Adds the weights of the pair to the totals of all topics but this one, or takes them back.
+    fn shift_others(&self, shift: Shift, totals: &mut [Vec<u128>])
+        requires room { HaveRoomBut self.now.topic.number shift (shown_at M.measured self.now.topic) self.now.pair (map (λ each. each.items) totals.old) }
+        ensures { AreShiftedBut self.now.topic.number shift (shown_at M.measured self.now.topic) self.now.pair (map (λ each. each.items) totals.old) (map (λ each. each.items) totals.new) }
+    {
+        let standing = self.topic.standing;
+        for topic in 0..standing.on.desk.topic_count() {
+            if topic != self.topic.number {
+                let totals = &mut totals[topic as usize];
+                let other = PairStanding {
+                    topic: TopicStanding {
+                        standing,
+                        number: topic,
+                    },
+                    pair: self.pair,
+                };
+                other.shift_totals(shift, totals);
+            }
+        }
+    }
+
+    /// Moves the totals of all topics but this one, where the pair's verdict changes.
+    fn move_others(&self, before: Verdict, after: Verdict, totals: &mut [Vec<u128>])
+        requires counted { HaveCountedBut self.now.topic.number before (shown_at M.measured self.now.topic) self.now.pair (map (λ each. each.items) totals.old) }
+        ensures { AreMovedBut self.now.topic.number before after (shown_at M.measured self.now.topic) self.now.pair (map (λ each. each.items) totals.old) (map (λ each. each.items) totals.new) }
+    {
+        if let Some(shift) = shift_between(before, after) {
+            self.shift_others(shift, totals);
         }
     }
 }
 
-/// Moves the totals of all topics but one, where a pair's verdict changes.
-fn move_pair<M: Measure>(
-    measure: &M,
-    desk: &Desk,
-    marks: &Marks,
-    pair: PairPlaces,
-    before: Verdict,
-    after: Verdict,
-    changed: u32,
-    totals: &mut [Vec<u128>],
-)
-    requires marks { AreMarksOf desk.now marks.now }
-    requires first { pair.first < length desk.now.runs }
-    requires second { pair.second < length desk.now.runs }
-    requires over { AreOver marks.now (map (λ each. each.items) totals.old) }
-    requires counted { (topic : ℕ) → topic < length marks.now → topic ≢ changed →
-        HaveCounted before (pair_weights (M.measured measure.now) desk.now marks.now pair topic) (slice_index_or (map (λ each. each.items) totals.old) topic []) }
-    ensures over { AreOver marks.now (map (λ each. each.items) totals.new) }
-    ensures moved { (topic : ℕ) → topic < length marks.now → topic ≢ changed →
-        AreMoved before after (pair_weights (M.measured measure.now) desk.now marks.now pair topic) (slice_index_or (map (λ each. each.items) totals.old) topic []) (slice_index_or (map (λ each. each.items) totals.new) topic []) }
-{
-    if let Some(shift) = shift_between(before, after) {
-        shift_others(measure, desk, marks, pair, shift, changed, totals);
-    }
-}
+impl<'a, M: Measure> TopicStanding<'a, M> {
+    ghost use Rattle.next_document.specs.Shown.{shown_at};
 
-/// Holds other verdicts, and renews the totals of all topics but one for them.
-pub fn hold_verdicts<M: Measure>(
-    measure: &M,
-    desk: &Desk,
-    marks: &Marks,
-    verdicts: &[Verdict],
-    changed: u32,
-    held: &mut [Verdict],
-    totals: &mut [Vec<u128>],
-)
-    requires measure { IsMeasure (M.measured measure.now) }
-    requires marks { AreMarksOf desk.now marks.now }
-    requires verdicts { length verdicts.now ≡ length (pairs_of desk.now.runs) }
-    requires held { length held.old ≡ length (pairs_of desk.now.runs) }
-    requires others { AreTotalsBut changed (standing (M.measured measure.now) desk.now marks.now held.old) (map (λ each. each.items) totals.old) }
-    ensures others { AreTotalsBut changed (standing (M.measured measure.now) desk.now marks.now verdicts.now) (map (λ each. each.items) totals.new) }
-    ensures held { held.new ≡ verdicts.now }
-{
-    let runs = desk.run_count();
-    let mut pair = PairPlaces::START;
-    for (number, verdict) in verdicts.iter().enumerate() {
-        move_pair(
-            measure,
-            desk,
-            marks,
-            pair,
-            held[number],
-            *verdict,
-            changed,
-            totals,
-        );
-        held[number] = *verdict;
-        pair = pair.next(runs);
+    /// Holds other verdicts, and renews the totals of all topics but this one for them.
+    pub fn hold_verdicts(&self, held: &mut [Verdict], totals: &mut [Vec<u128>])
+        requires held { length held.old ≡ length (pairs_of self.now.standing.on.desk.now.runs) }
+        requires others { AreTotalsBut self.now.number (holding held.old (shown_at M.measured self.now)) (map (λ each. each.items) totals.old) }
+        ensures others { AreTotalsBut self.now.number (shown_at M.measured self.now) (map (λ each. each.items) totals.new) }
+        ensures held { held.new ≡ self.now.standing.verdicts.now }
+    {
+        let standing = self.standing;
+        // The name of a measure can be made.
+        let _name = standing.measure.name();
+        let runs = standing.on.desk.run_count();
+        let mut pair = PairPlaces::START;
+        for (number, verdict) in standing.verdicts.iter().enumerate() {
+            let here = PairStanding { topic: *self, pair };
+            here.move_others(held[number], *verdict, totals);
+            held[number] = *verdict;
+            pair = pair.next(runs);
+        }
     }
 }

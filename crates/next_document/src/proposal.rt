@@ -5,7 +5,7 @@ ghost use Rattle.desk_model.specs.Named.{book_at};
 ghost use Rattle.desk_model.specs.Pairs.{pairs_of};
 ghost use Rattle.next_document.specs.Proposal.{IsNext};
 
-use crate::best::best_with_topic;
+use crate::standing::{MarkedDesk, Standing, TopicStanding};
 use desk_model::{Desk, Marks, Verdict};
 use measure_core::Measure;
 
@@ -28,11 +28,11 @@ pub struct Proposal {
 /// with the smaller name. The verdicts are those of the pairs in the order of a table. It takes no memory.
 ///
 /// After Carterette, Allan and Sitaraman, SIGIR 2006; the rule is the desk's own.
-pub fn next<M: Measure>(
-    measure: &M,
-    desk: &Desk,
-    marks: &Marks,
-    verdicts: &[Verdict],
+pub fn next<'x, M: Measure>(
+    measure: &'x M,
+    desk: &'x Desk,
+    marks: &'x Marks,
+    verdicts: &'x [Verdict],
 ) -> Option<Proposal>
     requires marks { AreMarksOf desk.now marks.now }
     requires verdicts { length verdicts.now ≡ length (pairs_of desk.now.runs) }
@@ -40,10 +40,18 @@ pub fn next<M: Measure>(
     ensures topic { IfSome result (λ p. p.topic < length desk.now.topics) }
     ensures doc { IfSome result (λ p. p.doc < length (book_at desk.now p.topic).docs) }
 {
-    let _name = measure.name();
+    let standing = Standing {
+        measure,
+        on: MarkedDesk { desk, marks },
+        verdicts,
+    };
     let mut best = None;
     for topic in 0..desk.topic_count() {
-        best = best_with_topic(measure, desk, marks, verdicts, topic, best);
+        let here = TopicStanding {
+            standing,
+            number: topic,
+        };
+        best = here.best_with_topic(best);
     }
     best
 }

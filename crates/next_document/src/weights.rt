@@ -3,10 +3,9 @@ ghost use Rattle.std.specs.Prelude.{◌≡◌, ◌<◌, length, IfOk};
 ghost use Rattle.desk_model.specs.Desk.{AreMarksOf};
 ghost use Rattle.desk_model.specs.Pairs.{pairs_of};
 
-use crate::best_kept::best_with_kept_topic;
+use crate::best_kept::TopicTotals;
 use crate::proposal::Proposal;
-use crate::renewed::renew;
-use crate::topic_totals::all_totals;
+use crate::standing::{MarkedDesk, Standing, TopicStanding};
 use desk_model::{Desk, Marks, Memory, Verdict};
 use measure_core::Measure;
 use std::alloc::Global;
@@ -37,20 +36,24 @@ impl Weights {
 
     /// The totals under these marks and verdicts. The verdicts are those of the pairs in the order of a table. An error
     /// is out of memory.
-    pub fn new<M: Measure>(
+    pub fn new<'x, M: Measure>(
         alloc: Global,
-        measure: &M,
-        desk: &Desk,
-        marks: &Marks,
-        verdicts: &[Verdict],
+        measure: &'x M,
+        desk: &'x Desk,
+        marks: &'x Marks,
+        verdicts: &'x [Verdict],
     ) -> Result<Weights, Memory>
         requires marks { AreMarksOf desk.now marks.now }
         requires verdicts { length verdicts.now ≡ length (pairs_of desk.now.runs) }
         ensures totals { IfOk result (AreKeptFor (M.measured measure.now) desk.now marks.now) }
         ensures held { IfOk result (λ weights. weights.verdicts ≡ verdicts.now) }
     {
-        let _name = measure.name();
-        let totals = all_totals(alloc, measure, desk, marks, verdicts)?;
+        let standing = Standing {
+            measure,
+            on: MarkedDesk { desk, marks },
+            verdicts,
+        };
+        let totals = standing.all_totals(alloc)?;
         let verdicts = verdicts.to_vec(alloc)?;
         Ok(Weights { totals, verdicts })
     }
@@ -60,12 +63,12 @@ impl Weights {
     /// Before it, the totals of every other topic are those under these marks and the verdicts held, and those of the
     /// changed topic may be any. After it, all totals are those under these marks and these verdicts, of which any may
     /// differ from the ones held before. It takes no memory.
-    pub fn change<M: Measure>(
+    pub fn change<'x, M: Measure>(
         &mut self,
-        measure: &M,
-        desk: &Desk,
-        marks: &Marks,
-        verdicts: &[Verdict],
+        measure: &'x M,
+        desk: &'x Desk,
+        marks: &'x Marks,
+        verdicts: &'x [Verdict],
         topic: u32,
     )
         requires marks { AreMarksOf desk.now marks.now }
@@ -76,16 +79,16 @@ impl Weights {
         ensures totals { AreKeptFor (M.measured measure.now) desk.now marks.now self.new }
         ensures held { self.new.verdicts ≡ verdicts.now }
     {
-        let _name = measure.name();
-        renew(
+        let standing = Standing {
             measure,
-            desk,
-            marks,
+            on: MarkedDesk { desk, marks },
             verdicts,
-            topic,
-            &mut self.verdicts,
-            &mut self.totals,
-        );
+        };
+        let changed = TopicStanding {
+            standing,
+            number: topic,
+        };
+        changed.renew(&mut self.verdicts, &mut self.totals);
     }
 
     /// The document to judge next, by the kept totals: equal to what `next` answers of the same measure, desk, marks and
@@ -96,8 +99,12 @@ impl Weights {
     {
         let mut best = None;
         for topic in 0..self.totals.len() as u32 {
-            let totals = &self.totals[topic as usize];
-            best = best_with_kept_topic(marks.topic(topic), totals, topic, best);
+            let here = TopicTotals {
+                marks: marks.topic(topic),
+                totals: &self.totals[topic as usize],
+                number: topic,
+            };
+            best = here.best_with(best);
         }
         best
     }
