@@ -1,10 +1,9 @@
 -- A number whose digits are read one after another.
-use Rattle.std.proofs.Common.{◌≡◌, ℕ, suc, ◌+◌, ◌-◌, ◌*◌, ◌/◌, ◌%◌, ◌<◌, ◌≤◌, List, [], ◌∷◌, ◌++◌, length, get_or, take, drop, true, ap, sym, ◌∙◌, arith}
+use Rattle.std.proofs.Common.{◌≡◌, ℕ, suc, ◌+◌, ◌-◌, ◌*◌, ◌/◌, ◌%◌, ◌<◌, ◌≤◌, List, [], ◌∷◌, ◌++◌, length, get_or, take, true, ap, sym, ◌∙◌, arith}
 use Rattle.std.specs.Prelude.{decimal}
 use Rattle.std.specs.Char.{is_ascii_digit}
 use Rattle.std.proofs.lemmas.Fmt.{decimal_digit, decimal_step}
-use Rattle.std.proofs.lemmas.List.{take-append-drop}
-use Rattle.std.proofs.Math.Seq.{drop-cons, take-suc}
+use Rattle.std.proofs.Math.Seq.{take-suc}
 
 -- a byte that is a digit
 pub digit_bound : (b : ℕ) → is_ascii_digit b ≡ true → (48 ≤ b) × (b ≤ 57)
@@ -22,12 +21,6 @@ digits_more text k n b within is from to there small said =
     let next : suc k ≡ k + 1 = omega arith in
     let byte : b ≡ 48 + (b - 48) = omega arith in
     ap (λ z. take z text) (sym next) ∙ take-suc text k 0 within ∙ (λ i. said i ++ ((is ∙ byte) i ∷ [])) ∙ sym (one_digit_more n (b - 48) there small (omega arith))
-
--- a text that begins with a number and a byte
-pub ended_digits : (text : List ℕ) (k n b : ℕ) → k < length text → get_or text k 0 ≡ b → take k text ≡ decimal n → text ≡ decimal n ++ b ∷ drop (k + 1) text
-ended_digits text k n b within is said =
-    let next : suc k ≡ k + 1 = omega arith in
-    sym (take-append-drop k text) ∙ (λ i. said i ++ (drop-cons text k 0 within ∙ (λ j. is j ∷ drop (next j) text)) i)
 
 -- one digit says itself
 pub first_digit : (text : List ℕ) (b : ℕ) → 0 < length text → get_or text 0 0 ≡ b → 48 ≤ b → b ≤ 57 → take 1 text ≡ decimal (b - 48)

@@ -151,7 +151,7 @@ pub fn number_below_of(line: &[u8], word: &[u8], least: u64, end: u64) -> Result
 /// The number that a text begins with and a line feed ends, and the text after that; none also for 0 and for numbers
 /// of more than nine digits.
 #[inline(always)]
-pub fn ended_number(text: &[u8]) -> Option<(u32, &[u8])>
+pub(crate) fn ended_number(text: &[u8]) -> Option<(u32, &[u8])>
     ensures { IfSome result (λ p. text.now ≡ decimal p.0 ++ 10 ∷ p.1.now) }
 {
     if text.is_empty() || text[0] == b'0' || !text[0].is_ascii_digit() {

@@ -67,7 +67,7 @@ pub fn number_line(
     }
 }
 
-/// Takes a word and a number from `least` on, below `end`, a line of any other form too.
+/// Takes a word and a number from `least` on, below `end`, as any line is taken: up to its end first.
 #[inline(never)]
 fn any_number_line(
     lines: &mut TextLines<'_>,
@@ -96,7 +96,8 @@ fn simple_number<'a>(text: &'a [u8], word: &[u8]) -> Option<(u32, &'a [u8])>
     }
 }
 
-/// Takes a word and a number from `least` on, below `end`.
+/// Takes a word and a number from `least` on, below `end`. A simple line is read digit by digit, and its end is found
+/// on the way.
 #[inline(always)]
 pub fn number_below_line(
     lines: &mut TextLines<'_>,
