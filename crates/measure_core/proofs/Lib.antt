@@ -19,3 +19,4 @@ pub mod Pushing
 pub mod Ascending
 pub mod Placed
 pub mod InStep
+pub mod Tallying
