@@ -20,3 +20,4 @@ pub mod Ascending
 pub mod Placed
 pub mod InStep
 pub mod Tallying
+pub mod Splitting

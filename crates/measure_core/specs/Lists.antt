@@ -1,5 +1,5 @@
 -- Lists of the documents that a completion adds to the judged relevant ones.
-use Rattle.std.specs.Prelude.{◌≡◌, ℕ, ◌+◌, ◌<◌, ◌^◌, nat_eq, Bool, ◌&&◌, ◌||◌, List, ◌++◌, length, filter, map, take, slice_index, Option, Some}
+use Rattle.std.specs.Prelude.{◌≡◌, ℕ, ◌+◌, ◌<◌, ◌^◌, nat_eq, Bool, ◌&&◌, ◌||◌, List, ◌++◌, length, filter, map, take, slice_index, Option}
 use Rattle.std.specs.List.{count_by, range_with_len}
 use Rattle.desk_model.specs.Mark.{is_unjudged, mark_at}
 use Rattle.desk_model.specs.Ranking.{rank}

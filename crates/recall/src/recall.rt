@@ -8,17 +8,17 @@ ghost use Rattle.measure_laws.specs.Cases.{picked_where, recall_pick};
 ghost use Rattle.measure_laws.specs.Classes.{open_in, size_of};
 ghost use Rattle.measure_laws.specs.Prefixes.{only_second};
 ghost use Rattle.measure_core.specs.Laws.{AreMet, AreValues};
-ghost use Rattle.measure_core.specs.Lists.{added_documents, least_documents, own_documents, AreCounted, HaveRoomFor};
+ghost use Rattle.measure_core.specs.Lists.{added_documents, case_documents, least_documents, own_documents, AreCounted, HaveRoomFor};
 ghost use Rattle.recall.specs.Led.{led_documents};
 ghost use Rattle.measure_core.specs.Made.{IsMadeFor};
 ghost use Rattle.measure_core.specs.Numbers.{exact_least};
 ghost use Rattle.recall.specs.LeastCase.{AreCounts, least_relevant};
 
 use desk_model::{Mark, MeasureName, Memory, Ranking};
-use marked_lists::push_own_marked;
+use marked_lists::{count_own_marked, push_own_marked};
 use measure_core::{
     Cell, CellRoom, KeptCell, ListSizes, LOOKED_UP, Measure, More, OwnMeasure, Picks, Shift, Steps,
-    TopicRankings, case_values, count_neutral, count_own, own_cells, push_own_and_more, shift_one_side,
+    TopicRankings, case_values, count_neutral, own_cells, push_own_and_more, shift_one_side,
 };
 use std::alloc::Global;
 use std::marker::Model;
@@ -186,24 +186,25 @@ fn count_led(k: u32, own: u32, a: &Ranking, b: &Ranking, marks: &[Mark], counts:
 /// Counts the unjudged documents that the least cases of two runs and of the swapped runs make relevant, and answers how
 /// many these are.
 fn count_cases(
+    alloc: Global,
     k: u32,
     a: &Ranking,
     b: &Ranking,
     marks: &[Mark],
     counts: &mut [u32],
-) -> ListSizes
+) -> Result<ListSizes, Memory>
     requires met { AreMet marks.now a.now b.now }
     requires size { length counts.old ≡ length marks.now }
-    requires room { HaveRoomFor counts.old (least_documents (R k) marks.now a.now b.now ++ least_documents (R k) marks.now b.now a.now) }
-    ensures least { result.least ≡ length (least_documents (R k) marks.now a.now b.now) }
-    ensures most { result.most ≡ length (least_documents (R k) marks.now b.now a.now) }
-    ensures counts { AreCounted counts.old (least_documents (R k) marks.now a.now b.now ++ least_documents (R k) marks.now b.now a.now) counts.new }
+    requires room { HaveRoomFor counts.old (case_documents (R k) marks.now a.now b.now) }
+    ensures least { IfOk result (λ sizes. sizes.least ≡ length (least_documents (R k) marks.now a.now b.now)) }
+    ensures most { IfOk result (λ sizes. sizes.most ≡ length (least_documents (R k) marks.now b.now a.now)) }
+    ensures counts { OnOk result (AreCounted counts.old (case_documents (R k) marks.now a.now b.now) counts.new) }
 {
-    let own = count_own(k, k, ListSizes::all(marks), a, b, marks, counts);
-    ListSizes {
+    let own = count_own_marked(alloc, k, k, ListSizes::all(marks), a, b, marks, counts)?;
+    Ok(ListSizes {
         least: own.least + count_led(k, own.least, a, b, marks, counts),
         most: own.most + count_led(k, own.most, b, a, marks, counts),
-    }
+    })
 }
 
 impl Measure for Recall {
@@ -293,7 +294,7 @@ impl Measure for Recall {
         if self.k <= LOOKED_UP {
             return self.count_pushed(alloc, a, b, marks, docs, counts);
         }
-        Ok(count_cases(self.k, a, b, marks, counts))
+        count_cases(alloc, self.k, a, b, marks, counts)
     }
 
     fn weight(&self, a: &Ranking, b: &Ranking, _marks: &[Mark], doc: u32) -> u128 {

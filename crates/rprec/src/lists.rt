@@ -1,5 +1,5 @@
 // Lists of the unjudged documents that the greedy choice makes relevant, and counts of these documents.
-ghost use Rattle.std.specs.Prelude.{◌≡◌, ◌≤◌, ◌++◌, length, OnOk};
+ghost use Rattle.std.specs.Prelude.{◌≡◌, ◌≤◌, ◌++◌, length, IfOk, OnOk};
 ghost use Rattle.measure_laws.specs.RprecCase.{greedy_truth};
 ghost use Rattle.measure_core.specs.Laws.{AreMet};
 ghost use Rattle.measure_core.specs.Lists.{added_documents, AreCounted, HaveRoomFor};
@@ -8,7 +8,7 @@ ghost use Rattle.rprec.specs.Picks.{others};
 
 use crate::values::wanted_for;
 use desk_model::{Mark, Memory, Ranking};
-use marked_lists::push_own_marked;
+use marked_lists::{count_own_marked, push_own_marked};
 use measure_core::{ListSizes, More, count_neutral, count_own, push_own_and_more};
 use std::alloc::Global;
 use topic_counts::counts::Counts;
@@ -74,23 +74,27 @@ fn count_others(
 
 /// Counts the unjudged documents that the greedy choices of two runs and of the swapped runs make relevant, where the
 /// topic is to have so many relevant ones, and answers how many they are.
+///
+/// # Errors
+/// `Memory`: out of memory. It is then not known what is counted.
 pub fn count_chosen(
+    alloc: Global,
     relevant: ListSizes,
     a: &Ranking,
     b: &Ranking,
     all: Counts,
     marks: &[Mark],
     counts: &mut [u32],
-) -> ListSizes
+) -> Result<ListSizes, Memory>
     requires met { AreMet marks.now a.now b.now }
     requires topic { AreTopic marks.now all }
     requires least { all.relevant ≤ relevant.least }
     requires most { all.relevant ≤ relevant.most }
     requires size { length counts.old ≡ length marks.now }
     requires room { HaveRoomFor counts.old (added_documents marks.now (greedy_truth marks.now a.now b.now relevant.least) ++ added_documents marks.now (greedy_truth marks.now b.now a.now relevant.most)) }
-    ensures least { result.least ≡ length (added_documents marks.now (greedy_truth marks.now a.now b.now relevant.least)) }
-    ensures most { result.most ≡ length (added_documents marks.now (greedy_truth marks.now b.now a.now relevant.most)) }
-    ensures counts { AreCounted counts.old (added_documents marks.now (greedy_truth marks.now a.now b.now relevant.least) ++ added_documents marks.now (greedy_truth marks.now b.now a.now relevant.most)) counts.new }
+    ensures least { IfOk result (λ sizes. sizes.least ≡ length (added_documents marks.now (greedy_truth marks.now a.now b.now relevant.least))) }
+    ensures most { IfOk result (λ sizes. sizes.most ≡ length (added_documents marks.now (greedy_truth marks.now b.now a.now relevant.most))) }
+    ensures counts { OnOk result (AreCounted counts.old (added_documents marks.now (greedy_truth marks.now a.now b.now relevant.least) ++ added_documents marks.now (greedy_truth marks.now b.now a.now relevant.most)) counts.new) }
 {
     let low = relevant.least;
     let high = relevant.most;
@@ -98,11 +102,11 @@ pub fn count_chosen(
         least: relevant.least - all.relevant,
         most: relevant.most - all.relevant,
     };
-    let own = count_own(low, high, wanted, a, b, marks, counts);
+    let own = count_own_marked(alloc, low, high, wanted, a, b, marks, counts)?;
     let least = count_others(low, wanted.least - own.least, a, b, marks, counts);
     let most = count_others(high, wanted.most - own.most, b, a, marks, counts);
-    ListSizes {
+    Ok(ListSizes {
         least: own.least + least,
         most: own.most + most,
-    }
+    })
 }

@@ -160,13 +160,19 @@ fn extremes_of(a: &Ranking, b: &Ranking, all: Counts, marks: &[Mark]) -> Extreme
 
 /// Counts the unjudged documents that the least cases of two runs and of the swapped runs make relevant, and answers how
 /// many these are.
-fn count_cases(a: &Ranking, b: &Ranking, marks: &[Mark], counts: &mut [u32]) -> ListSizes
+fn count_cases(
+    alloc: Global,
+    a: &Ranking,
+    b: &Ranking,
+    marks: &[Mark],
+    counts: &mut [u32],
+) -> Result<ListSizes, Memory>
     requires met { AreMet marks.now a.now b.now }
     requires size { length counts.old ≡ length marks.now }
     requires room { HaveRoomFor counts.old (added_documents marks.now (rprec_truth marks.now a.now b.now) ++ added_documents marks.now (rprec_truth marks.now b.now a.now)) }
-    ensures least { result.least ≡ length (added_documents marks.now (rprec_truth marks.now a.now b.now)) }
-    ensures most { result.most ≡ length (added_documents marks.now (rprec_truth marks.now b.now a.now)) }
-    ensures counts { AreCounted counts.old (added_documents marks.now (rprec_truth marks.now a.now b.now) ++ added_documents marks.now (rprec_truth marks.now b.now a.now)) counts.new }
+    ensures least { IfOk result (λ sizes. sizes.least ≡ length (added_documents marks.now (rprec_truth marks.now a.now b.now))) }
+    ensures most { IfOk result (λ sizes. sizes.most ≡ length (added_documents marks.now (rprec_truth marks.now b.now a.now))) }
+    ensures counts { OnOk result (AreCounted counts.old (added_documents marks.now (rprec_truth marks.now a.now b.now) ++ added_documents marks.now (rprec_truth marks.now b.now a.now)) counts.new) }
 {
     let all = topic(marks);
     let extremes = extremes_of(a, b, all, marks);
@@ -174,7 +180,7 @@ fn count_cases(a: &Ranking, b: &Ranking, marks: &[Mark], counts: &mut [u32]) -> 
         least: extremes.least.count,
         most: extremes.most.count,
     };
-    count_chosen(relevant, a, b, all, marks, counts)
+    count_chosen(alloc, relevant, a, b, all, marks, counts)
 }
 
 impl RankedMeasure for Rprec {
@@ -287,14 +293,14 @@ impl Measure for Rprec {
 
     fn count_lists(
         &self,
-        _alloc: Global,
+        alloc: Global,
         a: &Ranking,
         b: &Ranking,
         marks: &[Mark],
         _docs: &mut Vec<u32>,
         counts: &mut [u32],
     ) -> Result<ListSizes, Memory> {
-        Ok(count_cases(a, b, marks, counts))
+        count_cases(alloc, a, b, marks, counts)
     }
 
     fn weight(&self, a: &Ranking, b: &Ranking, marks: &[Mark], doc: u32) -> u128 {

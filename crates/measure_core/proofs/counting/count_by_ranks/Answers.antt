@@ -1,6 +1,6 @@
-use Rattle.std.proofs.Common.{◌≡◌, ℕ, ◌+◌, ◌-◌, ◌<◌, ◌≤◌, ◌++◌, length, take, List, ap, ap₂, sym, subst, ◌∙◌, arith}
-use Rattle.measure_core.specs.Lists.{first_by_ranks, AreCounted, HaveRoomFor}
-use Rattle.measure_core.proofs.Placed.{listed_from, ranked_listed}
+use Rattle.std.proofs.Common.{ℕ, ◌++◌, length, take, List, ap, ap₂, sym, subst, arith}
+use Rattle.measure_core.specs.Lists.{AreCounted, HaveRoomFor}
+use Rattle.measure_core.proofs.Placed.{ranked_listed}
 use Rattle.measure_core.proofs.Walking.{left_whole}
 use Rattle.measure_core.proofs.counting.count_by_ranks.Goals as goal
 

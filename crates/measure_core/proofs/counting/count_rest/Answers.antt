@@ -1,9 +1,8 @@
-use Rattle.std.proofs.Common.{◌≡◌, ℕ, ◌+◌, ◌-◌, ◌<◌, ◌≤◌, Bool, cond, drop, length, slice_index_or, take, Option, None, Some, ap, sym, ◌∙◌, arith}
+use Rattle.std.proofs.Common.{◌≡◌, ℕ, ◌-◌, ◌<◌, Bool, cond, length, slice_index_or, Option, None, Some, ap, ◌∙◌, arith}
 use Rattle.std.specs.Prelude.{◌&&◌, nat_lt}
-use Rattle.std.proofs.lemmas.List.{drop_all, length-set}
+use Rattle.std.proofs.lemmas.List.{length-set}
 use Rattle.desk_model.specs.Mark.{is_unjudged, mark_at}
 use Rattle.desk_model.specs.declared.placed.Placed.{Placed}
-use Rattle.measure_core.specs.Lists.{placed_documents}
 use Rattle.measure_core.specs.Worths.{rank_or_none}
 use Rattle.measure_core.proofs.Tallying.{few_left, known_rank, left_one, length_step, one_counted, placed_taken}
 use Rattle.measure_core.proofs.Walking.{rank_is_within, doc_within}

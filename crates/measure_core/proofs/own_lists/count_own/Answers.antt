@@ -1,4 +1,4 @@
-use Rattle.std.proofs.Common.{◌≡◌, ◌++◌, length, take, List, ℕ, ap, ap₂, sym, subst, ◌∙◌, arith}
+use Rattle.std.proofs.Common.{◌++◌, length, take, List, ℕ, ap, ap₂, sym, subst, ◌∙◌}
 use Rattle.measure_core.specs.Lists.{AreCounted, HaveRoomFor}
 use Rattle.measure_core.proofs.Tallying.{own_by_ranks}
 use Rattle.measure_core.proofs.own_lists.count_own.Goals as goal

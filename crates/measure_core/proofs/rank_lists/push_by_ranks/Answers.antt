@@ -1,4 +1,4 @@
-use Rattle.std.proofs.Common.{◌≡◌, ℕ, Bool, Some, ◌++◌, length, ap, sym, ◌∙◌}
+use Rattle.std.proofs.Common.{◌≡◌, Bool, Some, ◌++◌, length, ap, sym, ◌∙◌}
 use Rattle.std.proofs.lemmas.Result.{IfOk-weaker}
 use Rattle.desk_model.specs.Completion.{with_picked}
 use Rattle.desk_model.specs.Placed.{lookup}
