@@ -1,6 +1,6 @@
 use crate::any::AnyMeasure;
 use desk_model::{Mark, MeasureName, Memory, Ranking};
-use measure_core::{Cell, CellRoom, KeptCell, Measure, Shift, Steps, TopicRankings};
+use measure_core::{Cell, CellRoom, KeptCell, ListSizes, Measure, Shift, Steps, TopicRankings};
 use std::alloc::Global;
 use std::sync::ledger::Ledger;
 use topic_counts::Span;
@@ -107,6 +107,24 @@ impl Measure for AnyMeasure {
             AnyMeasure::RPrecision(m) => m.push_least_docs(alloc, a, b, marks, docs),
             AnyMeasure::Reciprocal(m) => m.push_least_docs(alloc, a, b, marks, docs),
             AnyMeasure::Biased(m) => m.push_least_docs(alloc, a, b, marks, docs),
+        }
+    }
+
+    fn count_lists(
+        &self,
+        alloc: Global,
+        a: &Ranking,
+        b: &Ranking,
+        marks: &[Mark],
+        docs: &mut Vec<u32>,
+        counts: &mut [u32],
+    ) -> Result<ListSizes, Memory> {
+        match self {
+            AnyMeasure::Precision(m) => m.count_lists(alloc, a, b, marks, docs, counts),
+            AnyMeasure::Recall(m) => m.count_lists(alloc, a, b, marks, docs, counts),
+            AnyMeasure::RPrecision(m) => m.count_lists(alloc, a, b, marks, docs, counts),
+            AnyMeasure::Reciprocal(m) => m.count_lists(alloc, a, b, marks, docs, counts),
+            AnyMeasure::Biased(m) => m.count_lists(alloc, a, b, marks, docs, counts),
         }
     }
 

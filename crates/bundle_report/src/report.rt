@@ -8,14 +8,11 @@ ghost use Rattle.bundle_report.specs.Bundled.{IsBundledAs};
 
 use desk_model::{Desk, Marks, Memory};
 use measure_core::Measure;
-use order_bundle::{BundleFault, any_certificates_have_texts, write_bundle};
+use order_bundle::{BundleFault, LONGEST_TEXT, any_certificates_have_texts, write_bundle};
 use pair_table::Table;
 use std::alloc::Global;
 use table_bundle::laws::bundles_are_of_names;
 use table_bundle::{bundle_of, table_bundle_length};
-
-// The most bytes of a text, as `write_bundle` has it.
-const LONGEST_TEXT: u64 = 1_073_741_824;
 
 /// What is printed of all pairs of runs to show their orders.
 #[derive(Drop)]

@@ -1,14 +1,13 @@
 -- A walk over all documents of a topic, in step with the places of two rankings, that lists some more than the own documents of one.
 use Rattle.std.proofs.Common.{◌≡◌, ◌⊎◌, inl, inr, ℕ, zero, suc, ◌+◌, ◌-◌, ◌<◌, ◌≤◌, Bool, true, false, not, nat_eq, nat_lt, ◌&&◌, ◌||◌, List, [], ◌∷◌, drop, length, take, count_by, slice_index_or, Option, Some, None, refl, ap, sym, subst, ◌∙◌, arith}
 use Rattle.std.specs.Prelude.{if◌then◌else◌}
-use Rattle.std.specs.List.{AllByRecursion, range_with_len}
+use Rattle.std.specs.List.{range_with_len}
 use Rattle.std.proofs.Math.Bool.{and-false}
 use Rattle.std.proofs.Math.Seq.{drop-cons, drop-nil}
 use Rattle.std.proofs.lemmas.Bool.Decides.{nat_tests}
 use Rattle.std.proofs.lemmas.List.{drop_all}
 use Rattle.small_lemmas.proofs.Tests.{apart_below, neither}
 use Rattle.desk_model.specs.Completion.{with_picked}
-use Rattle.desk_model.specs.Limits.{RANK_LIMIT}
 use Rattle.desk_model.specs.Mark.{is_unjudged, mark_at}
 use Rattle.desk_model.specs.Placed.{lookup, IsAscending}
 use Rattle.desk_model.specs.Ranking.{is_in, rank}
@@ -18,7 +17,6 @@ use Rattle.desk_model.specs.declared.types.Mark.TheVariants.{Unjudged, Relevant,
 use Rattle.desk_model.proofs.Counts.{one_if, nat_eq-true}
 use Rattle.measure_laws.specs.Classes.{is_among_first, open_in, size_of}
 use Rattle.measure_laws.specs.Prefixes.{only_second, neutral}
-use Rattle.measure_laws.specs.Ranks.{IsRankWithin}
 use Rattle.measure_laws.proofs.RprecEnds.{count_more}
 use Rattle.topic_counts.proofs.Merge.{absent_below, further}
 use Rattle.topic_counts.proofs.Places.{IsAscending-drop, one_at_most}

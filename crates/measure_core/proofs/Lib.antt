@@ -19,3 +19,5 @@ pub mod Pushing
 pub mod Ascending
 pub mod Placed
 pub mod InStep
+pub mod Tallying
+pub mod Splitting

@@ -4,20 +4,21 @@ use Rattle.std.specs.Prelude.{filter, if◌then◌else◌}
 use Rattle.std.specs.List.{AllByRecursion, range_with_len}
 use Rattle.std.proofs.Math.Bool.{and-false}
 use Rattle.std.proofs.Math.Seq.{drop-cons}
-use Rattle.std.proofs.lemmas.Bool.{eq-eqb}
 use Rattle.std.proofs.lemmas.Bool.Decides.{nat_tests}
 use Rattle.std.proofs.lemmas.List.{drop_all}
-use Rattle.small_lemmas.proofs.Tests.{apart_below, apart_over}
+use Rattle.small_lemmas.proofs.Tests.{apart_below}
+use Rattle.desk_model.specs.Completion.{with_picked}
 use Rattle.desk_model.specs.Mark.{is_unjudged, mark_at}
 use Rattle.desk_model.specs.Placed.{lookup, IsAscending}
+use Rattle.desk_model.specs.Ranking.{rank}
 use Rattle.desk_model.specs.declared.placed.Placed.{Placed}
 use Rattle.desk_model.specs.declared.types.Mark.{Mark}
 use Rattle.desk_model.proofs.Counts.{one_if, nat_eq-true}
 use Rattle.topic_counts.proofs.Merge.{absent_below, further}
 use Rattle.topic_counts.proofs.Places.{IsAscending-drop, stepped}
-use Rattle.measure_core.specs.Lists.{placed_documents}
-use Rattle.measure_core.specs.Places.{rank_unless_after}
-use Rattle.measure_core.proofs.Pushing.{cond_pushed}
+use Rattle.measure_core.specs.Lists.{added_documents, passes_by_ranks, placed_documents}
+use Rattle.measure_core.specs.Places.{rank_unless_after, IsLeft}
+use Rattle.measure_core.proofs.Pushing.{cond_pushed, open_picked}
 
 pub weaker_places : (P Q : Placed → Type 0) → ((p : Placed) → P p → Q p) → (ps : List Placed) → AllByRecursion P ps → AllByRecursion Q ps
 weaker_places P Q f [] h = tt
@@ -88,6 +89,17 @@ module _ (marks : List Mark) where
             let fails : whole low ≡ false = same low (omega arith) (omega arith) ∙ ap (λ (r : Option ℕ). is_unjudged (mark_at marks low) && test (look low) r) gone ∙ ap (λ b. is_unjudged (mark_at marks low) && b) (absent (look low)) ∙ and-false (is_unjudged (mark_at marks low)) in
             ap (λ b. cond b (low ∷ rest) rest) fails ∙ after lt
 
+-- the unjudged documents whose ranks pass are those of the places of the second ranking that do
+pub ranked_listed : (marks : List Mark) (test : Option ℕ → Option ℕ → Bool) (absent : (x : Option ℕ) → test x None ≡ false) (a b : List ℕ) (es fs : List Placed) → ((d : ℕ) → lookup es d ≡ rank a d) → ((d : ℕ) → lookup fs d ≡ rank b d) → IsLeft (length marks) fs →
+    added_documents marks (with_picked marks (passes_by_ranks test a b)) ≡ placed_documents marks (λ (p : Placed). test (lookup es p.doc) (Some p.rank)) fs
+ranked_listed marks test absent a b es fs ea eb right =
+    let n = length marks in
+    let truth = with_picked marks (passes_by_ranks test a b) in
+    let same : (d : ℕ) → (is_unjudged (mark_at marks d) && truth d) ≡ (is_unjudged (mark_at marks d) && test (lookup es d) (lookup fs d)) =
+    λ d. open_picked (test (rank a d) (rank b d)) (mark_at marks d) ∙ sym (ap (λ (r : Option ℕ). is_unjudged (mark_at marks d) && test r (lookup fs d)) (ea d) ∙ ap (λ (r : Option ℕ). is_unjudged (mark_at marks d) && test (rank a d) r) (eb d)) in
+    placed_are marks (lookup es) test absent (λ d. is_unjudged (mark_at marks d) && truth d) n 0 fs right.ascending
+    (weaker_places (λ p. p.doc < n) (λ p. 0 ≤ p.doc) (λ p h. omega arith) fs right.within) (weaker_places (λ p. p.doc < n) (λ p. p.doc < 0 + n) (λ p h. omega (arith, h)) fs right.within) (λ d from to. same d)
+
 -- ---- the walk over two lists
 -- what is left of the first list has the ranks of the documents that are left of the second
 abbrev pub AreRanked : List Placed → List Placed → List Placed → Type 0
@@ -109,7 +121,7 @@ step_past whole x y xs ys true false e f up h =
 step_past whole x y xs ys false true e f up h = h.1
 step_past whole x y xs ys false false e f up h = h
 
-ranked_step : (es fs : List Placed) (i j p q : ℕ) (o : Placed) → i < length es → j < length fs → IsAscending fs → AreRanked es (drop i es) (drop j fs) →
+pub ranked_step : (es fs : List Placed) (i j p q : ℕ) (o : Placed) → i < length es → j < length fs → IsAscending fs → AreRanked es (drop i es) (drop j fs) →
     let x = slice_index_or es i o in let y = slice_index_or fs j o in p ≡ i + one_if (nat_le x.doc y.doc) → q ≡ j + one_if (nat_le y.doc x.doc) → AreRanked es (drop p es) (drop q fs)
 ranked_step es fs i j p q o in_first in_second up h e f =
     let x = slice_index_or es i o in
@@ -134,22 +146,19 @@ head_ranked x y xs false e f up =
     let order : y.doc < x.doc = grind (arith, nat_tests) in
     absent_below y.doc (x ∷ xs) (order, further y.doc x.doc xs (omega (arith, order)) up.0) ∙ sym (ap (λ (b : Bool). if b then Some x.rank else None) e)
 
-module _ (marks : List Mark) (test : Option ℕ → Option ℕ → Bool) (es fs : List Placed) (before : List ℕ) where
+module _ (marks : List Mark) (test : Option ℕ → Option ℕ → Bool) (es fs : List Placed) where
   abbrev pub listed_by : Placed → Bool
   listed_by p = test (lookup es p.doc) (Some p.rank)
 
-  -- what is pushed, and what is left of the places, are what is to be pushed of all
-  pub record AreWalked (i j : ℕ) (now : List ℕ) : Type 0 where
-    pub made : now ++ placed_documents marks listed_by (drop j fs) ≡ before ++ placed_documents marks listed_by fs
-    pub ranked : AreRanked es (drop i es) (drop j fs)
+  -- the documents that are left to be listed from a place on
+  abbrev pub listed_from : ℕ → List ℕ
+  listed_from j = placed_documents marks listed_by (drop j fs)
 
-  pub walk_start : AreWalked 0 0 before
-  walk_start = record { made = refl; ranked = ranked_whole es fs }
-
-  pub walk_next : (i j p q : ℕ) (o : Placed) (now next : List ℕ) (b : Bool) → i < length es → j < length fs → IsAscending es → IsAscending fs → AreWalked i j now → let x = slice_index_or es i o in let y = slice_index_or fs j o in
-      p ≡ i + one_if (nat_le x.doc y.doc) → q ≡ j + one_if (nat_le y.doc x.doc) → b ≡ (nat_le y.doc x.doc && (is_unjudged (mark_at marks y.doc) && test (rank_unless_after x y) (Some y.rank))) →
-      next ≡ cond b (now ++ y.doc ∷ []) now → AreWalked p q next
-  walk_next i j p q o now next b in_first in_second up also_up h e f listed pushed = record { made = at (nat_le y.doc x.doc) refl; ranked = ranked_step es fs i j p q o in_first in_second also_up h.ranked e f }
+  -- one is listed, or none
+  pub rest_step : (i j q : ℕ) (o : Placed) (b : Bool) → i < length es → j < length fs → IsAscending es → AreRanked es (drop i es) (drop j fs) → let x = slice_index_or es i o in let y = slice_index_or fs j o in
+      q ≡ j + one_if (nat_le y.doc x.doc) → b ≡ (nat_le y.doc x.doc && (is_unjudged (mark_at marks y.doc) && test (rank_unless_after x y) (Some y.rank))) →
+      listed_from j ≡ cond b (y.doc ∷ listed_from q) (listed_from q)
+  rest_step i j q o b in_first in_second up ranked f listed = at (nat_le y.doc x.doc) refl
     where
       x : Placed
       x = slice_index_or es i o
@@ -160,31 +169,52 @@ module _ (marks : List Mark) (test : Option ℕ → Option ℕ → Bool) (es fs 
       u : Bool
       u = is_unjudged (mark_at marks y.doc)
 
-      at : (c : Bool) → nat_le y.doc x.doc ≡ c → next ++ placed_documents marks listed_by (drop q fs) ≡ before ++ placed_documents marks listed_by fs
+      at : (c : Bool) → nat_le y.doc x.doc ≡ c → listed_from j ≡ cond b (y.doc ∷ listed_from q) (listed_from q)
       at true t =
           let first = drop-cons es i o in_first in
           let second = drop-cons fs j o in_second in
           let rises : IsAscending (x ∷ drop (suc i) es) = subst IsAscending first (IsAscending-drop i es up) in
-          let here : AreRanked es (drop i es) (y ∷ drop (suc j) fs) = subst (AreRanked es (drop i es)) second h.ranked in
+          let here : AreRanked es (drop i es) (y ∷ drop (suc j) fs) = subst (AreRanked es (drop i es)) second ranked in
           let known : lookup es y.doc ≡ rank_unless_after x y = sym here.0 ∙ ap (λ zs. lookup zs y.doc) first ∙ head_ranked x y (drop (suc i) es) (nat_le x.doc y.doc) refl t rises in
           let tested : (u && listed_by y) ≡ b = ap (λ (r : Option ℕ). u && test r (Some y.rank)) known ∙ sym (listed ∙ ap (λ c. c && (u && test (rank_unless_after x y) (Some y.rank))) t) in
           let next_place : q ≡ j + 1 = f ∙ ap (λ c. j + one_if c) t in
-          ap (λ m. next ++ placed_documents marks listed_by (drop m fs)) next_place
-          ∙ cond_pushed now (placed_documents marks listed_by (drop j fs)) (placed_documents marks listed_by (drop (j + 1) fs)) (before ++ placed_documents marks listed_by fs) next y.doc b (placed_step marks listed_by fs j o b in_second tested) pushed h.made
+          placed_step marks listed_by fs j o b in_second tested ∙ sym (ap (λ m. cond b (y.doc ∷ listed_from m) (listed_from m)) next_place)
       at false t =
           let none : b ≡ false = listed ∙ ap (λ c. c && (u && test (rank_unless_after x y) (Some y.rank))) t in
-          let same : next ≡ now = pushed ∙ ap (λ c. cond c (now ++ y.doc ∷ []) now) none in
           let place : q ≡ j = let nothing : j + 0 ≡ j = omega arith in f ∙ ap (λ c. j + one_if c) t ∙ nothing in
-          ap (λ l. l ++ placed_documents marks listed_by (drop q fs)) same ∙ ap (λ m. now ++ placed_documents marks listed_by (drop m fs)) place ∙ h.made
+          sym (ap listed_from place) ∙ sym (ap (λ c. cond c (y.doc ∷ listed_from q) (listed_from q)) none)
 
   no_ranks : (ps : List Placed) → AreRanked es [] ps → AllByRecursion (λ (p : Placed). test None (Some p.rank) ≡ listed_by p) ps
   no_ranks [] h = tt
   no_ranks (p ∷ ps) h = (ap (λ (r : Option ℕ). test r (Some p.rank)) h.0, no_ranks ps h.1)
 
-  pub walk_end : (i j : ℕ) (now : List ℕ) → (length es ≤ i) ⊎ (length fs ≤ j) → AreWalked i j now → now ++ placed_documents marks (λ (p : Placed). test None (Some p.rank)) (drop j fs) ≡ before ++ placed_documents marks listed_by fs
-  walk_end i j now (inl end) h =
-      let left : AreRanked es [] (drop j fs) = subst (λ zs. AreRanked es zs (drop j fs)) (drop_all i es end) h.ranked in
-      ap (λ l. now ++ l) (placed_same marks (λ (p : Placed). test None (Some p.rank)) listed_by (drop j fs) (no_ranks (drop j fs) left)) ∙ h.made
-  walk_end i j now (inr end) h =
+  -- one of the two lists is at its end
+  pub rest_end : (i j : ℕ) → (length es ≤ i) ⊎ (length fs ≤ j) → AreRanked es (drop i es) (drop j fs) → placed_documents marks (λ (p : Placed). test None (Some p.rank)) (drop j fs) ≡ listed_from j
+  rest_end i j (inl end) ranked =
+      let left : AreRanked es [] (drop j fs) = subst (λ zs. AreRanked es zs (drop j fs)) (drop_all i es end) ranked in
+      placed_same marks (λ (p : Placed). test None (Some p.rank)) listed_by (drop j fs) (no_ranks (drop j fs) left)
+  rest_end i j (inr end) ranked =
       let none = drop_all j fs end in
-      ap (λ ps. now ++ placed_documents marks (λ (p : Placed). test None (Some p.rank)) ps) none ∙ sym (ap (λ ps. now ++ placed_documents marks listed_by ps) none) ∙ h.made
+      ap (placed_documents marks (λ (p : Placed). test None (Some p.rank))) none ∙ sym (ap (placed_documents marks listed_by) none)
+
+  module _ (before : List ℕ) where
+    -- what is pushed, and what is left of the places, are what is to be pushed of all
+    pub record AreWalked (i j : ℕ) (now : List ℕ) : Type 0 where
+      pub made : now ++ listed_from j ≡ before ++ placed_documents marks listed_by fs
+      pub ranked : AreRanked es (drop i es) (drop j fs)
+
+    pub walk_start : AreWalked 0 0 before
+    walk_start = record { made = refl; ranked = ranked_whole es fs }
+
+    pub walk_next : (i j p q : ℕ) (o : Placed) (now next : List ℕ) (b : Bool) → i < length es → j < length fs → IsAscending es → IsAscending fs → AreWalked i j now → let x = slice_index_or es i o in let y = slice_index_or fs j o in
+        p ≡ i + one_if (nat_le x.doc y.doc) → q ≡ j + one_if (nat_le y.doc x.doc) → b ≡ (nat_le y.doc x.doc && (is_unjudged (mark_at marks y.doc) && test (rank_unless_after x y) (Some y.rank))) →
+        next ≡ cond b (now ++ y.doc ∷ []) now → AreWalked p q next
+    walk_next i j p q o now next b in_first in_second up also_up h e f listed pushed =
+        let y = slice_index_or fs j o in
+        record {
+          made = cond_pushed now (listed_from j) (listed_from q) (before ++ placed_documents marks listed_by fs) next y.doc b (rest_step i j q o b in_first in_second up h.ranked f listed) pushed h.made;
+          ranked = ranked_step es fs i j p q o in_first in_second also_up h.ranked e f;
+        }
+
+    pub walk_end : (i j : ℕ) (now : List ℕ) → (length es ≤ i) ⊎ (length fs ≤ j) → AreWalked i j now → now ++ placed_documents marks (λ (p : Placed). test None (Some p.rank)) (drop j fs) ≡ before ++ placed_documents marks listed_by fs
+    walk_end i j now ended h = ap (λ l. now ++ l) (rest_end i j ended h.ranked) ∙ h.made

@@ -9,11 +9,12 @@ ghost use Rattle.measure_laws.specs.Weights.{weight_of};
 ghost use Rattle.measure_core.specs.declared.cell.Cell.{Cell as C};
 ghost use Rattle.topic_counts.specs.declared.span.Span.{Span as S};
 ghost use Rattle.measure_core.specs.Laws.{AreMet, IsMet, AreValues, CellIsModest, MeetsLaws};
-ghost use Rattle.measure_core.specs.Lists.{added_documents};
+ghost use Rattle.measure_core.specs.Lists.{added_documents, case_documents, least_documents, AreCounted, HaveRoomFor};
 ghost use Rattle.measure_core.specs.Pairs.{AreAllMet, pair_cells, run_numbers, runs_on};
 ghost use Rattle.measure_core.specs.Shifts.{HaveRoom, AreShifted};
 
 use crate::cell::Cell;
+use crate::counting::{ListSizes, count_list};
 use crate::kept::KeptCell;
 use crate::lists::push_added;
 use crate::rankings::TopicRankings;
@@ -109,6 +110,68 @@ pub trait Measure: Drop {
     {
         let truth = self.least_case(alloc, a, b, marks)?;
         push_added(marks, &truth, docs)
+    }
+
+    /// Counts once more each document that `push_least_docs` lists of a and b, and each one that it lists of b and a,
+    /// and answers how many these are, by these lists, made one after the other in `docs`. Counts go by the number of the
+    /// document. What `docs` holds before and after is anything.
+    ///
+    /// # Errors
+    /// `Memory`: out of memory. It is then not known what is counted.
+    fn count_pushed(
+        &self,
+        alloc: Global,
+        a: &Ranking,
+        b: &Ranking,
+        marks: &[Mark],
+        docs: &mut Vec<u32>,
+        counts: &mut [u32],
+    ) -> Result<ListSizes, Memory>
+        requires met { AreMet marks.now a.now b.now }
+        requires size { length counts.old ≡ length marks.now }
+        requires room { HaveRoomFor counts.old (case_documents (measured self.now) marks.now a.now b.now) }
+        ensures least { IfOk result (λ sizes. sizes.least ≡ length (least_documents (measured self.now) marks.now a.now b.now)) }
+        ensures most { IfOk result (λ sizes. sizes.most ≡ length (least_documents (measured self.now) marks.now b.now a.now)) }
+        ensures counts { OnOk result (AreCounted counts.old (case_documents (measured self.now) marks.now a.now b.now) counts.new) }
+    {
+        docs.clear();
+        self.push_least_docs(alloc, a, b, marks, docs)?;
+        count_list(counts, docs);
+        let least = docs.len() as u32;
+        docs.clear();
+        self.push_least_docs(alloc, b, a, marks, docs)?;
+        count_list(counts, docs);
+        Ok(ListSizes {
+            least,
+            most: docs.len() as u32,
+        })
+    }
+
+    /// Counts once more each document that `push_least_docs` lists of a and b, and each one that it lists of b and a,
+    /// and answers how many these are. Counts go by the number of the document. What `docs` holds before and after is
+    /// anything.
+    ///
+    /// This body makes both lists; a measure may have a faster one.
+    ///
+    /// # Errors
+    /// `Memory`: out of memory. It is then not known what is counted.
+    fn count_lists(
+        &self,
+        alloc: Global,
+        a: &Ranking,
+        b: &Ranking,
+        marks: &[Mark],
+        docs: &mut Vec<u32>,
+        counts: &mut [u32],
+    ) -> Result<ListSizes, Memory>
+        requires met { AreMet marks.now a.now b.now }
+        requires size { length counts.old ≡ length marks.now }
+        requires room { HaveRoomFor counts.old (case_documents (measured self.now) marks.now a.now b.now) }
+        ensures least { IfOk result (λ sizes. sizes.least ≡ length (least_documents (measured self.now) marks.now a.now b.now)) }
+        ensures most { IfOk result (λ sizes. sizes.most ≡ length (least_documents (measured self.now) marks.now b.now a.now)) }
+        ensures counts { OnOk result (AreCounted counts.old (case_documents (measured self.now) marks.now a.now b.now) counts.new) }
+    {
+        self.count_pushed(alloc, a, b, marks, docs, counts)
     }
 
     /// How much a document tells of the difference of a and b.

@@ -62,7 +62,7 @@ impl More {
 
 /// The rank of a document that no place from one on comes before, and 0 where it has none there.
 #[inline]
-fn rank_from(places: &[Placed], at: usize, doc: u32) -> u32
+pub(crate) fn rank_from(places: &[Placed], at: usize, doc: u32) -> u32
     requires ascending { IsAscending places.now }
     requires ranks { AllByRecursion (λ (place : P). IsRankWithin RANK_LIMIT (Some place.rank)) places.now }
     requires from { BeginsAt doc (drop at places.now) }
@@ -77,7 +77,7 @@ fn rank_from(places: &[Placed], at: usize, doc: u32) -> u32
 
 /// Whether a rank is at most k; 0 stands for that of an absent document.
 #[inline]
-fn is_by(k: u32, rank: u32) -> bool
+pub(crate) fn is_by(k: u32, rank: u32) -> bool
     ensures { result ≡ is_by k (rank_or_none rank) }
 {
     (rank > 0) & (rank <= k)
@@ -85,7 +85,7 @@ fn is_by(k: u32, rank: u32) -> bool
 
 /// How many places a walk goes on after a document: one where it has a rank.
 #[inline]
-fn gone_on(rank: u32) -> usize
+pub(crate) fn gone_on(rank: u32) -> usize
     ensures { result ≡ (if nat_lt 0 rank then 1 else 0) }
 {
     usize::from(rank > 0)

@@ -1,4 +1,4 @@
-// Lists of the unjudged documents that one of two rankings alone has among its first k.
+// Lists of the unjudged documents that one of two rankings alone has among its first k, and counts of these documents.
 ghost use Rattle.std.specs.Prelude.{◌≡◌, ◌≤◌, ◌++◌, ◌&&◌, not, length, take, drop, filter, OnOk, IsPermutation};
 ghost use Rattle.std.specs.List.Sorted.{IsSorted};
 ghost use Rattle.std.specs.Ordering.{nat_cmp};
@@ -7,14 +7,15 @@ ghost use Rattle.desk_model.specs.Mark.{is_unjudged, mark_at};
 ghost use Rattle.desk_model.specs.Ranking.{is_in};
 ghost use Rattle.measure_laws.specs.Prefixes.{only_second};
 ghost use Rattle.measure_core.specs.Laws.{AreMet};
-ghost use Rattle.measure_core.specs.Lists.{added_documents};
+ghost use Rattle.measure_core.specs.Lists.{added_documents, own_documents, AreCounted, HaveRoomFor};
 
+use crate::counting::{ListSizes, count_by_ranks};
 use crate::rank_lists::{RankTest, push_by_ranks};
 use desk_model::{Mark, Memory, Ranking};
 use topic_counts::counts::{is_among_first, prefix};
 
 /// Up to which k it is faster to look each document up in the other ranking and to sort than to walk over both.
-const LOOKED_UP: u32 = 128;
+pub const LOOKED_UP: u32 = 128;
 
 /// The documents that the second ranking alone has at one of its first k ranks.
 #[derive(Clone, Copy)]
@@ -93,4 +94,28 @@ pub fn push_own(
     push_found(k, a, b, marks, docs)?;
     sort_rest(docs, start);
     Ok(())
+}
+
+/// Counts the first unjudged documents that b alone has among the first `low` of both, and those that a alone has among
+/// the first `high`, so many of each at most, by one walk over both. It answers how many of each these are, and takes no
+/// memory.
+pub fn count_own(
+    low: u32,
+    high: u32,
+    most: ListSizes,
+    a: &Ranking,
+    b: &Ranking,
+    marks: &[Mark],
+    counts: &mut [u32],
+) -> ListSizes
+    requires met { AreMet marks.now a.now b.now }
+    requires size { length counts.old ≡ length marks.now }
+    requires room { HaveRoomFor counts.old (take most.least (own_documents low marks.now a.now b.now) ++ take most.most (own_documents high marks.now b.now a.now)) }
+    ensures least { result.least ≡ length (take most.least (own_documents low marks.now a.now b.now)) }
+    ensures most { result.most ≡ length (take most.most (own_documents high marks.now b.now a.now)) }
+    ensures counts { AreCounted counts.old (take most.least (own_documents low marks.now a.now b.now) ++ take most.most (own_documents high marks.now b.now a.now)) counts.new }
+{
+    let low = SecondAlone { k: low };
+    let high = SecondAlone { k: high };
+    count_by_ranks(&low, &high, most, a, b, marks, counts)
 }

@@ -7,7 +7,7 @@ ghost use Rattle.measure_core.specs.Laws.{AreMet};
 use any_measure::{AnyMeasure, Common};
 use desk_model::{Mark, MeasureName, Memory, Ranking};
 use every_completion::is_ranking;
-use measure_core::{Cell, Maker, Measure, Steps};
+use measure_core::{Cell, ListSizes, Maker, Measure, Steps};
 use std::alloc::Global;
 use std::marker::Brand;
 use std::process::Abort;
@@ -15,8 +15,8 @@ use std::sync::ledger::{Blank, Ledger};
 use std::test::Fail;
 use topic_counts::Span;
 
-/// The cell and both cases of two runs, the documents of the least one, the bounds of the first, and the weight of a
-/// document.
+/// The cell and both cases of two runs, the documents of the least one, how often both cases list each document and how
+/// many they list, the bounds of the first, and the weight of a document.
 #[derive(Drop)]
 pub struct Answers {
     pub unit: i128,
@@ -26,6 +26,8 @@ pub struct Answers {
     pub least_case: Vec<bool>,
     pub most_case: Vec<bool>,
     pub least_docs: Vec<u32>,
+    pub counts: Vec<u32>,
+    pub sizes: ListSizes,
 }
 
 pub fn ranking(rt: &impl Abort, alloc: Global, docs: &[u32], universe: u32) -> Result<Ranking, Fail>
@@ -67,6 +69,9 @@ fn answers_of(
 {
     let mut least_docs = Vec::new(alloc);
     measure.push_least_docs(alloc, first, second, marks, &mut least_docs)?;
+    let mut docs = Vec::new(alloc);
+    let mut counts = vec![in alloc; 0; marks.len()]?;
+    let sizes = measure.count_lists(alloc, first, second, marks, &mut docs, &mut counts)?;
     Ok(Answers {
         unit: measure.unit(),
         cell: cell_once::<Brand>(measure, first, second, marks, Blank::new(1)),
@@ -75,6 +80,8 @@ fn answers_of(
         least_case: measure.least_case(alloc, first, second, marks)?,
         most_case: measure.most_case(alloc, first, second, marks)?,
         least_docs,
+        counts,
+        sizes,
     })
 }
 

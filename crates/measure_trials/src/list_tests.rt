@@ -20,6 +20,22 @@ fn added(rt: &impl Abort, alloc: Global, case: &[bool], marks: &[Mark]) -> Resul
     Ok(docs)
 }
 
+/// How often two lists have each of some documents.
+fn times(
+    rt: &impl Abort,
+    alloc: Global,
+    lists: (&[u32], &[u32]),
+    universe: usize,
+) -> Result<Vec<u32>, Fail> {
+    assert!(rt; universe <= 100);
+    let mut counts = Vec::new(alloc);
+    for doc in 0..universe as u32 {
+        let in_both = u32::from(lists.0.contains(&doc)) + u32::from(lists.1.contains(&doc));
+        counts.push(in_both)?;
+    }
+    Ok(counts)
+}
+
 fn compare_lists(rt: &impl Abort, alloc: Global, name: MeasureName) -> Result<(), Fail>
     requires { IsMeasure name }
 {
@@ -33,6 +49,12 @@ fn compare_lists(rt: &impl Abort, alloc: Global, name: MeasureName) -> Result<()
                     answers.least_docs.as_slice() == expected.as_slice(),
                     "{runs:?}"
                 );
+                let others = added(rt, alloc, &answers.most_case, marks)?;
+                let lists = (expected.as_slice(), others.as_slice());
+                let counts = times(rt, alloc, lists, marks.len())?;
+                assert!(rt; answers.counts.as_slice() == counts.as_slice(), "{runs:?}");
+                assert!(rt; answers.sizes.least as usize == expected.len(), "{runs:?}");
+                assert!(rt; answers.sizes.most as usize == others.len(), "{runs:?}");
             }
         }
     }

@@ -25,4 +25,4 @@ pub use laws::{
 pub use length::bundle_length;
 pub use places::{ClaimHead, UnorderedPair};
 pub use reading::read_any;
-pub use writing::{BundleFault, write_bundle};
+pub use writing::{BundleFault, LONGEST_TEXT, write_bundle};

@@ -15,7 +15,8 @@ use order_certificate::writing::{
 };
 use std::alloc::{AllocError, Global};
 
-const LONGEST_TEXT: u64 = 1_073_741_824;
+/// The most bytes of the text of a bundle.
+pub const LONGEST_TEXT: u64 = 1_073_741_824;
 
 /// Why a bundle was not written.
 #[derive(Clone, Copy, PartialEq, Eq, Debug)]

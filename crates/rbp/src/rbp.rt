@@ -17,8 +17,8 @@ use crate::lists::SecondBefore;
 use crate::weights::{RankWeights, high_weights, low_weights};
 use desk_model::{Mark, MeasureName, Memory, Ranking};
 use measure_core::{
-    Cell, CellRoom, KeptCell, KeptWeights, Measure, Picks, Shift, Steps, TopicRankings,
-    case_values, push_by_ranks, ranked_cells, shift_by_ranks,
+    Cell, CellRoom, KeptCell, KeptWeights, ListSizes, Measure, Picks, Shift, Steps, TopicRankings,
+    case_values, count_by_ranks, push_by_ranks, ranked_cells, shift_by_ranks,
 };
 use std::alloc::Global;
 use std::marker::Model;
@@ -274,6 +274,20 @@ impl Measure for Rbp {
         docs: &mut Vec<u32>,
     ) -> Result<(), Memory> {
         push_by_ranks(&SecondBefore, a, b, marks, docs)
+    }
+
+    fn count_lists(
+        &self,
+        _alloc: Global,
+        a: &Ranking,
+        b: &Ranking,
+        marks: &[Mark],
+        _docs: &mut Vec<u32>,
+        counts: &mut [u32],
+    ) -> Result<ListSizes, Memory> {
+        let before = SecondBefore;
+        let all = ListSizes::all(marks);
+        Ok(count_by_ranks(&before, &before, all, a, b, marks, counts))
     }
 
     fn weight(&self, a: &Ranking, b: &Ranking, _marks: &[Mark], doc: u32) -> u128 {

@@ -1,2 +1,3 @@
 pub mod LeastCase
 pub mod Laws
+pub mod Led

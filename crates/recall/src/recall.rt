@@ -8,16 +8,17 @@ ghost use Rattle.measure_laws.specs.Cases.{picked_where, recall_pick};
 ghost use Rattle.measure_laws.specs.Classes.{open_in, size_of};
 ghost use Rattle.measure_laws.specs.Prefixes.{only_second};
 ghost use Rattle.measure_core.specs.Laws.{AreMet, AreValues};
-ghost use Rattle.measure_core.specs.Lists.{added_documents};
+ghost use Rattle.measure_core.specs.Lists.{added_documents, case_documents, least_documents, own_documents, AreCounted, HaveRoomFor};
+ghost use Rattle.recall.specs.Led.{led_documents};
 ghost use Rattle.measure_core.specs.Made.{IsMadeFor};
 ghost use Rattle.measure_core.specs.Numbers.{exact_least};
 ghost use Rattle.recall.specs.LeastCase.{AreCounts, least_relevant};
 
 use desk_model::{Mark, MeasureName, Memory, Ranking};
-use marked_lists::push_own_marked;
+use marked_lists::{count_own_marked, push_own_marked};
 use measure_core::{
-    Cell, CellRoom, KeptCell, Measure, More, OwnMeasure, Picks, Shift, Steps, TopicRankings,
-    case_values, own_cells, push_own_and_more, shift_one_side,
+    Cell, CellRoom, KeptCell, ListSizes, LOOKED_UP, Measure, More, OwnMeasure, Picks, Shift, Steps,
+    TopicRankings, case_values, count_neutral, own_cells, push_own_and_more, shift_one_side,
 };
 use std::alloc::Global;
 use std::marker::Model;
@@ -165,6 +166,47 @@ fn push_least(
     Ok(())
 }
 
+/// Counts the unjudged documents that the least case makes relevant beside the second run's own ones, `own` in number:
+/// those that both or neither have among their first k, where the first run leads. It answers how many they are.
+fn count_led(k: u32, own: u32, a: &Ranking, b: &Ranking, marks: &[Mark], counts: &mut [u32]) -> u32
+    requires met { AreMet marks.now a.now b.now }
+    requires own { own ≡ length (own_documents k marks.now a.now b.now) }
+    requires size { length counts.old ≡ length marks.now }
+    requires room { HaveRoomFor counts.old (led_documents k marks.now a.now b.now) }
+    ensures count { result ≡ length (led_documents k marks.now a.now b.now) }
+    ensures counts { AreCounted counts.old (led_documents k marks.now a.now b.now) counts.new }
+{
+    if leads(k, own as usize, a, b, marks) {
+        count_neutral(k, marks.len() as u32, a, b, marks, counts)
+    } else {
+        0
+    }
+}
+
+/// Counts the unjudged documents that the least cases of two runs and of the swapped runs make relevant, and answers how
+/// many these are.
+fn count_cases(
+    alloc: Global,
+    k: u32,
+    a: &Ranking,
+    b: &Ranking,
+    marks: &[Mark],
+    counts: &mut [u32],
+) -> Result<ListSizes, Memory>
+    requires met { AreMet marks.now a.now b.now }
+    requires size { length counts.old ≡ length marks.now }
+    requires room { HaveRoomFor counts.old (case_documents (R k) marks.now a.now b.now) }
+    ensures least { IfOk result (λ sizes. sizes.least ≡ length (least_documents (R k) marks.now a.now b.now)) }
+    ensures most { IfOk result (λ sizes. sizes.most ≡ length (least_documents (R k) marks.now b.now a.now)) }
+    ensures counts { OnOk result (AreCounted counts.old (case_documents (R k) marks.now a.now b.now) counts.new) }
+{
+    let own = count_own_marked(alloc, k, k, ListSizes::all(marks), a, b, marks, counts)?;
+    Ok(ListSizes {
+        least: own.least + count_led(k, own.least, a, b, marks, counts),
+        most: own.most + count_led(k, own.most, b, a, marks, counts),
+    })
+}
+
 impl Measure for Recall {
     ghost use Rattle.desk_model.specs.declared.types.MeasureName.TheVariants.{Recall as R};
     ghost use Rattle.measure_core.specs.Numbers.{exact_cell, exact_bounds};
@@ -238,6 +280,21 @@ impl Measure for Recall {
         docs: &mut Vec<u32>,
     ) -> Result<(), Memory> {
         push_least(alloc, self.k, a, b, marks, docs)
+    }
+
+    fn count_lists(
+        &self,
+        alloc: Global,
+        a: &Ranking,
+        b: &Ranking,
+        marks: &[Mark],
+        docs: &mut Vec<u32>,
+        counts: &mut [u32],
+    ) -> Result<ListSizes, Memory> {
+        if self.k <= LOOKED_UP {
+            return self.count_pushed(alloc, a, b, marks, docs, counts);
+        }
+        count_cases(alloc, self.k, a, b, marks, counts)
     }
 
     fn weight(&self, a: &Ranking, b: &Ranking, _marks: &[Mark], doc: u32) -> u128 {

@@ -13,3 +13,4 @@ pub mod Counts
 pub mod Pairs
 pub mod Bounds
 pub mod Taken
+pub mod Shares

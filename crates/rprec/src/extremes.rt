@@ -138,6 +138,7 @@ pub fn find_extremes(
     ensures least_small { IsSmallCandidate result.least }
     ensures most_small { IsSmallCandidate result.most }
     ensures low { all.relevant ≤ result.least.count }
+    ensures most_low { all.relevant ≤ result.most.count }
 {
     let longest = longest(a, b);
     let both = sums_of_shared(shared, longest);

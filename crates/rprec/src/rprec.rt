@@ -4,23 +4,23 @@ ghost use Rattle.desk_model.specs.declared.types.Mark.{Mark as M};
 ghost use Rattle.desk_model.specs.declared.types.MeasureName.TheVariants.{RPrecision as R};
 ghost use Rattle.measure_laws.specs.RprecCase.{rprec_count, rprec_truth};
 ghost use Rattle.measure_core.specs.Laws.{AreMet, AreValues};
-ghost use Rattle.measure_core.specs.Lists.{added_documents};
+ghost use Rattle.measure_core.specs.Lists.{added_documents, AreCounted, HaveRoomFor};
 ghost use Rattle.measure_core.specs.Made.{IsMadeFor};
 ghost use Rattle.measure_core.specs.Numbers.{exact_least, exact_cell};
 ghost use Rattle.rprec.specs.Greedy.{AreTopic, IsLeast, IsSmallCandidate};
 ghost use Rattle.rprec.specs.Shared.{AreShared};
 ghost use Rattle.rprec.specs.Sums.{AreBlockSums};
 
-use crate::extremes::{find_extremes, find_least};
+use crate::extremes::{Extremes, find_extremes, find_least};
 use crate::greedy::DepthCandidate;
-use crate::lists::push_chosen;
+use crate::lists::{count_chosen, push_chosen};
 use crate::shared::Shared;
 use crate::sums::sums_of_run;
 use crate::values::{values, wanted_for};
 use desk_model::{Mark, MeasureName, Memory, Ranking};
 use measure_core::{
-    Cell, CellRoom, FirstRun, KeptCell, KeptPair, Measure, RankedMeasure, RunSums, RunWeights,
-    Shift, Steps, TopicRankings, ranked_cells, shift_one_side,
+    Cell, CellRoom, FirstRun, KeptCell, KeptPair, ListSizes, Measure, RankedMeasure, RunSums,
+    RunWeights, Shift, Steps, TopicRankings, ranked_cells, shift_one_side,
 };
 use std::alloc::Global;
 use std::sync::ledger::Ledger;
@@ -142,6 +142,47 @@ fn push_least(
     push_chosen(alloc, count, a, b, all, marks, docs)
 }
 
+/// The least candidates of two runs and of the swapped runs.
+fn extremes_of(a: &Ranking, b: &Ranking, all: Counts, marks: &[Mark]) -> Extremes
+    requires met { AreMet marks.now a.now b.now }
+    requires topic { AreTopic marks.now all }
+    requires few { all.relevant + all.unjudged ≤ DOCUMENT_LIMIT }
+    ensures least { result.least.count ≡ rprec_count marks.now a.now b.now }
+    ensures most { result.most.count ≡ rprec_count marks.now b.now a.now }
+    ensures least_low { all.relevant ≤ result.least.count }
+    ensures most_low { all.relevant ≤ result.most.count }
+{
+    let shared = Shared::between(a, b, marks);
+    let first = sums_of_run(a.docs(), marks);
+    let second = sums_of_run(b.docs(), marks);
+    find_extremes(a.docs(), b.docs(), &first, &second, &shared, all, marks)
+}
+
+/// Counts the unjudged documents that the least cases of two runs and of the swapped runs make relevant, and answers how
+/// many these are.
+fn count_cases(
+    alloc: Global,
+    a: &Ranking,
+    b: &Ranking,
+    marks: &[Mark],
+    counts: &mut [u32],
+) -> Result<ListSizes, Memory>
+    requires met { AreMet marks.now a.now b.now }
+    requires size { length counts.old ≡ length marks.now }
+    requires room { HaveRoomFor counts.old (added_documents marks.now (rprec_truth marks.now a.now b.now) ++ added_documents marks.now (rprec_truth marks.now b.now a.now)) }
+    ensures least { IfOk result (λ sizes. sizes.least ≡ length (added_documents marks.now (rprec_truth marks.now a.now b.now))) }
+    ensures most { IfOk result (λ sizes. sizes.most ≡ length (added_documents marks.now (rprec_truth marks.now b.now a.now))) }
+    ensures counts { OnOk result (AreCounted counts.old (added_documents marks.now (rprec_truth marks.now a.now b.now) ++ added_documents marks.now (rprec_truth marks.now b.now a.now)) counts.new) }
+{
+    let all = topic(marks);
+    let extremes = extremes_of(a, b, all, marks);
+    let relevant = ListSizes {
+        least: extremes.least.count,
+        most: extremes.most.count,
+    };
+    count_chosen(alloc, relevant, a, b, all, marks, counts)
+}
+
 impl RankedMeasure for Rprec {
     ghost use Rattle.desk_model.specs.declared.types.MeasureName.TheVariants.{RPrecision as R};
     ghost use Rattle.measure_core.specs.Numbers.{exact_cell};
@@ -248,6 +289,18 @@ impl Measure for Rprec {
         docs: &mut Vec<u32>,
     ) -> Result<(), Memory> {
         push_least(alloc, a, b, marks, docs)
+    }
+
+    fn count_lists(
+        &self,
+        alloc: Global,
+        a: &Ranking,
+        b: &Ranking,
+        marks: &[Mark],
+        _docs: &mut Vec<u32>,
+        counts: &mut [u32],
+    ) -> Result<ListSizes, Memory> {
+        count_cases(alloc, a, b, marks, counts)
     }
 
     fn weight(&self, a: &Ranking, b: &Ranking, marks: &[Mark], doc: u32) -> u128 {

@@ -14,10 +14,11 @@ use Rattle.desk_model.specs.Ranking.{is_in}
 use Rattle.desk_model.specs.declared.types.Mark.{Mark}
 use Rattle.desk_model.specs.declared.types.MeasureName.{MeasureName}
 use Rattle.measure_laws.specs.Cases.{least_truth}
-use Rattle.measure_core.specs.Lists.{added_documents}
+use Rattle.measure_core.specs.Lists.{added_documents, times}
+use Rattle.measure_core.proofs.Tallying.{added_below, times-append, times-cons}
 use Rattle.order_bundle.specs.declared.bundle.Picks.{Picks}
 use Rattle.table_bundle.specs.Drafts.{case_picks, has_picked, picks_on}
-use Rattle.table_bundle.specs.Lengths.{all_picks, both_lists, heads_length, is_on, lists_on, times}
+use Rattle.table_bundle.specs.Lengths.{all_picks, both_lists, heads_length, is_on, lists_on}
 use Rattle.table_bundle.specs.declared.pairs.NamedPair.{NamedPair}
 
 -- ---- sums
@@ -58,13 +59,7 @@ at_one f x a (suc n) from to = go (nat_eq x a) refl (λ apart. at_one f x (a + 1
         let here : cond (nat_eq x a) 1 0 * f a ≡ 0 = ap (λ (b : Bool). cond b 1 0 * f a) is ∙ omega arith in
         omega (arith, step, here, rest apart)
 
--- ---- how often a document stands in lists
-pub times-cons : (x : ℕ) (docs : List ℕ) (d : ℕ) → times (x ∷ docs) d ≡ cond (nat_eq x d) 1 0 + times docs d
-times-cons x docs d = sum_by-cons (λ each. cond (nat_eq each d) 1 0) x docs
-
-pub times-append : (xs ys : List ℕ) (d : ℕ) → times (xs ++ ys) d ≡ times xs d + times ys d
-times-append xs ys d = sum_by-append (λ each. cond (nat_eq each d) 1 0) xs ys
-
+-- ---- sums over lists, and over all documents
 -- the exchange: a sum over lists is a sum over all documents, each as often as the lists have it
 pub exchanged : (f : ℕ → ℕ) (n : ℕ) (docs : List ℕ) → AllByRecursion (λ d. d < n) docs → sum_by (λ d. times docs d * f d) (range_with_len 0 n) ≡ sum_by f docs
 exchanged f n [] h = sum_by-none (λ d. times [] d * f d) (range_with_len 0 n) (λ d. omega arith)
@@ -101,36 +96,8 @@ on_some_times (p ∷ lists) d =
     ∙ ap (λ b. b || nat_lt 0 (times (all_picks lists) d)) (sym (list_any-append (λ each. nat_eq each d) p.low p.high) ∙ in_some_times (both_lists p) d)
     ∙ sym (some_of_both (times (both_lists p) d) (times (all_picks lists) d)) ∙ sym (ap (nat_lt 0) (times-append (both_lists p) (all_picks lists) d))
 
--- ---- counting a list
 abbrev one_if : Bool → ℕ
 one_if b = cond b 1 0
-
-pub counted_more : (counts list : List ℕ) (i d : ℕ) → i < length list → get_or list i 0 < length counts → d < length counts →
-    get_or (set counts (get_or list i 0) (get_or counts (get_or list i 0) 0 + 1)) d 0 + times (drop (i + 1) list) d ≡ get_or counts d 0 + times (drop i list) d
-counted_more counts list i d lt within in_d = go (nat_eq doc d) refl
-  where
-    doc : ℕ
-    doc = get_or list i 0
-
-    next : times (drop i list) d ≡ cond (nat_eq doc d) 1 0 + times (drop (i + 1) list) d
-    next = sum_by-drop_more (λ each. cond (nat_eq each d) 1 0) list i 0 lt
-
-    go : (b : Bool) → nat_eq doc d ≡ b → get_or (set counts doc (get_or counts doc 0 + 1)) d 0 + times (drop (i + 1) list) d ≡ get_or counts d 0 + times (drop i list) d
-    go true is =
-        let same : d ≡ doc = grind (arith, nat_tests) in
-        let one : one_if (nat_eq doc d) ≡ 1 = ap one_if is in
-        omega (arith, next, one, get_or-set_at counts doc d (get_or counts doc 0 + 1) 0 same within, ap (λ k. get_or counts k 0) same)
-    go false is =
-        let apart : d ≢ doc = grind (arith, nat_tests) in
-        let none : one_if (nat_eq doc d) ≡ 0 = ap one_if is in
-        omega (arith, next, none, get_or-set_other counts doc d (get_or counts doc 0 + 1) 0 apart)
-
-pub next_counts : (list : List ℕ) (i : ℕ) → i < length list → 1 ≤ times (drop i list) (get_or list i 0)
-next_counts list i lt =
-    let doc = get_or list i 0 in
-    let itself : nat_eq doc doc ≡ true = grind (arith, nat_tests) in
-    let one : one_if (nat_eq doc doc) ≡ 1 = ap one_if itself in
-    omega (arith, sum_by-drop_more (λ each. cond (nat_eq each doc) 1 0) list i 0 lt, one)
 
 -- ---- a list of chosen documents has each once at most
 chosen_later : (p : ℕ → Bool) (d a n : ℕ) → d < a → times (filter p (range_with_len a n)) d ≡ 0
@@ -173,17 +140,6 @@ few_times measure topic (p ∷ pairs) d =
     omega (arith, times-append (both_lists (picks_on measure p.first p.second topic)) (all_picks (lists_on measure pairs topic)) d, both_twice measure topic.marks (topic.ranking p.first) (topic.ranking p.second) d, few_times measure topic pairs d)
 
 -- ---- and documents of the topic alone
-chosen_below : (p : ℕ → Bool) (m a n : ℕ) → a + n ≤ m → AllByRecursion (λ d. d < m) (filter p (range_with_len a n))
-chosen_below p m a zero le = tt
-chosen_below p m a (suc n) le = go (p a) (chosen_below p m (a + 1) n (omega (arith, le)))
-  where
-    go : (b : Bool) → AllByRecursion (λ d. d < m) (filter p (range_with_len (a + 1) n)) → AllByRecursion (λ d. d < m) (cond b (a ∷ filter p (range_with_len (a + 1) n)) (filter p (range_with_len (a + 1) n)))
-    go true rest = (omega (arith, le), rest)
-    go false rest = rest
-
-pub added_below : (marks : List Mark) (truth : ℕ → Bool) → AllByRecursion (λ d. d < length marks) (added_documents marks truth)
-added_below marks truth = chosen_below (λ doc. is_unjudged (mark_at marks doc) && truth doc) (length marks) 0 (length marks) (omega arith)
-
 pub picks_below : (measure : MeasureName) (topic : Topic) (pairs : List NamedPair) → AllByRecursion (λ d. d < length topic.marks) (all_picks (lists_on measure pairs topic))
 picks_below measure topic [] = tt
 picks_below measure topic (p ∷ pairs) =

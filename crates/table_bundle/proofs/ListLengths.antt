@@ -9,6 +9,7 @@ use Rattle.desk_model.specs.Book.{Book}
 use Rattle.desk_model.proofs.Nested.{take-there}
 use Rattle.line_forms.specs.Places.{count_line}
 use Rattle.order_certificate.specs.Certificate.{document_line}
+use Rattle.measure_core.specs.Lists.{times}
 use Rattle.order_bundle.specs.Bundle.{pick_line, picks_lines, topic_lines}
 use Rattle.order_bundle.specs.Lengths.{text_length}
 use Rattle.order_bundle.specs.declared.bundle.Picks.{Picks}
@@ -17,7 +18,7 @@ use Rattle.order_bundle.proofs.Counting.{more_lines, one_more_line}
 use Rattle.measure_laws.proofs.RecallEnds.{range_below}
 use Rattle.pair_table.proofs.Zips.{all_in_range}
 use Rattle.table_bundle.specs.Drafts.{names_where, places_where, replaced_list, replaced_picks}
-use Rattle.table_bundle.specs.Lengths.{all_picks, both_lists, heads_length, is_counted, is_on, pick_share, picks_length_by, times, topic_length}
+use Rattle.table_bundle.specs.Lengths.{all_picks, both_lists, heads_length, is_counted, is_on, pick_share, picks_length_by, topic_length}
 use Rattle.table_bundle.proofs.Choosing.{names_agree, place, place_at, places_agree, range_more}
 use Rattle.table_bundle.proofs.Exchange.{exchanged, on_some_times, sum_by-same}
 

@@ -1,6 +1,6 @@
 -- How long the text of the bundle of a table is: claim by claim without the lists of open pairs, and these topic by topic.
-use Rattle.std.specs.Prelude.{◌≡◌, ℕ, ◌+◌, ◌*◌, ◌<◌, ◌^◌, nat_eq, nat_lt, Bool, List, [], ◌∷◌, ◌++◌, length, map, filter, flat_map, slice_index, decimal, codes}
-use Rattle.std.specs.List.{count_by, list_any, range_with_len, sum_by, zip}
+use Rattle.std.specs.Prelude.{◌≡◌, ℕ, ◌+◌, ◌*◌, nat_lt, Bool, List, [], ◌∷◌, ◌++◌, length, map, filter, flat_map, slice_index, decimal, codes}
+use Rattle.std.specs.List.{list_any, range_with_len, sum_by, zip}
 use Rattle.desk_model.specs.Book.{Book}
 use Rattle.desk_model.specs.Desk.{Desk, ranking_of, topics_under}
 use Rattle.desk_model.specs.Order.{Topic}
@@ -74,17 +74,6 @@ both_lists p = p.low ++ p.high
 -- all documents that lists pick, as often as they do
 abbrev pub all_picks : List Picks → List ℕ
 all_picks lists = flat_map both_lists lists
-
--- how often a document stands in a list
-abbrev pub times : List ℕ → ℕ → ℕ
-times docs doc = count_by (λ each. nat_eq each doc) docs
-
--- counts, document by document, have room for those of a list, and are greater by these than others
-abbrev pub HaveRoomFor : List ℕ → List ℕ → Type 0
-HaveRoomFor counts docs = (doc : ℕ) → doc < length counts → slice_index counts doc + times docs doc < 2 ^ 32
-
-abbrev pub AreCounted : List ℕ → List ℕ → List ℕ → Type 0
-AreCounted before docs after = (doc : ℕ) → doc < length before → slice_index after doc ≡ slice_index before doc + times docs doc
 
 -- the digits of two counts, with the words before them and the ends of their lines
 abbrev pub heads_length : Picks → ℕ

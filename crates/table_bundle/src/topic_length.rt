@@ -3,13 +3,12 @@ ghost use Rattle.std.specs.Prelude.{◌≡◌, ℕ, ◌*◌, ◌<◌, ◌≤◌,
 ghost use Rattle.std.specs.List.{sum, sum_by};
 ghost use Rattle.desk_model.specs.Desk.{AreMarksOf, ranking_of};
 ghost use Rattle.desk_model.specs.Limits.{DOCUMENT_LIMIT, TOPIC_LIMIT};
-ghost use Rattle.measure_laws.specs.Cases.{least_truth};
 ghost use Rattle.measure_core.specs.Laws.{AreMet};
-ghost use Rattle.measure_core.specs.Lists.{added_documents};
+ghost use Rattle.measure_core.specs.Lists.{times, AreCounted, HaveRoomFor};
 ghost use Rattle.order_bundle.specs.Bundle.{CLAIM_LIMIT, topic_lines};
 ghost use Rattle.order_bundle.specs.Lengths.{text_length};
 ghost use Rattle.table_bundle.specs.Drafts.{case_picks, names_where, IsRunPair};
-ghost use Rattle.table_bundle.specs.Lengths.{all_picks, both_lists, heads_length, is_counted, lists_on, picks_length_by, times, topic_lengths, topic_with, AreCounted, HaveRoomFor, LIST_LIMIT};
+ghost use Rattle.table_bundle.specs.Lengths.{all_picks, both_lists, heads_length, is_counted, lists_on, picks_length_by, topic_lengths, topic_with, LIST_LIMIT};
 
 use crate::pairs::NamedPair;
 use desk_model::{Desk, Mark, Marks, Memory, Ranking, TopicBook};
@@ -17,42 +16,8 @@ use measure_core::Measure;
 use order_bundle::length::digits;
 use std::alloc::Global;
 
-// Counts each document of a list once more.
-fn count_list(counts: &mut [u32], list: &[u32])
-    requires within { All (λ doc. doc < length counts.old) list.now }
-    requires room { HaveRoomFor counts.old list.now }
-    ensures { AreCounted counts.old list.now counts.new }
-{
-    for doc in list {
-        counts[*doc as usize] += 1;
-    }
-}
-
-// Counts the documents of the least case of two rankings, and answers how many digits their number has. The documents
-// are found in a list whose contents are anything.
-fn count_least<M: Measure>(
-    alloc: Global,
-    measure: &M,
-    a: &Ranking,
-    b: &Ranking,
-    marks: &[Mark],
-    docs: &mut Vec<u32>,
-    counts: &mut [u32],
-) -> Result<u64, Memory>
-    requires met { AreMet marks.now a.now b.now }
-    requires size { length counts.old ≡ length marks.now }
-    requires room { HaveRoomFor counts.old (added_documents marks.now (least_truth (M.measured measure.now) marks.now a.now b.now)) }
-    ensures digits { IfOk result (λ digits. digits ≡ length (decimal (length (added_documents marks.now (least_truth (M.measured measure.now) marks.now a.now b.now))))) }
-    ensures few { IfOk result (λ digits. digits ≤ 40) }
-    ensures counts { OnOk result (AreCounted counts.old (added_documents marks.now (least_truth (M.measured measure.now) marks.now a.now b.now)) counts.new) }
-{
-    docs.clear();
-    measure.push_least_docs(alloc, a, b, marks, docs)?;
-    count_list(counts, docs);
-    Ok(digits(docs.len() as u64))
-}
-
-// Counts the documents of both lists of a pair on a topic, and answers how long the lines are that begin them.
+// Counts the documents of both lists of a pair on a topic, and answers how long the lines are that begin them. What the
+// list of documents holds is anything.
 fn count_lists<M: Measure>(
     alloc: Global,
     measure: &M,
@@ -69,9 +34,8 @@ fn count_lists<M: Measure>(
     ensures few { IfOk result (λ bytes. bytes ≤ 100) }
     ensures counts { OnOk result (AreCounted counts.old (both_lists (case_picks (M.measured measure.now) marks.now a.now b.now)) counts.new) }
 {
-    let low = count_least(alloc, measure, a, b, marks, docs, counts)?;
-    let high = count_least(alloc, measure, b, a, marks, docs, counts)?;
-    Ok(low + high + 11)
+    let sizes = measure.count_lists(alloc, a, b, marks, docs, counts)?;
+    Ok(digits(sizes.least as u64) + digits(sizes.most as u64) + 11)
 }
 
 // How often the lists of pairs on a topic pick each document, and how long the lines are that begin these lists.

@@ -1,4 +1,4 @@
-use Rattle.std.proofs.Common.{◌≡◌, ◌≤◌, length, ap, sym, arith}
+use Rattle.std.proofs.Common.{ap, sym}
 use Rattle.std.proofs.lemmas.List.{drop_all}
 use Rattle.desk_model.specs.Placed.{lookup}
 use Rattle.desk_model.specs.declared.placed.Placed.{Placed}

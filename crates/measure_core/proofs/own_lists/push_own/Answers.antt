@@ -1,4 +1,4 @@
-use Rattle.std.proofs.Common.{◌≡◌, ◌++◌, ◌≤◌, ℕ, Bool, not, List, take, drop, length, ap, ap₂, sym, subst, ◌∙◌, arith}
+use Rattle.std.proofs.Common.{◌≡◌, ◌++◌, ℕ, Bool, not, List, take, drop, length, ap, ap₂, sym, subst, ◌∙◌, arith}
 use Rattle.std.specs.Prelude.{◌&&◌, filter, IsPermutation}
 use Rattle.std.specs.List.{range_with_len}
 use Rattle.std.specs.List.Sorted.{IsSorted}
@@ -9,15 +9,14 @@ use Rattle.std.proofs.lemmas.List.Sorted.{IsNonDecreasingBy-from_sort}
 use Rattle.std.proofs.lemmas.Result.{IfOk-weaker}
 use Rattle.desk_model.specs.Completion.{with_picked}
 use Rattle.desk_model.specs.Mark.{is_unjudged, mark_at}
-use Rattle.desk_model.specs.Ranking.{is_in, rank}
+use Rattle.desk_model.specs.Ranking.{is_in}
 use Rattle.desk_model.proofs.Counts.{IsDistinct-take}
 use Rattle.desk_model.proofs.PrecisionEnds.{prefix_within}
 use Rattle.measure_laws.specs.Prefixes.{only_second}
-use Rattle.topic_counts.proofs.Prefixes.{rank_by}
 use Rattle.measure_core.specs.Lists.{added_documents, passes_by_ranks}
 use Rattle.measure_core.specs.OneSide.{is_by}
 use Rattle.measure_core.proofs.Ascending.{own_test, sorted_are}
-use Rattle.measure_core.proofs.Pushing.{picked_same}
+use Rattle.measure_core.proofs.Tallying.{own_by_ranks}
 use Rattle.measure_core.proofs.own_lists.push_own.Goals as goal
 
 pub returns-then-k-gt-LOOKED_UP : goal.returns-then-k-gt-LOOKED_UP
@@ -29,8 +28,7 @@ returns-then-k-gt-LOOKED_UP c =
     let before = c.args.docs.now.items in
     let now = c.push_by_ranks.new.docs.items in
     let by_ranks = passes_by_ranks (λ x y. is_by k y && not (is_by k x)) a b in
-    let same : added_documents marks (with_picked marks by_ranks) ≡ added_documents marks (with_picked marks (only_second k a b)) =
-    picked_same marks by_ranks (only_second k a b) (λ doc lt unjudged. sym (ap₂ (λ p q. q && not p) (rank_by k doc a) (rank_by k doc b))) in
+    let same = own_by_ranks k marks a b in
     IfOk-weaker c.push_by_ranks.result (λ _. now ≡ before ++ added_documents marks (with_picked marks by_ranks)) (λ _. now ≡ before ++ added_documents marks (with_picked marks (only_second k a b))) (λ _ is. is ∙ ap (λ ds. before ++ ds) same)
     c.push_by_ranks.ensures
 

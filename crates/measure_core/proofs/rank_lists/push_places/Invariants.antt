@@ -1,4 +1,4 @@
-use Rattle.std.proofs.Common.{◌≡◌, ◌+◌, ◌-◌, ◌≤◌, length}
+use Rattle.std.proofs.Common.{◌+◌, ◌-◌, ◌≤◌, length}
 use Rattle.measure_core.proofs.Placed.{AreWalked}
 use Rattle.measure_core.proofs.rank_lists.push_places.Given as goal
 

@@ -1,14 +1,11 @@
-use Rattle.std.proofs.Common.{◌≡◌, ℕ, ◌+◌, ◌≤◌, Bool, [], ◌∷◌, ◌++◌, cond, drop, length, slice_index_or, Option, None, Some, ap, sym, ◌∙◌, arith}
-use Rattle.std.specs.Prelude.{Vec, ◌&&◌}
+use Rattle.std.proofs.Common.{◌≡◌, ℕ, ◌+◌, ◌≤◌, Bool, ◌++◌, drop, length, slice_index_or, None, Some, ap, sym, ◌∙◌, arith}
+use Rattle.std.specs.Prelude.{Vec}
 use Rattle.std.specs.declared.alloc.Global.{Global}
-use Rattle.std.proofs.lemmas.List.{drop_all, get_or_default}
-use Rattle.desk_model.specs.Mark.{is_unjudged, mark_at}
+use Rattle.std.proofs.lemmas.List.{drop_all}
 use Rattle.desk_model.specs.declared.placed.Placed.{Placed}
-use Rattle.desk_model.specs.declared.types.Mark.TheVariants.{Unjudged}
 use Rattle.measure_core.specs.Lists.{placed_documents}
 use Rattle.measure_core.proofs.Placed.{placed_step}
 use Rattle.measure_core.proofs.Pushing.{one_pushed, none_pushed, all_pushed}
-use Rattle.measure_core.proofs.Walking.{doc_within, rank_is_within}
 use Rattle.measure_core.proofs.rank_lists.push_rest.Goals as goal
 use Rattle.measure_core.proofs.rank_lists.push_rest.Goals.{then-is_listed+in_ok-push, else-is_listed}
 

@@ -31,3 +31,6 @@ returns-clause-most_first c = subst (IsSmallestAttained c.args.marks.now c.args.
 
 pub returns-clause-low : goal.returns-clause-low
 returns-clause-low c = omega (arith, c.extremes.ensures.least.low, c.requires.topic.relevant)
+
+pub returns-clause-most_low : goal.returns-clause-most_low
+returns-clause-most_low c = omega (arith, c.extremes.ensures.most.low, c.requires.topic.relevant)

@@ -4,9 +4,10 @@ use Rattle.std.specs.List.{sum_by}
 use Rattle.desk_model.specs.Desk.{Desk, ranking_of}
 use Rattle.desk_model.specs.declared.types.Mark.{Mark}
 use Rattle.desk_model.specs.declared.types.MeasureName.{MeasureName}
+use Rattle.measure_core.specs.Lists.{times}
 use Rattle.table_bundle.specs.Drafts.{case_picks}
 use Rattle.table_bundle.specs.declared.pairs.NamedPair.{NamedPair}
-use Rattle.table_bundle.specs.Lengths.{all_picks, both_lists, heads_length, lists_on, times, topic_with}
+use Rattle.table_bundle.specs.Lengths.{all_picks, both_lists, heads_length, lists_on, topic_with}
 use Rattle.table_bundle.proofs.Exchange.{both_twice, few_times, heads_more, times_more}
 use Rattle.table_bundle.proofs.topic_length.count_topic.Goals as goal
 

@@ -1,6 +1,7 @@
 use Rattle.std.proofs.Common.{◌≡◌, ℕ, ◌*◌, ◌<◌, ◌≤◌, length, get_or, take}
 use Rattle.std.specs.List.{sum_by}
-use Rattle.table_bundle.specs.Lengths.{all_picks, heads_length, lists_on, times, topic_with}
+use Rattle.measure_core.specs.Lists.{times}
+use Rattle.table_bundle.specs.Lengths.{all_picks, heads_length, lists_on, topic_with}
 use Rattle.table_bundle.proofs.topic_length.count_topic.Given as goal
 
 abbrev pub invariant-loop-pair : goal.invariant-loop-pair

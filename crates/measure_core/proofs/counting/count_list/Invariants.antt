@@ -1,6 +1,6 @@
 use Rattle.std.proofs.Common.{◌≡◌, ℕ, ◌+◌, ◌<◌, drop, length, get_or}
-use Rattle.table_bundle.specs.Lengths.{times}
-use Rattle.table_bundle.proofs.topic_length.count_list.Given as goal
+use Rattle.measure_core.specs.Lists.{times}
+use Rattle.measure_core.proofs.counting.count_list.Given as goal
 
 -- what is counted and what is left to count are all
 abbrev pub invariant-loop-doc : goal.invariant-loop-doc

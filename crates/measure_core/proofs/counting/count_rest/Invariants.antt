@@ -1,0 +1,16 @@
+use Rattle.std.proofs.Common.{◌≡◌, ℕ, ◌+◌, ◌<◌, drop, length, get_or, take, None, Some}
+use Rattle.desk_model.specs.declared.placed.Placed.{Placed}
+use Rattle.measure_core.specs.Lists.{placed_documents, times}
+use Rattle.measure_core.proofs.counting.count_rest.Given as goal
+
+-- what is counted and what is left to count are all
+abbrev pub invariant-loop-place : goal.invariant-loop-place
+invariant-loop-place g l =
+    let test = λ (p : Placed). g.T.RankTest.test l.test None (Some p.rank) in
+    let whole = take l.fn.most (placed_documents l.marks test l.places) in
+    let rest = take l.left (placed_documents l.marks test (drop l.place-index l.places)) in
+    record {
+      size : length l.counts ≡ length l.initial.counts;
+      left : l.left + length whole ≡ l.fn.most + length rest;
+      counted : (doc : ℕ) → doc < length l.initial.counts → get_or l.counts doc 0 + times rest doc ≡ get_or l.initial.counts doc 0 + times whole doc;
+    }
