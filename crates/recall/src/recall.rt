@@ -19,7 +19,7 @@ ghost use Rattle.recall.specs.LeastCase.{AreCounts, least_relevant};
 use desk_model::{Mark, MeasureName, Memory, Ranking};
 use marked_lists::{count_own_marked, push_own_marked};
 use measure_core::{
-    Cell, CellRoom, KeptCell, ListSizes, LOOKED_UP, Measure, More, OwnMeasure, Picks, Shift, Steps,
+    Cell, CellRoom, KeptCell, LOOKED_UP, ListSizes, Measure, More, OwnMeasure, Picks, Shift, Steps,
     TopicRankings, case_values, count_neutral, own_cells, push_own_and_more, shift_one_side,
 };
 use std::alloc::Global;

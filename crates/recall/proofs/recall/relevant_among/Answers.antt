@@ -1,4 +1,4 @@
-use Rattle.std.proofs.Common.{◌+◌, ◌≤◌, length, count_by, false, ap, ◌∙◌, arith}
+use Rattle.std.proofs.Common.{◌+◌, length, count_by, false, ap, ◌∙◌, arith}
 use Rattle.desk_model.specs.Completion.{with_picked}
 use Rattle.topic_counts.proofs.Scan.{scan_known, scan_short, scan_done, one_counted}
 use Rattle.recall.proofs.recall.relevant_among.Goals as goal
