@@ -1,6 +1,8 @@
-ghost use Rattle.std.specs.Prelude.{◌≡◌, ℕ, ◌+◌, ◌≤◌, ◌++◌, max, nat_lt, List, length, IfOk, OnOk};
+ghost use Rattle.std.specs.Prelude.{◌≡◌, ℕ, ◌+◌, ◌≤◌, ◌++◌, max, nat_lt, false, if◌then◌else◌, List, length, IfOk, OnOk};
 ghost use Rattle.desk_model.specs.Limits.{DEPTH_LIMIT, DOCUMENT_LIMIT, RANK_LIMIT};
-ghost use Rattle.desk_model.specs.Completion.{with_picked};
+ghost use Rattle.desk_model.specs.Classes.{prefix_count};
+ghost use Rattle.desk_model.specs.Completion.{picked_value, with_picked};
+ghost use Rattle.desk_model.specs.Ranking.{IsRanking};
 ghost use Rattle.desk_model.specs.Score.{true_among};
 ghost use Rattle.desk_model.specs.declared.types.Mark.{Mark as M};
 ghost use Rattle.desk_model.specs.declared.types.MeasureName.TheVariants.{Recall as R};
@@ -17,13 +19,13 @@ ghost use Rattle.recall.specs.LeastCase.{AreCounts, least_relevant};
 use desk_model::{Mark, MeasureName, Memory, Ranking};
 use marked_lists::{count_own_marked, push_own_marked};
 use measure_core::{
-    Cell, CellRoom, KeptCell, ListSizes, LOOKED_UP, Measure, More, OwnMeasure, Picks, Shift, Steps,
+    Cell, CellRoom, KeptCell, LOOKED_UP, ListSizes, Measure, More, OwnMeasure, Picks, Shift, Steps,
     TopicRankings, case_values, count_neutral, own_cells, push_own_and_more, shift_one_side,
 };
 use std::alloc::Global;
 use std::marker::Model;
 use std::sync::ledger::Ledger;
-use topic_counts::counts::{Counts, is_among_first, own_counts, prefix_documents};
+use topic_counts::counts::{Counts, is_among_first, own_counts, prefix, prefix_documents};
 use topic_counts::topic::all_documents;
 use topic_counts::{Span, span_of};
 
@@ -88,6 +90,28 @@ pub(crate) fn least_span(first: Counts, second: Counts, all: Counts) -> Span
     span_of(i128::from(lead), i128::from(relevant), UNIT)
 }
 
+/// 1 for a document that is judged relevant, and 0 for another.
+#[inline]
+fn counted(mark: Mark) -> u32
+    ensures count { result ≡ (if picked_value false mark then 1 else 0) }
+    ensures few { result ≤ 1 }
+{
+    u32::from(mark == Mark::Relevant)
+}
+
+/// How many documents among the first k of a run are judged relevant. No jump depends on a mark, which no processor
+/// foresees.
+fn relevant_among(k: u32, ranking: &Ranking, marks: &[Mark]) -> u32
+    requires { IsRanking (length marks.now) ranking.now }
+    ensures { result ≡ prefix_count false k marks.now ranking.now }
+{
+    let mut relevant = 0;
+    for doc in prefix(ranking.docs(), k) {
+        relevant += counted(marks[*doc as usize]);
+    }
+    relevant
+}
+
 /// Whether the first run has more relevant documents among its first k than the second, where of the
 /// unjudged ones exactly those are relevant that the second run alone has there, `own` in number.
 fn leads(k: u32, own: usize, a: &Ranking, b: &Ranking, marks: &[Mark]) -> bool
@@ -96,8 +120,8 @@ fn leads(k: u32, own: usize, a: &Ranking, b: &Ranking, marks: &[Mark]) -> bool
     ensures { result ≡ nat_lt (true_among (with_picked marks.now (only_second k a.now b.now)) k b.now) (true_among (with_picked marks.now (only_second k a.now b.now)) k a.now) }
 {
     // Relevant documents that both have there count on both sides.
-    let first = prefix_documents(k, a, marks).relevant as usize;
-    first > own && first > own + prefix_documents(k, b, marks).relevant as usize
+    let first = relevant_among(k, a, marks) as usize;
+    first > own && first > own + relevant_among(k, b, marks) as usize
 }
 
 /// The documents of the second run's first k alone, and where the first run leads those that both or neither have there.

@@ -1,12 +1,12 @@
 -- Sums over lists of documents are sums over documents of how often the lists have them.
-use Rattle.std.proofs.Common.{◌≡◌, ◌≢◌, ℕ, zero, suc, ◌+◌, ◌*◌, ◌<◌, ◌≤◌, nat_eq, Bool, true, false, cond, List, [], ◌∷◌, ◌++◌, length, get_or, set, take, drop, refl, ap, sym, ◌∙◌, arith}
+use Rattle.std.proofs.Common.{◌≡◌, ℕ, zero, suc, ◌+◌, ◌*◌, ◌<◌, ◌≤◌, nat_eq, Bool, true, false, cond, List, [], ◌∷◌, ◌++◌, length, get_or, take, refl, ap, sym, ◌∙◌, arith}
 use Rattle.std.specs.Prelude.{◌&&◌, ◌||◌, nat_lt, filter}
-use Rattle.std.specs.List.{AllByRecursion, list_any, range_with_len, sum_by}
+use Rattle.std.specs.List.{AllByRecursion, range_with_len, sum_by}
 use Rattle.std.proofs.lemmas.Bool.Decides.{nat_tests}
-use Rattle.std.proofs.lemmas.Grind.{flat_map-append, get_or-set_at}
-use Rattle.std.proofs.lemmas.List.{append-nil, get_or-set_other, map-append, take_more}
+use Rattle.std.proofs.lemmas.Grind.{flat_map-append}
+use Rattle.std.proofs.lemmas.List.{append-nil, map-append, take_more}
 use Rattle.std.proofs.lemmas.List.Folds.{list_any-append}
-use Rattle.std.proofs.lemmas.List.Sums.{sum_by-append, sum_by-cons, sum_by-drop_more, sum_by_push}
+use Rattle.std.proofs.lemmas.List.Sums.{sum_by-cons, sum_by_push}
 use Rattle.small_lemmas.proofs.Lists.{all-append}
 use Rattle.desk_model.specs.Mark.{is_unjudged, mark_at}
 use Rattle.desk_model.specs.Order.{Topic}
@@ -14,7 +14,7 @@ use Rattle.desk_model.specs.Ranking.{is_in}
 use Rattle.desk_model.specs.declared.types.Mark.{Mark}
 use Rattle.desk_model.specs.declared.types.MeasureName.{MeasureName}
 use Rattle.measure_laws.specs.Cases.{least_truth}
-use Rattle.measure_core.specs.Lists.{added_documents, times}
+use Rattle.measure_core.specs.Lists.{times}
 use Rattle.measure_core.proofs.Tallying.{added_below, times-append, times-cons}
 use Rattle.order_bundle.specs.declared.bundle.Picks.{Picks}
 use Rattle.table_bundle.specs.Drafts.{case_picks, has_picked, picks_on}

@@ -1,5 +1,5 @@
 -- How long the lines of a topic's lists are, and of its picked documents.
-use Rattle.std.proofs.Common.{◌≡◌, ℕ, zero, suc, ◌+◌, ◌*◌, ◌<◌, ◌≤◌, Bool, true, false, List, [], ◌∷◌, ◌++◌, length, map, take, Some, refl, ap, ap₂, sym, ◌∙◌, arith, length-append}
+use Rattle.std.proofs.Common.{◌≡◌, ℕ, zero, suc, ◌+◌, ◌*◌, ◌<◌, ◌≤◌, true, false, List, [], ◌∷◌, ◌++◌, length, map, take, Some, refl, ap, ap₂, sym, ◌∙◌, arith, length-append}
 use Rattle.std.specs.Prelude.{codes, decimal, filter, flat_map, nat_lt, slice_get, slice_index}
 use Rattle.std.specs.List.{AllByRecursion, range_with_len, sum, sum_by}
 use Rattle.std.proofs.lemmas.Bool.Decides.{nat_tests}
@@ -15,11 +15,10 @@ use Rattle.order_bundle.specs.Lengths.{text_length}
 use Rattle.order_bundle.specs.declared.bundle.Picks.{Picks}
 use Rattle.order_bundle.specs.declared.bundle.TopicNames.{TopicNames}
 use Rattle.order_bundle.proofs.Counting.{more_lines, one_more_line}
-use Rattle.measure_laws.proofs.RecallEnds.{range_below}
 use Rattle.pair_table.proofs.Zips.{all_in_range}
 use Rattle.table_bundle.specs.Drafts.{names_where, places_where, replaced_list, replaced_picks}
 use Rattle.table_bundle.specs.Lengths.{all_picks, both_lists, heads_length, is_counted, is_on, pick_share, picks_length_by, topic_length}
-use Rattle.table_bundle.proofs.Choosing.{names_agree, place, place_at, places_agree, range_more}
+use Rattle.table_bundle.proofs.Choosing.{names_agree, place_at, places_agree, range_more}
 use Rattle.table_bundle.proofs.Exchange.{exchanged, on_some_times, sum_by-same}
 
 -- the line that picks a document by its place

@@ -1,5 +1,5 @@
 -- Claims on all documents, numbered by the picked ones alone, make the bundle of a table.
-use Rattle.std.proofs.Common.{◌≡◌, ℕ, ◌+◌, ◌*◌, ◌/◌, ◌-◌, ◌<◌, ◌≤◌, Bool, List, [], ◌∷◌, length, map, min, max, Option, Some, None, ℤ, pos, refl, ap, sym, subst, ◌∙◌, arith}
+use Rattle.std.proofs.Common.{◌≡◌, ℕ, ◌+◌, ◌<◌, ◌≤◌, Bool, List, [], ◌∷◌, length, map, min, max, Option, Some, None, ℤ, pos, refl, ap, sym, subst, ◌∙◌, arith}
 use Rattle.std.specs.Prelude.{◌&&◌, filter, flat_map, slice_index}
 use Rattle.std.specs.List.{AllZip, AllByRecursion, enumerate_from, range_with_len, zip}
 use Rattle.std.proofs.lemmas.List.{length-map}

@@ -1,5 +1,5 @@
 -- All pairs of runs in an order of names, and the claims on them.
-use Rattle.std.proofs.Common.{◌≡◌, ℕ, ◌<◌, ◌≤◌, List, [], ◌∷◌, length, map, refl, ap, sym, subst, ◌∙◌, arith}
+use Rattle.std.proofs.Common.{◌≡◌, ℕ, ◌≤◌, List, [], ◌∷◌, length, map, refl, ap, sym, subst, arith}
 use Rattle.std.specs.Prelude.{All, flat_map}
 use Rattle.std.specs.List.{AllByRecursion}
 use Rattle.std.proofs.lemmas.List.{length-map}
@@ -14,7 +14,6 @@ use Rattle.measure_core.specs.declared.cell.Cell.{Cell}
 use Rattle.pair_table.proofs.Zips.{IsPairBelow, pairs_below}
 use Rattle.table_bundle.specs.Bundles.{if_held}
 use Rattle.table_bundle.specs.Drafts.{draft_on, drafts, drafts_on, named_pair, pairs_in, IsNameOrder, IsRunPair}
-use Rattle.table_bundle.specs.declared.pairs.NamedPair.{NamedPair}
 use Rattle.table_bundle.proofs.InOrder.{apart_in_order, at_within, few_pairs, length-order}
 use Rattle.table_bundle.proofs.Made.{all_made}
 

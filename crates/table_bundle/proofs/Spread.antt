@@ -1,15 +1,13 @@
 -- The lines of claims are those without the lists of open pairs, and these lists, claim by claim or topic by topic.
-use Rattle.std.proofs.Common.{◌≡◌, ℕ, zero, suc, ◌+◌, ◌<◌, Bool, false, List, [], ◌∷◌, ◌++◌, length, map, Option, Some, None, refl, ap, ap₂, sym, subst, ◌∙◌, arith}
-use Rattle.std.specs.Prelude.{◌||◌, codes, filter, flat_map, slice_get, slice_index_or, ℤ, pos}
-use Rattle.std.specs.List.{AllZip, AllByRecursion, enumerate_from, list_any, sum, sum_by, zip}
+use Rattle.std.proofs.Common.{◌≡◌, ℕ, suc, ◌+◌, ◌<◌, Bool, false, List, [], ◌∷◌, ◌++◌, length, map, Some, refl, ap, ap₂, sym, ◌∙◌, arith}
+use Rattle.std.specs.Prelude.{◌||◌, codes, flat_map, slice_get}
+use Rattle.std.specs.List.{AllZip, enumerate_from, sum_by, zip}
 use Rattle.std.proofs.lemmas.Grind.{flat_map-append}
 use Rattle.std.proofs.lemmas.List.{append-nil, map-append}
 use Rattle.std.proofs.lemmas.List.Folds.{list_any-append}
 use Rattle.std.proofs.lemmas.List.Sums.{sum_by-append, sum_by-cons}
 use Rattle.small_lemmas.proofs.Lists.{map_there}
 use Rattle.desk_model.specs.Book.{Book}
-use Rattle.desk_model.specs.Desk.{Desk, topics_under}
-use Rattle.desk_model.specs.Extremes.{Ends}
 use Rattle.desk_model.specs.Order.{Topic}
 use Rattle.desk_model.specs.Verdict.{verdict}
 use Rattle.desk_model.specs.declared.types.Mark.{Mark}
@@ -21,8 +19,7 @@ use Rattle.measure_core.specs.declared.cell.Cell.{Cell}
 use Rattle.order_bundle.specs.Bundle.{claim_lines, picks_lines, runs_text, topic_lines}
 use Rattle.order_bundle.specs.Lengths.{text_length}
 use Rattle.order_bundle.specs.declared.bundle.PairClaim.{PairClaim}
-use Rattle.order_bundle.specs.declared.bundle.PairEvidence.{PairEvidence}
-use Rattle.order_bundle.specs.declared.bundle.PairEvidence.TheVariants.{Above, Equal, Open}
+use Rattle.order_bundle.specs.declared.bundle.PairEvidence.TheVariants.{Equal}
 use Rattle.order_bundle.specs.declared.bundle.Picks.{Picks}
 use Rattle.order_bundle.specs.declared.bundle.TopicNames.{TopicNames}
 use Rattle.order_bundle.proofs.Counting.{more_lines, one_more_line}
@@ -33,7 +30,7 @@ use Rattle.table_bundle.specs.Drafts.{bounds_by, claim_above, draft_by, draft_on
 use Rattle.table_bundle.specs.Lengths.{if_open, is_on, length_but_lists, lists_on, open_on, open_pairs, topic_length}
 use Rattle.table_bundle.specs.declared.pairs.NamedPair.{NamedPair}
 use Rattle.table_bundle.proofs.Choosing.{names_agree, places_agree}
-use Rattle.table_bundle.proofs.Exchange.{sum_by-none, sum_by-plus}
+use Rattle.table_bundle.proofs.Exchange.{sum_by-none}
 use Rattle.table_bundle.proofs.Listed.{whole}
 
 -- ---- the lists of one topic, and of all topics

@@ -1,5 +1,5 @@
 -- How long the text of the bundle of a table is.
-use Rattle.std.proofs.Common.{◌≡◌, ℕ, ◌+◌, ◌≤◌, List, [], ◌∷◌, ◌++◌, length, map, refl, ap, sym, subst, ◌∙◌, arith}
+use Rattle.std.proofs.Common.{◌≡◌, ℕ, ◌+◌, ◌≤◌, List, [], ◌∷◌, length, map, ap, sym, subst, ◌∙◌, arith}
 use Rattle.std.specs.Prelude.{codes, decimal, flat_map}
 use Rattle.std.specs.List.{sum, sum_by, zip}
 use Rattle.std.proofs.lemmas.List.{length-map}
@@ -22,7 +22,7 @@ use Rattle.order_bundle.specs.declared.bundle.TopicNames.{TopicNames}
 use Rattle.order_bundle.proofs.Counting.{counted_rows, more_lines, one_more_line}
 use Rattle.pair_table.specs.Numbers.{HasCellEnds}
 use Rattle.table_bundle.specs.Bundles.{IsBundleOf}
-use Rattle.table_bundle.specs.Drafts.{all_documents, drafts, drafts_on, over_picked, pairs_in, picked_places, picked_topics, replaced, IsNameOrder}
+use Rattle.table_bundle.specs.Drafts.{all_documents, drafts, drafts_on, over_picked, pairs_in, picked_places, replaced, IsNameOrder}
 use Rattle.table_bundle.specs.Lengths.{length_but_lists, lists_on, open_pairs, topic_length, topic_lengths, IsBundleLength, IsCountOf}
 use Rattle.table_bundle.specs.declared.claim_count.ClaimCount.{ClaimCount}
 use Rattle.table_bundle.specs.declared.pairs.NamedPair.{NamedPair}
@@ -32,7 +32,7 @@ use Rattle.table_bundle.proofs.Made.{made_bundle}
 use Rattle.table_bundle.proofs.Pairing.{drafts_in}
 use Rattle.table_bundle.proofs.Replacing.{length-picked}
 use Rattle.table_bundle.proofs.Single.{one_bundle_by_cells}
-use Rattle.table_bundle.proofs.Spread.{by_topic, claims_spread, picked_alike, spread, topic_by_topic, topics_spread}
+use Rattle.table_bundle.proofs.Spread.{by_topic, claims_spread, picked_alike, topics_spread}
 
 -- the lines of a bundle: the first ones, those that count, the runs, the topics and the claims
 bundle_parts : (b : Bundle) → length (bundle_text b) ≡ text_length (opening_lines b.measure b.level) + text_length (map run_line b.runs)

@@ -1,4 +1,4 @@
-use Rattle.std.proofs.Common.{◌≡◌, ◌+◌, ◌<◌, ◌++◌, ℕ, List, length, take, ap, ◌∙◌, arith}
+use Rattle.std.proofs.Common.{◌<◌, ℕ, List, length, take, ap, ◌∙◌, arith}
 use Rattle.desk_model.specs.Completion.{with_picked}
 use Rattle.desk_model.specs.declared.types.MeasureName.TheVariants.{Recall as R}
 use Rattle.measure_laws.specs.Prefixes.{only_second}

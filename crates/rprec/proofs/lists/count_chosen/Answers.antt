@@ -1,4 +1,4 @@
-use Rattle.std.proofs.Common.{◌≡◌, ℕ, ◌+◌, ◌-◌, ◌<◌, ◌≤◌, ◌++◌, List, length, take, ap, arith}
+use Rattle.std.proofs.Common.{◌≡◌, ℕ, ◌-◌, ◌<◌, length, take, ap, arith}
 use Rattle.measure_laws.specs.Classes.{judged_count}
 use Rattle.measure_laws.specs.RprecCase.{greedy_truth}
 use Rattle.measure_core.specs.Lists.{added_documents, own_documents, times}

@@ -1,6 +1,6 @@
 use Rattle.std.proofs.Common.{◌≡◌, ◌++◌, ℕ, List, length, ap₂, sym, subst}
 use Rattle.std.specs.Prelude.{IfOk, OnOk}
-use Rattle.measure_laws.specs.RprecCase.{greedy_truth, rprec_count}
+use Rattle.measure_laws.specs.RprecCase.{greedy_truth}
 use Rattle.measure_core.specs.Lists.{added_documents, AreCounted, HaveRoomFor}
 use Rattle.measure_core.specs.declared.counting.ListSizes.{ListSizes}
 use Rattle.rprec.proofs.rprec.count_cases.Goals as goal

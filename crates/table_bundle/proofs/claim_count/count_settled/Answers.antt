@@ -1,4 +1,4 @@
-use Rattle.std.proofs.Common.{◌≡◌, ℕ, ◌+◌, ◌≤◌, List, length, Option, Some, refl, sym, subst, ◌∙◌, arith}
+use Rattle.std.proofs.Common.{◌≡◌, ◌≤◌, List, length, Option, Some, refl, sym, subst, ◌∙◌, arith}
 use Rattle.desk_model.specs.Desk.{topics_under}
 use Rattle.desk_model.specs.Order.{Topic}
 use Rattle.desk_model.specs.Verdict.{verdict}

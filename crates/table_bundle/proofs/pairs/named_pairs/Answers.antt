@@ -1,10 +1,10 @@
-use Rattle.std.proofs.Common.{◌≡◌, ℕ, ◌+◌, ◌*◌, ◌/◌, ◌-◌, ◌<◌, ◌≤◌, length, map, subst, sym, ◌∙◌, arith}
+use Rattle.std.proofs.Common.{◌≡◌, ℕ, ◌+◌, ◌*◌, ◌/◌, ◌-◌, ◌<◌, ◌≤◌, length, subst, sym, ◌∙◌, arith}
 use Rattle.std.proofs.lemmas.List.{length-map, take_all}
 use Rattle.small_lemmas.proofs.Lists.{map_there}
 use Rattle.desk_model.specs.Pairs.{pairs_of}
 use Rattle.desk_model.specs.declared.pairs.PairPlaces.{PairPlaces}
 use Rattle.measure_core.specs.Pairs.{run_numbers}
-use Rattle.measure_core.proofs.RunPairs.{at_next, at_start, at_within, IsAt}
+use Rattle.measure_core.proofs.RunPairs.{at_next, at_within, IsAt}
 use Rattle.pair_table.proofs.Listing.{grown}
 use Rattle.pair_table.proofs.PairNumbers.{length-pairs}
 use Rattle.table_bundle.specs.Drafts.{named_pair, pairs_in}

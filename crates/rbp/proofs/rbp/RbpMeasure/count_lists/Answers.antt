@@ -1,4 +1,4 @@
-use Rattle.std.proofs.Common.{◌≡◌, ◌++◌, ℕ, Bool, List, length, take, Option, ap, ap₂, subst, ◌∙◌}
+use Rattle.std.proofs.Common.{◌++◌, ℕ, Bool, List, length, Option, ap, ap₂, subst, ◌∙◌}
 use Rattle.desk_model.specs.Completion.{with_picked}
 use Rattle.measure_laws.specs.Ranks.{comes_before}
 use Rattle.measure_core.specs.Lists.{passes_by_ranks, AreCounted}
