@@ -1,6 +1,8 @@
 use crate::any::AnyMeasure;
 use desk_model::{Mark, MeasureName, Memory, Ranking};
-use measure_core::{Cell, CellRoom, KeptCell, ListSizes, Measure, Shift, Steps, TopicRankings};
+use measure_core::{
+    Cell, CellRoom, KeptCell, ListRoom, ListSizes, Measure, Shift, Steps, TopicRankings,
+};
 use std::alloc::Global;
 use std::sync::ledger::Ledger;
 use topic_counts::Span;
@@ -116,15 +118,15 @@ impl Measure for AnyMeasure {
         a: &Ranking,
         b: &Ranking,
         marks: &[Mark],
-        docs: &mut Vec<u32>,
+        room: &mut ListRoom,
         counts: &mut [u32],
     ) -> Result<ListSizes, Memory> {
         match self {
-            AnyMeasure::Precision(m) => m.count_lists(alloc, a, b, marks, docs, counts),
-            AnyMeasure::Recall(m) => m.count_lists(alloc, a, b, marks, docs, counts),
-            AnyMeasure::RPrecision(m) => m.count_lists(alloc, a, b, marks, docs, counts),
-            AnyMeasure::Reciprocal(m) => m.count_lists(alloc, a, b, marks, docs, counts),
-            AnyMeasure::Biased(m) => m.count_lists(alloc, a, b, marks, docs, counts),
+            AnyMeasure::Precision(m) => m.count_lists(alloc, a, b, marks, room, counts),
+            AnyMeasure::Recall(m) => m.count_lists(alloc, a, b, marks, room, counts),
+            AnyMeasure::RPrecision(m) => m.count_lists(alloc, a, b, marks, room, counts),
+            AnyMeasure::Reciprocal(m) => m.count_lists(alloc, a, b, marks, room, counts),
+            AnyMeasure::Biased(m) => m.count_lists(alloc, a, b, marks, room, counts),
         }
     }
 

@@ -89,16 +89,21 @@ module _ (marks : List Mark) where
             let fails : whole low ≡ false = same low (omega arith) (omega arith) ∙ ap (λ (r : Option ℕ). is_unjudged (mark_at marks low) && test (look low) r) gone ∙ ap (λ b. is_unjudged (mark_at marks low) && b) (absent (look low)) ∙ and-false (is_unjudged (mark_at marks low)) in
             ap (λ b. cond b (low ∷ rest) rest) fails ∙ after lt
 
--- the unjudged documents whose ranks pass are those of the places of the second ranking that do
-pub ranked_listed : (marks : List Mark) (test : Option ℕ → Option ℕ → Bool) (absent : (x : Option ℕ) → test x None ≡ false) (a b : List ℕ) (es fs : List Placed) → ((d : ℕ) → lookup es d ≡ rank a d) → ((d : ℕ) → lookup fs d ≡ rank b d) → IsLeft (length marks) fs →
-    added_documents marks (with_picked marks (passes_by_ranks test a b)) ≡ placed_documents marks (λ (p : Placed). test (lookup es p.doc) (Some p.rank)) fs
-ranked_listed marks test absent a b es fs ea eb right =
+-- the unjudged documents whose ranks pass are those of the places of the second ranking that do, by any account of the ranks in the first
+pub looked_listed : (marks : List Mark) (test : Option ℕ → Option ℕ → Bool) (absent : (x : Option ℕ) → test x None ≡ false) (a b : List ℕ) (look : ℕ → Option ℕ) (fs : List Placed) → ((d : ℕ) → d < length marks → look d ≡ rank a d) → ((d : ℕ) → lookup fs d ≡ rank b d) → IsLeft (length marks) fs →
+    added_documents marks (with_picked marks (passes_by_ranks test a b)) ≡ placed_documents marks (λ (p : Placed). test (look p.doc) (Some p.rank)) fs
+looked_listed marks test absent a b look fs ea eb right =
     let n = length marks in
     let truth = with_picked marks (passes_by_ranks test a b) in
-    let same : (d : ℕ) → (is_unjudged (mark_at marks d) && truth d) ≡ (is_unjudged (mark_at marks d) && test (lookup es d) (lookup fs d)) =
-    λ d. open_picked (test (rank a d) (rank b d)) (mark_at marks d) ∙ sym (ap (λ (r : Option ℕ). is_unjudged (mark_at marks d) && test r (lookup fs d)) (ea d) ∙ ap (λ (r : Option ℕ). is_unjudged (mark_at marks d) && test (rank a d) r) (eb d)) in
-    placed_are marks (lookup es) test absent (λ d. is_unjudged (mark_at marks d) && truth d) n 0 fs right.ascending
-    (weaker_places (λ p. p.doc < n) (λ p. 0 ≤ p.doc) (λ p h. omega arith) fs right.within) (weaker_places (λ p. p.doc < n) (λ p. p.doc < 0 + n) (λ p h. omega (arith, h)) fs right.within) (λ d from to. same d)
+    let same : (d : ℕ) → d < n → (is_unjudged (mark_at marks d) && truth d) ≡ (is_unjudged (mark_at marks d) && test (look d) (lookup fs d)) =
+    λ d lt. open_picked (test (rank a d) (rank b d)) (mark_at marks d) ∙ sym (ap (λ (r : Option ℕ). is_unjudged (mark_at marks d) && test r (lookup fs d)) (ea d lt) ∙ ap (λ (r : Option ℕ). is_unjudged (mark_at marks d) && test (rank a d) r) (eb d)) in
+    placed_are marks look test absent (λ d. is_unjudged (mark_at marks d) && truth d) n 0 fs right.ascending
+    (weaker_places (λ p. p.doc < n) (λ p. 0 ≤ p.doc) (λ p h. omega arith) fs right.within) (weaker_places (λ p. p.doc < n) (λ p. p.doc < 0 + n) (λ p h. omega (arith, h)) fs right.within) (λ d from to. same d (omega (arith, to)))
+
+-- and by the places of the first
+pub ranked_listed : (marks : List Mark) (test : Option ℕ → Option ℕ → Bool) (absent : (x : Option ℕ) → test x None ≡ false) (a b : List ℕ) (es fs : List Placed) → ((d : ℕ) → lookup es d ≡ rank a d) → ((d : ℕ) → lookup fs d ≡ rank b d) → IsLeft (length marks) fs →
+    added_documents marks (with_picked marks (passes_by_ranks test a b)) ≡ placed_documents marks (λ (p : Placed). test (lookup es p.doc) (Some p.rank)) fs
+ranked_listed marks test absent a b es fs ea eb right = looked_listed marks test absent a b (lookup es) fs (λ d lt. ea d) eb right
 
 -- ---- the walk over two lists
 -- what is left of the first list has the ranks of the documents that are left of the second

@@ -1,8 +1,7 @@
 -- Counts of documents that grow by those of lists.
-use Rattle.std.proofs.Common.{◌≡◌, ◌≢◌, ℕ, zero, suc, ◌+◌, ◌-◌, ◌*◌, ◌<◌, ◌≤◌, nat_eq, nat_le, nat_lt, min, ◌&&◌, Bool, true, false, cond, List, [], ◌∷◌, ◌++◌, length, get_or, set, slice_index_or, take, drop, Option, Some, None, refl, not, ap, ap₂, sym, ◌∙◌, arith}
+use Rattle.std.proofs.Common.{◌≡◌, ◌≢◌, ℕ, zero, suc, ◌+◌, ◌-◌, ◌*◌, ◌<◌, ◌≤◌, nat_eq, nat_lt, ◌&&◌, Bool, true, false, cond, List, [], ◌∷◌, ◌++◌, length, get_or, set, slice_index_or, take, drop, Some, refl, not, ap, ap₂, sym, ◌∙◌, arith}
 use Rattle.std.specs.Prelude.{filter}
 use Rattle.std.specs.List.{AllByRecursion, range_with_len}
-use Rattle.std.proofs.Math.Bool.{and-false}
 use Rattle.std.proofs.Math.Seq.{drop-cons}
 use Rattle.std.proofs.lemmas.Bool.Decides.{nat_tests}
 use Rattle.std.proofs.lemmas.Grind.{get_or-set_at}
@@ -12,19 +11,16 @@ use Rattle.std.proofs.lemmas.List.Sums.{count_by-le-length, length-filter, sum_b
 use Rattle.desk_model.specs.Completion.{with_picked}
 use Rattle.desk_model.specs.Limits.{RANK_LIMIT}
 use Rattle.desk_model.specs.Mark.{is_unjudged, mark_at}
-use Rattle.desk_model.specs.Placed.{IsAscending}
 use Rattle.desk_model.specs.declared.placed.Placed.{Placed}
 use Rattle.desk_model.specs.declared.types.Mark.{Mark}
-use Rattle.desk_model.proofs.Counts.{one_if}
 use Rattle.measure_laws.specs.Ranks.{IsRankWithin}
 use Rattle.measure_laws.specs.Prefixes.{only_second}
 use Rattle.topic_counts.proofs.Prefixes.{rank_by}
-use Rattle.measure_core.specs.Lists.{added_documents, own_documents, passes_by_ranks, placed_documents, times}
+use Rattle.measure_core.specs.Lists.{added_documents, own_documents, passes_by_ranks, placed_documents, times, AreCounted, HaveRoomFor}
 use Rattle.measure_core.specs.OneSide.{is_by}
-use Rattle.measure_core.specs.Places.{rank_unless_after}
 use Rattle.measure_core.specs.Worths.{rank_or_none}
 use Rattle.measure_core.proofs.Pushing.{picked_same}
-use Rattle.measure_core.proofs.Placed.{listed_from, placed_step, ranked_step, ranked_whole, rest_step, AreRanked}
+use Rattle.measure_core.proofs.Placed.{placed_step}
 
 -- ---- how often a document stands in lists
 pub times-cons : (x : ℕ) (docs : List ℕ) (d : ℕ) → times (x ∷ docs) d ≡ cond (nat_eq x d) 1 0 + times docs d
@@ -155,78 +151,12 @@ pub known_rank : (r : ℕ) → IsRankWithin RANK_LIMIT (Some r) → rank_or_none
 known_rank zero h = absurd (omega (arith, h.0))
 known_rank (suc r) h = refl
 
--- ---- the walk over two lists
-pub least_is : (m n : ℕ) → nat_le n m ≡ true → min m n ≡ n
-least_is m n h = grind (arith, nat_tests)
+-- ---- one list counted after another
+pub room_of_first : (counts xs ys : List ℕ) → HaveRoomFor counts (xs ++ ys) → HaveRoomFor counts xs
+room_of_first counts xs ys room = λ doc lt. omega (arith, room doc lt, times-append xs ys doc)
 
-pub least_first : (m n : ℕ) → nat_le m n ≡ true → min m n ≡ m
-least_first m n h = grind (arith, nat_tests)
+pub room_of_second : (before after xs ys : List ℕ) → length after ≡ length before → HaveRoomFor before (xs ++ ys) → AreCounted before xs after → HaveRoomFor after ys
+room_of_second before after xs ys size room counted = λ doc lt. let within : doc < length before = omega (arith, lt, size) in omega (arith, room doc within, counted doc within, times-append xs ys doc)
 
-module _ (marks : List Mark) (test : Option ℕ → Option ℕ → Bool) (es fs : List Placed) where
-  -- so many documents are left to be counted, and those that are counted and left are all
-  pub record IsTallied (most i j left : ℕ) : Type 0 where
-    pub ranked : AreRanked es (drop i es) (drop j fs)
-    pub size : left + length (take most (listed_from marks test es fs 0)) ≡ most + length (take left (listed_from marks test es fs j))
-
-  pub tally_start : (most : ℕ) → IsTallied most 0 0 most
-  tally_start most = record { ranked = ranked_whole es fs; size = refl }
-
-  pub tally_next : (most i j p q left fewer doc : ℕ) (o : Placed) (b : Bool) → i < length es → j < length fs → IsAscending fs → IsTallied most i j left → let x = slice_index_or es i o in let y = slice_index_or fs j o in
-      p ≡ i + one_if (nat_le x.doc y.doc) → q ≡ j + one_if (nat_le y.doc x.doc) → fewer + cond b 1 0 ≡ left →
-      take left (listed_from marks test es fs j) ≡ cond b (doc ∷ take fewer (listed_from marks test es fs q)) (take fewer (listed_from marks test es fs q)) → IsTallied most p q fewer
-  tally_next most i j p q left fewer doc o b in_first in_second also_up h e f few step = record {
-    ranked = ranked_step es fs i j p q o in_first in_second also_up h.ranked e f;
-    size = omega (arith, h.size, few, length_step (take left (listed_from marks test es fs j)) (take fewer (listed_from marks test es fs q)) doc b step);
-  }
-
-  module _ (absent : (x : Option ℕ) → test x None ≡ false) where
-    -- the document that two walks are at is listed of the second list exactly where its ranks pass
-    pub seen : (x y : Placed) (doc : ℕ) → (nat_le y.doc x.doc ≡ true → doc ≡ y.doc) →
-        (is_unjudged (mark_at marks doc) && test (rank_unless_after x y) (rank_unless_after y x)) ≡ (nat_le y.doc x.doc && (is_unjudged (mark_at marks y.doc) && test (rank_unless_after x y) (Some y.rank)))
-    seen x y doc is = at (nat_le y.doc x.doc) refl
-      where
-        at : (b : Bool) → nat_le y.doc x.doc ≡ b → (is_unjudged (mark_at marks doc) && test (rank_unless_after x y) (rank_unless_after y x)) ≡ (nat_le y.doc x.doc && (is_unjudged (mark_at marks y.doc) && test (rank_unless_after x y) (Some y.rank)))
-        at true e =
-            ap (λ d. is_unjudged (mark_at marks d) && test (rank_unless_after x y) (rank_unless_after y x)) (is e)
-            ∙ ap (λ (b : Bool). is_unjudged (mark_at marks y.doc) && test (rank_unless_after x y) (cond b (Some y.rank) None)) e
-            ∙ sym (ap (λ b. b && (is_unjudged (mark_at marks y.doc) && test (rank_unless_after x y) (Some y.rank))) e)
-        at false e =
-            ap (λ (b : Bool). is_unjudged (mark_at marks doc) && test (rank_unless_after x y) (cond b (Some y.rank) None)) e
-            ∙ ap (λ b. is_unjudged (mark_at marks doc) && b) (absent (rank_unless_after x y)) ∙ and-false (is_unjudged (mark_at marks doc))
-            ∙ sym (ap (λ b. b && (is_unjudged (mark_at marks y.doc) && test (rank_unless_after x y) (Some y.rank))) e)
-
-    -- the document that a walk is at is the first of those that are left, where it is counted
-    pub tally_step : (i j q left fewer doc : ℕ) (o : Placed) (b : Bool) → i < length es → j < length fs → IsAscending es → AreRanked es (drop i es) (drop j fs) → let x = slice_index_or es i o in let y = slice_index_or fs j o in
-        q ≡ j + one_if (nat_le y.doc x.doc) → (nat_le y.doc x.doc ≡ true → doc ≡ y.doc) → b ≡ ((is_unjudged (mark_at marks doc) && test (rank_unless_after x y) (rank_unless_after y x)) && nat_lt 0 left) → fewer + cond b 1 0 ≡ left →
-        take left (listed_from marks test es fs j) ≡ cond b (doc ∷ take fewer (listed_from marks test es fs q)) (take fewer (listed_from marks test es fs q))
-    tally_step i j q left fewer doc o b in_first in_second up ranked f is listed few =
-        let x = slice_index_or es i o in
-        let y = slice_index_or fs j o in
-        let t = nat_le y.doc x.doc && (is_unjudged (mark_at marks y.doc) && test (rank_unless_after x y) (Some y.rank)) in
-        let all = listed_from marks test es fs in
-        let told : b ≡ (t && nat_lt 0 left) = listed ∙ ap (λ c. c && nat_lt 0 left) (seen x y doc is) in
-        let one : all j ≡ cond t (doc ∷ all q) (all q) = rest_step marks test es fs i j q o t in_first in_second up ranked f refl ∙ named (nat_le y.doc x.doc) refl is in
-        take_step (all j) (all q) doc left fewer t one (ap (λ (c : Bool). fewer + cond c 1 0) (sym told) ∙ few) ∙ ap (λ (c : Bool). cond c (doc ∷ take fewer (all q)) (take fewer (all q))) (sym told)
-      where
-        named : (c : Bool) → nat_le (slice_index_or fs j o).doc (slice_index_or es i o).doc ≡ c → (c ≡ true → doc ≡ (slice_index_or fs j o).doc) → let y = slice_index_or fs j o in
-            let t = c && (is_unjudged (mark_at marks y.doc) && test (rank_unless_after (slice_index_or es i o) y) (Some y.rank)) in
-            cond t (y.doc ∷ listed_from marks test es fs q) (listed_from marks test es fs q) ≡ cond t (doc ∷ listed_from marks test es fs q) (listed_from marks test es fs q)
-        named true e same =
-            let y = slice_index_or fs j o in
-            ap (λ d. cond (is_unjudged (mark_at marks y.doc) && test (rank_unless_after (slice_index_or es i o) y) (Some y.rank)) (d ∷ listed_from marks test es fs q) (listed_from marks test es fs q)) (sym (same refl))
-        named false e same = refl
-
-    -- so it is where its ranks are those of the two places
-    pub side_step : (i j q left more doc r s : ℕ) (o : Placed) → i < length es → j < length fs → IsAscending es → AreRanked es (drop i es) (drop j fs) → let x = slice_index_or es i o in let y = slice_index_or fs j o in
-        q ≡ j + one_if (nat_le y.doc x.doc) → (nat_le y.doc x.doc ≡ true → doc ≡ y.doc) → rank_or_none r ≡ rank_unless_after x y → rank_or_none s ≡ rank_unless_after y x →
-        let b = (is_unjudged (mark_at marks doc) && test (rank_or_none r) (rank_or_none s)) && nat_lt 0 left in more ≡ cond b 1 0 →
-        ((left - more) + cond b 1 0 ≡ left) × (take left (listed_from marks test es fs j) ≡ cond b (doc ∷ take (left - more) (listed_from marks test es fs q)) (take (left - more) (listed_from marks test es fs q)))
-    side_step i j q left more doc r s o in_first in_second up ranked f is er es_ m =
-        let x = slice_index_or es i o in
-        let y = slice_index_or fs j o in
-        let u = is_unjudged (mark_at marks doc) in
-        let t = u && test (rank_or_none r) (rank_or_none s) in
-        let b = t && nat_lt 0 left in
-        let told : b ≡ ((u && test (rank_unless_after x y) (rank_unless_after y x)) && nat_lt 0 left) = ap (λ (k : Option ℕ). (u && test k (rank_or_none s)) && nat_lt 0 left) er ∙ ap (λ (k : Option ℕ). (u && test (rank_unless_after x y) k) && nat_lt 0 left) es_ in
-        let few = few_left t b left more refl m in
-        (few, tally_step i j q left (left - more) doc o b in_first in_second up ranked f is told few)
+pub counted_after : (before between after xs ys : List ℕ) → length between ≡ length before → AreCounted before xs between → AreCounted between ys after → AreCounted before (xs ++ ys) after
+counted_after before between after xs ys size first second = λ doc lt. omega (arith, first doc lt, second doc (omega (arith, lt, size)), times-append xs ys doc)

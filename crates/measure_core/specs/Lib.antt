@@ -10,3 +10,4 @@ pub mod Worths
 pub mod Told
 pub mod Bits
 pub mod Ranks
+pub mod Rooms

@@ -11,11 +11,13 @@ ghost use Rattle.topic_counts.specs.declared.span.Span.{Span as S};
 ghost use Rattle.measure_core.specs.Laws.{AreMet, IsMet, AreValues, CellIsModest, MeetsLaws};
 ghost use Rattle.measure_core.specs.Lists.{added_documents, case_documents, least_documents, AreCounted, HaveRoomFor};
 ghost use Rattle.measure_core.specs.Pairs.{AreAllMet, pair_cells, run_numbers, runs_on};
+ghost use Rattle.measure_core.specs.Rooms.{IsRoomFor};
 ghost use Rattle.measure_core.specs.Shifts.{HaveRoom, AreShifted};
 
 use crate::cell::Cell;
 use crate::counting::{ListSizes, count_list};
 use crate::kept::KeptCell;
+use crate::list_room::ListRoom;
 use crate::lists::push_added;
 use crate::rankings::TopicRankings;
 use crate::room::CellRoom;
@@ -148,8 +150,8 @@ pub trait Measure: Drop {
     }
 
     /// Counts once more each document that `push_least_docs` lists of a and b, and each one that it lists of b and a,
-    /// and answers how many these are. Counts go by the number of the document. What `docs` holds before and after is
-    /// anything.
+    /// and answers how many these are. Counts go by the number of the document. The room has a as the first run, before
+    /// and after.
     ///
     /// This body makes both lists; a measure may have a faster one.
     ///
@@ -161,17 +163,19 @@ pub trait Measure: Drop {
         a: &Ranking,
         b: &Ranking,
         marks: &[Mark],
-        docs: &mut Vec<u32>,
+        room: &mut ListRoom,
         counts: &mut [u32],
     ) -> Result<ListSizes, Memory>
         requires met { AreMet marks.now a.now b.now }
+        requires kept { IsRoomFor marks.now a.now room.old }
         requires size { length counts.old ≡ length marks.now }
         requires room { HaveRoomFor counts.old (case_documents (measured self.now) marks.now a.now b.now) }
+        ensures kept { OnOk result (IsRoomFor marks.now a.now room.new) }
         ensures least { IfOk result (λ sizes. sizes.least ≡ length (least_documents (measured self.now) marks.now a.now b.now)) }
         ensures most { IfOk result (λ sizes. sizes.most ≡ length (least_documents (measured self.now) marks.now b.now a.now)) }
         ensures counts { OnOk result (AreCounted counts.old (case_documents (measured self.now) marks.now a.now b.now) counts.new) }
     {
-        self.count_pushed(alloc, a, b, marks, docs, counts)
+        self.count_pushed(alloc, a, b, marks, &mut room.docs, counts)
     }
 
     /// How much a document tells of the difference of a and b.

@@ -8,8 +8,9 @@ ghost use Rattle.desk_model.specs.Ranking.{is_in};
 ghost use Rattle.measure_laws.specs.Prefixes.{only_second};
 ghost use Rattle.measure_core.specs.Laws.{AreMet};
 ghost use Rattle.measure_core.specs.Lists.{added_documents, own_documents, AreCounted, HaveRoomFor};
+ghost use Rattle.measure_core.specs.Ranks.{AreRanksIn};
 
-use crate::counting::{ListSizes, count_by_ranks};
+use crate::counting::count_by_ranks;
 use crate::rank_lists::{RankTest, push_by_ranks};
 use desk_model::{Mark, Memory, Ranking};
 use topic_counts::counts::{is_among_first, prefix};
@@ -96,26 +97,23 @@ pub fn push_own(
     Ok(())
 }
 
-/// Counts the first unjudged documents that b alone has among the first `low` of both, and those that a alone has among
-/// the first `high`, so many of each at most, by one walk over both. It answers how many of each these are, and takes no
-/// memory.
+/// Counts the first unjudged documents that b has among its first k and a has not, so many at most, from the rank of
+/// each document in a. It answers how many they are, and takes no memory.
 pub fn count_own(
-    low: u32,
-    high: u32,
-    most: ListSizes,
+    k: u32,
+    most: u32,
+    ranks: &[u32],
     a: &Ranking,
     b: &Ranking,
     marks: &[Mark],
     counts: &mut [u32],
-) -> ListSizes
+) -> u32
     requires met { AreMet marks.now a.now b.now }
+    requires ranks { AreRanksIn marks.now a.now ranks.now }
     requires size { length counts.old ≡ length marks.now }
-    requires room { HaveRoomFor counts.old (take most.least (own_documents low marks.now a.now b.now) ++ take most.most (own_documents high marks.now b.now a.now)) }
-    ensures least { result.least ≡ length (take most.least (own_documents low marks.now a.now b.now)) }
-    ensures most { result.most ≡ length (take most.most (own_documents high marks.now b.now a.now)) }
-    ensures counts { AreCounted counts.old (take most.least (own_documents low marks.now a.now b.now) ++ take most.most (own_documents high marks.now b.now a.now)) counts.new }
+    requires room { HaveRoomFor counts.old (take most (own_documents k marks.now a.now b.now)) }
+    ensures count { result ≡ length (take most (own_documents k marks.now a.now b.now)) }
+    ensures counts { AreCounted counts.old (take most (own_documents k marks.now a.now b.now)) counts.new }
 {
-    let low = SecondAlone { k: low };
-    let high = SecondAlone { k: high };
-    count_by_ranks(&low, &high, most, a, b, marks, counts)
+    count_by_ranks(&SecondAlone { k }, most, ranks, a, b, marks, counts)
 }

@@ -7,7 +7,7 @@ ghost use Rattle.measure_core.specs.Laws.{AreMet};
 use any_measure::{AnyMeasure, Common};
 use desk_model::{Mark, MeasureName, Memory, Ranking};
 use every_completion::is_ranking;
-use measure_core::{Cell, ListSizes, Maker, Measure, Steps};
+use measure_core::{Cell, ListRoom, ListSizes, Maker, Measure, Steps};
 use std::alloc::Global;
 use std::marker::Brand;
 use std::process::Abort;
@@ -69,9 +69,10 @@ fn answers_of(
 {
     let mut least_docs = Vec::new(alloc);
     measure.push_least_docs(alloc, first, second, marks, &mut least_docs)?;
-    let mut docs = Vec::new(alloc);
+    let mut room = ListRoom::new(alloc, marks)?;
+    room.set_first(first);
     let mut counts = vec![in alloc; 0; marks.len()]?;
-    let sizes = measure.count_lists(alloc, first, second, marks, &mut docs, &mut counts)?;
+    let sizes = measure.count_lists(alloc, first, second, marks, &mut room, &mut counts)?;
     Ok(Answers {
         unit: measure.unit(),
         cell: cell_once::<Brand>(measure, first, second, marks, Blank::new(1)),

@@ -17,8 +17,8 @@ use crate::lists::SecondBefore;
 use crate::weights::{RankWeights, high_weights, low_weights};
 use desk_model::{Mark, MeasureName, Memory, Ranking};
 use measure_core::{
-    Cell, CellRoom, KeptCell, KeptWeights, ListSizes, Measure, Picks, Shift, Steps, TopicRankings,
-    case_values, count_by_ranks, push_by_ranks, ranked_cells, shift_by_ranks,
+    Cell, CellRoom, KeptCell, KeptWeights, ListRoom, ListSizes, Measure, Picks, Shift, Steps,
+    TopicRankings, case_values, count_by_ranks, push_by_ranks, ranked_cells, shift_by_ranks,
 };
 use std::alloc::Global;
 use std::marker::Model;
@@ -282,12 +282,14 @@ impl Measure for Rbp {
         a: &Ranking,
         b: &Ranking,
         marks: &[Mark],
-        _docs: &mut Vec<u32>,
+        room: &mut ListRoom,
         counts: &mut [u32],
     ) -> Result<ListSizes, Memory> {
-        let before = SecondBefore;
-        let all = ListSizes::all(marks);
-        Ok(count_by_ranks(&before, &before, all, a, b, marks, counts))
+        room.set_second(b);
+        let all = marks.len() as u32;
+        let least = count_by_ranks(&SecondBefore, all, &room.first, a, b, marks, counts);
+        let most = count_by_ranks(&SecondBefore, all, &room.second, b, a, marks, counts);
+        Ok(ListSizes { least, most })
     }
 
     fn weight(&self, a: &Ranking, b: &Ranking, _marks: &[Mark], doc: u32) -> u128 {

@@ -14,13 +14,16 @@ ghost use Rattle.measure_core.specs.Lists.{added_documents, case_documents, leas
 ghost use Rattle.recall.specs.Led.{led_documents};
 ghost use Rattle.measure_core.specs.Made.{IsMadeFor};
 ghost use Rattle.measure_core.specs.Numbers.{exact_least};
+ghost use Rattle.measure_core.specs.Ranks.{AreRanksIn};
+ghost use Rattle.measure_core.specs.Rooms.{IsRoomFor};
 ghost use Rattle.recall.specs.LeastCase.{AreCounts, least_relevant};
 
 use desk_model::{Mark, MeasureName, Memory, Ranking};
-use marked_lists::{count_own_marked, push_own_marked};
+use marked_lists::push_own_marked;
 use measure_core::{
-    Cell, CellRoom, KeptCell, LOOKED_UP, ListSizes, Measure, More, OwnMeasure, Picks, Shift, Steps,
-    TopicRankings, case_values, count_neutral, own_cells, push_own_and_more, shift_one_side,
+    Cell, CellRoom, KeptCell, LOOKED_UP, ListRoom, ListSizes, Measure, More, OwnMeasure, Picks,
+    RankTables, Shift, Steps, TopicRankings, case_values, count_neutral, count_own, own_cells,
+    push_own_and_more, shift_one_side,
 };
 use std::alloc::Global;
 use std::marker::Model;
@@ -192,43 +195,84 @@ fn push_least(
 
 /// Counts the unjudged documents that the least case makes relevant beside the second run's own ones, `own` in number:
 /// those that both or neither have among their first k, where the first run leads. It answers how many they are.
-fn count_led(k: u32, own: u32, a: &Ranking, b: &Ranking, marks: &[Mark], counts: &mut [u32]) -> u32
+fn count_led(
+    k: u32,
+    own: u32,
+    a: &Ranking,
+    b: &Ranking,
+    ranks: RankTables<'_>,
+    marks: &[Mark],
+    counts: &mut [u32],
+) -> u32
     requires met { AreMet marks.now a.now b.now }
     requires own { own ≡ length (own_documents k marks.now a.now b.now) }
+    requires first { AreRanksIn marks.now a.now ranks.first.now }
+    requires second { AreRanksIn marks.now b.now ranks.second.now }
     requires size { length counts.old ≡ length marks.now }
     requires room { HaveRoomFor counts.old (led_documents k marks.now a.now b.now) }
     ensures count { result ≡ length (led_documents k marks.now a.now b.now) }
     ensures counts { AreCounted counts.old (led_documents k marks.now a.now b.now) counts.new }
 {
     if leads(k, own as usize, a, b, marks) {
-        count_neutral(k, marks.len() as u32, a, b, marks, counts)
+        count_neutral(k, marks.len() as u32, a, b, ranks, marks, counts)
     } else {
         0
     }
 }
 
+/// Counts the unjudged documents that the least case of two runs makes relevant, and answers how many they are.
+fn count_case(
+    k: u32,
+    a: &Ranking,
+    b: &Ranking,
+    ranks: RankTables<'_>,
+    marks: &[Mark],
+    counts: &mut [u32],
+) -> u32
+    requires met { AreMet marks.now a.now b.now }
+    requires first { AreRanksIn marks.now a.now ranks.first.now }
+    requires second { AreRanksIn marks.now b.now ranks.second.now }
+    requires size { length counts.old ≡ length marks.now }
+    requires room { HaveRoomFor counts.old (least_documents (R k) marks.now a.now b.now) }
+    ensures count { result ≡ length (least_documents (R k) marks.now a.now b.now) }
+    ensures counts { AreCounted counts.old (least_documents (R k) marks.now a.now b.now) counts.new }
+{
+    let all = marks.len() as u32;
+    let own = count_own(k, all, ranks.first, a, b, marks, counts);
+    own + count_led(k, own, a, b, ranks, marks, counts)
+}
+
 /// Counts the unjudged documents that the least cases of two runs and of the swapped runs make relevant, and answers how
 /// many these are.
 fn count_cases(
-    alloc: Global,
     k: u32,
     a: &Ranking,
     b: &Ranking,
     marks: &[Mark],
+    room: &mut ListRoom,
     counts: &mut [u32],
-) -> Result<ListSizes, Memory>
+) -> ListSizes
     requires met { AreMet marks.now a.now b.now }
+    requires kept { IsRoomFor marks.now a.now room.old }
     requires size { length counts.old ≡ length marks.now }
     requires room { HaveRoomFor counts.old (case_documents (R k) marks.now a.now b.now) }
-    ensures least { IfOk result (λ sizes. sizes.least ≡ length (least_documents (R k) marks.now a.now b.now)) }
-    ensures most { IfOk result (λ sizes. sizes.most ≡ length (least_documents (R k) marks.now b.now a.now)) }
-    ensures counts { OnOk result (AreCounted counts.old (case_documents (R k) marks.now a.now b.now) counts.new) }
+    ensures kept { IsRoomFor marks.now a.now room.new }
+    ensures least { result.least ≡ length (least_documents (R k) marks.now a.now b.now) }
+    ensures most { result.most ≡ length (least_documents (R k) marks.now b.now a.now) }
+    ensures counts { AreCounted counts.old (case_documents (R k) marks.now a.now b.now) counts.new }
 {
-    let own = count_own_marked(alloc, k, k, ListSizes::all(marks), a, b, marks, counts)?;
-    Ok(ListSizes {
-        least: own.least + count_led(k, own.least, a, b, marks, counts),
-        most: own.most + count_led(k, own.most, b, a, marks, counts),
-    })
+    room.set_second(b);
+    let ranks = RankTables {
+        first: &room.first,
+        second: &room.second,
+    };
+    let least = count_case(k, a, b, ranks, marks, counts);
+    let swapped = RankTables {
+        first: &room.second,
+        second: &room.first,
+    };
+    let most = count_case(k, b, a, swapped, marks, counts);
+    ListSizes { least, most }
 }
 
 impl Measure for Recall {
@@ -312,13 +356,13 @@ impl Measure for Recall {
         a: &Ranking,
         b: &Ranking,
         marks: &[Mark],
-        docs: &mut Vec<u32>,
+        room: &mut ListRoom,
         counts: &mut [u32],
     ) -> Result<ListSizes, Memory> {
         if self.k <= LOOKED_UP {
-            return self.count_pushed(alloc, a, b, marks, docs, counts);
+            return self.count_pushed(alloc, a, b, marks, &mut room.docs, counts);
         }
-        count_cases(alloc, self.k, a, b, marks, counts)
+        Ok(count_cases(self.k, a, b, marks, room, counts))
     }
 
     fn weight(&self, a: &Ranking, b: &Ranking, _marks: &[Mark], doc: u32) -> u128 {

@@ -1,15 +1,16 @@
 // Lists of the unjudged documents that the greedy choice makes relevant, and counts of these documents.
-ghost use Rattle.std.specs.Prelude.{◌≡◌, ◌≤◌, ◌++◌, length, IfOk, OnOk};
+ghost use Rattle.std.specs.Prelude.{◌≡◌, ◌≤◌, ◌++◌, length, OnOk};
 ghost use Rattle.measure_laws.specs.RprecCase.{greedy_truth};
 ghost use Rattle.measure_core.specs.Laws.{AreMet};
 ghost use Rattle.measure_core.specs.Lists.{added_documents, AreCounted, HaveRoomFor};
+ghost use Rattle.measure_core.specs.Ranks.{AreRanksIn};
 ghost use Rattle.rprec.specs.Greedy.{AreTopic};
 ghost use Rattle.rprec.specs.Picks.{others};
 
 use crate::values::wanted_for;
 use desk_model::{Mark, Memory, Ranking};
-use marked_lists::{count_own_marked, push_own_marked};
-use measure_core::{ListSizes, More, count_neutral, count_own, push_own_and_more};
+use marked_lists::push_own_marked;
+use measure_core::{More, RankTables, count_neutral, count_own, push_own_and_more};
 use std::alloc::Global;
 use topic_counts::counts::Counts;
 
@@ -52,61 +53,47 @@ fn count_others(
     wanted: u32,
     a: &Ranking,
     b: &Ranking,
+    ranks: RankTables<'_>,
     marks: &[Mark],
     counts: &mut [u32],
 ) -> u32
     requires met { AreMet marks.now a.now b.now }
+    requires first { AreRanksIn marks.now a.now ranks.first.now }
+    requires second { AreRanksIn marks.now b.now ranks.second.now }
     requires size { length counts.old ≡ length marks.now }
     requires room { HaveRoomFor counts.old (others k wanted marks.now a.now b.now) }
     ensures count { result ≡ length (others k wanted marks.now a.now b.now) }
     ensures counts { AreCounted counts.old (others k wanted marks.now a.now b.now) counts.new }
 {
-    let both = count_neutral(k, wanted, a, b, marks, counts);
+    let both = count_neutral(k, wanted, a, b, ranks, marks, counts);
     if both == wanted {
         return both;
     }
-    let first = ListSizes {
-        least: 0,
-        most: wanted - both,
-    };
-    both + count_own(k, k, first, a, b, marks, counts).most
+    both + count_own(k, wanted - both, ranks.second, b, a, marks, counts)
 }
 
-/// Counts the unjudged documents that the greedy choices of two runs and of the swapped runs make relevant, where the
-/// topic is to have so many relevant ones, and answers how many they are.
-///
-/// # Errors
-/// `Memory`: out of memory. It is then not known what is counted.
+/// Counts the unjudged documents that the greedy choice makes relevant where a topic is to have so many relevant ones,
+/// and answers how many they are.
 pub fn count_chosen(
-    alloc: Global,
-    relevant: ListSizes,
+    count: u32,
     a: &Ranking,
     b: &Ranking,
+    ranks: RankTables<'_>,
     all: Counts,
     marks: &[Mark],
     counts: &mut [u32],
-) -> Result<ListSizes, Memory>
+) -> u32
     requires met { AreMet marks.now a.now b.now }
+    requires first { AreRanksIn marks.now a.now ranks.first.now }
+    requires second { AreRanksIn marks.now b.now ranks.second.now }
     requires topic { AreTopic marks.now all }
-    requires least { all.relevant ≤ relevant.least }
-    requires most { all.relevant ≤ relevant.most }
+    requires low { all.relevant ≤ count }
     requires size { length counts.old ≡ length marks.now }
-    requires room { HaveRoomFor counts.old (added_documents marks.now (greedy_truth marks.now a.now b.now relevant.least) ++ added_documents marks.now (greedy_truth marks.now b.now a.now relevant.most)) }
-    ensures least { IfOk result (λ sizes. sizes.least ≡ length (added_documents marks.now (greedy_truth marks.now a.now b.now relevant.least))) }
-    ensures most { IfOk result (λ sizes. sizes.most ≡ length (added_documents marks.now (greedy_truth marks.now b.now a.now relevant.most))) }
-    ensures counts { OnOk result (AreCounted counts.old (added_documents marks.now (greedy_truth marks.now a.now b.now relevant.least) ++ added_documents marks.now (greedy_truth marks.now b.now a.now relevant.most)) counts.new) }
+    requires room { HaveRoomFor counts.old (added_documents marks.now (greedy_truth marks.now a.now b.now count)) }
+    ensures count { result ≡ length (added_documents marks.now (greedy_truth marks.now a.now b.now count)) }
+    ensures counts { AreCounted counts.old (added_documents marks.now (greedy_truth marks.now a.now b.now count)) counts.new }
 {
-    let low = relevant.least;
-    let high = relevant.most;
-    let wanted = ListSizes {
-        least: relevant.least - all.relevant,
-        most: relevant.most - all.relevant,
-    };
-    let own = count_own_marked(alloc, low, high, wanted, a, b, marks, counts)?;
-    let least = count_others(low, wanted.least - own.least, a, b, marks, counts);
-    let most = count_others(high, wanted.most - own.most, b, a, marks, counts);
-    Ok(ListSizes {
-        least: own.least + least,
-        most: own.most + most,
-    })
+    let chosen = count - all.relevant;
+    let own = count_own(count, chosen, ranks.first, a, b, marks, counts);
+    own + count_others(count, chosen - own, a, b, ranks, marks, counts)
 }

@@ -7,6 +7,8 @@ ghost use Rattle.measure_core.specs.Laws.{AreMet, AreValues};
 ghost use Rattle.measure_core.specs.Lists.{added_documents, AreCounted, HaveRoomFor};
 ghost use Rattle.measure_core.specs.Made.{IsMadeFor};
 ghost use Rattle.measure_core.specs.Numbers.{exact_least, exact_cell};
+ghost use Rattle.measure_core.specs.Ranks.{AreRanksIn};
+ghost use Rattle.measure_core.specs.Rooms.{IsRoomFor};
 ghost use Rattle.rprec.specs.Greedy.{AreTopic, IsLeast, IsSmallCandidate};
 ghost use Rattle.rprec.specs.Shared.{AreShared};
 ghost use Rattle.rprec.specs.Sums.{AreBlockSums};
@@ -19,8 +21,8 @@ use crate::sums::sums_of_run;
 use crate::values::{values, wanted_for};
 use desk_model::{Mark, MeasureName, Memory, Ranking};
 use measure_core::{
-    Cell, CellRoom, FirstRun, KeptCell, KeptPair, ListSizes, Measure, RankedMeasure, RunSums,
-    RunWeights, Shift, Steps, TopicRankings, ranked_cells, shift_one_side,
+    Cell, CellRoom, FirstRun, KeptCell, KeptPair, ListRoom, ListSizes, Measure, RankTables,
+    RankedMeasure, RunSums, RunWeights, Shift, Steps, TopicRankings, ranked_cells, shift_one_side,
 };
 use std::alloc::Global;
 use std::sync::ledger::Ledger;
@@ -142,9 +144,10 @@ fn push_least(
     push_chosen(alloc, count, a, b, all, marks, docs)
 }
 
-/// The least candidates of two runs and of the swapped runs.
-fn extremes_of(a: &Ranking, b: &Ranking, all: Counts, marks: &[Mark]) -> Extremes
+/// The least candidates of two runs and of the swapped runs, from the rank of each document in the first.
+fn extremes_of(a: &Ranking, b: &Ranking, ranks: &[u32], all: Counts, marks: &[Mark]) -> Extremes
     requires met { AreMet marks.now a.now b.now }
+    requires ranks { AreRanksIn marks.now a.now ranks.now }
     requires topic { AreTopic marks.now all }
     requires few { all.relevant + all.unjudged ≤ DOCUMENT_LIMIT }
     ensures least { result.least.count ≡ rprec_count marks.now a.now b.now }
@@ -152,7 +155,7 @@ fn extremes_of(a: &Ranking, b: &Ranking, all: Counts, marks: &[Mark]) -> Extreme
     ensures least_low { all.relevant ≤ result.least.count }
     ensures most_low { all.relevant ≤ result.most.count }
 {
-    let shared = Shared::between(a, b, marks);
+    let shared = Shared::by_ranks(a, b, ranks, marks);
     let first = sums_of_run(a.docs(), marks);
     let second = sums_of_run(b.docs(), marks);
     find_extremes(a.docs(), b.docs(), &first, &second, &shared, all, marks)
@@ -161,26 +164,35 @@ fn extremes_of(a: &Ranking, b: &Ranking, all: Counts, marks: &[Mark]) -> Extreme
 /// Counts the unjudged documents that the least cases of two runs and of the swapped runs make relevant, and answers how
 /// many these are.
 fn count_cases(
-    alloc: Global,
     a: &Ranking,
     b: &Ranking,
     marks: &[Mark],
+    room: &mut ListRoom,
     counts: &mut [u32],
-) -> Result<ListSizes, Memory>
+) -> ListSizes
     requires met { AreMet marks.now a.now b.now }
+    requires kept { IsRoomFor marks.now a.now room.old }
     requires size { length counts.old ≡ length marks.now }
     requires room { HaveRoomFor counts.old (added_documents marks.now (rprec_truth marks.now a.now b.now) ++ added_documents marks.now (rprec_truth marks.now b.now a.now)) }
-    ensures least { IfOk result (λ sizes. sizes.least ≡ length (added_documents marks.now (rprec_truth marks.now a.now b.now))) }
-    ensures most { IfOk result (λ sizes. sizes.most ≡ length (added_documents marks.now (rprec_truth marks.now b.now a.now))) }
-    ensures counts { OnOk result (AreCounted counts.old (added_documents marks.now (rprec_truth marks.now a.now b.now) ++ added_documents marks.now (rprec_truth marks.now b.now a.now)) counts.new) }
+    ensures kept { IsRoomFor marks.now a.now room.new }
+    ensures least { result.least ≡ length (added_documents marks.now (rprec_truth marks.now a.now b.now)) }
+    ensures most { result.most ≡ length (added_documents marks.now (rprec_truth marks.now b.now a.now)) }
+    ensures counts { AreCounted counts.old (added_documents marks.now (rprec_truth marks.now a.now b.now) ++ added_documents marks.now (rprec_truth marks.now b.now a.now)) counts.new }
 {
-    let all = topic(marks);
-    let extremes = extremes_of(a, b, all, marks);
-    let relevant = ListSizes {
-        least: extremes.least.count,
-        most: extremes.most.count,
+    let all = room.all;
+    let extremes = extremes_of(a, b, &room.first, all, marks);
+    room.set_second(b);
+    let ranks = RankTables {
+        first: &room.first,
+        second: &room.second,
     };
-    count_chosen(alloc, relevant, a, b, all, marks, counts)
+    let least = count_chosen(extremes.least.count, a, b, ranks, all, marks, counts);
+    let swapped = RankTables {
+        first: &room.second,
+        second: &room.first,
+    };
+    let most = count_chosen(extremes.most.count, b, a, swapped, all, marks, counts);
+    ListSizes { least, most }
 }
 
 impl RankedMeasure for Rprec {
@@ -293,14 +305,14 @@ impl Measure for Rprec {
 
     fn count_lists(
         &self,
-        alloc: Global,
+        _alloc: Global,
         a: &Ranking,
         b: &Ranking,
         marks: &[Mark],
-        _docs: &mut Vec<u32>,
+        room: &mut ListRoom,
         counts: &mut [u32],
     ) -> Result<ListSizes, Memory> {
-        count_cases(alloc, a, b, marks, counts)
+        Ok(count_cases(a, b, marks, room, counts))
     }
 
     fn weight(&self, a: &Ranking, b: &Ranking, marks: &[Mark], doc: u32) -> u128 {

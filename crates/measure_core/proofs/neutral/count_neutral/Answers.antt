@@ -9,10 +9,10 @@ use Rattle.measure_laws.specs.Prefixes.{neutral}
 use Rattle.measure_core.specs.Lists.{times}
 use Rattle.measure_core.specs.OneSide.{is_by}
 use Rattle.measure_core.specs.Worths.{rank_or_none}
-use Rattle.measure_core.proofs.InStep.{class_both, found_by, from_next, from_start, next_within}
+use Rattle.topic_counts.proofs.Prefixes.{rank_by}
+use Rattle.measure_core.proofs.InStep.{class_both}
 use Rattle.measure_core.proofs.Pushing.{left_from, left_none, left_step, left_whole, open_picked}
 use Rattle.measure_core.proofs.Tallying.{few_left, left_one, length_step, none_taken, one_counted, take_step}
-use Rattle.measure_core.proofs.Walking.{left_whole as places_whole}
 use Rattle.measure_core.proofs.neutral.count_neutral.Goals as goal
 use Rattle.measure_core.proofs.neutral.count_neutral.Goals.{then-loop-doc-test+else-left-gt0, else-loop-doc-test}
 
@@ -24,27 +24,17 @@ loop-doc-init c =
     let whole = ap (take c.args.most) (left_whole test n) in
     record {
       doc_in = omega arith;
-      first_in = omega arith;
-      second_in = omega arith;
-      first = from_start c.by_doc-first.result.now;
-      second = from_start c.by_doc-second.result.now;
       size = refl;
       left = sym (ap (λ (l : List ℕ). c.args.most + length l) whole);
       few = omega arith;
       counted = λ doc lt. ap (λ (l : List ℕ). get_or c.args.counts.now doc 0 + times l doc) whole;
     }
 
-pub rank_from-x-requires-clause-ranks : goal.rank_from-x-requires-clause-ranks
-rank_from-x-requires-clause-ranks c = let es = c.by_doc-first in (places_whole (length c.args.marks.now) c.args.a.now es.result.now c.requires.met.first es.ensures.ascending es.ensures.ranks).ranks
+pub bounds-ranks-doc : goal.bounds-ranks-doc
+bounds-ranks-doc c = omega (arith, c.loop-doc-test.true, c.requires.first.long)
 
-pub rank_from-x-requires-clause-from : goal.rank_from-x-requires-clause-from
-rank_from-x-requires-clause-from c = c.loop-doc.invariant.first.begins
-
-pub rank_from-y-requires-clause-ranks : goal.rank_from-y-requires-clause-ranks
-rank_from-y-requires-clause-ranks c = let fs = c.by_doc-second in (places_whole (length c.args.marks.now) c.args.b.now fs.result.now c.requires.met.second fs.ensures.ascending fs.ensures.ranks).ranks
-
-pub rank_from-y-requires-clause-from : goal.rank_from-y-requires-clause-from
-rank_from-y-requires-clause-from c = c.loop-doc.invariant.second.begins
+pub bounds-ranks-doc-in-loop-doc : goal.bounds-ranks-doc-in-loop-doc
+bounds-ranks-doc-in-loop-doc c = omega (arith, c.loop-doc-test.true, c.requires.second.long)
 
 some_left : (u : Bool) (left : ℕ) → 0 < left → u ≡ (u && nat_lt 0 left)
 some_left u left h =
@@ -58,15 +48,15 @@ overflow_add-counts c =
     let k = c.args.k in
     let a = c.args.a.now in
     let b = c.args.b.now in
-    let es = c.by_doc-first in
-    let fs = c.by_doc-second in
     let l = c.loop-doc in
     let doc = l.doc in
     let u = is_unjudged (mark_at marks doc) in
-    let i = is_by k (rank_or_none c.rank_from-x.result) in
-    let j = is_by k (rank_or_none c.rank_from-y.result) in
-    let in_first : i ≡ is_in (take k a) doc = found_by k c.rank_from-x.result doc l.i a es.result.now l.invariant.first c.rank_from-x.ensures es.ensures.ranks in
-    let in_second : j ≡ is_in (take k b) doc = found_by k c.rank_from-y.result doc l.j b fs.result.now l.invariant.second c.rank_from-y.ensures fs.ensures.ranks in
+    let x = rank_or_none (get_or c.args.ranks.first.now doc 0) in
+    let y = rank_or_none (get_or c.args.ranks.second.now doc 0) in
+    let i = is_by k x in
+    let j = is_by k y in
+    let in_first : i ≡ is_in (take k a) doc = ap (is_by k) (c.requires.first.each doc c.loop-doc-test.true) ∙ sym (rank_by k doc a) in
+    let in_second : j ≡ is_in (take k b) doc = ap (is_by k) (c.requires.second.each doc c.loop-doc-test.true) ∙ sym (rank_by k doc b) in
     let test : ℕ → Bool = λ d. is_unjudged (mark_at marks d) && with_picked marks (neutral k a b) d in
     let here : (u && (not (j && not i) && not (i && not j))) ≡ test doc = class_both i j (is_in (take k a) doc) (is_in (take k b) doc) u in_first in_second ∙ sym (open_picked (neutral k a b doc) (mark_at marks doc)) in
     let told = here ∙ some_left (test doc) l.left c.if-left-gt0.true in
@@ -88,15 +78,15 @@ loop-doc-preserved c =
     let k = c.args.k in
     let a = c.args.a.now in
     let b = c.args.b.now in
-    let es = c.by_doc-first in
-    let fs = c.by_doc-second in
     let l = c.loop-doc in
     let doc = l.doc in
     let u = is_unjudged (mark_at marks doc) in
-    let i = is_by k (rank_or_none c.rank_from-x.result) in
-    let j = is_by k (rank_or_none c.rank_from-y.result) in
-    let in_first : i ≡ is_in (take k a) doc = found_by k c.rank_from-x.result doc l.i a es.result.now l.invariant.first c.rank_from-x.ensures es.ensures.ranks in
-    let in_second : j ≡ is_in (take k b) doc = found_by k c.rank_from-y.result doc l.j b fs.result.now l.invariant.second c.rank_from-y.ensures fs.ensures.ranks in
+    let x = rank_or_none (get_or c.args.ranks.first.now doc 0) in
+    let y = rank_or_none (get_or c.args.ranks.second.now doc 0) in
+    let i = is_by k x in
+    let j = is_by k y in
+    let in_first : i ≡ is_in (take k a) doc = ap (is_by k) (c.requires.first.each doc c.loop-doc-test.true) ∙ sym (rank_by k doc a) in
+    let in_second : j ≡ is_in (take k b) doc = ap (is_by k) (c.requires.second.each doc c.loop-doc-test.true) ∙ sym (rank_by k doc b) in
     let test : ℕ → Bool = λ d. is_unjudged (mark_at marks d) && with_picked marks (neutral k a b) d in
     let here : (u && (not (j && not i) && not (i && not j))) ≡ test doc = class_both i j (is_in (take k a) doc) (is_in (take k b) doc) u in_first in_second ∙ sym (open_picked (neutral k a b doc) (mark_at marks doc)) in
     let told = here ∙ some_left (test doc) l.left c.if-left-gt0.true in
@@ -108,10 +98,6 @@ loop-doc-preserved c =
     let in_counts : doc < length l.counts = omega (arith, c.loop-doc-test.true, c.requires.size, l.invariant.size) in
     record {
       doc_in = omega (arith, c.loop-doc-test.true);
-      first_in = omega (arith, c.gone_on-i.ensures, next_within doc l.i c.rank_from-x.result es.result.now l.invariant.first_in c.rank_from-x.ensures);
-      second_in = omega (arith, c.gone_on-j.ensures, next_within doc l.j c.rank_from-y.result fs.result.now l.invariant.second_in c.rank_from-y.ensures);
-      first = from_next es.result.now doc l.i _ c.rank_from-x.result es.ensures.ascending l.invariant.first c.rank_from-x.ensures (ap (λ m. l.i + m) c.gone_on-i.ensures);
-      second = from_next fs.result.now doc l.j _ c.rank_from-y.result fs.ensures.ascending l.invariant.second c.rank_from-y.ensures (ap (λ m. l.j + m) c.gone_on-j.ensures);
       size = length-set l.counts doc _ ∙ l.invariant.size;
       left = omega (arith, l.invariant.left, few, length_step rest next doc (test doc && nat_lt 0 l.left) step);
       few = omega (arith, l.invariant.few);

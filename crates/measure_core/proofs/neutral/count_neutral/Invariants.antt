@@ -3,7 +3,6 @@ use Rattle.desk_model.specs.Completion.{with_picked}
 use Rattle.desk_model.specs.Mark.{is_unjudged, mark_at}
 use Rattle.measure_laws.specs.Prefixes.{neutral}
 use Rattle.measure_core.specs.Lists.{first_neutral, times}
-use Rattle.measure_core.proofs.InStep.{AreFrom}
 use Rattle.measure_core.proofs.Pushing.{left_from}
 use Rattle.measure_core.proofs.neutral.count_neutral.Given as goal
 
@@ -15,10 +14,6 @@ invariant-loop-doc l =
     let rest = take l.left (left_from test (length l.marks) l.doc) in
     record {
       doc_in : l.doc ≤ length l.marks;
-      first_in : l.i ≤ length l.first;
-      second_in : l.j ≤ length l.second;
-      first : AreFrom l.first l.doc l.i;
-      second : AreFrom l.second l.doc l.j;
       size : length l.counts ≡ length l.initial.counts;
       left : l.left + length whole ≡ l.fn.most + length rest;
       few : l.left ≤ l.fn.most;

@@ -1,127 +1,36 @@
-use Rattle.std.proofs.Common.{◌<◌, ℕ, List, length, take, ap, ◌∙◌, arith}
-use Rattle.desk_model.specs.Completion.{with_picked}
+use Rattle.std.proofs.Common.{sym, subst}
 use Rattle.desk_model.specs.declared.types.MeasureName.TheVariants.{Recall as R}
-use Rattle.measure_laws.specs.Prefixes.{only_second}
-use Rattle.measure_core.specs.Lists.{least_documents, own_documents, times}
-use Rattle.measure_core.proofs.Splitting.{all_taken}
-use Rattle.measure_core.proofs.Tallying.{times-append}
-use Rattle.recall.proofs.Led.{least_length, least_times}
+use Rattle.measure_core.specs.Lists.{least_documents}
+use Rattle.measure_core.specs.Ranks.{AreRanksIn}
+use Rattle.measure_core.proofs.Tallying.{counted_after, room_of_first, room_of_second}
 use Rattle.recall.proofs.recall.count_cases.Goals as goal
 
-pub count_own_marked-requires-clause-room : goal.count_own_marked-requires-clause-room
-count_own_marked-requires-clause-room c = λ d lt.
-    let marks = c.args.marks.now in
-    let k = c.args.k in
-    let a = c.args.a.now in
-    let b = c.args.b.now in
-    let all = c.all.result in
-    let low = all_taken marks (with_picked marks (only_second k a b)) all.least c.all.ensures.least in
-    let high = all_taken marks (with_picked marks (only_second k b a)) all.most c.all.ensures.most in
-    omega (
-      arith,
-      c.requires.room d lt,
-      times-append (least_documents (R k) marks a b) (least_documents (R k) marks b a) d,
-      times-append (take all.least (own_documents k marks a b)) (take all.most (own_documents k marks b a)) d,
-      ap (λ (l : List ℕ). times l d) low,
-      ap (λ (l : List ℕ). times l d) high,
-      least_times k marks a b d,
-      least_times k marks b a d,
-    )
+pub count_case-least-requires-clause-first : goal.count_case-least-requires-clause-first
+count_case-least-requires-clause-first c = subst (AreRanksIn c.args.marks.now c.args.a.now) (sym c.deref.ensures.value) (c.set_second.ensures.kept c.args.marks.now c.args.a.now c.requires.kept).ranks
 
-pub count_led-requires-clause-own : goal.count_led-requires-clause-own
-count_led-requires-clause-own c =
-    let marks = c.args.marks.now in
-    c.in_ok-own.ensures.least ∙ ap (λ (l : List ℕ). length l) (all_taken marks (with_picked marks (only_second c.args.k c.args.a.now c.args.b.now)) c.all.result.least c.all.ensures.least)
+pub count_case-least-requires-clause-second : goal.count_case-least-requires-clause-second
+count_case-least-requires-clause-second c = subst (AreRanksIn c.args.marks.now c.args.b.now) (sym c.deref-2.ensures.value) (c.set_second.ensures.ranks c.args.marks.now c.requires.kept.topic)
 
-pub count_led-requires-2-clause-own : goal.count_led-requires-2-clause-own
-count_led-requires-2-clause-own c =
-    let marks = c.args.marks.now in
-    c.in_ok-own.ensures.most ∙ ap (λ (l : List ℕ). length l) (all_taken marks (with_picked marks (only_second c.args.k c.args.b.now c.args.a.now)) c.all.result.most c.all.ensures.most)
+pub count_case-most-requires-clause-first : goal.count_case-most-requires-clause-first
+count_case-most-requires-clause-first c = subst (AreRanksIn c.args.marks.now c.args.b.now) (sym c.deref-3.ensures.value) (c.set_second.ensures.ranks c.args.marks.now c.requires.kept.topic)
 
-pub count_led-requires-clause-room : goal.count_led-requires-clause-room
-count_led-requires-clause-room c = λ d lt.
-    let marks = c.args.marks.now in
-    let k = c.args.k in
-    let a = c.args.a.now in
-    let b = c.args.b.now in
-    let all = c.all.result in
-    let low = all_taken marks (with_picked marks (only_second k a b)) all.least c.all.ensures.least in
-    let high = all_taken marks (with_picked marks (only_second k b a)) all.most c.all.ensures.most in
-    let before : d < length c.args.counts.now = omega (arith, lt, c.count_own_marked.auto.counts) in
-    omega (
-      arith,
-      c.requires.room d before,
-      c.in_ok-own.ensures.counts d before,
-      times-append (least_documents (R k) marks a b) (least_documents (R k) marks b a) d,
-      times-append (take all.least (own_documents k marks a b)) (take all.most (own_documents k marks b a)) d,
-      ap (λ (l : List ℕ). times l d) low,
-      ap (λ (l : List ℕ). times l d) high,
-      least_times k marks a b d,
-      least_times k marks b a d,
-    )
+pub count_case-most-requires-clause-second : goal.count_case-most-requires-clause-second
+count_case-most-requires-clause-second c = subst (AreRanksIn c.args.marks.now c.args.a.now) (sym c.deref-4.ensures.value) (c.set_second.ensures.kept c.args.marks.now c.args.a.now c.requires.kept).ranks
 
-pub count_led-requires-2-clause-room : goal.count_led-requires-2-clause-room
-count_led-requires-2-clause-room c = λ d lt.
-    let marks = c.args.marks.now in
-    let k = c.args.k in
-    let a = c.args.a.now in
-    let b = c.args.b.now in
-    let all = c.all.result in
-    let low = all_taken marks (with_picked marks (only_second k a b)) all.least c.all.ensures.least in
-    let high = all_taken marks (with_picked marks (only_second k b a)) all.most c.all.ensures.most in
-    let own : d < length c.count_own_marked.new.counts = omega (arith, lt, c.count_led.auto.counts) in
-    let before : d < length c.args.counts.now = omega (arith, own, c.count_own_marked.auto.counts) in
-    omega (
-      arith,
-      c.requires.room d before,
-      c.in_ok-own.ensures.counts d before,
-      c.count_led.ensures.counts d own,
-      times-append (least_documents (R k) marks a b) (least_documents (R k) marks b a) d,
-      times-append (take all.least (own_documents k marks a b)) (take all.most (own_documents k marks b a)) d,
-      ap (λ (l : List ℕ). times l d) low,
-      ap (λ (l : List ℕ). times l d) high,
-      least_times k marks a b d,
-      least_times k marks b a d,
-    )
+pub count_case-least-requires-clause-room : goal.count_case-least-requires-clause-room
+count_case-least-requires-clause-room c =
+    let least = least_documents (R c.args.k) c.args.marks.now in
+    room_of_first c.args.counts.now (least c.args.a.now c.args.b.now) (least c.args.b.now c.args.a.now) c.requires.room
 
-pub returns-clause-least : goal.returns-clause-least
-returns-clause-least c =
-    let marks = c.args.marks.now in
-    let k = c.args.k in
-    let a = c.args.a.now in
-    let b = c.args.b.now in
-    let own = all_taken marks (with_picked marks (only_second k a b)) c.all.result.least c.all.ensures.least in
-    omega (arith, c.in_ok-own.ensures.least, ap (λ (l : List ℕ). length l) own, c.count_led.ensures.count, least_length k marks a b)
+pub count_case-most-requires-clause-room : goal.count_case-most-requires-clause-room
+count_case-most-requires-clause-room c =
+    let least = least_documents (R c.args.k) c.args.marks.now in
+    room_of_second c.args.counts.now c.count_case-least.new.counts (least c.args.a.now c.args.b.now) (least c.args.b.now c.args.a.now) c.count_case-least.auto.counts c.requires.room c.count_case-least.ensures.counts
 
-pub returns-clause-most : goal.returns-clause-most
-returns-clause-most c =
-    let marks = c.args.marks.now in
-    let k = c.args.k in
-    let a = c.args.a.now in
-    let b = c.args.b.now in
-    let own = all_taken marks (with_picked marks (only_second k b a)) c.all.result.most c.all.ensures.most in
-    omega (arith, c.in_ok-own.ensures.most, ap (λ (l : List ℕ). length l) own, c.count_led-2.ensures.count, least_length k marks b a)
+pub returns-clause-kept : goal.returns-clause-kept
+returns-clause-kept c = c.set_second.ensures.kept c.args.marks.now c.args.a.now c.requires.kept
 
 pub returns-clause-counts : goal.returns-clause-counts
-returns-clause-counts c = λ d before.
-    let marks = c.args.marks.now in
-    let k = c.args.k in
-    let a = c.args.a.now in
-    let b = c.args.b.now in
-    let all = c.all.result in
-    let low = all_taken marks (with_picked marks (only_second k a b)) all.least c.all.ensures.least in
-    let high = all_taken marks (with_picked marks (only_second k b a)) all.most c.all.ensures.most in
-    let own : d < length c.count_own_marked.new.counts = omega (arith, before, c.count_own_marked.auto.counts) in
-    let led : d < length c.count_led.new.counts = omega (arith, own, c.count_led.auto.counts) in
-    omega (
-      arith,
-      c.in_ok-own.ensures.counts d before,
-      c.count_led.ensures.counts d own,
-      c.count_led-2.ensures.counts d led,
-      times-append (least_documents (R k) marks a b) (least_documents (R k) marks b a) d,
-      times-append (take all.least (own_documents k marks a b)) (take all.most (own_documents k marks b a)) d,
-      ap (λ (l : List ℕ). times l d) low,
-      ap (λ (l : List ℕ). times l d) high,
-      least_times k marks a b d,
-      least_times k marks b a d,
-    )
+returns-clause-counts c =
+    let least = least_documents (R c.args.k) c.args.marks.now in
+    counted_after c.args.counts.now c.count_case-least.new.counts c.count_case-most.new.counts (least c.args.a.now c.args.b.now) (least c.args.b.now c.args.a.now) c.count_case-least.auto.counts c.count_case-least.ensures.counts c.count_case-most.ensures.counts

@@ -1,27 +1,62 @@
-use Rattle.std.proofs.Common.{◌≡◌, ◌++◌, ℕ, List, length, ap₂, sym, subst}
-use Rattle.std.specs.Prelude.{IfOk, OnOk}
-use Rattle.measure_laws.specs.RprecCase.{greedy_truth}
+use Rattle.std.proofs.Common.{ℕ, length, ap, sym, subst, ◌∙◌}
+use Rattle.measure_laws.specs.RprecCase.{greedy_truth, rprec_truth}
 use Rattle.measure_core.specs.Lists.{added_documents, AreCounted, HaveRoomFor}
-use Rattle.measure_core.specs.declared.counting.ListSizes.{ListSizes}
+use Rattle.measure_core.specs.Ranks.{AreRanksIn}
+use Rattle.measure_core.proofs.Tallying.{counted_after, room_of_first, room_of_second}
+use Rattle.rprec.proofs.Ends.{topic_is}
 use Rattle.rprec.proofs.rprec.count_cases.Goals as goal
 
-pub count_chosen-requires-clause-room : goal.count_chosen-requires-clause-room
-count_chosen-requires-clause-room c =
+pub extremes_of-extremes-requires-clause-ranks : goal.extremes_of-extremes-requires-clause-ranks
+extremes_of-extremes-requires-clause-ranks c = subst (AreRanksIn c.args.marks.now c.args.a.now) (sym c.deref.ensures.value) c.requires.kept.ranks
+
+pub extremes_of-extremes-requires-clause-topic : goal.extremes_of-extremes-requires-clause-topic
+extremes_of-extremes-requires-clause-topic c = let all = c.requires.kept.topic.all.topic in topic_is c.args.marks.now _ all.least all.most
+
+pub count_chosen-least-requires-clause-first : goal.count_chosen-least-requires-clause-first
+count_chosen-least-requires-clause-first c = subst (AreRanksIn c.args.marks.now c.args.a.now) (sym c.deref-2.ensures.value) (c.set_second.ensures.kept c.args.marks.now c.args.a.now c.requires.kept).ranks
+
+pub count_chosen-least-requires-clause-second : goal.count_chosen-least-requires-clause-second
+count_chosen-least-requires-clause-second c = subst (AreRanksIn c.args.marks.now c.args.b.now) (sym c.deref-3.ensures.value) (c.set_second.ensures.ranks c.args.marks.now c.requires.kept.topic)
+
+pub count_chosen-least-requires-clause-topic : goal.count_chosen-least-requires-clause-topic
+count_chosen-least-requires-clause-topic c = let all = c.requires.kept.topic.all.topic in topic_is c.args.marks.now _ all.least all.most
+
+pub count_chosen-least-requires-clause-room : goal.count_chosen-least-requires-clause-room
+count_chosen-least-requires-clause-room c =
     let marks = c.args.marks.now in
     let a = c.args.a.now in
     let b = c.args.b.now in
     let found = c.extremes_of-extremes.ensures in
-    subst (HaveRoomFor c.args.counts.now) (sym (ap₂ (λ (x y : ℕ). added_documents marks (greedy_truth marks a b x) ++ added_documents marks (greedy_truth marks b a y)) found.least found.most)) c.requires.room
+    subst (λ (r : ℕ). HaveRoomFor c.args.counts.now (added_documents marks (greedy_truth marks a b r))) (sym found.least)
+    (room_of_first c.args.counts.now (added_documents marks (rprec_truth marks a b)) (added_documents marks (rprec_truth marks b a)) c.requires.room)
+
+pub count_chosen-most-requires-clause-first : goal.count_chosen-most-requires-clause-first
+count_chosen-most-requires-clause-first c = subst (AreRanksIn c.args.marks.now c.args.b.now) (sym c.deref-4.ensures.value) (c.set_second.ensures.ranks c.args.marks.now c.requires.kept.topic)
+
+pub count_chosen-most-requires-clause-second : goal.count_chosen-most-requires-clause-second
+count_chosen-most-requires-clause-second c = subst (AreRanksIn c.args.marks.now c.args.a.now) (sym c.deref-5.ensures.value) (c.set_second.ensures.kept c.args.marks.now c.args.a.now c.requires.kept).ranks
+
+pub count_chosen-most-requires-clause-topic : goal.count_chosen-most-requires-clause-topic
+count_chosen-most-requires-clause-topic c = let all = c.requires.kept.topic.all.topic in topic_is c.args.marks.now _ all.least all.most
+
+pub count_chosen-most-requires-clause-room : goal.count_chosen-most-requires-clause-room
+count_chosen-most-requires-clause-room c =
+    let marks = c.args.marks.now in
+    let a = c.args.a.now in
+    let b = c.args.b.now in
+    let found = c.extremes_of-extremes.ensures in
+    let counted = subst (λ (r : ℕ). AreCounted c.args.counts.now (added_documents marks (greedy_truth marks a b r)) c.count_chosen-least.new.counts) found.least c.count_chosen-least.ensures.counts in
+    subst (λ (r : ℕ). HaveRoomFor c.count_chosen-least.new.counts (added_documents marks (greedy_truth marks b a r))) (sym found.most)
+    (room_of_second c.args.counts.now c.count_chosen-least.new.counts (added_documents marks (rprec_truth marks a b)) (added_documents marks (rprec_truth marks b a)) c.count_chosen-least.auto.counts c.requires.room counted)
+
+pub returns-clause-kept : goal.returns-clause-kept
+returns-clause-kept c = c.set_second.ensures.kept c.args.marks.now c.args.a.now c.requires.kept
 
 pub returns-clause-least : goal.returns-clause-least
-returns-clause-least c =
-    let marks = c.args.marks.now in
-    subst (λ (r : ℕ). IfOk c.count_chosen.result (λ (sizes : ListSizes). sizes.least ≡ length (added_documents marks (greedy_truth marks c.args.a.now c.args.b.now r)))) c.extremes_of-extremes.ensures.least c.count_chosen.ensures.least
+returns-clause-least c = let marks = c.args.marks.now in c.count_chosen-least.ensures.count ∙ ap (λ (r : ℕ). length (added_documents marks (greedy_truth marks c.args.a.now c.args.b.now r))) c.extremes_of-extremes.ensures.least
 
 pub returns-clause-most : goal.returns-clause-most
-returns-clause-most c =
-    let marks = c.args.marks.now in
-    subst (λ (r : ℕ). IfOk c.count_chosen.result (λ (sizes : ListSizes). sizes.most ≡ length (added_documents marks (greedy_truth marks c.args.b.now c.args.a.now r)))) c.extremes_of-extremes.ensures.most c.count_chosen.ensures.most
+returns-clause-most c = let marks = c.args.marks.now in c.count_chosen-most.ensures.count ∙ ap (λ (r : ℕ). length (added_documents marks (greedy_truth marks c.args.b.now c.args.a.now r))) c.extremes_of-extremes.ensures.most
 
 pub returns-clause-counts : goal.returns-clause-counts
 returns-clause-counts c =
@@ -29,4 +64,6 @@ returns-clause-counts c =
     let a = c.args.a.now in
     let b = c.args.b.now in
     let found = c.extremes_of-extremes.ensures in
-    subst (λ (l : List ℕ). OnOk c.count_chosen.result (AreCounted c.args.counts.now l c.count_chosen.new.counts)) (ap₂ (λ (x y : ℕ). added_documents marks (greedy_truth marks a b x) ++ added_documents marks (greedy_truth marks b a y)) found.least found.most) c.count_chosen.ensures.counts
+    counted_after c.args.counts.now c.count_chosen-least.new.counts c.count_chosen-most.new.counts (added_documents marks (rprec_truth marks a b)) (added_documents marks (rprec_truth marks b a)) c.count_chosen-least.auto.counts
+    (subst (λ (r : ℕ). AreCounted c.args.counts.now (added_documents marks (greedy_truth marks a b r)) c.count_chosen-least.new.counts) found.least c.count_chosen-least.ensures.counts)
+    (subst (λ (r : ℕ). AreCounted c.count_chosen-least.new.counts (added_documents marks (greedy_truth marks b a r)) c.count_chosen-most.new.counts) found.most c.count_chosen-most.ensures.counts)

@@ -1,10 +1,13 @@
-use Rattle.std.proofs.Common.{◌≡◌, ℕ, ◌+◌, ◌<◌, List, ◌++◌, length, get_or, take, drop, ap, ap₂, sym, ◌∙◌, arith, length-take}
+use Rattle.std.proofs.Common.{◌≡◌, ℕ, ◌+◌, ◌<◌, List, ◌++◌, length, get_or, take, drop, ap, ap₂, sym, subst, ◌∙◌, arith, length-take}
 use Rattle.std.proofs.lemmas.List.{append-nil, drop_all, take_all}
+use Rattle.std.proofs.lemmas.Option.{same_Some}
 use Rattle.std.specs.List.{sum_by}
 use Rattle.desk_model.specs.Desk.{Desk, ranking_of}
+use Rattle.desk_model.specs.Ranking.{IsRanking}
 use Rattle.desk_model.specs.declared.types.Mark.{Mark}
 use Rattle.desk_model.specs.declared.types.MeasureName.{MeasureName}
 use Rattle.measure_core.specs.Lists.{times}
+use Rattle.measure_core.specs.Ranks.{AreRanksIn}
 use Rattle.table_bundle.specs.Drafts.{case_picks}
 use Rattle.table_bundle.specs.declared.pairs.NamedPair.{NamedPair}
 use Rattle.table_bundle.specs.Lengths.{all_picks, both_lists, heads_length, lists_on, topic_with}
@@ -15,6 +18,16 @@ use Rattle.table_bundle.proofs.topic_length.count_topic.Goals as goal
 written_back : (n : ℕ) (new old : List ℕ) → length new ≡ n → length old ≡ n → take n (new ++ drop (length new) old) ≡ new
 written_back n new old e f =
     ap (λ l. take n (new ++ l)) (drop_all (length new) old (omega (arith, e, f))) ∙ ap (take n) (append-nil new) ∙ take_all n new (omega (arith, e))
+
+pub set_first-requires : goal.set_first-requires
+set_first-requires g c =
+    let met = c.requires.met c.loop-pair.pair-index _ c.loop-pair-test.true in
+    subst (λ (n : ℕ). IsRanking n c.ranking-a.result.now) (sym c.loop-pair.invariant.topic.first) (subst (IsRanking (length c.args.marks.now)) (sym c.ranking-a.ensures.ranking) met.first)
+
+pub count_lists-requires-clause-kept : goal.count_lists-requires-clause-kept
+count_lists-requires-clause-kept g c =
+    c.set_first.ensures.room c.args.marks.now c.loop-pair.invariant.topic
+    (λ is. subst (λ (l : List ℕ). AreRanksIn c.args.marks.now l c.loop-pair.room.first.items) (sym c.ranking-a.ensures.ranking) (c.loop-pair.invariant.first _ is))
 
 pub count_lists-requires-clause-room : goal.count_lists-requires-clause-room
 count_lists-requires-clause-room g c = λ doc lt.
@@ -55,7 +68,11 @@ loop-pair-preserved g c =
     let back : take n (new ++ drop (length new) old) ≡ new = written_back n new old long (omega (arith, kept, c.deref_mut.ensures.len)) in
     let heads = heads_next measure desk t marks pairs i _ c.ranking-a.result.now c.ranking-b.result.now c.loop-pair-test.true c.ranking-a.ensures.ranking c.ranking-b.ensures.ranking in
     let more = times_next measure desk t marks pairs i _ c.ranking-a.result.now c.ranking-b.result.now c.loop-pair-test.true c.ranking-a.ensures.ranking c.ranking-b.ensures.ranking in
+    let run = c.set_first.ensures.first in
+    let after = c.in_ok-bytes.ensures.kept in
     record {
+      topic = after.topic;
+      first = λ r is. subst (λ (n : ℕ). AreRanksIn marks (ranking_of desk n t) c.count_lists.new.room.first.items) (same_Some _ r (sym run ∙ is)) (subst (λ (l : List ℕ). AreRanksIn marks l c.count_lists.new.room.first.items) c.ranking-a.ensures.ranking after.ranks);
       bytes = omega (arith, here.bytes, c.in_ok-bytes.ensures.bytes, heads);
       few = omega (arith, here.few, c.in_ok-bytes.ensures.few);
       size = ap length back ∙ omega (arith, long, kept, c.deref_mut.ensures.len, here.size);

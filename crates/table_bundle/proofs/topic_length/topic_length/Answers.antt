@@ -21,6 +21,9 @@ use Rattle.table_bundle.proofs.topic_length.topic_length.Goals as goal
 pub topic-topic_marks-requires : goal.topic-topic_marks-requires
 topic-topic_marks-requires g c = omega (arith, c.requires.topic, length-marks c.args.desk.now c.args.marks.now c.requires.marks)
 
+pub count_topic-requires-clause-small : goal.count_topic-requires-clause-small
+count_topic-requires-clause-small g c = small_at c.args.desk.now c.args.marks.now c.valid.ensures c.requires.marks c.args.topic c.topic-topic_marks.result.now c.topic-topic_marks.ensures
+
 pub count_topic-requires-clause-met : goal.count_topic-requires-clause-met
 count_topic-requires-clause-met g c = λ k d lt.
     let p = c.requires.pairs k d lt in

@@ -1,12 +1,13 @@
-use Rattle.std.proofs.Common.{◌≡◌, ℕ, ◌+◌, ◌<◌, drop, length, get_or, take, None, Some}
+use Rattle.std.proofs.Common.{◌≡◌, ℕ, ◌+◌, ◌<◌, drop, length, get_or, take, Some}
 use Rattle.desk_model.specs.declared.placed.Placed.{Placed}
 use Rattle.measure_core.specs.Lists.{placed_documents, times}
-use Rattle.measure_core.proofs.counting.count_rest.Given as goal
+use Rattle.measure_core.specs.Worths.{rank_or_none}
+use Rattle.measure_core.proofs.counting.count_placed.Given as goal
 
 -- what is counted and what is left to count are all
 abbrev pub invariant-loop-place : goal.invariant-loop-place
 invariant-loop-place g l =
-    let test = λ (p : Placed). g.T.RankTest.test l.test None (Some p.rank) in
+    let test = λ (p : Placed). g.T.RankTest.test l.test (rank_or_none (get_or l.ranks p.doc 0)) (Some p.rank) in
     let whole = take l.fn.most (placed_documents l.marks test l.places) in
     let rest = take l.left (placed_documents l.marks test (drop l.place-index l.places)) in
     record {
