@@ -30,20 +30,18 @@ pub fn push_chosen(
     requires low { all.relevant ≤ count }
     ensures { OnOk result (docs.new.items ≡ docs.old.items ++ added_documents marks.now (greedy_truth marks.now a.now b.now count)) }
 {
-    let chosen = (count - all.relevant) as usize;
+    let wanted = wanted_for(count, a, b, all, marks);
+    if wanted.both > 0 {
+        let others = More {
+            both: wanted.both,
+            first: wanted.first,
+        };
+        return push_own_and_more(count, others, a, b, marks, docs);
+    }
     let start = docs.len();
     push_own_marked(alloc, count, a, b, marks, docs)?;
-    if docs.len() - start >= chosen {
-        docs.truncate(start + chosen);
-        return Ok(());
-    }
-    docs.truncate(start);
-    let wanted = wanted_for(count, a, b, all, marks);
-    let others = More {
-        both: wanted.both,
-        first: wanted.first,
-    };
-    push_own_and_more(count, others, a, b, marks, docs)
+    docs.truncate(start + wanted.second as usize);
+    Ok(())
 }
 
 /// Counts the first unjudged documents beside the second run's own ones, so many as are wanted: of those that both or
