@@ -38,9 +38,9 @@ pub fn bundle_report<M: Measure>(
 ) -> Result<Bundled, Memory>
     requires runs { 2 ≤ length desk.now.runs }
     requires level { IsLevel level }
-    requires marks { AreMarksOf desk.now marks.now }
-    requires table { StandsFor (M.cell_of table.now.measure) (M.bounds_of table.now.measure) desk.now marks.now table.now }
-    ensures { IfOk result (λ answer. (s : Subject) → s.level ≡ level → s.marks ≡ marks.now →
+    requires marks { AreMarksOf desk.now marks.now.rows }
+    requires table { StandsFor (M.cell_of table.now.measure) (M.bounds_of table.now.measure) desk.now marks.now.rows table.now }
+    ensures { IfOk result (λ answer. (s : Subject) → s.level ≡ level → s.marks ≡ marks.now.rows →
         IsSubjectOf (M.measured table.now.measure) (M.cell_of table.now.measure) (M.bounds_of table.now.measure) desk.now table.now s →
         IsBundledAs s answer) }
 {

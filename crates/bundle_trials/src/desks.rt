@@ -47,9 +47,9 @@ pub fn desk_of(alloc: Global, line: &str) -> Result<Desk, Fail> {
 
 /// Its marks at level 1.
 pub fn marks_of(alloc: Global, desk: &Desk) -> Result<Marks, Fail>
-    ensures { IfOk result (AreMarksOf desk.now) }
+    ensures { IfOk result (λ marks. AreMarksOf desk.now marks.rows) }
 {
     let _ = desk.topic_count();
-    let marks = Marks::of_file(alloc, desk, 1)?;
+    let marks = Marks::of_file(alloc, desk, 1, None)?;
     Ok(marks)
 }

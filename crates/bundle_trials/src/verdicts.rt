@@ -173,7 +173,7 @@ fn verdict(
     marks: &Marks,
     bundle: &Bundle,
 ) -> Result<Result<(), BundleRejected>, Fail>
-    requires { AreMarksOf desk.now marks.now }
+    requires { AreMarksOf desk.now marks.now.rows }
 {
     bundle.valid();
     let verifier = BundleVerifier::new(alloc, &bundle.measure)?;
@@ -189,7 +189,7 @@ fn shown(alloc: Global, verdict: Result<(), BundleRejected>) -> Result<String, A
 
 // What a check of a text answers.
 fn answer(alloc: Global, desk: &Desk, marks: &Marks, text: &str) -> Result<String, Fail>
-    requires { AreMarksOf desk.now marks.now }
+    requires { AreMarksOf desk.now marks.now.rows }
 {
     let Ok(AnyCertificate::Many(bundle)) = read_any(alloc, text.as_bytes()) else {
         return Err("no bundle".into());
@@ -206,7 +206,7 @@ fn is_answered(
     text: &str,
     case: &str,
 ) -> Result<bool, Fail>
-    requires { AreMarksOf desk.now marks.now }
+    requires { AreMarksOf desk.now marks.now.rows }
 {
     let (expected, changes) = case.split_once('\n').unwrap_or((case, ""));
     let text = changed(alloc, text, changes)?;

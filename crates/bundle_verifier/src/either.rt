@@ -9,7 +9,7 @@ ghost use Rattle.bundle_verifier.specs.Either.{IsAnyVerified};
 use crate::rejected::BundleRejected;
 use crate::room::Room;
 use crate::verifier::BundleVerifier;
-use desk_model::{Desk, Marks, Memory};
+use desk_model::{Desk, Marks, Memory, Rows};
 use order_bundle::{AnyCertificate, Bundle};
 use order_certificate::Certificate;
 use order_verifier::Verifier;
@@ -23,9 +23,9 @@ fn check_one(
     certificate: &Certificate,
 ) -> Result<Result<(), BundleRejected>, Memory>
     requires certificate { IsCertificate certificate.now }
-    requires marks { AreMarksOf desk.now marks.now }
-    ensures verified { IfOk result (IsAnyVerified (AnyCertificate.One certificate.now) desk.now marks.now) }
-    ensures claim { IfOk result (λ answer. IfOk answer (λ _. AnyClaimHolds (AnyCertificate.One certificate.now) desk.now marks.now)) }
+    requires marks { AreMarksOf desk.now marks.now.rows }
+    ensures verified { IfOk result (IsAnyVerified (AnyCertificate.One certificate.now) desk.now marks.now.rows) }
+    ensures claim { IfOk result (λ answer. IfOk answer (λ _. AnyClaimHolds (AnyCertificate.One certificate.now) desk.now marks.now.rows)) }
 {
     let verifier = Verifier::new(alloc, &certificate.measure)?;
     match verifier.verify(desk, marks, certificate) {
@@ -38,7 +38,7 @@ fn check_one(
 fn check_many(
     alloc: Global,
     desk: &Desk,
-    marks: &Marks,
+    marks: &Rows,
     bundle: &Bundle,
 ) -> Result<Result<(), BundleRejected>, Memory>
     requires { AreMarksOf desk.now marks.now }
@@ -63,12 +63,13 @@ pub fn check_any(
     certificate: &AnyCertificate,
 ) -> Result<Result<(), BundleRejected>, Memory>
     requires certificate { IsAnyCertificate certificate.now }
-    requires marks { AreMarksOf desk.now marks.now }
-    ensures verified { IfOk result (IsAnyVerified certificate.now desk.now marks.now) }
-    ensures claims { IfOk result (λ answer. IfOk answer (λ _. AnyClaimHolds certificate.now desk.now marks.now)) }
+    requires marks { AreMarksOf desk.now marks.now.rows }
+    ensures verified { IfOk result (IsAnyVerified certificate.now desk.now marks.now.rows) }
+    ensures claims { IfOk result (λ answer. IfOk answer (λ _. AnyClaimHolds certificate.now desk.now marks.now.rows)) }
 {
+    let rows = marks.rows();
     match certificate {
         AnyCertificate::One(certificate) => check_one(alloc, desk, marks, certificate),
-        AnyCertificate::Many(bundle) => check_many(alloc, desk, marks, bundle),
+        AnyCertificate::Many(bundle) => check_many(alloc, desk, rows, bundle),
     }
 }

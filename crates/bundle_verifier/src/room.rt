@@ -3,7 +3,7 @@ ghost use Rattle.desk_model.specs.Desk.{AreMarksOf};
 ghost use Rattle.order_verifier.specs.Counted.{AreCountsOf};
 
 use crate::numbers::{DocumentNumbers, numbers_on};
-use desk_model::{Desk, Marks, Memory};
+use desk_model::{Desk, Memory, Rows};
 use order_bundle::Bundle;
 use order_verifier::{RelevantCounts, all_documents};
 use std::alloc::Global;
@@ -14,7 +14,7 @@ use std::marker::Model;
 #[derive(Drop)]
 pub struct Room<'a> {
     pub(crate) desk: &'a Desk,
-    pub(crate) marks: &'a Marks,
+    pub(crate) marks: &'a Rows,
     pub(crate) bundle: &'a Bundle,
     pub(crate) counts: Vec<RelevantCounts>,
     pub(crate) numbers: Vec<DocumentNumbers>,
@@ -31,7 +31,7 @@ impl<'a> Model for Room<'a> {
 }
 
 /// The counts of the documents of each topic.
-fn count_topics(alloc: Global, desk: &Desk, marks: &Marks) -> Result<Vec<RelevantCounts>, Memory>
+fn count_topics(alloc: Global, desk: &Desk, marks: &Rows) -> Result<Vec<RelevantCounts>, Memory>
     requires { AreMarksOf desk.now marks.now }
     ensures { IfOk result (λ counts. AreCountsOf marks.now counts.items) }
 {
@@ -48,7 +48,7 @@ impl<'a> Room<'a> {
     pub fn new(
         alloc: Global,
         desk: &'a Desk,
-        marks: &'a Marks,
+        marks: &'a Rows,
         bundle: &'a Bundle,
     ) -> Result<Room<'a>, Memory>
         requires { AreMarksOf desk.now marks.now }

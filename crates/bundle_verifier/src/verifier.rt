@@ -14,7 +14,7 @@ use crate::reason::BundleReason;
 use crate::rejected::BundleRejected;
 use crate::room::Room;
 use crate::told::told;
-use desk_model::{Desk, Marks, MeasureName, Memory};
+use desk_model::{Desk, Marks, MeasureName, Memory, Rows};
 use order_bundle::{Bundle, bundle_evidence_implies_claims};
 use order_verifier::{DeskMarks, TopicEnds};
 use std::alloc::Global;
@@ -102,7 +102,7 @@ impl BundleVerifier {
     pub fn check_bundle(
         &self,
         desk: &Desk,
-        marks: &Marks,
+        marks: &Rows,
         bundle: &Bundle,
     ) -> Result<(), BundleReason>
         requires made { self.now ≡ bundle.now.measure }
@@ -121,11 +121,12 @@ impl BundleVerifier {
         bundle: &Bundle,
     ) -> Result<(), BundleRejected>
         requires made { self.now ≡ bundle.now.measure }
-        requires marks { AreMarksOf desk.now marks.now }
-        ensures verified { IsAnswer bundle.now desk.now marks.now result }
-        ensures claims { IfOk result (λ _. ClaimsHold bundle.now desk.now marks.now) }
+        requires marks { AreMarksOf desk.now marks.now.rows }
+        ensures verified { IsAnswer bundle.now desk.now marks.now.rows result }
+        ensures claims { IfOk result (λ _. ClaimsHold bundle.now desk.now marks.now.rows) }
     {
-        match self.check_bundle(desk, marks, bundle) {
+        let rows = marks.rows();
+        match self.check_bundle(desk, rows, bundle) {
             Ok(()) => Ok(()),
             Err(reason) => Err(told(bundle, reason)),
         }

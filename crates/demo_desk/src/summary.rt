@@ -6,7 +6,7 @@ ghost use Rattle.desk_model.specs.Mark.{is_unjudged};
 ghost use Rattle.desk_report.specs.Table.{ended};
 ghost use Rattle.demo_desk.specs.Summary.{is_verdict, judged_in, number_line, verdict_line, head_lines, verdict_lines, summary_text};
 
-use desk_model::{Desk, Mark, Marks, Memory, Verdict, push_whole};
+use desk_model::{Desk, Mark, Memory, Rows, Verdict, push_whole};
 use std::alloc::{AllocError, Global};
 
 // How many documents of a topic are judged.
@@ -18,7 +18,7 @@ fn judged_on(marks: &[Mark]) -> u64
 }
 
 // How many documents of all topics are judged.
-fn judged(desk: &Desk, marks: &Marks) -> u64
+fn judged(desk: &Desk, marks: &Rows) -> u64
     requires { AreMarksOf desk.now marks.now }
     ensures { result ≡ judged_in marks.now }
 {
@@ -100,7 +100,7 @@ pub fn summary_text(
     seed: u32,
     rows: u32,
     desk: &Desk,
-    marks: &Marks,
+    marks: &Rows,
     verdicts: &[Verdict],
 ) -> Result<Vec<u8>, Memory>
     requires { AreMarksOf desk.now marks.now }

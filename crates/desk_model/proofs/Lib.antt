@@ -17,3 +17,8 @@ pub mod Agreement
 pub mod Sums
 pub mod Words
 pub mod Pools
+pub mod Numbered
+pub mod Closing
+pub mod Pooling
+pub mod RowByRow
+pub mod Judging

@@ -18,3 +18,5 @@ pub mod Pairs
 pub mod Floors
 pub mod Named
 pub mod Pool
+pub mod Closing
+pub mod Graded

@@ -1,5 +1,9 @@
-//! Laws of completions, each the contract of a function that does nothing.
-ghost use Rattle.std.specs.Prelude.{◌≡◌, ◌↔◌, ℕ, ◌*◌, ◌<◌, ◌≤◌, true, false, All, List, length, ℤ, pos, ◌≤ℤ◌, ◌<ℤ◌};
+//! Laws of completions and of what a depth closes, each the contract of a function that does nothing.
+ghost use Rattle.std.specs.Prelude.{◌≡◌, ◌↔◌, ℕ, ◌*◌, ◌<◌, ◌≤◌, true, false, All, List, [], length, slice_get, slice_set, slice_index_or, Option, Some, ℤ, pos, ◌≤ℤ◌, ◌<ℤ◌};
+ghost use Rattle.desk_model.specs.Book.{Book};
+ghost use Rattle.desk_model.specs.Closing.{closed, closed_under, is_within};
+ghost use Rattle.desk_model.specs.Graded.{is_in_pools, mark_within, pools_of};
+ghost use Rattle.desk_model.specs.Mark.{mark_of};
 ghost use Rattle.desk_model.specs.Limits.{DOCUMENT_LIMIT};
 ghost use Rattle.desk_model.specs.Completion.{Completion};
 ghost use Rattle.desk_model.specs.Desk.{Desk, IsDesk, AreMarksOf, topics_under};
@@ -11,6 +15,7 @@ ghost use Rattle.desk_model.specs.Enclosure.{AreLowEnds, AreHighEnds, AreLowBoun
 ghost use Rattle.desk_model.specs.Verdict.{whole_sum, verdict, ForExactEnds, IsExactVerdict};
 ghost use Rattle.desk_model.specs.Classes.{precision_ends, prefix_count};
 ghost use Rattle.desk_model.specs.declared.types.Mark.{Mark};
+ghost use Rattle.desk_model.specs.declared.types.Mark.TheVariants.{Unjudged};
 ghost use Rattle.desk_model.specs.declared.types.MeasureName.{MeasureName};
 ghost use Rattle.desk_model.specs.declared.types.MeasureName.TheVariants.{Precision};
 
@@ -91,4 +96,46 @@ pub fn rankings_are_over_universes()
     ensures rankings { (desk : Desk) (marks : List (List Mark)) (run : ℕ) → IsDesk desk → AreMarksOf desk marks →
         run < length desk.runs →
         All (λ topic. IsRanking (length topic.marks) (topic.ranking run)) (topics_under desk marks) }
+{}
+
+/// Closing keeps each topic and each document: what were marks of a desk still are.
+pub fn closing_keeps_documents()
+    ensures topics { (desk : Desk) (depth : Option ℕ) (marks : List (List Mark)) → length (closed_under desk depth marks) ≡ length marks }
+    ensures docs { (desk : Desk) (depth : Option ℕ) (marks : List (List Mark)) (topic : ℕ) →
+        length (slice_index_or (closed_under desk depth marks) topic []) ≡ length (slice_index_or marks topic []) }
+    ensures marks { (desk other : Desk) (depth : Option ℕ) (marks : List (List Mark)) → AreMarksOf desk marks → AreMarksOf desk (closed_under other depth marks) }
+{}
+
+/// To give one document another mark and then to close is to close and then to give it that mark, closed.
+pub fn one_mark_is_closed()
+    ensures { (desk : Desk) (depth : Option ℕ) (marks : List (List Mark)) (topic doc : ℕ) (mark : Mark) →
+        closed_under desk depth (slice_set marks topic (slice_set (slice_index_or marks topic []) doc mark))
+        ≡ slice_set (closed_under desk depth marks) topic (slice_set (slice_index_or (closed_under desk depth marks) topic []) doc (closed (is_within desk depth topic doc) mark)) }
+{}
+
+/// What a depth closes is fixed by the rankings: no judgement changes it.
+pub fn closing_is_by_rankings()
+    ensures { (desk other : Desk) (depth : Option ℕ) (marks : List (List Mark)) → other.rankings ≡ desk.rankings →
+        closed_under other depth marks ≡ closed_under desk depth marks }
+{}
+
+/// A document that is unjudged under a depth is in the pool, and has no judgement.
+pub fn open_documents_are_pooled()
+    ensures { (desk : Desk) (depth : Option ℕ) (marks : List (List Mark)) (topic doc : ℕ) →
+        slice_get (slice_index_or (closed_under desk depth marks) topic []) doc ≡ Some Unjudged →
+        (is_within desk depth topic doc ≡ true) × (slice_get (slice_index_or marks topic []) doc ≡ Some Unjudged) }
+{}
+
+/// Whether a document is in the pool is told by the pools of a desk: each of their answers is that of the desk.
+pub fn pools_are_of_the_desk()
+    ensures { (desk : Desk) (depth : Option ℕ) (topic doc : ℕ) (book : Book) → slice_get desk.topics topic ≡ Some book → doc < length book.docs →
+        is_in_pools (pools_of desk depth) topic doc ≡ is_within desk depth topic doc }
+{}
+
+/// To give a document the mark of a grade by the pools is to give it the mark of the grade, and then to close.
+pub fn judging_keeps_closing()
+    ensures { (desk : Desk) (depth : Option ℕ) (marks : List (List Mark)) (topic doc : ℕ) (book : Book) (grade : Option ℤ) (level : ℕ) →
+        slice_get desk.topics topic ≡ Some book → doc < length book.docs →
+        slice_set (closed_under desk depth marks) topic (slice_set (slice_index_or (closed_under desk depth marks) topic []) doc (mark_within grade level (is_in_pools (pools_of desk depth) topic doc)))
+        ≡ closed_under desk depth (slice_set marks topic (slice_set (slice_index_or marks topic []) doc (mark_of grade level))) }
 {}

@@ -4,6 +4,7 @@
 
 pub mod book;
 pub mod desk;
+mod file_marks;
 pub mod grading;
 pub mod laws;
 pub mod limits;
@@ -15,6 +16,7 @@ pub mod pairs;
 pub mod placed;
 mod pool;
 pub mod ranking;
+mod topic_pool;
 pub mod types;
 
 pub use book::TopicBook;
@@ -22,7 +24,7 @@ pub use desk::Desk;
 pub use desk_memory::Memory;
 pub use grading::mark;
 pub use limits::MOST_RUNS;
-pub use marks::Marks;
+pub use marks::{Marks, Rows};
 pub use measure_text::{UnknownMeasure, measure_of_text_is_unique, read_measure};
 pub use name::{Name, NameFault};
 pub use number_text::{

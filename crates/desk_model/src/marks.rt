@@ -1,38 +1,29 @@
-ghost use Rattle.std.specs.Prelude.{◌≡◌, ◌<◌, [], length, map, slice_get, slice_set, slice_index_or, Some, IfOk};
-ghost use Rattle.desk_model.specs.Desk.{file_marks};
+ghost use Rattle.std.specs.Prelude.{◌≡◌, ◌<◌, [], length, slice_get, slice_set, slice_index_or, Some, IfOk};
+ghost use Rattle.desk_model.specs.Graded.{marks_of_file, is_in_pools};
 
-use crate::book::TopicBook;
 use crate::desk::Desk;
-use crate::grading::mark;
+use crate::file_marks::{closed_topics, file_topics};
 use crate::types::Mark;
 use desk_memory::Memory;
-use std::alloc::{AllocError, Global};
+use std::alloc::Global;
 use std::marker::Model;
 
-/// What the judgements say of each document of each topic of a desk.
+/// A mark for each document of each topic of a desk. Measures, tables and proposals see these alone.
 #[derive(Drop)]
-pub struct Marks {
+pub struct Rows {
     topics: Vec<Vec<Mark>>,
 }
 
-impl Model for Marks {
+impl Model for Rows {
     ghost use Rattle.std.specs.Prelude.{List, map};
     ghost use Rattle.desk_model.specs.declared.types.Mark.{Mark as M};
 
     ghost Value = { List (List M) };
 
-    ghost view = { λ m. map (λ each. each.items) m.topics.items };
+    ghost view = { λ r. map (λ each. each.items) r.topics.items };
 }
 
-impl Marks {
-    /// The marks by the grades of the judgements file. The level is the least relevant grade.
-    pub fn of_file(alloc: Global, desk: &Desk, level: u32) -> Result<Marks, Memory>
-        ensures { IfOk result (λ marks. marks ≡ map (file_marks level) desk.now.topics) }
-    {
-        let topics = file_topics(alloc, desk, level)?;
-        Ok(Marks { topics })
-    }
-
+impl Rows {
     /// The marks of a topic's documents, by their numbers.
     pub fn topic(&self, t: u32) -> &[Mark]
         requires { t < length self.now }
@@ -52,23 +43,81 @@ impl Marks {
     }
 }
 
-fn file_topics(alloc: Global, desk: &Desk, level: u32) -> Result<Vec<Vec<Mark>>, AllocError>
-    ensures { IfOk result (λ topics. map (λ each. each.items) topics.items ≡ map (file_marks level) desk.now.topics) }
-{
-    let mut topics = Vec::new(alloc);
-    for t in 0..desk.topic_count() {
-        topics.push(marks_of_topic(alloc, desk.topic(t), level)?)?;
-    }
-    Ok(topics)
+/// What the judgements say of each document of each topic of a desk, under the pool of a depth or of none.
+#[derive(Drop)]
+pub struct Marks {
+    rows: Rows,
+    // Whether each document of each topic is in the pool, where there is a depth.
+    pools: Option<Vec<Vec<bool>>>,
 }
 
-fn marks_of_topic(alloc: Global, book: &TopicBook, level: u32) -> Result<Vec<Mark>, AllocError>
-    ensures { IfOk result (λ marks. marks.items ≡ file_marks level book.now) }
-{
-    let grades = book.grades();
-    let mut marks = Vec::with_capacity(alloc, grades.len())?;
-    for grade in grades {
-        marks.push(mark(*grade, level))?;
+impl Model for Marks {
+    ghost use Rattle.std.specs.Prelude.{map, option_map};
+    ghost use Rattle.desk_model.specs.Graded.{Marked};
+
+    ghost Value = { Marked };
+
+    ghost view = { λ m. record { rows = m.rows; pools = option_map (λ pools. map (λ each. each.items) pools.items) m.pools } };
+}
+
+impl Marks {
+    /// The marks by the grades of the judgements file. The level is the least relevant grade. Under a depth a document
+    /// without a grade that no run ranks at the depth or before is closed: its mark is `Other`.
+    pub fn of_file(
+        alloc: Global,
+        desk: &Desk,
+        level: u32,
+        depth: Option<u32>,
+    ) -> Result<Marks, Memory>
+        ensures { IfOk result (λ marks. marks ≡ marks_of_file desk.now level depth) }
+    {
+        match depth {
+            None => {
+                let topics = file_topics(alloc, desk, level)?;
+                Ok(Marks {
+                    rows: Rows { topics },
+                    pools: None,
+                })
+            }
+            Some(depth) => {
+                let (topics, pools) = closed_topics(alloc, desk, level, depth)?;
+                Ok(Marks {
+                    rows: Rows { topics },
+                    pools: Some(pools),
+                })
+            }
+        }
     }
-    Ok(marks)
+
+    /// The marks alone, without the pools.
+    pub fn rows(&self) -> &Rows
+        ensures { result.now ≡ self.now.rows }
+    {
+        &self.rows
+    }
+
+    /// Whether a document is in the pool; each is where there is no depth. It takes no memory.
+    pub fn pooled(&self, t: u32, doc: u32) -> bool
+        ensures { result ≡ is_in_pools self.now.pools t doc }
+    {
+        match &self.pools {
+            None => true,
+            Some(pools) => match pools.get(t as usize) {
+                None => true,
+                Some(pool) => match pool.get(doc as usize) {
+                    None => true,
+                    Some(pooled) => *pooled,
+                },
+            },
+        }
+    }
+
+    /// Gives a document of a topic another mark. The pools stay.
+    pub fn set(&mut self, t: u32, doc: u32, mark: Mark)
+        requires topic { t < length self.old.rows }
+        requires doc { doc < length (slice_index_or self.old.rows t []) }
+        ensures { self.new ≡ record { rows = slice_set self.old.rows t (slice_set (slice_index_or self.old.rows t []) doc mark); pools = self.old.pools } }
+    {
+        self.rows.set(t, doc, mark);
+    }
 }

@@ -12,11 +12,11 @@ use crate::{Desk, Mark, Marks};
 pub struct PoolCount {
     /// All of them.
     pub size: u32,
-    /// Those with a grade of at least 0.
+    /// Those that are not unjudged: with a grade of at least 0, or closed by the depth of the marks.
     pub judged: u32,
     /// Those with a grade of at least the level.
     pub relevant: u32,
-    /// Those without a grade, or with one below 0.
+    /// Those that are unjudged: without a grade, or with one below 0, and not closed.
     pub unjudged: u32,
 }
 
@@ -82,13 +82,14 @@ fn is_in_pool(desk: &Desk, topic: u32, depth: u32, doc: u32) -> bool
     false
 }
 
-/// How many documents of a topic some run ranks at `depth` or before, and what the marks say of them.
+/// How many documents of a topic some run ranks at `depth` or before, and what the marks say of them. The marks may be
+/// under another depth: a document that it closes counts as judged.
 pub fn pool_count(desk: &Desk, marks: &Marks, topic: u32, depth: u32) -> PoolCount
     requires topic { topic < length desk.now.topics }
-    requires marks { AreMarksOf desk.now marks.now }
-    ensures { IsCountOf (pool_of desk.now topic depth) (slice_index_or marks.now topic []) result }
+    requires marks { AreMarksOf desk.now marks.now.rows }
+    ensures { IsCountOf (pool_of desk.now topic depth) (slice_index_or marks.now.rows topic []) result }
 {
-    let marks = marks.topic(topic);
+    let marks = marks.rows().topic(topic);
     let mut count = PoolCount {
         size: 0,
         judged: 0,

@@ -107,9 +107,9 @@ pub fn certified_report<M: Measure>(
 ) -> Result<Certified, Memory>
     requires runs { AreRuns desk.now first second }
     requires level { IsLevel level }
-    requires marks { AreMarksOf desk.now marks.now }
-    requires table { StandsFor (M.cell_of table.now.measure) (M.bounds_of table.now.measure) desk.now marks.now table.now }
-    ensures { IfOk result (λ answer. (s : Subject) → s.level ≡ level → s.marks ≡ marks.now →
+    requires marks { AreMarksOf desk.now marks.now.rows }
+    requires table { StandsFor (M.cell_of table.now.measure) (M.bounds_of table.now.measure) desk.now marks.now.rows table.now }
+    ensures { IfOk result (λ answer. (s : Subject) → s.level ≡ level → s.marks ≡ marks.now.rows →
         IsSubjectOf (M.measured table.now.measure) (M.cell_of table.now.measure) (M.bounds_of table.now.measure) desk.now table.now s →
         IsCertifiedAs s first second answer) }
 {
@@ -138,9 +138,9 @@ pub fn next_report<M: Measure>(
     marks: &Marks,
     table: &Table<M>,
 ) -> Result<Vec<u8>, Memory>
-    requires marks { AreMarksOf desk.now marks.now }
+    requires marks { AreMarksOf desk.now marks.now.rows }
     requires table { table.now.runs ≡ length desk.now.runs }
-    ensures { IfOk result (λ text. (s : Subject) → s.marks ≡ marks.now →
+    ensures { IfOk result (λ text. (s : Subject) → s.marks ≡ marks.now.rows →
         IsSubjectOf (M.measured table.now.measure) (M.cell_of table.now.measure) (M.bounds_of table.now.measure) desk.now table.now s →
         IsNextText s text.items) }
 {
@@ -163,9 +163,9 @@ pub fn kept_next_report(
     marks: &Marks,
     weights: &Weights,
 ) -> Result<Vec<u8>, Memory>
-    requires marks { AreMarksOf desk.now marks.now }
-    requires kept { (measure : Measured) × AreKeptFor measure desk.now marks.now weights.now }
-    ensures { IfOk result (λ text. (s : Subject) → s.desk ≡ desk.now → s.marks ≡ marks.now → AreWeightsOf s weights.now → IsNextText s text.items) }
+    requires marks { AreMarksOf desk.now marks.now.rows }
+    requires kept { (measure : Measured) × AreKeptFor measure desk.now marks.now.rows weights.now }
+    ensures { IfOk result (λ text. (s : Subject) → s.desk ≡ desk.now → s.marks ≡ marks.now.rows → AreWeightsOf s weights.now → IsNextText s text.items) }
 {
     desk.valid();
     let proposal = weights.next(marks);

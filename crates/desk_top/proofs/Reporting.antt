@@ -135,5 +135,5 @@ module _ {M : Type 0} (measured : MeasureName) (cell : List Mark → List ℕ �
   pub tabled_subject : IsSubjectOf measured cell bound on.desk on.table (subject_of job on.desk)
   tabled_subject = record { over = refl; marked = marks_known job.level on.desk is.ranked.valid; on = is.table }
 
-  pub tabled_marks : AreMarksOf on.desk on.marks
+  pub tabled_marks : AreMarksOf on.desk on.marks.rows
   tabled_marks = subst (AreMarksOf on.desk) (sym is.marked) (marks_known job.level on.desk is.ranked.valid)

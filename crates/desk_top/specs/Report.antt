@@ -63,5 +63,5 @@ pub record IsTabled {M : Type 0} (measured : MeasureName) (cell : List Mark → 
   pub read : Reads known (sources_of job) rows
   pub ranked : IsDeskOf rows.qrels rows.runs on.desk
   pub runs : length on.desk.runs ≡ length job.runs
-  pub marked : on.marks ≡ marks_in job on.desk
+  pub marked : on.marks.rows ≡ marks_in job on.desk
   pub table : IsTableOn measured cell bound (subject_of job on.desk) on.table

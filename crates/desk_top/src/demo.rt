@@ -33,11 +33,18 @@ fn texts_of<M: Measure>(
     table: &Table<M>,
 ) -> Result<Vec<u8>, Memory>
     requires valid { IsDesk demo.now.desk }
-    requires marks { marks.now ≡ (demo_subject demo.now.desk).marks }
+    requires marks { marks.now.rows ≡ (demo_subject demo.now.desk).marks }
     requires table { IsTableOn (M.measured table.now.measure) (M.cell_of table.now.measure) (M.bounds_of table.now.measure) (demo_subject demo.now.desk) table.now }
     ensures { IfOk result (λ text. IsShown seed demo.now.desk demo.now.rows text.items) }
 {
-    let mut text = summary_text(alloc, seed, demo.rows, &demo.desk, marks, table.verdicts())?;
+    let mut text = summary_text(
+        alloc,
+        seed,
+        demo.rows,
+        &demo.desk,
+        marks.rows(),
+        table.verdicts(),
+    )?;
     let next = next_report(alloc, &demo.desk, marks, table)?;
     text.extend_from_slice(&next)?;
     Ok(text)
@@ -54,7 +61,7 @@ fn demo_text<P: Maker, L: Ledger>(
 {
     let demo = demo_desk(tools.alloc, seed)?;
     demo.desk.valid();
-    let marks = Marks::of_file(tools.alloc, &demo.desk, LEVEL)?;
+    let marks = Marks::of_file(tools.alloc, &demo.desk, LEVEL, None)?;
     let table = table_on(
         tools.alloc,
         &demo.desk,

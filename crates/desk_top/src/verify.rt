@@ -90,7 +90,7 @@ fn verification(alloc: Global, desk: &Desk, certificate: &AnyCertificate) -> Res
     ensures { IfOk result (IsChecked certificate.now desk.now) }
 {
     desk.valid();
-    let marks = Marks::of_file(alloc, desk, certificate.level())?;
+    let marks = Marks::of_file(alloc, desk, certificate.level(), None)?;
     let answer = check_any(alloc, desk, &marks, certificate)?;
     let status = if answer.is_ok() {
         Status::Done

@@ -56,7 +56,7 @@ fn tabled<'a, F: Shelf, P: Maker, L: Ledger>(
 {
     let desk = load_desk(tools.alloc, files, &job.qrels, &job.runs)?;
     desk.valid();
-    let marks = Marks::of_file(tools.alloc, &desk, job.level)?;
+    let marks = Marks::of_file(tools.alloc, &desk, job.level, None)?;
     let table = table_on(tools.alloc, &desk, &marks, job.measure, tools.maker, steps)?;
     Ok(DeskTable { desk, marks, table })
 }

@@ -96,7 +96,27 @@ fn marks_at_the_edges_of_the_level(rt: HostRuntime) {
         (Some(999), 1000, Mark::Other),
         (Some(1000), 1000, Mark::Relevant),
     ] {
-        assert!(rt; mark(grade, level) == want, "{grade:?} at level {level}");
+        assert!(rt;
+            mark(grade, level, true) == want,
+            "{grade:?} at level {level}"
+        );
+    }
+}
+
+#[test]
+fn marks_outside_the_pool(rt: HostRuntime) {
+    for (grade, level, want) in [
+        (None, 1, Mark::Other),
+        (Some(-1), 1, Mark::Other),
+        (Some(0), 1, Mark::Other),
+        (Some(1), 1, Mark::Relevant),
+        (Some(1), 2, Mark::Other),
+        (Some(1000), 1000, Mark::Relevant),
+    ] {
+        assert!(rt;
+            mark(grade, level, false) == want,
+            "{grade:?} at level {level}"
+        );
     }
 }
 

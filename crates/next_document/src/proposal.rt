@@ -34,15 +34,16 @@ pub fn next<'x, M: Measure>(
     marks: &'x Marks,
     verdicts: &'x [Verdict],
 ) -> Option<Proposal>
-    requires marks { AreMarksOf desk.now marks.now }
+    requires marks { AreMarksOf desk.now marks.now.rows }
     requires verdicts { length verdicts.now ≡ length (pairs_of desk.now.runs) }
-    ensures next { IsNext (record { measure = M.measured measure.now; desk = desk.now; marks = marks.now; verdicts = verdicts.now }) result }
+    ensures next { IsNext (record { measure = M.measured measure.now; desk = desk.now; marks = marks.now.rows; verdicts = verdicts.now }) result }
     ensures topic { IfSome result (λ p. p.topic < length desk.now.topics) }
     ensures doc { IfSome result (λ p. p.doc < length (book_at desk.now p.topic).docs) }
 {
+    let rows = marks.rows();
     let standing = Standing {
         measure,
-        on: MarkedDesk { desk, marks },
+        on: MarkedDesk { desk, marks: rows },
         verdicts,
     };
     let mut best = None;

@@ -5,14 +5,14 @@ ghost use Rattle.next_document.specs.Marked.{AreMarksOf-prop};
 ghost use Rattle.desk_model.specs.Desk.{AreMarksOf};
 ghost use Rattle.desk_model.specs.Pairs.{pairs_of};
 
-use desk_model::{Desk, Marks, PairPlaces, Verdict};
+use desk_model::{Desk, PairPlaces, Rows, Verdict};
 use std::alloc::AllocError;
 
 /// A desk and marks of its documents. Its fact: there is a mark for each document of each topic, and no other.
 #[derive(Clone, Copy)]
 pub struct MarkedDesk<'a> {
     pub desk: &'a Desk,
-    pub marks: &'a Marks,
+    pub marks: &'a Rows,
     pub ghost marked: { AreMarksOf desk.now marks.now } by { AreMarksOf-prop desk.now marks.now },
 }
 

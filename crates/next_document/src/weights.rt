@@ -43,14 +43,15 @@ impl Weights {
         marks: &'x Marks,
         verdicts: &'x [Verdict],
     ) -> Result<Weights, Memory>
-        requires marks { AreMarksOf desk.now marks.now }
+        requires marks { AreMarksOf desk.now marks.now.rows }
         requires verdicts { length verdicts.now ≡ length (pairs_of desk.now.runs) }
-        ensures totals { IfOk result (AreKeptFor (M.measured measure.now) desk.now marks.now) }
+        ensures totals { IfOk result (AreKeptFor (M.measured measure.now) desk.now marks.now.rows) }
         ensures held { IfOk result (λ weights. weights.verdicts ≡ verdicts.now) }
     {
+        let rows = marks.rows();
         let standing = Standing {
             measure,
-            on: MarkedDesk { desk, marks },
+            on: MarkedDesk { desk, marks: rows },
             verdicts,
         };
         let totals = standing.all_totals(alloc)?;
@@ -71,17 +72,18 @@ impl Weights {
         verdicts: &'x [Verdict],
         topic: u32,
     )
-        requires marks { AreMarksOf desk.now marks.now }
+        requires marks { AreMarksOf desk.now marks.now.rows }
         requires verdicts { length verdicts.now ≡ length (pairs_of desk.now.runs) }
         requires topic { topic < length desk.now.topics }
         requires held { length self.old.verdicts ≡ length (pairs_of desk.now.runs) }
-        requires others { AreKeptBut topic (M.measured measure.now) desk.now marks.now self.old }
-        ensures totals { AreKeptFor (M.measured measure.now) desk.now marks.now self.new }
+        requires others { AreKeptBut topic (M.measured measure.now) desk.now marks.now.rows self.old }
+        ensures totals { AreKeptFor (M.measured measure.now) desk.now marks.now.rows self.new }
         ensures held { self.new.verdicts ≡ verdicts.now }
     {
+        let rows = marks.rows();
         let standing = Standing {
             measure,
-            on: MarkedDesk { desk, marks },
+            on: MarkedDesk { desk, marks: rows },
             verdicts,
         };
         let changed = TopicStanding {
@@ -94,13 +96,14 @@ impl Weights {
     /// The document to judge next, by the kept totals: equal to what `next` answers of the same measure, desk, marks and
     /// verdicts. It looks at each document once, and takes no memory.
     pub fn next(&self, marks: &Marks) -> Option<Proposal>
-        requires { AreOver marks.now self.now.totals }
-        ensures { IsNextWhereKept marks.now self.now result }
+        requires { AreOver marks.now.rows self.now.totals }
+        ensures { IsNextWhereKept marks.now.rows self.now result }
     {
+        let rows = marks.rows();
         let mut best = None;
         for topic in 0..self.totals.len() as u32 {
             let here = TopicTotals {
-                marks: marks.topic(topic),
+                marks: rows.topic(topic),
                 totals: &self.totals[topic as usize],
                 number: topic,
             };

@@ -38,7 +38,7 @@ fn text_of<L: Ledger>(
 {
     let mut steps: Steps<L> = Steps::new(blank);
     let desk = desk_of_three(alloc, QRELS, files)?;
-    let marks = marks_of(alloc, &desk)?;
+    let marks = marks_of(alloc, &desk, None)?;
     let measure = AnyMeasure::new(alloc, MeasureName::Recall(1))?;
     let table = Table::new(alloc, &desk, &marks, measure, &mut steps)?;
     let bytes = table_bundle_length(alloc, &table, &desk, &marks, 1)?;

@@ -19,7 +19,7 @@ fn next_of(
 {
     let [qrels, first, second] = files;
     let desk = desk_of(alloc, &[qrels], &[first], &[second])?;
-    let marks = marks_of(alloc, &desk)?;
+    let marks = marks_of(alloc, &desk, None)?;
     let measure = AnyMeasure::new(alloc, name)?;
     Ok(next(&measure, &desk, &marks, &[verdict]))
 }

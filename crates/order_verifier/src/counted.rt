@@ -4,7 +4,7 @@ ghost use Rattle.desk_model.specs.Limits.{DOCUMENT_LIMIT};
 ghost use Rattle.order_verifier.specs.Counted.{AreAllCounts, AreCountsOf};
 
 use crate::counts::{RelevantCounts, all_documents};
-use desk_model::{Mark, Marks};
+use desk_model::{Mark, Rows};
 use std::marker::Model;
 
 /// The marks of a topic's documents.
@@ -70,7 +70,7 @@ impl<'a> TopicMarks<'a> {
 /// The marks of all topics.
 #[derive(Drop)]
 pub struct DeskMarks<'a> {
-    marks: &'a Marks,
+    marks: &'a Rows,
     counts: &'a [RelevantCounts],
 }
 
@@ -88,14 +88,14 @@ impl<'a> Model for DeskMarks<'a> {
 
 impl<'a> DeskMarks<'a> {
     /// Marks whose documents are counted anew each time.
-    pub fn anew(marks: &'a Marks) -> DeskMarks<'a>
+    pub fn anew(marks: &'a Rows) -> DeskMarks<'a>
         ensures { result ≡ marks.now }
     {
         DeskMarks { marks, counts: &[] }
     }
 
     /// Marks of which the documents of the first topics were counted before.
-    pub fn counted(marks: &'a Marks, counts: &'a [RelevantCounts]) -> DeskMarks<'a>
+    pub fn counted(marks: &'a Rows, counts: &'a [RelevantCounts]) -> DeskMarks<'a>
         requires { AreCountsOf marks.now counts.now }
         ensures { result ≡ marks.now }
     {

@@ -53,11 +53,12 @@ impl Verifier {
     ) -> Result<(), Rejected>
         requires made { self.now ≡ certificate.now.measure }
         requires certificate { IsCertificate certificate.now }
-        requires marks { AreMarksOf desk.now marks.now }
-        ensures verified { IsVerified certificate.now desk.now marks.now result }
-        ensures claim { IfOk result (λ _. ClaimHolds certificate.now desk.now marks.now) }
+        requires marks { AreMarksOf desk.now marks.now.rows }
+        ensures verified { IsVerified certificate.now desk.now marks.now.rows result }
+        ensures claim { IfOk result (λ _. ClaimHolds certificate.now desk.now marks.now.rows) }
     {
         evidence_implies_claim();
+        let rows = marks.rows();
         let runs = match runs_of(desk, certificate) {
             Ok(runs) => runs,
             Err(place) => return Err(wrong_names(&certificate.evidence, place)),
@@ -65,7 +66,7 @@ impl Verifier {
         if let Some(place) = wrong_topic(desk, &certificate.evidence) {
             return Err(wrong_names(&certificate.evidence, place));
         }
-        let marks = DeskMarks::anew(marks);
+        let marks = DeskMarks::anew(rows);
         match check(
             &Comparison::new(&self.ends, desk, &marks, runs),
             &certificate.evidence,

@@ -17,3 +17,5 @@ pub mod Certified
 pub mod Answered
 pub mod Evident
 pub mod Refining
+pub mod Deeper
+pub mod Narrowing

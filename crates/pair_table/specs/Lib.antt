@@ -5,3 +5,4 @@ pub mod Orders
 pub mod Evidence
 pub mod Refined
 pub mod Made
+pub mod Narrowing

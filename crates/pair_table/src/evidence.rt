@@ -17,7 +17,7 @@ ghost use Rattle.pair_table.specs.declared.evidence.EvidenceFault.TheVariants.{M
 ghost use Rattle.pair_table.specs.Evidence.{bounds_of, relevant_names, witnesses_of, Compares, SaysAbove, SaysEqual, SaysOpen, IsAnswered};
 
 use crate::table::Table;
-use desk_model::{Desk, Mark, Marks, Memory, Name, Ranking, TopicBook, Totals, Verdict};
+use desk_model::{Desk, Mark, Marks, Memory, Name, Ranking, Rows, TopicBook, Totals, Verdict};
 use measure_core::{Cell, Measure};
 use order_certificate::{
     Certificate, Evidence, NameList, TopicBound, TopicBounds, TopicWitness, Witnesses,
@@ -186,7 +186,7 @@ fn witnesses<M: Measure>(
     alloc: Global,
     measure: &M,
     desk: &Desk,
-    marks: &Marks,
+    marks: &Rows,
     first: u32,
     second: u32,
 ) -> Result<Witnesses, Memory>
@@ -295,7 +295,7 @@ fn open<M: Measure>(
     alloc: Global,
     measure: &M,
     desk: &Desk,
-    marks: &Marks,
+    marks: &Rows,
     level: u32,
     first: u32,
     second: u32,
@@ -337,21 +337,22 @@ impl<M: Measure> Table<M> {
         requires different { i ≢ j }
         requires first { i < self.now.runs }
         requires second { j < self.now.runs }
-        requires marks { AreMarksOf desk.now marks.now }
+        requires marks { AreMarksOf desk.now marks.now.rows }
         requires level { IsLevel level }
-        requires stands { StandsFor (M.cell_of self.now.measure) (M.bounds_of self.now.measure) desk.now marks.now self.now }
-        ensures answer { IsAnswered (HasCellEnds (M.cell_of self.now.measure)) (M.measured self.now.measure) desk.now marks.now level i j result }
+        requires stands { StandsFor (M.cell_of self.now.measure) (M.bounds_of self.now.measure) desk.now marks.now.rows self.now }
+        ensures answer { IsAnswered (HasCellEnds (M.cell_of self.now.measure)) (M.measured self.now.measure) desk.now marks.now.rows level i j result }
         ensures certificate { IfOk result IsCertificate }
     {
         // The laws speak of desks, and of measures that have a name.
         let measure = self.measure();
         let _name = measure.name();
         desk.valid();
+        let rows = marks.rows();
         let made = match self.verdict(i, j) {
             Verdict::Above => above(alloc, self, desk, level, i, j),
             Verdict::Below => above(alloc, self, desk, level, j, i),
             Verdict::Equal => equal(alloc, self, desk, level, i, j),
-            Verdict::Open => open(alloc, measure, desk, marks, level, i, j),
+            Verdict::Open => open(alloc, measure, desk, rows, level, i, j),
             Verdict::Close => return Err(EvidenceFault::Close(self.totals(i, j))),
         };
         match made {

@@ -10,7 +10,7 @@ ghost use Rattle.pair_table.specs.Kept.{numbers_on, topic_at, AreTopicNumbers, e
 
 use crate::numbers::{evaluate_bounds, evaluate_cells};
 use crate::sums::{add_bounds, add_cells, take_bounds_back, take_cells_back};
-use desk_model::{Desk, Marks, Totals};
+use desk_model::{Desk, Rows, Totals};
 use measure_core::{Cell, CellRoom, KeptCell, Measure, Steps};
 use std::alloc::{AllocError, Global};
 use std::marker::Model;
@@ -57,7 +57,7 @@ impl KeptTopic {
         &mut self,
         measure: &M,
         desk: &Desk,
-        marks: &Marks,
+        marks: &Rows,
         topic: u32,
         room: &mut CellRoom,
         steps: &mut Steps<L>,

@@ -8,6 +8,7 @@ pub mod laws;
 mod made;
 mod numbers;
 pub mod settled;
+pub mod smaller_depths;
 mod sums;
 pub mod table;
 

@@ -7,13 +7,13 @@ ghost use Rattle.measure_core.specs.Laws.{SpanIsModest, CellIsModest};
 ghost use Rattle.pair_table.specs.Sums.{run_numbers};
 ghost use Rattle.pair_table.specs.Kept.{numbers_on, topic_at};
 
-use desk_model::{Desk, Marks};
+use desk_model::{Desk, Rows};
 use measure_core::{CellRoom, KeptCell, Measure, Steps, TopicRankings};
 use std::sync::ledger::Ledger;
 use topic_counts::Span;
 
 // The bounds of a run on a topic, by their numbers.
-fn bounds_at<M: Measure>(measure: &M, desk: &Desk, marks: &Marks, run: u32, topic: u32) -> Span
+fn bounds_at<M: Measure>(measure: &M, desk: &Desk, marks: &Rows, run: u32, topic: u32) -> Span
     requires measure { IsMeasure (M.measured measure.now) }
     requires desk { IsDesk desk.now }
     requires marks { AreMarksOf desk.now marks.now }
@@ -31,7 +31,7 @@ pub fn evaluate_cells<M: Measure, L: Ledger>(
     cells: &mut [KeptCell],
     measure: &M,
     desk: &Desk,
-    marks: &Marks,
+    marks: &Rows,
     topic: u32,
     room: &mut CellRoom,
     steps: &mut Steps<L>,
@@ -54,7 +54,7 @@ pub fn evaluate_bounds<M: Measure>(
     bounds: &mut [Span],
     measure: &M,
     desk: &Desk,
-    marks: &Marks,
+    marks: &Rows,
     topic: u32,
 )
     requires measure { IsMeasure (M.measured measure.now) }

@@ -12,7 +12,7 @@ ghost use Rattle.measure_core.specs.Laws.{swapped_cell};
 ghost use Rattle.pair_table.specs.Kept.{numbers_on, topic_at, all_numbers, AreTopicNumbers, IsCellOf, no_totals, no_bounds, kept_totals, kept_bounds, StandsFor, StandsElsewhere, AreSumsOf, AreModestTotals};
 
 use crate::kept::KeptTopic;
-use desk_model::{Desk, Marks, Memory, Totals, Verdict, verdict_of};
+use desk_model::{Desk, Marks, Memory, Rows, Totals, Verdict, verdict_of};
 use measure_core::{Cell, CellRoom, Measure, Steps};
 use std::alloc::{AllocError, Global};
 use std::marker::Model;
@@ -156,7 +156,7 @@ fn evaluate_topics<M: Measure, L: Ledger>(
     topics: &mut [KeptTopic],
     measure: &M,
     desk: &Desk,
-    marks: &Marks,
+    marks: &Rows,
     room: &mut CellRoom,
     steps: &mut Steps<L>,
 )
@@ -198,7 +198,7 @@ fn renew_topic<M: Measure, L: Ledger>(
     bounds: &mut [Span],
     measure: &M,
     desk: &Desk,
-    marks: &Marks,
+    marks: &Rows,
     topic: u32,
     room: &mut CellRoom,
     steps: &mut Steps<L>,
@@ -242,24 +242,25 @@ impl<M: Measure> Table<M> {
         measure: M,
         steps: &mut Steps<L>,
     ) -> Result<Table<M>, Memory>
-        requires { AreMarksOf desk.now marks.now }
+        requires { AreMarksOf desk.now marks.now.rows }
         ensures measure { IfOk result (λ table. table.measure ≡ measure) }
         ensures runs { IfOk result (λ table. table.runs ≡ length desk.now.runs) }
-        ensures totals { IfOk result (λ table. table.totals ≡ all_pair_sums (M.cell_of measure) (topics_under desk.now marks.now) (length desk.now.runs)) }
+        ensures totals { IfOk result (λ table. table.totals ≡ all_pair_sums (M.cell_of measure) (topics_under desk.now marks.now.rows) (length desk.now.runs)) }
         ensures pairs { IfOk result (λ table. length table.totals ≡ length (pairs_of desk.now.runs)) }
-        ensures bounds { IfOk result (λ table. table.bounds ≡ all_run_sums (M.bounds_of measure) (topics_under desk.now marks.now) (length desk.now.runs)) }
-        ensures stands { IfOk result (StandsFor (M.cell_of measure) (M.bounds_of measure) desk.now marks.now) }
+        ensures bounds { IfOk result (λ table. table.bounds ≡ all_run_sums (M.bounds_of measure) (topics_under desk.now marks.now.rows) (length desk.now.runs)) }
+        ensures stands { IfOk result (StandsFor (M.cell_of measure) (M.bounds_of measure) desk.now marks.now.rows) }
         ensures steps { OnOk result (steps.new ≡ steps.old + pair_count (length desk.now.runs) * length desk.now.topics) }
         ensures no_steps { OnErr result (steps.new ≡ steps.old) }
     {
         // The laws speak of measures that have a name.
         let _name = measure.name();
+        let rows = marks.rows();
         let runs = desk.run_count();
         let count = runs * (runs - 1) / 2;
         let mut topics = topic_rooms(alloc, desk.topic_count(), count, runs)?;
         let (mut totals, mut verdicts, mut bounds) = sum_rooms(alloc, count, runs)?;
         let mut room = CellRoom::new(alloc, most_documents(desk), runs)?;
-        evaluate_topics(&mut topics, &measure, desk, marks, &mut room, steps);
+        evaluate_topics(&mut topics, &measure, desk, rows, &mut room, steps);
         add_topics(&mut totals, &mut bounds, &topics, runs);
         fill_verdicts(&mut verdicts, &totals);
         Ok(Table {
@@ -285,22 +286,23 @@ impl<M: Measure> Table<M> {
         topic: u32,
         steps: &mut Steps<L>,
     )
-        requires marks { AreMarksOf desk.now marks.now }
+        requires marks { AreMarksOf desk.now marks.now.rows }
         requires topic { topic < length desk.now.topics }
-        requires others { StandsElsewhere (M.cell_of self.old.measure) (M.bounds_of self.old.measure) desk.now marks.now topic self.old }
+        requires others { StandsElsewhere (M.cell_of self.old.measure) (M.bounds_of self.old.measure) desk.now marks.now.rows topic self.old }
         ensures measure { self.new.measure ≡ self.old.measure }
-        ensures stands { StandsFor (M.cell_of self.old.measure) (M.bounds_of self.old.measure) desk.now marks.now self.new }
+        ensures stands { StandsFor (M.cell_of self.old.measure) (M.bounds_of self.old.measure) desk.now marks.now.rows self.new }
         ensures steps { steps.new ≡ steps.old + pair_count (length desk.now.runs) }
     {
         // The laws speak of measures that have a name.
         let _name = self.measure.name();
+        let rows = marks.rows();
         renew_topic(
             &mut self.topics,
             &mut self.totals,
             &mut self.bounds,
             &self.measure,
             desk,
-            marks,
+            rows,
             topic,
             &mut self.room,
             steps,

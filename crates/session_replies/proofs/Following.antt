@@ -88,19 +88,20 @@ table_elsewhere n desk marks topic row (Some t) known h = numbers_elsewhere (n.c
 
 -- a change that was told was taken over
 module _ {M : Type 0} (n : Numbers M) (s : Setting) (valid : IsDesk s.desk) (heard : Heard) (old new : Judging M) (now : List Change) (told : Changed) where
-  pub followed : old.marks ≡ marks_after s old.session → IsOfDesk s.desk told → IsSessionOf s.desk now → told.grade ≡ grade_in_force s.desk told.topic told.doc now →
+  pub followed : old.marks.rows ≡ marks_after s old.session → IsOfDesk s.desk told → IsSessionOf s.desk now → told.grade ≡ grade_in_force s.desk told.topic told.doc now →
       ((file : Option ℤ) (t d : ℕ) → (told.topic ≡ t → told.doc ≡ d → ⊥) → grade_after file t d now ≡ grade_after file t d old.session) →
-      new.session ≡ now → new.marks ≡ set old.marks told.topic (set (get_or old.marks told.topic []) told.doc (mark_of told.grade s.level)) → TakesOver n s.desk new.marks old.table new.table → AreWeightsFor n s.desk new.marks new.weights new.table →
+      new.session ≡ now → new.marks.pools ≡ None → new.marks.rows ≡ set old.marks.rows told.topic (set (get_or old.marks.rows told.topic []) told.doc (mark_of told.grade s.level)) → TakesOver n s.desk new.marks.rows old.table new.table → AreWeightsFor n s.desk new.marks.rows new.weights new.table →
       IfSome old.table (λ table. IsMadeFor s.measure (n.name table.measure) (n.cell table.measure) (n.bound table.measure)) →
       now ≡ changes_after s.desk heard old.session → (word text : List ℕ) → (text ≡ change_reply s.desk word told.topic told.doc now → IsReply s old.session heard text) →
       text ≡ ended (changed_line word (book_at s.desk told.topic).name (get_or (book_at s.desk told.topic).docs told.doc []) told.grade) → Answers n s heard old new text
-  followed marked of on_desk grade same session marks table weights made changes word text reply line =
-      let marks_are : new.marks ≡ marks_after s new.session = marks_follow s valid old.marks old.session marked told of now new.marks grade same marks ∙ ap (marks_after s) (sym session) in
+  followed marked of on_desk grade same session pools marks table weights made changes word text reply line =
+      let marks_are : new.marks.rows ≡ marks_after s new.session = marks_follow s valid old.marks.rows old.session marked told of now new.marks.rows grade same marks ∙ ap (marks_after s) (sym session) in
       record {
         ready = record {
           on_desk = subst (IsSessionOf s.desk) (sym session) on_desk;
           marked = marks_are;
-          table = subst (λ ms. IfSome new.table (λ table. IsTableOn (n.name table.measure) (n.cell table.measure) (n.bound table.measure) (subject s.measure s.level s.desk ms) table)) marks_are (table_taken n s new.marks old.table new.table made table);
+          pools = pools;
+          table = subst (λ ms. IfSome new.table (λ table. IsTableOn (n.name table.measure) (n.cell table.measure) (n.bound table.measure) (subject s.measure s.level s.desk ms) table)) marks_are (table_taken n s new.marks.rows old.table new.table made table);
           weights = weights;
         };
         changes = session ∙ changes;

@@ -75,12 +75,13 @@ AreWeightsElsewhere n topic desk marks None table = Unit {0}
 AreWeightsElsewhere n topic desk marks (Some weights) None = ⊥
 AreWeightsElsewhere n topic desk marks (Some weights) (Some table) = AreKeptBut topic (n.name table.measure) desk marks weights × (length weights.verdicts ≡ length (pairs_of desk.runs))
 
--- the changes are of the desk, the marks are those by the judgements in force, and a table and totals that are there are those of these marks
+-- the changes are of the desk, the marks are those by the judgements in force without a depth, and a table and totals that are there are those of these marks
 pub record IsReadyForLine {M : Type 0} (n : Numbers M) (s : Setting) (kept : Judging M) : Type 0 where
   pub on_desk : IsSessionOf s.desk kept.session
-  pub marked : kept.marks ≡ marks_after s kept.session
+  pub marked : kept.marks.rows ≡ marks_after s kept.session
+  pub pools : kept.marks.pools ≡ None
   pub table : IfSome kept.table (λ table. IsTableOn (n.name table.measure) (n.cell table.measure) (n.bound table.measure) (subject_after s kept.session) table)
-  pub weights : AreWeightsFor n s.desk kept.marks kept.weights kept.table
+  pub weights : AreWeightsFor n s.desk kept.marks.rows kept.weights kept.table
 
 -- a table and totals that were there are still there
 pub record Keeps {M : Type 0} (old new : Judging M) : Type 0 where

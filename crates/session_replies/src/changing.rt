@@ -1,5 +1,5 @@
 // Lines that judge, undo and redo.
-ghost use Rattle.std.specs.Prelude.{◌≡◌, ◌≢◌, ◌+◌, ◌<◌, ◌≤◌, ◌≤ℤ◌, [], true, length, slice_index_or, slice_set, pos, negsuc, codes, IfOk, IfSome, IsSome, OnOk, OnErr};
+ghost use Rattle.std.specs.Prelude.{◌≡◌, ◌≢◌, ◌+◌, ◌<◌, ◌≤◌, ◌≤ℤ◌, [], true, length, slice_index_or, slice_set, pos, negsuc, codes, None, IfOk, IfSome, IsSome, OnOk, OnErr};
 ghost use Rattle.desk_model.specs.Desk.{AreMarksOf};
 ghost use Rattle.desk_model.specs.Mark.{mark_of};
 ghost use Rattle.desk_model.specs.Name.{is_name};
@@ -46,12 +46,12 @@ fn take_over<M: Measure, L: Ledger>(
     topic: u32,
     steps: &mut Steps<L>,
 )
-    requires marks { AreMarksOf desk.now marks.now }
+    requires marks { AreMarksOf desk.now marks.now.rows }
     requires topic { topic < length desk.now.topics }
-    requires others { IfSome table.old (λ table. StandsElsewhere (M.cell_of table.measure) (M.bounds_of table.measure) desk.now marks.now topic table) }
-    requires totals { AreWeightsElsewhere (record { name = M.measured; cell = M.cell_of; bound = M.bounds_of }) topic desk.now marks.now weights.old table.old }
-    ensures table { TakesOver (record { name = M.measured; cell = M.cell_of; bound = M.bounds_of }) desk.now marks.now table.old table.new }
-    ensures totals { AreWeightsFor (record { name = M.measured; cell = M.cell_of; bound = M.bounds_of }) desk.now marks.now weights.new table.new }
+    requires others { IfSome table.old (λ table. StandsElsewhere (M.cell_of table.measure) (M.bounds_of table.measure) desk.now marks.now.rows topic table) }
+    requires totals { AreWeightsElsewhere (record { name = M.measured; cell = M.cell_of; bound = M.bounds_of }) topic desk.now marks.now.rows weights.old table.old }
+    ensures table { TakesOver (record { name = M.measured; cell = M.cell_of; bound = M.bounds_of }) desk.now marks.now.rows table.old table.new }
+    ensures totals { AreWeightsFor (record { name = M.measured; cell = M.cell_of; bound = M.bounds_of }) desk.now marks.now.rows weights.new table.new }
     ensures table_kept { IsSome table.old → IsSome table.new }
     ensures totals_kept { IsSome weights.old → IsSome weights.new }
     ensures steps { steps.new + owed desk.now table.new ≤ steps.old + owed desk.now table.old + pairs_in desk.now }
@@ -75,15 +75,17 @@ impl<M: Measure> Judging<M> {
         steps: &mut Steps<L>,
     ) -> Result<Vec<u8>, Memory>
         requires document { IsOfDesk given.now.desk.now changed.now }
-        requires marks { AreMarksOf given.now.desk.now self.old.marks }
-        requires topic { changed.now.topic < length self.old.marks }
-        requires doc { changed.now.doc < length (slice_index_or self.old.marks changed.now.topic []) }
-        requires table { IfSome self.old.table (λ table. StandsFor (M.cell_of table.measure) (M.bounds_of table.measure) given.now.desk.now self.old.marks table) }
-        requires totals { AreWeightsFor (record { name = M.measured; cell = M.cell_of; bound = M.bounds_of }) given.now.desk.now self.old.marks self.old.weights self.old.table }
-        ensures marks { OnOk result (self.new.marks ≡ slice_set self.old.marks changed.now.topic
-            (slice_set (slice_index_or self.old.marks changed.now.topic []) changed.now.doc (mark_of changed.now.grade given.now.level))) }
-        ensures table { OnOk result (TakesOver (record { name = M.measured; cell = M.cell_of; bound = M.bounds_of }) given.now.desk.now self.new.marks self.old.table self.new.table) }
-        ensures totals { AreWeightsFor (record { name = M.measured; cell = M.cell_of; bound = M.bounds_of }) given.now.desk.now self.new.marks self.new.weights self.new.table }
+        requires marks { AreMarksOf given.now.desk.now self.old.marks.rows }
+        requires pools { self.old.marks.pools ≡ None }
+        requires topic { changed.now.topic < length self.old.marks.rows }
+        requires doc { changed.now.doc < length (slice_index_or self.old.marks.rows changed.now.topic []) }
+        requires table { IfSome self.old.table (λ table. StandsFor (M.cell_of table.measure) (M.bounds_of table.measure) given.now.desk.now self.old.marks.rows table) }
+        requires totals { AreWeightsFor (record { name = M.measured; cell = M.cell_of; bound = M.bounds_of }) given.now.desk.now self.old.marks.rows self.old.weights self.old.table }
+        ensures marks { OnOk result (self.new.marks.rows ≡ slice_set self.old.marks.rows changed.now.topic
+            (slice_set (slice_index_or self.old.marks.rows changed.now.topic []) changed.now.doc (mark_of changed.now.grade given.now.level))) }
+        ensures pools { self.new.marks.pools ≡ None }
+        ensures table { OnOk result (TakesOver (record { name = M.measured; cell = M.cell_of; bound = M.bounds_of }) given.now.desk.now self.new.marks.rows self.old.table self.new.table) }
+        ensures totals { AreWeightsFor (record { name = M.measured; cell = M.cell_of; bound = M.bounds_of }) given.now.desk.now self.new.marks.rows self.new.weights self.new.table }
         ensures kept { Keeps self.old self.new }
         ensures session { self.new.session ≡ self.old.session }
         ensures line { IfOk result (λ line. line.items
@@ -93,7 +95,8 @@ impl<M: Measure> Judging<M> {
     {
         // Where memory runs out, nothing was evaluated.
         let line = changed_line(alloc, word, given.desk, changed)?;
-        let mark = mark(changed.grade, given.level);
+        let pooled = self.marks.pooled(changed.topic, changed.doc);
+        let mark = mark(changed.grade, given.level, pooled);
         self.marks.set(changed.topic, changed.doc, mark);
         take_over(
             &mut self.table,

@@ -115,10 +115,10 @@ fn report_text<M: Measure>(
     report: TableRequest,
 ) -> Result<Vec<u8>, Memory>
     requires level { IsLevel given.now.level }
-    requires marks { AreMarksOf given.now.desk.now marks.now }
-    requires table { StandsFor (M.cell_of table.now.measure) (M.bounds_of table.now.measure) given.now.desk.now marks.now table.now }
+    requires marks { AreMarksOf given.now.desk.now marks.now.rows }
+    requires table { StandsFor (M.cell_of table.now.measure) (M.bounds_of table.now.measure) given.now.desk.now marks.now.rows table.now }
     requires runs { AreReportedRuns given.now.desk.now report }
-    ensures { IfOk result (λ text. (s : Subject) → s.level ≡ given.now.level → s.marks ≡ marks.now →
+    ensures { IfOk result (λ text. (s : Subject) → s.level ≡ given.now.level → s.marks ≡ marks.now.rows →
         IsSubjectOf (M.measured table.now.measure) (M.cell_of table.now.measure) (M.bounds_of table.now.measure) given.now.desk.now table.now s →
         IsReported s report text.items) }
 {
@@ -170,10 +170,10 @@ fn weigh<M: Measure>(
     table: &Table<M>,
     weights: &mut Option<Weights>,
 ) -> Result<(), Memory>
-    requires marks { AreMarksOf desk.now marks.now }
-    requires table { StandsFor (M.cell_of table.now.measure) (M.bounds_of table.now.measure) desk.now marks.now table.now }
-    requires totals { AreWeightsFor (record { name = M.measured; cell = M.cell_of; bound = M.bounds_of }) desk.now marks.now weights.old (Some table.now) }
-    ensures totals { AreWeightsFor (record { name = M.measured; cell = M.cell_of; bound = M.bounds_of }) desk.now marks.now weights.new (Some table.now) }
+    requires marks { AreMarksOf desk.now marks.now.rows }
+    requires table { StandsFor (M.cell_of table.now.measure) (M.bounds_of table.now.measure) desk.now marks.now.rows table.now }
+    requires totals { AreWeightsFor (record { name = M.measured; cell = M.cell_of; bound = M.bounds_of }) desk.now marks.now.rows weights.old (Some table.now) }
+    ensures totals { AreWeightsFor (record { name = M.measured; cell = M.cell_of; bound = M.bounds_of }) desk.now marks.now.rows weights.new (Some table.now) }
     ensures kept { IsSome weights.old → IsSome weights.new }
     ensures there { OnOk result (IsSome weights.new) }
 {
@@ -192,12 +192,12 @@ fn next_text<M: Measure>(
     table: &Table<M>,
     weights: &mut Option<Weights>,
 ) -> Result<Vec<u8>, Memory>
-    requires marks { AreMarksOf desk.now marks.now }
-    requires table { StandsFor (M.cell_of table.now.measure) (M.bounds_of table.now.measure) desk.now marks.now table.now }
-    requires totals { AreWeightsFor (record { name = M.measured; cell = M.cell_of; bound = M.bounds_of }) desk.now marks.now weights.old (Some table.now) }
-    ensures totals { AreWeightsFor (record { name = M.measured; cell = M.cell_of; bound = M.bounds_of }) desk.now marks.now weights.new (Some table.now) }
+    requires marks { AreMarksOf desk.now marks.now.rows }
+    requires table { StandsFor (M.cell_of table.now.measure) (M.bounds_of table.now.measure) desk.now marks.now.rows table.now }
+    requires totals { AreWeightsFor (record { name = M.measured; cell = M.cell_of; bound = M.bounds_of }) desk.now marks.now.rows weights.old (Some table.now) }
+    ensures totals { AreWeightsFor (record { name = M.measured; cell = M.cell_of; bound = M.bounds_of }) desk.now marks.now.rows weights.new (Some table.now) }
     ensures kept { IsSome weights.old → IsSome weights.new }
-    ensures text { IfOk result (λ text. (s : Subject) → s.marks ≡ marks.now →
+    ensures text { IfOk result (λ text. (s : Subject) → s.marks ≡ marks.now.rows →
         IsSubjectOf (M.measured table.now.measure) (M.cell_of table.now.measure) (M.bounds_of table.now.measure) desk.now table.now s →
         IsNextText s text.items) }
 {

@@ -44,7 +44,7 @@ impl<M: Measure> Judging<M> {
             IsReadyForLine (record { name = M.measured; cell = M.cell_of; bound = M.bounds_of }) (record { measure = measure; level = level; desk = desk.now }) judging) }
     {
         desk.valid();
-        let marks = Marks::of_file(alloc, desk, level)?;
+        let marks = Marks::of_file(alloc, desk, level, None)?;
         Ok(Judging {
             session: Session::new(alloc),
             marks,

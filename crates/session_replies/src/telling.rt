@@ -42,8 +42,8 @@ pub fn pool(
     topic: &[u8],
     depth: u32,
 ) -> Result<Vec<u8>, Memory>
-    requires marks { AreMarksOf given.now.desk.now marks.now }
-    ensures { IfOk result (λ text. (changes : List Change) → marks.now ≡ marks_after (setting_of given.now) changes →
+    requires marks { AreMarksOf given.now.desk.now marks.now.rows }
+    ensures { IfOk result (λ text. (changes : List Change) → marks.now.rows ≡ marks_after (setting_of given.now) changes →
         IsPoolReply (setting_of given.now) changes depth (number_of (map (λ (book : Book). book.name) given.now.desk.now.topics) topic.now) text.items) }
 {
     match given.desk.find_topic(topic) {

@@ -31,18 +31,19 @@ pub fn bundle_of<M: Measure>(
     level: u32,
 ) -> Result<Bundle, Memory>
     requires runs { 2 ≤ length desk.now.runs }
-    requires marks { AreMarksOf desk.now marks.now }
+    requires marks { AreMarksOf desk.now marks.now.rows }
     requires level { IsLevel level }
-    requires stands { StandsFor (M.cell_of table.now.measure) (M.bounds_of table.now.measure) desk.now marks.now table.now }
-    ensures { IfOk result (IsBundleOf (HasCellEnds (M.cell_of table.now.measure)) (M.measured table.now.measure) desk.now marks.now level) }
+    requires stands { StandsFor (M.cell_of table.now.measure) (M.bounds_of table.now.measure) desk.now marks.now.rows table.now }
+    ensures { IfOk result (IsBundleOf (HasCellEnds (M.cell_of table.now.measure)) (M.measured table.now.measure) desk.now marks.now.rows level) }
 {
     // The laws speak of desks, and of measures that have a name.
     desk.valid();
+    let rows = marks.rows();
     let measure = table.measure().name();
     let order = runs_by_name(alloc, desk)?;
     let runs = run_names(alloc, desk, &order)?;
     let pairs = named_pairs(alloc, &order)?;
-    let claims = all_claims(alloc, table, desk, marks, &pairs)?;
+    let claims = all_claims(alloc, table, desk, rows, &pairs)?;
     let (topics, places) = picked_documents(alloc, desk, &claims)?;
     let claims = replaced_claims(alloc, claims, &places)?;
     Ok(Bundle {

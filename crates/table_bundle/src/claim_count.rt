@@ -12,7 +12,7 @@ ghost use Rattle.table_bundle.specs.Lengths.{open_on, open_pairs, IsCountOf};
 
 use crate::claims::claim_of_pair;
 use crate::pairs::NamedPair;
-use desk_model::{Desk, Marks, Memory, Verdict};
+use desk_model::{Desk, Memory, Rows, Verdict};
 use measure_core::Measure;
 use order_bundle::length::{claim_length, runs_text_length};
 use pair_table::Table;
@@ -30,7 +30,7 @@ fn count_settled<M: Measure>(
     alloc: Global,
     table: &Table<M>,
     desk: &Desk,
-    marks: &Marks,
+    marks: &Rows,
     pair: NamedPair,
 ) -> Result<ClaimCount, Memory>
     requires pair { IsRunPair (length desk.now.runs) pair }
@@ -58,7 +58,7 @@ fn count_pair<M: Measure>(
     alloc: Global,
     table: &Table<M>,
     desk: &Desk,
-    marks: &Marks,
+    marks: &Rows,
     pair: NamedPair,
     undecided: &mut Vec<NamedPair>,
 ) -> Result<ClaimCount, Memory>
@@ -90,7 +90,7 @@ pub fn count_claims<M: Measure>(
     alloc: Global,
     table: &Table<M>,
     desk: &Desk,
-    marks: &Marks,
+    marks: &Rows,
     pairs: &[NamedPair],
 ) -> Result<(ClaimCount, Vec<NamedPair>), Memory>
     requires pairs { All (IsRunPair (length desk.now.runs)) pairs.now }

@@ -11,7 +11,7 @@ ghost use Rattle.table_bundle.specs.Drafts.{bounds_by, draft_of, drafts_on, pick
 
 use crate::lists::pair_picks;
 use crate::pairs::NamedPair;
-use desk_model::{Desk, Marks, Memory, PairPlaces, Verdict};
+use desk_model::{Desk, Memory, PairPlaces, Rows, Verdict};
 use measure_core::{Cell, Measure};
 use order_bundle::{Bound, PairBounds, PairClaim, PairEvidence};
 use pair_table::Table;
@@ -85,7 +85,7 @@ fn open<M: Measure>(
     alloc: Global,
     measure: &M,
     desk: &Desk,
-    marks: &Marks,
+    marks: &Rows,
     first: u32,
     second: u32,
     a: u32,
@@ -109,7 +109,7 @@ pub fn claim_of_pair<M: Measure>(
     alloc: Global,
     table: &Table<M>,
     desk: &Desk,
-    marks: &Marks,
+    marks: &Rows,
     at: PairPlaces,
     a: u32,
     b: u32,
@@ -140,7 +140,7 @@ pub fn all_claims<M: Measure>(
     alloc: Global,
     table: &Table<M>,
     desk: &Desk,
-    marks: &Marks,
+    marks: &Rows,
     pairs: &[NamedPair],
 ) -> Result<Vec<PairClaim>, Memory>
     requires pairs { All (IsRunPair (length desk.now.runs)) pairs.now }

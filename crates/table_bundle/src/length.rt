@@ -36,20 +36,21 @@ pub fn table_bundle_length<M: Measure>(
     level: u32,
 ) -> Result<u64, Memory>
     requires runs { 2 ≤ length desk.now.runs }
-    requires marks { AreMarksOf desk.now marks.now }
+    requires marks { AreMarksOf desk.now marks.now.rows }
     requires level { IsLevel level }
-    requires stands { StandsFor (M.cell_of table.now.measure) (M.bounds_of table.now.measure) desk.now marks.now table.now }
-    ensures { IfOk result (IsBundleLength (HasCellEnds (M.cell_of table.now.measure)) (M.measured table.now.measure) desk.now marks.now level) }
+    requires stands { StandsFor (M.cell_of table.now.measure) (M.bounds_of table.now.measure) desk.now marks.now.rows table.now }
+    ensures { IfOk result (IsBundleLength (HasCellEnds (M.cell_of table.now.measure)) (M.measured table.now.measure) desk.now marks.now.rows level) }
 {
     // The laws speak of desks, and of measures that have a name.
     desk.valid();
+    let rows = marks.rows();
     let measure = table.measure();
     let name = measure.name();
     let order = runs_by_name(alloc, desk)?;
     let runs = run_names(alloc, desk, &order)?;
     let pairs = named_pairs(alloc, &order)?;
-    let (claims, undecided) = count_claims(alloc, table, desk, marks, &pairs)?;
-    let topics = topics_length(alloc, measure, desk, marks, &undecided)?;
+    let (claims, undecided) = count_claims(alloc, table, desk, rows, &pairs)?;
+    let topics = topics_length(alloc, measure, desk, rows, &undecided)?;
     let first = opening_length(&name, level) + names_length(b"run ", runs.as_slice());
     let topic_count = u64::from(desk.topic_count());
     let counting = counting_lines(order.len() as u64, topic_count, claims.claims);

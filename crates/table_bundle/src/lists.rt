@@ -6,7 +6,7 @@ ghost use Rattle.measure_core.specs.Laws.{AreMet};
 ghost use Rattle.measure_core.specs.Lists.{added_documents};
 ghost use Rattle.table_bundle.specs.Drafts.{picks_on};
 
-use desk_model::{Desk, Mark, Marks, Memory, Ranking};
+use desk_model::{Desk, Mark, Memory, Ranking, Rows};
 use measure_core::Measure;
 use order_bundle::{PairPicks, PickList, Picks};
 use std::alloc::Global;
@@ -53,7 +53,7 @@ pub fn pair_picks<M: Measure>(
     alloc: Global,
     measure: &M,
     desk: &Desk,
-    marks: &Marks,
+    marks: &Rows,
     first: u32,
     second: u32,
 ) -> Result<PairPicks, Memory>

@@ -15,7 +15,7 @@ ghost use Rattle.table_bundle.specs.Drafts.{case_picks, names_where, IsRunPair};
 ghost use Rattle.table_bundle.specs.Lengths.{all_picks, both_lists, heads_length, is_counted, lists_on, picks_length_by, topic_lengths, topic_with, LIST_LIMIT};
 
 use crate::pairs::NamedPair;
-use desk_model::{Desk, Mark, Marks, Memory, Ranking, TopicBook};
+use desk_model::{Desk, Mark, Memory, Ranking, Rows, TopicBook};
 use measure_core::{ListRoom, Measure};
 use order_bundle::length::digits;
 use std::alloc::Global;
@@ -131,7 +131,7 @@ fn topic_length<M: Measure>(
     alloc: Global,
     measure: &M,
     desk: &Desk,
-    marks: &Marks,
+    marks: &Rows,
     topic: u32,
     pairs: &[NamedPair],
 ) -> Result<u64, Memory>
@@ -153,7 +153,7 @@ pub fn topics_length<M: Measure>(
     alloc: Global,
     measure: &M,
     desk: &Desk,
-    marks: &Marks,
+    marks: &Rows,
     pairs: &[NamedPair],
 ) -> Result<u64, Memory>
     requires marks { AreMarksOf desk.now marks.now }

@@ -1,10 +1,11 @@
-use Rattle.std.proofs.Common.{◌≡◌, ℕ, List, [], ◌∷◌, length, map, sym, ◌∙◌, subst}
+use Rattle.std.proofs.Common.{◌≡◌, ℕ, List, [], ◌∷◌, length, map, ap, sym, ◌∙◌, subst}
 use Rattle.std.specs.Prelude.{All}
 use Rattle.std.specs.List.{AllZip}
 use Rattle.std.proofs.lemmas.List.{length-map}
 use Rattle.std.proofs.lemmas.List.Elements.{All-head, All-tail}
 use Rattle.desk_model.specs.Book.{Book, IsBook}
 use Rattle.desk_model.specs.Desk.{AreMarksOf, file_marks}
+use Rattle.desk_model.specs.Graded.{Marked}
 use Rattle.desk_model.specs.Mark.{mark_of}
 use Rattle.desk_model.specs.declared.types.Mark.{Mark}
 use Rattle.bundle_trials.proofs.desks.marks_of.Goals as goal
@@ -14,4 +15,4 @@ marks_fit level [] are = tt
 marks_fit level (book ∷ topics) are = (length-map book.grades (λ grade. mark_of grade level) ∙ (All-head IsBook book topics are).graded, marks_fit level topics (All-tail IsBook book topics are))
 
 pub returns : goal.returns
-returns c = subst (AreMarksOf c.args.desk.now) (sym c.in_ok-marks.ensures) (marks_fit 1 c.args.desk.now.topics c.topic_count.ensures.desk.books)
+returns c = subst (AreMarksOf c.args.desk.now) (sym (ap (λ (m : Marked). m.rows) c.in_ok-marks.ensures)) (marks_fit 1 c.args.desk.now.topics c.topic_count.ensures.desk.books)

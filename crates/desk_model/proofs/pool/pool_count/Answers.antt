@@ -16,13 +16,14 @@ use Rattle.desk_model.proofs.pool.pool_count.Goals.{then-is_in_pool, else-is_in_
 
 pub topic-marks-requires : goal.topic-marks-requires
 topic-marks-requires c =
-    let long = length-zipped (λ (book : Book) (topic : List Mark). length topic ≡ length book.docs) c.args.desk.now.topics c.args.marks.now c.requires.marks in
-    omega (arith, long, c.requires.topic)
+    let long = length-zipped (λ (book : Book) (topic : List Mark). length topic ≡ length book.docs) c.args.desk.now.topics c.args.marks.now.rows c.requires.marks in
+    omega (arith, long, c.requires.topic, ap length c.rows.ensures)
 
 pub bounds-marks-doc : goal.bounds-marks-doc
 bounds-marks-doc c =
-    let over = zipped_at (λ (book : Book) (topic : List Mark). length topic ≡ length book.docs) c.args.desk.now.topics c.args.marks.now c.args.topic c.topic.result.now [] c.requires.marks c.topic.ensures in
-    let here = ap length (get_or_from_slice_get c.args.marks.now c.args.topic c.topic-marks.result.now [] c.topic-marks.ensures) in
+    let over = zipped_at (λ (book : Book) (topic : List Mark). length topic ≡ length book.docs) c.args.desk.now.topics c.args.marks.now.rows c.args.topic c.topic.result.now [] c.requires.marks c.topic.ensures in
+    let there = ap (λ rows. slice_get rows c.args.topic) (sym c.rows.ensures) ∙ c.topic-marks.ensures in
+    let here = ap length (get_or_from_slice_get c.args.marks.now.rows c.args.topic c.topic-marks.result.now [] there) in
     omega (arith, over, here, c.loop-doc-test.true, c.doc_count-doc-end.ensures.count)
 
 pub with-count-requires-clause-size : goal.with-count-requires-clause-size
@@ -55,6 +56,7 @@ returns c =
     let pooled = is_pooled c.args.desk.now c.args.topic c.args.depth in
     let whole : length c.topic.result.now.docs ≡ c.loop-doc.doc = omega (arith, c.doc_count-doc-end.ensures.count, c.loop-doc-test.false, c.loop-doc.auto.doc-end) in
     let size : option_map_or (λ (book : Book). length book.docs) (slice_get topics c.args.topic) 0 ≡ c.loop-doc.doc = ap (λ o. option_map_or (λ (book : Book). length book.docs) o 0) c.topic.ensures ∙ whole in
-    let here = get_or_from_slice_get c.args.marks.now c.args.topic c.topic-marks.result.now [] c.topic-marks.ensures in
-    subst (λ n. IsCountOf (filter pooled (range_with_len 0 n)) (get_or c.args.marks.now c.args.topic []) c.loop-doc.count) (sym size)
+    let there = ap (λ rows. slice_get rows c.args.topic) (sym c.rows.ensures) ∙ c.topic-marks.ensures in
+    let here = get_or_from_slice_get c.args.marks.now.rows c.args.topic c.topic-marks.result.now [] there in
+    subst (λ n. IsCountOf (filter pooled (range_with_len 0 n)) (get_or c.args.marks.now.rows c.args.topic []) c.loop-doc.count) (sym size)
     (subst (λ marks. IsCountOf (filter pooled (range_with_len 0 c.loop-doc.doc)) marks c.loop-doc.count) (sym here) c.loop-doc.invariant)

@@ -24,5 +24,5 @@ next_line_text-requires-clause-doc c =
 pub returns : goal.returns
 returns c = λ s over marked of.
     let desk = c.args.desk.now in
-    kept_next_is desk c.args.marks.now c.args.weights.now c.next-proposal.result s c.in_ok-text.text.items c.valid.ensures c.requires.marks c.next-proposal.ensures over marked of
+    kept_next_is desk c.args.marks.now.rows c.args.weights.now c.next-proposal.result s c.in_ok-text.text.items c.valid.ensures c.requires.marks c.next-proposal.ensures over marked of
     (c.in_ok-text.ensures ∙ ap (λ o. ended (next_line desk o)) c.as_ref.ensures.value)

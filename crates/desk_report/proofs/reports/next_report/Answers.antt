@@ -31,5 +31,5 @@ returns g c = λ s marked of.
     let desk = c.args.desk.now in
     let M = g.M.Measure in
     let proposal = c.next-proposal.result in
-    next_is (M.measured table.measure) (M.cell_of table.measure) (M.bounds_of table.measure) desk c.valid.ensures table s of c.args.marks.now (M.measured c.measure.result.now) c.verdicts.result.now proposal c.in_ok-text.text.items marked
+    next_is (M.measured table.measure) (M.cell_of table.measure) (M.bounds_of table.measure) desk c.valid.ensures table s of c.args.marks.now.rows (M.measured c.measure.result.now) c.verdicts.result.now proposal c.in_ok-text.text.items marked
     (ap M.measured c.measure.ensures) c.verdicts.ensures c.next-proposal.ensures.next (c.in_ok-text.ensures ∙ ap (λ o. ended (next_line desk o)) c.as_ref.ensures.value)

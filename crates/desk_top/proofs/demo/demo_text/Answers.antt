@@ -1,5 +1,6 @@
-use Rattle.std.proofs.Common.{subst}
+use Rattle.std.proofs.Common.{ap, subst}
 use Rattle.std.proofs.lemmas.Result.{IfOk-weaker}
+use Rattle.desk_model.specs.Graded.{Marked}
 use Rattle.desk_model.specs.declared.types.MeasureName.TheVariants.{Precision}
 use Rattle.desk_report.specs.Reports.{IsTableOn, subject}
 use Rattle.desk_top.proofs.Marking.{marks_known}
@@ -12,7 +13,7 @@ pub texts_of-requires-clause-table : goal.texts_of-requires-clause-table
 texts_of-requires-clause-table g c =
     let M = g.P.Made.Measure in
     let kept = c.in_ok-table.table in
-    subst (λ marks. IsTableOn (M.measured kept.measure) (M.cell_of kept.measure) (M.bounds_of kept.measure) (subject (Precision 10) 1 c.in_ok-demo.demo.desk marks) kept) c.in_ok-marks.ensures c.in_ok-table.ensures.table
+    subst (λ marks. IsTableOn (M.measured kept.measure) (M.cell_of kept.measure) (M.bounds_of kept.measure) (subject (Precision 10) 1 c.in_ok-demo.demo.desk marks) kept) (ap (λ (m : Marked). m.rows) c.in_ok-marks.ensures) c.in_ok-table.ensures.table
 
 pub returns-clause-text : goal.returns-clause-text
 returns-clause-text g c =

@@ -9,7 +9,7 @@ use Rattle.desk_top.proofs.Marking.{marks_known}
 use Rattle.desk_top.proofs.demo.texts_of.Goals as goal
 
 pub summary_text-requires : goal.summary_text-requires
-summary_text-requires g c = let desk = c.args.demo.now.desk in subst (AreMarksOf desk) (sym c.requires.marks) (marks_known 1 desk c.requires.valid)
+summary_text-requires g c = let desk = c.args.demo.now.desk in subst (AreMarksOf desk) (sym (c.rows.ensures ∙ c.requires.marks)) (marks_known 1 desk c.requires.valid)
 
 pub next_report-requires-clause-marks : goal.next_report-requires-clause-marks
 next_report-requires-clause-marks g c = let desk = c.args.demo.now.desk in subst (AreMarksOf desk) (sym c.requires.marks) (marks_known 1 desk c.requires.valid)
@@ -33,5 +33,5 @@ returns g c =
         proposal = c.in_ok-next.ensures s (sym c.requires.marks) of;
       };
       is = c.in_ok-extend_from_slice.ensures.items ∙ ap (λ n. c.in_ok-text.text.items ++ n) c.deref.ensures.value
-          ∙ ap (λ t. t ++ c.in_ok-next.next.items) (c.in_ok-text.ensures ∙ ap (λ m. summary_text seed demo.rows m c.verdicts.result.now) c.requires.marks ∙ ap (summary_text seed demo.rows s.marks) c.verdicts.ensures);
+          ∙ ap (λ t. t ++ c.in_ok-next.next.items) (c.in_ok-text.ensures ∙ ap (λ m. summary_text seed demo.rows m c.verdicts.result.now) (c.rows.ensures ∙ c.requires.marks) ∙ ap (summary_text seed demo.rows s.marks) c.verdicts.ensures);
     }

@@ -7,4 +7,4 @@ pub check_any-requires-clause-marks : goal.check_any-requires-clause-marks
 check_any-requires-clause-marks c = rw (c.in_ok-marks.ensures, c.level.ensures) (marks_known (any_level c.args.certificate.now) c.args.desk.now c.valid.ensures)
 
 pub line_of-requires : goal.line_of-requires
-line_of-requires c = reason_on_desk c.args.certificate.now c.args.desk.now c.in_ok-marks.marks c.in_ok-answer.answer c.in_ok-answer.ensures.verified
+line_of-requires c = reason_on_desk c.args.certificate.now c.args.desk.now c.in_ok-marks.marks.rows c.in_ok-answer.answer c.in_ok-answer.ensures.verified

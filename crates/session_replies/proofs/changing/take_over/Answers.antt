@@ -5,4 +5,4 @@ use Rattle.session_replies.proofs.changing.take_over.Goals as goal
 pub change-requires-in-Some-weights-clause-verdicts : goal.change-requires-in-Some-weights-clause-verdicts
 change-requires-in-Some-weights-clause-verdicts g c =
     let old = c.in-Some.table in
-    ap length c.verdicts.ensures ∙ verdict_each (g.M.Measure.cell_of old.measure) (g.M.Measure.bounds_of old.measure) c.args.desk.now c.args.marks.now c.change.new.self c.change.ensures.stands
+    ap length c.verdicts.ensures ∙ verdict_each (g.M.Measure.cell_of old.measure) (g.M.Measure.bounds_of old.measure) c.args.desk.now c.args.marks.now.rows c.change.new.self c.change.ensures.stands

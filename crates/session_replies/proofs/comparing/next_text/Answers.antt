@@ -8,7 +8,7 @@ pub returns-clause-text : goal.returns-clause-text
 returns-clause-text g c =
     let table = c.args.table.now in
     let desk = c.args.desk.now in
-    let marks = c.args.marks.now in
+    let marks = c.args.marks.now.rows in
     let M = g.M.Measure in
     IfOk-weaker c.kept_next_report.result _ _
     (λ text told s marked of. told s of.over marked

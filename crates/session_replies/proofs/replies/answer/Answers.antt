@@ -129,7 +129,7 @@ returns-in-Err-find_runs-clause-stopped g c =
 
 pub returns-in-Pool-clause-answers : goal.returns-in-Pool-clause-answers
 returns-in-Pool-clause-answers g c =
-    answers_told (record { name = g.P.Made.Measure.measured; cell = g.P.Made.Measure.cell_of; bound = g.P.Made.Measure.bounds_of }) (setting_of c.args.given.now) c.args.request (requests.Pool c.in-Pool.topic c.in-Pool.depth) c.args.judging.now c.args.judging.now c.pool.result c.in-Pool.is (λ (text : List ℕ). (changes : List Change) → c.args.judging.now.marks ≡ marks_after (setting_of c.args.given.now) changes → IsPoolReply (setting_of c.args.given.now) changes c.in-Pool.depth (number_of (map (λ (book : Book). book.name) c.args.given.now.desk.now.topics) c.in-Pool.topic.now) text) c.requires.ready refl
+    answers_told (record { name = g.P.Made.Measure.measured; cell = g.P.Made.Measure.cell_of; bound = g.P.Made.Measure.bounds_of }) (setting_of c.args.given.now) c.args.request (requests.Pool c.in-Pool.topic c.in-Pool.depth) c.args.judging.now c.args.judging.now c.pool.result c.in-Pool.is (λ (text : List ℕ). (changes : List Change) → c.args.judging.now.marks.rows ≡ marks_after (setting_of c.args.given.now) changes → IsPoolReply (setting_of c.args.given.now) changes c.in-Pool.depth (number_of (map (λ (book : Book). book.name) c.args.given.now.desk.now.topics) c.in-Pool.topic.now) text) c.requires.ready refl
     (λ text told. told c.args.judging.now.session c.requires.ready.marked) c.pool.ensures
 
 pub returns-in-Pool-clause-counts : goal.returns-in-Pool-clause-counts

@@ -1,8 +1,12 @@
 use Rattle.std.proofs.Common.{◌≡◌, ℕ, ◌<◌, List, length, map, ap, sym, subst, ◌∙◌, arith}
 use Rattle.std.specs.Prelude.{All}
 use Rattle.std.proofs.lemmas.List.Elements.{All-from_recursion}
-use Rattle.desk_model.specs.Desk.{topics_under}
+use Rattle.desk_model.specs.Desk.{AreMarksOf, topics_under}
 use Rattle.desk_model.specs.MeasureText.{IsMeasure}
+use Rattle.desk_model.specs.declared.types.Mark.{Mark}
+use Rattle.pair_table.specs.Kept.{StandsFor}
+use Rattle.pair_table.specs.Numbers.{HasCellEnds}
+use Rattle.table_bundle.specs.Bundles.{IsBundleOf}
 use Rattle.order_bundle.specs.Bundle.{IsEvidenceOn}
 use Rattle.order_bundle.specs.Evidence.{name_at}
 use Rattle.order_bundle.specs.declared.bundle.PairClaim.{PairClaim}
@@ -23,6 +27,14 @@ named_pairs-requires-clause-some g c = omega (arith, ap length c.deref-2.ensures
 pub named_pairs-requires-clause-few : goal.named_pairs-requires-clause-few
 named_pairs-requires-clause-few g c = omega (arith, ap length c.deref-2.ensures.value, length-order c.args.desk.now c.valid.ensures c.in_ok-order.order.items c.in_ok-order.ensures, c.valid.ensures.runs)
 
+pub all_claims-requires-clause-marks : goal.all_claims-requires-clause-marks
+all_claims-requires-clause-marks g c = subst (AreMarksOf c.args.desk.now) (sym c.rows-rows.ensures) c.requires.marks
+
+pub all_claims-requires-clause-stands : goal.all_claims-requires-clause-stands
+all_claims-requires-clause-stands g c =
+    let table = c.args.table.now in
+    subst (λ (ms : List (List Mark)). StandsFor (g.M.Measure.cell_of table.measure) (g.M.Measure.bounds_of table.measure) c.args.desk.now ms table) (sym c.rows-rows.ensures) c.requires.stands
+
 pub all_claims-requires-clause-pairs : goal.all_claims-requires-clause-pairs
 all_claims-requires-clause-pairs g c =
     let desk = c.args.desk.now in
@@ -34,7 +46,7 @@ picked_documents-requires g c =
     let name = g.M.Measure.measured table.measure in
     let cell = g.M.Measure.cell_of table.measure in
     let desk = c.args.desk.now in
-    let marks = c.args.marks.now in
+    let marks = c.rows-rows.result.now in
     let order : List ℕ = c.in_ok-order.order.items in
     let named : c.name-measure.result ≡ name = c.name-measure.ensures.name ∙ ap g.M.Measure.measured c.measure.ensures in
     let valid : IsMeasure name = subst IsMeasure named c.name-measure.ensures.built in
@@ -43,7 +55,7 @@ picked_documents-requires g c =
     let On = λ (claim : PairClaim). IsEvidenceOn (all_documents desk) claim.evidence in
     subst (All On) (sym (c.deref-4.ensures.value ∙ items))
     (All-from_recursion On (drafts cell name (topics_under desk marks) order)
-    (claims_on name cell (g.M.Measure.bounds_of table.measure) valid laws desk marks c.valid.ensures c.requires.marks c.args.level c.requires.level order c.in_ok-order.ensures c.requires.runs))
+    (claims_on name cell (g.M.Measure.bounds_of table.measure) valid laws desk marks c.valid.ensures (subst (AreMarksOf c.args.desk.now) (sym c.rows-rows.ensures) c.requires.marks) c.args.level c.requires.level order c.in_ok-order.ensures c.requires.runs))
 
 pub invariant_of-result : goal.invariant_of-result
 invariant_of-result g c =
@@ -51,13 +63,13 @@ invariant_of-result g c =
     let name = g.M.Measure.measured table.measure in
     let cell = g.M.Measure.cell_of table.measure in
     let desk = c.args.desk.now in
-    let marks = c.args.marks.now in
+    let marks = c.rows-rows.result.now in
     let order : List ℕ = c.in_ok-order.order.items in
     let named : c.name-measure.result ≡ name = c.name-measure.ensures.name ∙ ap g.M.Measure.measured c.measure.ensures in
     let valid : IsMeasure name = subst IsMeasure named c.name-measure.ensures.built in
     let laws = g.met.M.Measure.laws table.measure valid in
     let items : c.in_ok-claims.claims.items ≡ drafts cell name (topics_under desk marks) order = c.in_ok-claims.ensures ∙ ap (drafts_on cell name (topics_under desk marks)) (c.deref-3.ensures.value ∙ c.in_ok-pairs.ensures ∙ ap pairs_in c.deref-2.ensures.value) ∙ drafts_in cell name (topics_under desk marks) order in
-    (made_from name cell (g.M.Measure.bounds_of table.measure) valid laws desk marks c.valid.ensures c.requires.marks c.args.level c.requires.level order c.in_ok-order.ensures c.requires.runs
+    (made_from name cell (g.M.Measure.bounds_of table.measure) valid laws desk marks c.valid.ensures (subst (AreMarksOf c.args.desk.now) (sym c.rows-rows.ensures) c.requires.marks) c.args.level c.requires.level order c.in_ok-order.ensures c.requires.runs
     c.name-measure.result c.in_ok-runs.runs c.new.result c.in_ok-claims-2.claims c.in_ok-claims.claims.items c.deref-5.result.now
     named (c.in_ok-runs.ensures ∙ ap (map (name_at desk.runs)) c.deref.ensures.value) items
     (c.new.ensures ∙ c.in_ok-topics.ensures.topics ∙ ap (λ cs. picked_topics cs (all_documents desk)) c.deref-4.ensures.value)
@@ -70,15 +82,16 @@ returns g c =
     let name = g.M.Measure.measured table.measure in
     let cell = g.M.Measure.cell_of table.measure in
     let desk = c.args.desk.now in
-    let marks = c.args.marks.now in
+    let marks = c.rows-rows.result.now in
     let order : List ℕ = c.in_ok-order.order.items in
     let named : c.name-measure.result ≡ name = c.name-measure.ensures.name ∙ ap g.M.Measure.measured c.measure.ensures in
     let valid : IsMeasure name = subst IsMeasure named c.name-measure.ensures.built in
     let laws = g.met.M.Measure.laws table.measure valid in
     let items : c.in_ok-claims.claims.items ≡ drafts cell name (topics_under desk marks) order = c.in_ok-claims.ensures ∙ ap (drafts_on cell name (topics_under desk marks)) (c.deref-3.ensures.value ∙ c.in_ok-pairs.ensures ∙ ap pairs_in c.deref-2.ensures.value) ∙ drafts_in cell name (topics_under desk marks) order in
-    made_from name cell (g.M.Measure.bounds_of table.measure) valid laws desk marks c.valid.ensures c.requires.marks c.args.level c.requires.level order c.in_ok-order.ensures c.requires.runs
+    subst (λ (ms : List (List Mark)). IsBundleOf (HasCellEnds cell) name desk ms c.args.level (record { measure = c.name-measure.result; level = c.args.level; runs = c.in_ok-runs.runs; topics = c.new.result; claims = c.in_ok-claims-2.claims })) c.rows-rows.ensures
+    (made_from name cell (g.M.Measure.bounds_of table.measure) valid laws desk marks c.valid.ensures (subst (AreMarksOf c.args.desk.now) (sym c.rows-rows.ensures) c.requires.marks) c.args.level c.requires.level order c.in_ok-order.ensures c.requires.runs
     c.name-measure.result c.in_ok-runs.runs c.new.result c.in_ok-claims-2.claims c.in_ok-claims.claims.items c.deref-5.result.now
     named (c.in_ok-runs.ensures ∙ ap (map (name_at desk.runs)) c.deref.ensures.value) items
     (c.new.ensures ∙ c.in_ok-topics.ensures.topics ∙ ap (λ cs. picked_topics cs (all_documents desk)) c.deref-4.ensures.value)
     (c.deref-5.ensures.value ∙ c.in_ok-topics.ensures.places ∙ ap (λ cs. picked_places cs (all_documents desk)) c.deref-4.ensures.value)
-    c.in_ok-claims-2.ensures
+    c.in_ok-claims-2.ensures)

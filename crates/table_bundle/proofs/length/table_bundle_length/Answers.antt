@@ -3,14 +3,17 @@ use Rattle.std.specs.Prelude.{All, decimal}
 use Rattle.std.specs.List.{sum}
 use Rattle.std.proofs.lemmas.List.{length-map}
 use Rattle.std.proofs.lemmas.List.Elements.{All-from_recursion, recursion_from_All}
-use Rattle.desk_model.specs.Desk.{Desk, IsDesk, topics_under}
+use Rattle.desk_model.specs.Desk.{AreMarksOf, Desk, IsDesk, topics_under}
 use Rattle.desk_model.specs.MeasureText.{IsMeasure}
+use Rattle.desk_model.specs.declared.types.Mark.{Mark}
 use Rattle.desk_model.specs.declared.types.MeasureName.{MeasureName}
+use Rattle.pair_table.specs.Kept.{StandsFor}
+use Rattle.pair_table.specs.Numbers.{HasCellEnds}
 use Rattle.order_bundle.specs.Bundle.{opening_lines, run_line}
 use Rattle.order_bundle.specs.Evidence.{name_at}
 use Rattle.order_bundle.specs.Lengths.{text_length}
 use Rattle.table_bundle.specs.Drafts.{drafts_on, pairs_in, IsNameOrder, IsRunPair}
-use Rattle.table_bundle.specs.Lengths.{open_pairs, topic_lengths, IsCountOf}
+use Rattle.table_bundle.specs.Lengths.{IsBundleLength, open_pairs, topic_lengths, IsCountOf}
 use Rattle.table_bundle.specs.declared.claim_count.ClaimCount.{ClaimCount}
 use Rattle.table_bundle.specs.declared.pairs.NamedPair.{NamedPair}
 use Rattle.table_bundle.proofs.InOrder.{length-order, order_within}
@@ -28,6 +31,17 @@ named_pairs-requires-clause-some g c = omega (arith, ap length c.deref-2.ensures
 pub named_pairs-requires-clause-few : goal.named_pairs-requires-clause-few
 named_pairs-requires-clause-few g c = omega (arith, ap length c.deref-2.ensures.value, length-order c.args.desk.now c.valid.ensures c.in_ok-order.order.items c.in_ok-order.ensures, c.valid.ensures.runs)
 
+pub count_claims-requires-clause-marks : goal.count_claims-requires-clause-marks
+count_claims-requires-clause-marks g c = subst (AreMarksOf c.args.desk.now) (sym c.rows-rows.ensures) c.requires.marks
+
+pub count_claims-requires-clause-stands : goal.count_claims-requires-clause-stands
+count_claims-requires-clause-stands g c =
+    let table = c.args.table.now in
+    subst (λ (ms : List (List Mark)). StandsFor (g.M.Measure.cell_of table.measure) (g.M.Measure.bounds_of table.measure) c.args.desk.now ms table) (sym c.rows-rows.ensures) c.requires.stands
+
+pub topics_length-requires-clause-marks : goal.topics_length-requires-clause-marks
+topics_length-requires-clause-marks g c = subst (AreMarksOf c.args.desk.now) (sym c.rows-rows.ensures) c.requires.marks
+
 pub count_claims-requires-clause-pairs : goal.count_claims-requires-clause-pairs
 count_claims-requires-clause-pairs g c =
     let desk = c.args.desk.now in
@@ -44,7 +58,7 @@ topics_length-requires-clause-pairs g c =
     let cell = g.M.Measure.cell_of table.measure in
     let desk = c.args.desk.now in
     let order : List ℕ = c.in_ok-order.order.items in
-    let topics = topics_under desk c.args.marks.now in
+    let topics = topics_under desk c.rows-rows.result.now in
     let pairs_are : c.deref-3.result.now ≡ pairs_in order = c.deref-3.ensures.value ∙ c.in_ok-pairs.ensures ∙ ap pairs_in c.deref-2.ensures.value in
     let open_are : c.deref-4.result.now ≡ open_pairs cell topics (pairs_in order) = c.deref-4.ensures.value ∙ c.in_ok-claims.ensures.undecided ∙ ap (open_pairs cell topics) pairs_are in
     let P : NamedPair → Type 0 = IsRunPair (length desk.runs) in
@@ -56,7 +70,7 @@ topics_length-requires-clause-few g c =
     let cell = g.M.Measure.cell_of table.measure in
     let desk = c.args.desk.now in
     let order : List ℕ = c.in_ok-order.order.items in
-    let topics = topics_under desk c.args.marks.now in
+    let topics = topics_under desk c.rows-rows.result.now in
     let pairs_are : c.deref-3.result.now ≡ pairs_in order = c.deref-3.ensures.value ∙ c.in_ok-pairs.ensures ∙ ap pairs_in c.deref-2.ensures.value in
     let open_are : c.deref-4.result.now ≡ open_pairs cell topics (pairs_in order) = c.deref-4.ensures.value ∙ c.in_ok-claims.ensures.undecided ∙ ap (open_pairs cell topics) pairs_are in
     omega (arith, ap length open_are, few_open cell (g.M.Measure.measured table.measure) topics (pairs_in order), few_named desk c.valid.ensures order c.in_ok-order.ensures)
@@ -101,7 +115,7 @@ returns g c =
     let name = g.M.Measure.measured table.measure in
     let cell = g.M.Measure.cell_of table.measure in
     let desk = c.args.desk.now in
-    let marks = c.args.marks.now in
+    let marks = c.rows-rows.result.now in
     let order : List ℕ = c.in_ok-order.order.items in
     let topics = topics_under desk marks in
     let count : ClaimCount = c.in_ok-claims.claims in
@@ -120,5 +134,6 @@ returns g c =
     let lists : c.in_ok-topics.topics ≡ sum (topic_lengths name desk marks (open_pairs cell topics (pairs_in order))) =
     c.in_ok-topics.ensures.bytes ∙ ap (λ m. sum (topic_lengths (g.M.Measure.measured m) desk marks c.deref-4.result.now)) c.measure-measure.ensures ∙ ap (λ (ps : List NamedPair). sum (topic_lengths name desk marks ps)) open_are in
     let counted : IsCountOf (drafts_on cell name topics (pairs_in order)) count = subst (λ (ps : List NamedPair). IsCountOf (drafts_on cell name topics ps) count) pairs_are c.in_ok-claims.ensures.count in
-    bundle_length_is name cell (g.M.Measure.bounds_of table.measure) valid laws desk marks c.valid.ensures c.requires.marks c.args.level c.requires.level order c.in_ok-order.ensures c.requires.runs
-    c.opening_length.result c.names_length.result c.counting_lines-counting.result c.in_ok-topics.topics count first names counting lists counted
+    subst (λ (ms : List (List Mark)). IsBundleLength (HasCellEnds cell) name desk ms c.args.level (c.opening_length.result + c.names_length.result + c.counting_lines-counting.result + c.in_ok-topics.topics + count.bytes)) c.rows-rows.ensures
+    (bundle_length_is name cell (g.M.Measure.bounds_of table.measure) valid laws desk marks c.valid.ensures (subst (AreMarksOf c.args.desk.now) (sym c.rows-rows.ensures) c.requires.marks) c.args.level c.requires.level order c.in_ok-order.ensures c.requires.runs
+    c.opening_length.result c.names_length.result c.counting_lines-counting.result c.in_ok-topics.topics count first names counting lists counted)

@@ -13,7 +13,7 @@ new-requires c =
     let runs = c.in-Ok.ensures.0 in
     record {
       whole = c.wrong_topic.ensures.desk;
-      known = subst (AreMarksOf c.args.desk.now) (sym c.anew-marks.ensures) c.requires.marks;
+      known = subst (AreMarksOf c.args.desk.now) (sym (c.anew-marks.ensures ∙ c.rows-rows.ensures)) c.requires.marks;
       first_known = let at = place_within _ c.args.desk.now.runs 0 c.in-Ok.runs.first runs.0 in omega (arith, at);
       second_known = let at = place_within _ c.args.desk.now.runs 0 c.in-Ok.runs.second runs.1 in omega (arith, at);
     }
@@ -21,7 +21,7 @@ new-requires c =
 pub check-requires-clause-topics : goal.check-requires-clause-topics
 check-requires-clause-topics c =
     let name : Book → List ℕ = λ book. book.name in
-    ap length c.in_default.ensures.place ∙ length-map c.args.desk.now.topics name ∙ sym (length-named c.args.desk.now c.anew-marks.result (subst (AreMarksOf c.args.desk.now) (sym c.anew-marks.ensures) c.requires.marks)) ∙ ap (λ (w : Compared). length (topics_in w)) (sym c.new.ensures)
+    ap length c.in_default.ensures.place ∙ length-map c.args.desk.now.topics name ∙ sym (length-named c.args.desk.now c.anew-marks.result (subst (AreMarksOf c.args.desk.now) (sym (c.anew-marks.ensures ∙ c.rows-rows.ensures)) c.requires.marks)) ∙ ap (λ (w : Compared). length (topics_in w)) (sym c.new.ensures)
 
 pub wrong_names-requires-in-Some-clause-place : goal.wrong_names-requires-in-Some-clause-place
 wrong_names-requires-in-Some-clause-place c = topic_placed c.args.certificate.now.evidence (topic_names c.args.desk.now) c.in-Some.place c.in-Some.ensures.place

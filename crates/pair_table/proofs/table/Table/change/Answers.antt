@@ -2,7 +2,9 @@ use Rattle.std.proofs.Common.{◌≡◌, ℕ, ◌+◌, All, List, length, map, a
 use Rattle.std.specs.Prelude.{slice_set}
 use Rattle.std.specs.Vec.{with_items}
 use Rattle.std.proofs.lemmas.List.{with_items_is}
+use Rattle.desk_model.specs.Desk.{AreMarksOf}
 use Rattle.desk_model.specs.Verdict.{verdict}
+use Rattle.desk_model.specs.declared.types.Mark.{Mark}
 use Rattle.desk_model.specs.declared.types.Totals.{Totals}
 use Rattle.desk_model.specs.declared.types.Verdict.{Verdict}
 use Rattle.topic_counts.specs.declared.span.Span.{Span}
@@ -11,6 +13,9 @@ use Rattle.pair_table.proofs.Changing.{changed_stands}
 use Rattle.pair_table.proofs.Keeping.{kept_again, kept_along}
 use Rattle.pair_table.proofs.PairNumbers.{length-pairs}
 use Rattle.pair_table.proofs.table.Table.change.Goals as goal
+
+pub renew_topic-requires-clause-marks : goal.renew_topic-requires-clause-marks
+renew_topic-requires-clause-marks g c = subst (AreMarksOf c.args.desk.now) (sym c.rows-rows.ensures) c.requires.marks
 
 pub renew_topic-requires-clause-sizes : goal.renew_topic-requires-clause-sizes
 renew_topic-requires-clause-sizes g c =
@@ -61,10 +66,11 @@ returns-clause-stands g c =
     let topics_is = with_items_is table.topics topics (omega (arith, c.renew_topic.auto.topics, ap length c.deref_mut.ensures.value, table.topics.ok.0)) in
     let totals_is = with_items_is table.totals totals (omega (arith, c.renew_topic.auto.totals, ap length c.deref_mut-2.ensures.value, table.totals.ok.0)) in
     let bounds_is = with_items_is table.bounds bounds (omega (arith, c.renew_topic.auto.bounds, ap length c.deref_mut-3.ensures.value, table.bounds.ok.0)) in
-    let one = topic_at desk c.args.marks.now c.args.topic in
-    changed_stands cell bound desk c.args.marks.now c.args.topic c.args.self.now _ c.requires.marks c.requires.topic c.requires.others (ap (λ (k : Kept _). k.runs) c.self.view_is)
+    let one = topic_at desk c.rows-rows.result.now c.args.topic in
+    changed_stands cell bound desk c.args.marks.now.rows c.args.topic c.args.self.now _ c.requires.marks c.requires.topic c.requires.others (ap (λ (k : Kept _). k.runs) c.self.view_is)
     (topics_is ∙ c.renew_topic.ensures.topics ∙ ap (λ l. slice_set l c.args.topic (numbers_on (g.M.Measure.cell_of table.measure) (g.M.Measure.bounds_of table.measure) n one)) (c.deref_mut.ensures.value ∙ ap (λ (k : Kept _). k.topics) c.self.view_is)
-    ∙ ap (λ m. slice_set c.args.self.now.topics c.args.topic (numbers_on (g.M.Measure.cell_of m) (g.M.Measure.bounds_of m) n one)) same)
+    ∙ ap (λ m. slice_set c.args.self.now.topics c.args.topic (numbers_on (g.M.Measure.cell_of m) (g.M.Measure.bounds_of m) n one)) same
+    ∙ ap (λ (ms : List (List Mark)). slice_set c.args.self.now.topics c.args.topic (numbers_on cell bound n (topic_at desk ms c.args.topic))) c.rows-rows.ensures)
     (totals_is ∙ c.renew_topic.ensures.totals ∙ ap (kept_totals n) (sym topics_is)) (bounds_is ∙ c.renew_topic.ensures.bounds ∙ ap (kept_bounds n) (sym topics_is))
 
 pub returns-clause-steps : goal.returns-clause-steps

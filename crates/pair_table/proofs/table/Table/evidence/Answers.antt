@@ -1,8 +1,9 @@
-use Rattle.std.proofs.Common.{◌<◌, length, ap, sym, subst, ◌∙◌}
+use Rattle.std.proofs.Common.{◌<◌, List, length, ap, sym, subst, ◌∙◌}
 use Rattle.std.proofs.lemmas.Result.{IfOk-at_ok}
-use Rattle.desk_model.specs.Desk.{topics_under}
+use Rattle.desk_model.specs.Desk.{AreMarksOf, topics_under}
 use Rattle.desk_model.specs.MeasureText.{IsMeasure}
 use Rattle.desk_model.specs.Verdict.{verdict}
+use Rattle.desk_model.specs.declared.types.Mark.{Mark}
 use Rattle.desk_model.specs.declared.types.Verdict.TheVariants.{Above, Below, Equal, Open}
 use Rattle.pair_table.specs.Evidence.{SaysOpen}
 use Rattle.pair_table.proofs.Certified.{cells_certificate}
@@ -12,13 +13,16 @@ use Rattle.pair_table.proofs.table.Table.evidence.Goals as goal
 use Rattle.pair_table.proofs.table.Table.evidence.Goals.{in-Above, in-Below, in-Equal, in-Open}
 
 pub above-made-requires-clause-topics : goal.above-made-requires-clause-topics
-above-made-requires-clause-topics g c = ap length c.requires.stands.topics ∙ length-all_numbers (g.M.Measure.cell_of c.args.self.now.measure) (g.M.Measure.bounds_of c.args.self.now.measure) c.args.desk.now c.args.marks.now c.requires.marks
+above-made-requires-clause-topics g c = ap length c.requires.stands.topics ∙ length-all_numbers (g.M.Measure.cell_of c.args.self.now.measure) (g.M.Measure.bounds_of c.args.self.now.measure) c.args.desk.now c.args.marks.now.rows c.requires.marks
 
 pub above-made-requires-in-Below-clause-topics : goal.above-made-requires-in-Below-clause-topics
-above-made-requires-in-Below-clause-topics g c = ap length c.requires.stands.topics ∙ length-all_numbers (g.M.Measure.cell_of c.args.self.now.measure) (g.M.Measure.bounds_of c.args.self.now.measure) c.args.desk.now c.args.marks.now c.requires.marks
+above-made-requires-in-Below-clause-topics g c = ap length c.requires.stands.topics ∙ length-all_numbers (g.M.Measure.cell_of c.args.self.now.measure) (g.M.Measure.bounds_of c.args.self.now.measure) c.args.desk.now c.args.marks.now.rows c.requires.marks
 
 pub equal-made-requires-clause-topics : goal.equal-made-requires-clause-topics
-equal-made-requires-clause-topics g c = ap length c.requires.stands.topics ∙ length-all_numbers (g.M.Measure.cell_of c.args.self.now.measure) (g.M.Measure.bounds_of c.args.self.now.measure) c.args.desk.now c.args.marks.now c.requires.marks
+equal-made-requires-clause-topics g c = ap length c.requires.stands.topics ∙ length-all_numbers (g.M.Measure.cell_of c.args.self.now.measure) (g.M.Measure.bounds_of c.args.self.now.measure) c.args.desk.now c.args.marks.now.rows c.requires.marks
+
+pub open-made-requires-clause-marks : goal.open-made-requires-clause-marks
+open-made-requires-clause-marks g c = subst (AreMarksOf c.args.desk.now) (sym c.rows-rows.ensures) c.requires.marks
 
 pub returns-in-Close-clause-answer : goal.returns-in-Close-clause-answer
 returns-in-Close-clause-answer g c =
@@ -27,7 +31,7 @@ returns-in-Close-clause-answer g c =
     let cell = g.M.Measure.cell_of table.measure in
     let bounds = g.M.Measure.bounds_of table.measure in
     let desk = c.args.desk.now in
-    let marks = c.args.marks.now in
+    let marks = c.args.marks.now.rows in
     let valid : IsMeasure name = subst IsMeasure (c.name-name.ensures.name ∙ ap g.M.Measure.measured c.measure-measure.ensures) c.name-name.ensures.built in
     let laws = g.met.M.Measure.laws table.measure valid in
     let told = standing_sums name cell bounds desk marks c.args.i c.args.j c.totals.result table laws c.valid.ensures c.requires.marks c.requires.stands c.totals.ensures in
@@ -41,7 +45,7 @@ returns-in-Ok-clause-answer g c =
     let cell = g.M.Measure.cell_of table.measure in
     let bounds = g.M.Measure.bounds_of table.measure in
     let desk = c.args.desk.now in
-    let marks = c.args.marks.now in
+    let marks = c.args.marks.now.rows in
     let level = c.args.level in
     let i = c.args.i in
     let j = c.args.j in
@@ -58,7 +62,8 @@ returns-in-Ok-clause-answer g c =
       | in-Equal w ↦ answered_by cell name desk marks level i j made sums Equal told (sym w.in-Equal.is ∙ c.verdict.ensures.2)
           (IfOk-at_ok _ (sym w.made-is ∙ c.in-Ok.is) w.equal-made.ensures marks c.requires.marks c.requires.stands)
       | in-Open w ↦ answered_by cell name desk marks level i j made sums Open told (sym w.in-Open.is ∙ c.verdict.ensures.2)
-          (subst (λ m. SaysOpen (g.M.Measure.measured m) desk marks level i j made) c.measure-measure.ensures (IfOk-at_ok _ (sym w.made-is ∙ c.in-Ok.is) w.open-made.ensures))
+          (subst (λ (ms : List (List Mark)). SaysOpen name desk ms level i j made) c.rows-rows.ensures
+          (subst (λ m. SaysOpen (g.M.Measure.measured m) desk c.rows-rows.result.now level i j made) c.measure-measure.ensures (IfOk-at_ok _ (sym w.made-is ∙ c.in-Ok.is) w.open-made.ensures)))
     ]
 
 pub returns-in-Ok-clause-certificate : goal.returns-in-Ok-clause-certificate
@@ -69,5 +74,5 @@ returns-in-Ok-clause-certificate g c =
     let bounds = g.M.Measure.bounds_of table.measure in
     let runs = c.requires.stands.runs in
     let valid : IsMeasure name = subst IsMeasure (c.name-name.ensures.name ∙ ap g.M.Measure.measured c.measure-measure.ensures) c.name-name.ensures.built in
-    cells_certificate name cell bounds c.args.desk.now c.args.marks.now c.args.level c.args.i c.args.j c.in-Ok.certificate valid (g.met.M.Measure.laws table.measure valid) c.valid.ensures c.requires.marks c.requires.level
+    cells_certificate name cell bounds c.args.desk.now c.args.marks.now.rows c.args.level c.args.i c.args.j c.in-Ok.certificate valid (g.met.M.Measure.laws table.measure valid) c.valid.ensures c.requires.marks c.requires.level
     (subst (λ n. c.args.i < n) runs c.requires.first) (subst (λ n. c.args.j < n) runs c.requires.second) (returns-in-Ok-clause-answer g c)

@@ -1,19 +1,22 @@
 use Rattle.std.proofs.Common.{◌≡◌, ℕ, ◌+◌, ◌*◌, List, [], length, map, pos, All, ap, sym, subst, ◌∙◌, arith}
 use Rattle.std.specs.Vec.{with_items}
 use Rattle.std.proofs.lemmas.List.{length-map, with_items_is}
-use Rattle.desk_model.specs.Desk.{pair_count, topics_under}
+use Rattle.desk_model.specs.Desk.{AreMarksOf, pair_count, topics_under}
 use Rattle.desk_model.specs.Pairs.{pairs_of}
 use Rattle.desk_model.specs.Verdict.{totals_of, verdict}
 use Rattle.desk_model.specs.declared.types.Totals.{Totals}
 use Rattle.desk_model.specs.declared.types.Verdict.{Verdict}
 use Rattle.topic_counts.specs.declared.span.Span.{Span}
-use Rattle.pair_table.specs.Kept.{TopicNumbers, AreTopicNumbers, kept_totals, kept_bounds}
+use Rattle.pair_table.specs.Kept.{TopicNumbers, AreTopicNumbers, all_numbers, kept_totals, kept_bounds}
 use Rattle.pair_table.specs.Sums.{run_numbers, pair_sums}
 use Rattle.pair_table.proofs.Changing.{made_stands}
 use Rattle.pair_table.proofs.Keeping.{constant, kept_again, kept_along, length-all_numbers}
 use Rattle.measure_core.proofs.RunPairs.{length-run_numbers}
 use Rattle.pair_table.proofs.PairNumbers.{length-pairs, length-pairs_of}
 use Rattle.pair_table.proofs.table.Table.new.Goals as goal
+
+pub evaluate_topics-requires-clause-marks : goal.evaluate_topics-requires-clause-marks
+evaluate_topics-requires-clause-marks g c = subst (AreMarksOf c.args.desk.now) (sym c.rows-rows.ensures) c.requires
 
 pub evaluate_topics-requires-clause-cells : goal.evaluate_topics-requires-clause-cells
 evaluate_topics-requires-clause-cells g c =
@@ -68,7 +71,7 @@ invariant_of-result g c =
     (with_items_is c.in_ok-totals.verdicts verdicts (omega (arith, c.fill_verdicts.auto.verdicts, ap length c.deref_mut-4.ensures.value, c.in_ok-totals.verdicts.ok.0)))
     (with_items_is c.in_ok-totals.bounds bounds (omega (arith, c.add_topics.auto.bounds, ap length c.deref_mut-3.ensures.value, c.in_ok-totals.bounds.ok.0)))
     (kept_again n topics totals verdicts bounds (omega (arith, c.run_count-runs.ensures.count, c.run_count-runs.ensures.desk.runs))
-    (omega (arith, ap length c.evaluate_topics.ensures.numbers, length-all_numbers (g.M.Measure.cell_of c.args.measure) (g.M.Measure.bounds_of c.args.measure) c.args.desk.now c.args.marks.now c.requires, c.run_count-runs.ensures.desk.topics))
+    (omega (arith, ap length (c.evaluate_topics.ensures.numbers ∙ ap (all_numbers (g.M.Measure.cell_of c.args.measure) (g.M.Measure.bounds_of c.args.measure) c.args.desk.now) c.rows-rows.ensures), length-all_numbers (g.M.Measure.cell_of c.args.measure) (g.M.Measure.bounds_of c.args.measure) c.args.desk.now c.args.marks.now.rows c.requires, c.run_count-runs.ensures.desk.topics))
     (subst (λ m. All (AreTopicNumbers m) topics) (sym c.run_count-runs.ensures.count) c.evaluate_topics.ensures.sizes)
     (c.add_topics.ensures.totals ∙ ap (kept_totals n) given) (c.add_topics.ensures.bounds ∙ ap (kept_bounds n) given)
     (c.fill_verdicts.ensures ∙ ap (map verdict) (c.deref-2.ensures.value ∙ totals_is)))
@@ -82,7 +85,7 @@ returns-clause-stands g c =
     let topics_is = with_items_is c.in_ok-topics.topics topics (omega (arith, c.evaluate_topics.auto.topics, ap length c.deref_mut.ensures.value, c.in_ok-topics.topics.ok.0)) in
     let totals_is = with_items_is c.in_ok-totals.totals totals (omega (arith, c.add_topics.auto.totals, ap length c.deref_mut-2.ensures.value, c.in_ok-totals.totals.ok.0)) in
     let bounds_is = with_items_is c.in_ok-totals.bounds bounds (omega (arith, c.add_topics.auto.bounds, ap length c.deref_mut-3.ensures.value, c.in_ok-totals.bounds.ok.0)) in
-    made_stands (g.M.Measure.cell_of c.args.measure) (g.M.Measure.bounds_of c.args.measure) c.args.desk.now c.args.marks.now _ runs (topics_is ∙ c.evaluate_topics.ensures.numbers)
+    made_stands (g.M.Measure.cell_of c.args.measure) (g.M.Measure.bounds_of c.args.measure) c.args.desk.now c.args.marks.now.rows _ runs (topics_is ∙ c.evaluate_topics.ensures.numbers ∙ ap (all_numbers (g.M.Measure.cell_of c.args.measure) (g.M.Measure.bounds_of c.args.measure) c.args.desk.now) c.rows-rows.ensures)
     (totals_is ∙ c.add_topics.ensures.totals ∙ ap (kept_totals c.run_count-runs.result) c.deref.ensures.value ∙ ap (λ m. kept_totals m (with_items c.in_ok-topics.topics topics).items) runs)
     (bounds_is ∙ c.add_topics.ensures.bounds ∙ ap (kept_bounds c.run_count-runs.result) c.deref.ensures.value ∙ ap (λ m. kept_bounds m (with_items c.in_ok-topics.topics topics).items) runs)
 
@@ -95,7 +98,7 @@ returns-clause-bounds g c = (returns-clause-stands g c).bounds
 pub returns-clause-pairs : goal.returns-clause-pairs
 returns-clause-pairs g c =
     let runs = c.args.desk.now.runs in
-    let topics = topics_under c.args.desk.now c.args.marks.now in
+    let topics = topics_under c.args.desk.now c.args.marks.now.rows in
     let f = λ (pair : ℕ × ℕ). pair_sums (g.M.Measure.cell_of c.args.measure) topics pair.0 pair.1 in
     ap length (returns-clause-stands g c).totals ∙ length-map (pairs_of (run_numbers (length runs))) f ∙ length-pairs_of runs 0
 

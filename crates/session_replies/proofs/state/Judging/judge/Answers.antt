@@ -13,10 +13,10 @@ use Rattle.session_replies.proofs.Following.{ok_with, table_made, table_stands, 
 use Rattle.session_replies.proofs.state.Judging.judge.Goals as goal
 
 pub follow-requires-clause-topic : goal.follow-requires-clause-topic
-follow-requires-clause-topic g c = topic_there (setting_of c.args.given.now) c.valid.ensures c.args.self.now.marks c.args.self.now.session c.requires.ready.marked c.in-Ok.changed c.in-Ok.ensures.document
+follow-requires-clause-topic g c = topic_there (setting_of c.args.given.now) c.valid.ensures c.args.self.now.marks.rows c.args.self.now.session c.requires.ready.marked c.in-Ok.changed c.in-Ok.ensures.document
 
 pub follow-requires-clause-doc : goal.follow-requires-clause-doc
-follow-requires-clause-doc g c = doc_there (setting_of c.args.given.now) c.valid.ensures c.args.self.now.marks c.args.self.now.session c.requires.ready.marked c.in-Ok.changed c.in-Ok.ensures.document
+follow-requires-clause-doc g c = doc_there (setting_of c.args.given.now) c.valid.ensures c.args.self.now.marks.rows c.args.self.now.session c.requires.ready.marked c.in-Ok.changed c.in-Ok.ensures.document
 
 pub follow-requires-clause-marks : goal.follow-requires-clause-marks
 follow-requires-clause-marks g c =
@@ -27,7 +27,7 @@ pub follow-requires-clause-table : goal.follow-requires-clause-table
 follow-requires-clause-table g c =
     let s = setting_of c.args.given.now in
     let old = c.args.self.now in
-    table_stands (record { name = g.M.Measure.measured; cell = g.M.Measure.cell_of; bound = g.M.Measure.bounds_of }) s (marks_after s old.session) old.marks old.table c.requires.ready.marked c.requires.ready.table
+    table_stands (record { name = g.M.Measure.measured; cell = g.M.Measure.cell_of; bound = g.M.Measure.bounds_of }) s (marks_after s old.session) old.marks.rows old.table c.requires.ready.marked c.requires.ready.table
 
 pub returns-in-Ok-clause-answers : goal.returns-in-Ok-clause-answers
 returns-in-Ok-clause-answers g c =
@@ -45,7 +45,7 @@ returns-in-Ok-clause-answers g c =
     (λ text line marks table.
     followed _ s c.valid.ensures heard old c.follow.new.self now told c.requires.ready.marked c.in-Ok.ensures.document c.in-Ok.ensures.desk said.in_force
     (λ file t d apart. ap (grade_after file t d) list ∙ judged_elsewhere who told.topic told.doc grade old.session file t d (not_both told.topic t told.doc d apart))
-    c.follow.ensures.session marks table c.follow.ensures.totals (table_made _ s (marks_after s old.session) old.table c.requires.ready.table) changes (codes "judged") text.items
+    c.follow.ensures.session c.follow.ensures.pools marks table c.follow.ensures.totals (table_made _ s (marks_after s old.session) old.table c.requires.ready.table) changes (codes "judged") text.items
     (λ is. is ∙ ap (change_reply s.desk (codes "judged") told.topic told.doc) changes ∙ sym (ap (judge_reply s.desk (changes_after s.desk heard old.session)) said.place))
     line)
     c.follow.ensures.line c.follow.ensures.marks c.follow.ensures.table

@@ -13,10 +13,10 @@ use Rattle.session_replies.proofs.Following.{ok_with, table_made, table_stands, 
 use Rattle.session_replies.proofs.state.Judging.undo.Goals as goal
 
 pub follow-requires-clause-topic : goal.follow-requires-clause-topic
-follow-requires-clause-topic g c = topic_there (setting_of c.args.given.now) c.valid.ensures c.args.self.now.marks c.args.self.now.session c.requires.marked c.in-Ok.changed c.in-Ok.ensures.document
+follow-requires-clause-topic g c = topic_there (setting_of c.args.given.now) c.valid.ensures c.args.self.now.marks.rows c.args.self.now.session c.requires.marked c.in-Ok.changed c.in-Ok.ensures.document
 
 pub follow-requires-clause-doc : goal.follow-requires-clause-doc
-follow-requires-clause-doc g c = doc_there (setting_of c.args.given.now) c.valid.ensures c.args.self.now.marks c.args.self.now.session c.requires.marked c.in-Ok.changed c.in-Ok.ensures.document
+follow-requires-clause-doc g c = doc_there (setting_of c.args.given.now) c.valid.ensures c.args.self.now.marks.rows c.args.self.now.session c.requires.marked c.in-Ok.changed c.in-Ok.ensures.document
 
 pub follow-requires-clause-marks : goal.follow-requires-clause-marks
 follow-requires-clause-marks g c =
@@ -27,7 +27,7 @@ pub follow-requires-clause-table : goal.follow-requires-clause-table
 follow-requires-clause-table g c =
     let s = setting_of c.args.given.now in
     let old = c.args.self.now in
-    table_stands (record { name = g.M.Measure.measured; cell = g.M.Measure.cell_of; bound = g.M.Measure.bounds_of }) s (marks_after s old.session) old.marks old.table c.requires.marked c.requires.table
+    table_stands (record { name = g.M.Measure.measured; cell = g.M.Measure.cell_of; bound = g.M.Measure.bounds_of }) s (marks_after s old.session) old.marks.rows old.table c.requires.marked c.requires.table
 
 pub returns-in-Ok-clause-answers : goal.returns-in-Ok-clause-answers
 returns-in-Ok-clause-answers g c =
@@ -48,7 +48,7 @@ returns-in-Ok-clause-answers g c =
     (λ text line marks table.
     followed _ s c.valid.ensures heard old c.follow.new.self now told c.requires.marked c.in-Ok.ensures.document c.in-Ok.ensures.desk grade
     (λ file t d apart. ap (grade_after file t d) changes ∙ undone_elsewhere t d change (not_both change.topic t change.doc d (λ e f. apart (sym topic ∙ e) (sym doc ∙ f))) who old.session file found.1)
-    c.follow.ensures.session marks table c.follow.ensures.totals (table_made _ s (marks_after s old.session) old.table c.requires.table) changes (codes "undone") text.items
+    c.follow.ensures.session c.follow.ensures.pools marks table c.follow.ensures.totals (table_made _ s (marks_after s old.session) old.table c.requires.table) changes (codes "undone") text.items
     (λ is. is
     ∙ ap (λ t. change_reply s.desk (codes "undone") t told.doc now) (sym topic)
     ∙ ap (λ d. change_reply s.desk (codes "undone") change.topic d now) (sym doc)

@@ -2,7 +2,7 @@ use Rattle.std.proofs.Common.{◌<◌, length, refl, arith}
 use Rattle.std.proofs.lemmas.List.{map-set}
 use Rattle.std.proofs.lemmas.Grind.{common_steps}
 use Rattle.desk_model.proofs.Nested.{inner}
-use Rattle.desk_model.proofs.marks.Marks.set.Goals as goal
+use Rattle.desk_model.proofs.marks.Rows.set.Goals as goal
 
 pub returns : goal.returns
 returns c =

@@ -1,7 +1,7 @@
 use Rattle.std.proofs.Common.{◌≡◌, take}
 use Rattle.std.specs.Prelude.{map}
 use Rattle.desk_model.specs.Mark.{mark_of}
-use Rattle.desk_model.proofs.marks.marks_of_topic.Given as goal
+use Rattle.desk_model.proofs.file_marks.marks_of_topic.Given as goal
 
 abbrev pub invariant-loop-grade : goal.invariant-loop-grade
 invariant-loop-grade l = l.marks.items ≡ map (λ grade. mark_of grade l.level) (take l.grade-index l.grades)

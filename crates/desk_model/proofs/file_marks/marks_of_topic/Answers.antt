@@ -1,7 +1,7 @@
 use Rattle.std.proofs.Common.{Option, None, ℤ, [], ◌∷◌, take, get_or}
 use Rattle.std.proofs.lemmas.List.{map-append, take_all, take_more}
 use Rattle.desk_model.specs.Mark.{mark_of}
-use Rattle.desk_model.proofs.marks.marks_of_topic.Goals as goal
+use Rattle.desk_model.proofs.file_marks.marks_of_topic.Goals as goal
 
 pub loop-grade-preserved : goal.loop-grade-preserved
 loop-grade-preserved c =

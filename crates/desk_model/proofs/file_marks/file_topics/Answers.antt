@@ -5,7 +5,7 @@ use Rattle.std.proofs.lemmas.List.{map-append}
 use Rattle.desk_model.specs.Desk.{file_marks}
 use Rattle.desk_model.specs.declared.types.Mark.{Mark}
 use Rattle.desk_model.proofs.Nested.{take-there}
-use Rattle.desk_model.proofs.marks.file_topics.Goals as goal
+use Rattle.desk_model.proofs.file_marks.file_topics.Goals as goal
 
 pub loop-t-preserved : goal.loop-t-preserved
 loop-t-preserved c =
