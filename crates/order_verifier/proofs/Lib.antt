@@ -10,6 +10,7 @@ pub mod FirstPlaces
 pub mod Shares
 pub mod Named
 pub mod Prefixes
+pub mod ByDocument
 pub mod Topics
 pub mod Unjudged
 pub mod OnLists

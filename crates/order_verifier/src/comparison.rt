@@ -12,7 +12,7 @@ ghost use Rattle.order_verifier.specs.Rows.{OfRow};
 use crate::TopicEnds;
 use crate::completion::CompletionEnds;
 use crate::counted::DeskMarks;
-use crate::documents::Documents;
+use crate::documents::{Documents, FoundNear};
 use crate::listed::Listed;
 use crate::names::RunNumbers;
 use desk_model::{Desk, Mark, TopicBook};
@@ -115,24 +115,32 @@ impl<'a> Comparison<'a> {
         self.marks.of_topic(topic)
     }
 
-    /// Whether a list names an unjudged document of a topic with these marks at a place.
+    /// Whether a list names an unjudged document of a topic with these marks at a place, and the number after that
+    /// document's. It is looked for first from a number on, which changes nothing but how soon it is found.
     #[inline(always)]
-    pub fn is_unjudged(
+    pub fn find_unjudged(
         &self,
         topic: u32,
         marks: &[Mark],
         documents: &Documents<'_>,
         place: u32,
-    ) -> bool
+        near: usize,
+    ) -> FoundNear
         requires place { place < length documents.now.names }
         requires marks { slice_get self.now.marks topic ≡ Some marks.now }
         requires topic { OfTopic (topics_in self.now) topic (λ t. documents.now.docs ≡ t.docs) }
-        ensures { OfRow documents.now.names place (λ name. OfTopic (topics_in self.now) topic (λ t. IsTrue result ↔ AreUnjudged t (name ∷ []))) }
+        ensures { OfRow documents.now.names place (λ name. OfTopic (topics_in self.now) topic (λ t. IsTrue result.is_found ↔ AreUnjudged t (name ∷ []))) }
     {
         let _desk = self.desk;
-        match documents.number(place) {
-            Some(doc) => is_open(marks[doc as usize]),
-            None => false,
+        match documents.number(place, near) {
+            Some(doc) => FoundNear {
+                is_found: is_open(marks[doc as usize]),
+                near: doc as usize + 1,
+            },
+            None => FoundNear {
+                is_found: false,
+                near,
+            },
         }
     }
 

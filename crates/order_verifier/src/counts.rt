@@ -86,8 +86,8 @@ pub fn all_documents(marks: &[Mark]) -> RelevantCounts
     }
 }
 
-/// How many of a ranking's first k documents are relevant in one completion.
-pub fn relevant_among<T: Relevance>(k: u32, ranking: &Ranking, relevant: &T) -> u32
+/// How many of a ranking's first k documents are relevant in one completion, one rank after the other.
+fn relevant_by_rank<T: Relevance>(k: u32, ranking: &Ranking, relevant: &T) -> u32
     requires { IsRanking (T.universe relevant.now) ranking.now }
     ensures count { result ≡ true_among (T.truth relevant.now) k ranking.now }
     ensures few { result ≤ RANK_LIMIT }
@@ -99,4 +99,36 @@ pub fn relevant_among<T: Relevance>(k: u32, ranking: &Ranking, relevant: &T) -> 
         }
     }
     count
+}
+
+/// The same in the order of the documents: each is looked for near the one before.
+fn relevant_by_doc<T: Relevance>(k: u32, ranking: &Ranking, relevant: &T) -> u32
+    requires { IsRanking (T.universe relevant.now) ranking.now }
+    ensures count { result ≡ true_among (T.truth relevant.now) k ranking.now }
+    ensures few { result ≤ RANK_LIMIT }
+{
+    let mut count = 0;
+    let mut near = 0;
+    for place in ranking.by_doc() {
+        if place.rank <= k {
+            let found = relevant.find_relevant(place.doc, near);
+            near = found.near;
+            count += u32::from(found.is_found);
+        }
+    }
+    count
+}
+
+/// How many of a ranking's first k documents are relevant in one completion. They are counted in the order of their
+/// ranks where they are few of the ranking, and else in the order of the documents.
+pub fn relevant_among<T: Relevance>(k: u32, ranking: &Ranking, relevant: &T) -> u32
+    requires { IsRanking (T.universe relevant.now) ranking.now }
+    ensures count { result ≡ true_among (T.truth relevant.now) k ranking.now }
+    ensures few { result ≤ RANK_LIMIT }
+{
+    if (k as usize) < ranking.docs().len() / 16 {
+        relevant_by_rank(k, ranking, relevant)
+    } else {
+        relevant_by_doc(k, ranking, relevant)
+    }
 }

@@ -7,6 +7,7 @@ ghost use Rattle.std.specs.declared.cmp.Ordering.TheVariants.{Greater};
 ghost use Rattle.desk_model.specs.Name.{is_same_name, number_of, AreAscending};
 ghost use Rattle.order_verifier.specs.Rows.{AreKnown, OfRow, names_listed, number_of_pick, numbers_of};
 
+use crate::search::{name_place, number_near};
 use desk_model::{Name, TopicBook};
 use std::cmp::Ordering;
 use std::marker::Model;
@@ -22,7 +23,7 @@ pub enum ListForm {
     NumberedPicks,
 }
 
-/// Whether a document is found, and a place near which the next one may stand.
+/// Whether what is looked for is found, and a place near which the next one may stand.
 #[derive(Clone, Copy)]
 pub struct FoundNear {
     pub is_found: bool,
@@ -106,16 +107,21 @@ impl<'a> Documents<'a> {
     }
 
     /// The number on the topic of the document at a place of the list, from 0, and none where the topic has no
-    /// such document.
-    pub fn number(&self, place: u32) -> Option<u32>
+    /// such document. A name is looked for first among the documents from a number on, which changes nothing but how
+    /// soon it is found. On a list that ascends, the number after that of the document before is near.
+    pub fn number(&self, place: u32, near: usize) -> Option<u32>
         requires { place < length self.now.names }
         ensures { OfRow self.now.names place (λ name. result ≡ number_of self.now.docs name) }
     {
         match self.form {
-            ListForm::Names => self.book.find(self.names[place as usize].as_bytes()),
-            ListForm::Picks => self
-                .book
-                .find(name_at(self.names, self.picks[place as usize])),
+            ListForm::Names => {
+                let name = self.names[place as usize].as_bytes();
+                number_near(self.book, name, near, self.names.len())
+            }
+            ListForm::Picks => {
+                let name = name_at(self.names, self.picks[place as usize]);
+                number_near(self.book, name, near, self.picks.len())
+            }
             ListForm::NumberedPicks => {
                 number_at(self.book, self.numbers, self.picks[place as usize])
             }
@@ -149,7 +155,8 @@ impl<'a> Documents<'a> {
             ListForm::NumberedPicks => {
                 find_number(self.book, self.numbers, self.picks, doc, near)
             }
-            ListForm::Names | ListForm::Picks => FoundNear {
+            ListForm::Names => find_name(self.names, self.book.doc_name(doc), near),
+            ListForm::Picks => FoundNear {
                 is_found: self.has(doc),
                 near,
             },
@@ -185,6 +192,24 @@ fn is_on(names: &[Name], name: &[u8]) -> bool
     match names.binary_search_by(|each| each.compare(name)) {
         Ok(_) => true,
         Err(_) => false,
+    }
+}
+
+/// Whether a name is on a list, looked for near a place, and the place after it.
+#[inline(never)]
+fn find_name(names: &[Name], name: &[u8], near: usize) -> FoundNear
+    requires { AreAscending names.now }
+    ensures { result.is_found ≡ list_any (λ each. is_same_name each name.now) names.now }
+{
+    match name_place(names, name, near) {
+        Ok(place) => FoundNear {
+            is_found: true,
+            near: place + 1,
+        },
+        Err(place) => FoundNear {
+            is_found: false,
+            near: place,
+        },
     }
 }
 

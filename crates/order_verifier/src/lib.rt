@@ -25,6 +25,7 @@ pub mod rejected;
 pub mod relevance;
 pub mod rows;
 pub mod rprecision;
+mod search;
 pub mod verifier;
 pub mod walk;
 mod witnesses;

@@ -33,10 +33,13 @@ impl Comparison<'_> {
         ensures { OfTopic (topics_in self.now) topic (λ t. MatchOption result (AreUnjudged t documents.now.names) (IsFirstOther t documents.now.names)) }
     {
         let marks = self.topic_marks(topic);
+        let mut near = 0;
         for document in 0..documents.len() as u32 {
-            if !self.is_unjudged(topic, marks, documents, document) {
+            let found = self.find_unjudged(topic, marks, documents, document, near);
+            if !found.is_found {
                 return Some(document);
             }
+            near = found.near;
         }
         None
     }
