@@ -112,6 +112,24 @@ impl Measure for AnyMeasure {
         }
     }
 
+    fn push_both_docs(
+        &self,
+        alloc: Global,
+        a: &Ranking,
+        b: &Ranking,
+        marks: &[Mark],
+        least: &mut Vec<u32>,
+        most: &mut Vec<u32>,
+    ) -> Result<(), Memory> {
+        match self {
+            AnyMeasure::Precision(m) => m.push_both_docs(alloc, a, b, marks, least, most),
+            AnyMeasure::Recall(m) => m.push_both_docs(alloc, a, b, marks, least, most),
+            AnyMeasure::RPrecision(m) => m.push_both_docs(alloc, a, b, marks, least, most),
+            AnyMeasure::Reciprocal(m) => m.push_both_docs(alloc, a, b, marks, least, most),
+            AnyMeasure::Biased(m) => m.push_both_docs(alloc, a, b, marks, least, most),
+        }
+    }
+
     fn count_lists(
         &self,
         alloc: Global,

@@ -21,3 +21,4 @@ pub mod Placed
 pub mod InStep
 pub mod Tallying
 pub mod Splitting
+pub mod Slots

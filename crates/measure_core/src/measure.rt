@@ -114,6 +114,30 @@ pub trait Measure: Drop {
         push_added(marks, &truth, docs)
     }
 
+    /// Appends the documents that `push_least_docs` lists of a and b to `least`, and those that it lists of b and a to
+    /// `most`.
+    ///
+    /// This body makes one list after the other; a measure may have a faster one.
+    ///
+    /// # Errors
+    /// `Memory`: out of memory. It is then not known what `least` and `most` hold.
+    fn push_both_docs(
+        &self,
+        alloc: Global,
+        a: &Ranking,
+        b: &Ranking,
+        marks: &[Mark],
+        least: &mut Vec<u32>,
+        most: &mut Vec<u32>,
+    ) -> Result<(), Memory>
+        requires { AreMet marks.now a.now b.now }
+        ensures least { OnOk result (least.new.items ≡ least.old.items ++ least_documents (measured self.now) marks.now a.now b.now) }
+        ensures most { OnOk result (most.new.items ≡ most.old.items ++ least_documents (measured self.now) marks.now b.now a.now) }
+    {
+        self.push_least_docs(alloc, a, b, marks, least)?;
+        self.push_least_docs(alloc, b, a, marks, most)
+    }
+
     /// Counts once more each document that `push_least_docs` lists of a and b, and each one that it lists of b and a,
     /// and answers how many these are, by these lists, made one after the other in `docs`. Counts go by the number of the
     /// document. What `docs` holds before and after is anything.

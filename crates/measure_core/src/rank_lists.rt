@@ -1,5 +1,5 @@
 // Lists of the unjudged documents whose ranks in two rankings pass a test.
-ghost use Rattle.std.specs.Prelude.{◌≡◌, ℕ, ◌++◌, ◌&&◌, Bool as Truth, false, nat_le, length, Option as Maybe, None, Some, OnOk};
+ghost use Rattle.std.specs.Prelude.{◌≡◌, ℕ, ◌+◌, ◌<◌, ◌≤◌, [], ◌∷◌, ◌++◌, ◌&&◌, Bool as Truth, false, nat_le, if◌then◌else◌, length, take, Option as Maybe, None, Some, OnOk};
 ghost use Rattle.desk_model.specs.Completion.{with_picked};
 ghost use Rattle.desk_model.specs.Limits.{RANK_LIMIT};
 ghost use Rattle.desk_model.specs.Mark.{is_unjudged};
@@ -47,22 +47,69 @@ fn lists_second<T: RankTest>(test: &T, x: Placed, y: Placed, mark: Mark) -> bool
     (y.doc <= x.doc) & listed
 }
 
-/// Appends the unjudged documents of some places that are listed where the first ranking lacks them.
-fn push_rest<T: RankTest>(
+/// Writes a document after the first ones of a list, and answers how many these are then: one more if it is listed. No
+/// jump depends on that, which no processor foresees.
+#[inline]
+fn put(docs: &mut [u32], count: usize, doc: u32, is_listed: bool) -> usize
+    requires { count < length docs.old }
+    ensures first { take result docs.new ≡ (if is_listed then take count docs.old ++ doc ∷ [] else take count docs.old) }
+    ensures count { result ≡ count + (if is_listed then 1 else 0) }
+    ensures size { length docs.new ≡ length docs.old }
+{
+    docs[count] = doc;
+    count + usize::from(is_listed)
+}
+
+/// Writes the unjudged documents of some places that are listed where the first ranking lacks them after the first ones of
+/// a list, and answers how many these are then.
+fn put_rest<T: RankTest>(
     test: &T,
     places: &[Placed],
     marks: &[Mark],
-    docs: &mut Vec<u32>,
-) -> Result<(), Memory>
-    requires { IsLeft (length marks.now) places.now }
-    ensures { OnOk result (docs.new.items ≡ docs.old.items ++ placed_documents marks.now (λ place. T.test test.now None (Some place.rank)) places.now) }
+    docs: &mut [u32],
+    before: usize,
+) -> usize
+    requires places { IsLeft (length marks.now) places.now }
+    requires room { before + length places.now ≤ length docs.old }
+    ensures first { take result docs.new ≡ take before docs.old ++ placed_documents marks.now (λ place. T.test test.now None (Some place.rank)) places.now }
+    ensures size { length docs.new ≡ length docs.old }
 {
+    let mut count = before;
     for place in places {
-        if is_listed(test, 0, *place, marks[place.doc as usize]) {
-            docs.push(place.doc)?;
-        }
+        let is_listed = is_listed(test, 0, *place, marks[place.doc as usize]);
+        count = put(docs, count, place.doc, is_listed);
     }
-    Ok(())
+    count
+}
+
+/// Writes the unjudged documents of the second of two lists of places that are listed by their ranks in both, ascending,
+/// after the first ones of a list, by one walk over both, and answers how many these are then.
+fn put_places<T: RankTest>(
+    test: &T,
+    first: &[Placed],
+    second: &[Placed],
+    marks: &[Mark],
+    docs: &mut [u32],
+    before: usize,
+) -> usize
+    requires first { IsLeft (length marks.now) first.now }
+    requires second { IsLeft (length marks.now) second.now }
+    requires room { before + length second.now ≤ length docs.old }
+    ensures first { take result docs.new ≡ take before docs.old ++ placed_documents marks.now (λ place. T.test test.now (lookup first.now place.doc) (Some place.rank)) second.now }
+    ensures size { length docs.new ≡ length docs.old }
+{
+    let mut count = before;
+    let mut i = 0;
+    let mut j = 0;
+    while i < first.len() && j < second.len() {
+        let x = first[i];
+        let y = second[j];
+        let is_listed = lists_second(test, x, y, marks[y.doc as usize]);
+        count = put(docs, count, y.doc, is_listed);
+        i += passed(x, y);
+        j += passed(y, x);
+    }
+    put_rest(test, rest(second, j), marks, docs, count)
 }
 
 /// Appends the unjudged documents of the second of two lists of places that are listed by their ranks in both, ascending,
@@ -78,18 +125,11 @@ pub(crate) fn push_places<T: RankTest>(
     requires second { IsLeft (length marks.now) second.now }
     ensures { OnOk result (docs.new.items ≡ docs.old.items ++ placed_documents marks.now (λ place. T.test test.now (lookup first.now place.doc) (Some place.rank)) second.now) }
 {
-    let mut i = 0;
-    let mut j = 0;
-    while i < first.len() && j < second.len() {
-        let x = first[i];
-        let y = second[j];
-        if lists_second(test, x, y, marks[y.doc as usize]) {
-            docs.push(y.doc)?;
-        }
-        i += passed(x, y);
-        j += passed(y, x);
-    }
-    push_rest(test, rest(second, j), marks, docs)
+    let before = docs.len();
+    docs.resize(before + second.len(), 0)?;
+    let count = put_places(test, first, second, marks, docs, before);
+    docs.truncate(count);
+    Ok(())
 }
 
 /// Appends the unjudged documents of b whose ranks in a and in b pass a test, ascending, by one walk over both in order

@@ -3,6 +3,7 @@ ghost use Rattle.desk_model.specs.Limits.{DOCUMENT_LIMIT, RANK_LIMIT};
 ghost use Rattle.desk_model.specs.Ranking.{IsRanking};
 ghost use Rattle.measure_laws.specs.RprecCase.{IsSmallestAttained};
 ghost use Rattle.rprec.specs.Greedy.{AreTopic, IsLeast, IsSmallCandidate};
+ghost use Rattle.rprec.specs.Picks.{AreWanted, IsLeastCase};
 ghost use Rattle.rprec.specs.Shared.{AreShared};
 ghost use Rattle.rprec.specs.Sums.{AreBlockSums, IsPair, prefixes, steps_of};
 
@@ -11,6 +12,7 @@ use crate::pair::RunPair;
 use crate::prefixes::Prefixes;
 use crate::shared::Shared;
 use crate::sums::sums_of_shared;
+use crate::values::{LeastCase, Wanted, wanted_of};
 use desk_model::Mark;
 use measure_core::RunSums;
 use topic_counts::counts::Counts;
@@ -21,6 +23,13 @@ use topic_counts::counts::Counts;
 pub struct Extremes {
     pub least: DepthCandidate,
     pub most: DepthCandidate,
+}
+
+/// The least case of two runs, and that of the swapped runs.
+#[derive(Clone, Copy, PartialEq, Eq)]
+pub struct Cases {
+    pub least: LeastCase,
+    pub most: LeastCase,
 }
 
 /// How many documents the longer of two runs has, and at least 1.
@@ -49,14 +58,55 @@ impl<'p> RunPair<'p> {
         best_beyond(end, self.steps(), self.all, self.best(judged))
     }
 
-    /// The least candidate of the first run against the second.
-    fn least_of_all(&self) -> DepthCandidate
+    /// The greedy choice where the topic is to have so many relevant documents.
+    fn wanted_at(&self, count: u32) -> Wanted
         requires { IsPair self.now }
-        ensures { IsLeast self.now.marks.now self.now.a.now self.now.b.now result }
+        ensures { AreWanted self.now.marks.now self.now.a.now self.now.b.now count result }
+    {
+        let prefixes = self.prefixes_at(count);
+        let chosen = count.saturating_sub(self.all.relevant);
+        let first = prefixes.first.unjudged;
+        let second = prefixes.second.unjudged;
+        wanted_of(chosen, first, second, self.all.unjudged)
+    }
+
+    /// The least case of the first run against the second, from the same counts as the least candidate.
+    fn least_case(&self, start: Prefixes, end: Prefixes) -> LeastCase
+        requires pair { IsPair self.now }
+        requires start { start ≡ prefixes self.now self.now.all.relevant }
+        requires end { end ≡ prefixes self.now (self.now.all.relevant + steps_of self.now) }
+        ensures { IsLeastCase self.now.marks.now self.now.a.now self.now.b.now result }
+    {
+        let least = self.least(start, end);
+        LeastCase {
+            count: least.count,
+            wanted: self.wanted_at(least.count),
+        }
+    }
+
+    /// The least case of the first run against the second.
+    fn least_of_all(&self) -> LeastCase
+        requires { IsPair self.now }
+        ensures { IsLeastCase self.now.marks.now self.now.a.now self.now.b.now result }
     {
         let start = self.prefixes_at(self.all.relevant);
         let end = self.prefixes_at(self.all.relevant + self.steps());
-        self.least(start, end)
+        self.least_case(start, end)
+    }
+
+    /// The least cases of both, and of the swapped runs.
+    fn cases(&self) -> Cases
+        requires { IsPair self.now }
+        ensures least { IsLeastCase self.now.marks.now self.now.a.now self.now.b.now result.least }
+        ensures most { IsLeastCase self.now.marks.now self.now.b.now self.now.a.now result.most }
+    {
+        let start = self.prefixes_at(self.all.relevant);
+        let end = self.prefixes_at(self.all.relevant + self.steps());
+        let swapped = self.swapped();
+        Cases {
+            least: self.least_case(start, end),
+            most: swapped.least_case(start.swapped(), end.swapped()),
+        }
     }
 
     /// The least candidates of both, and of the swapped runs.
@@ -77,8 +127,8 @@ impl<'p> RunPair<'p> {
     }
 }
 
-/// The smallest number of relevant documents at which a completion has the least difference of all
-/// completions, and what that gives. No number of relevant documents is left out.
+/// The least case of two runs: the completion with the least difference of all, and of these one with the smallest number
+/// of relevant documents. No number of relevant documents is left out.
 pub fn find_least(
     a: &[u32],
     b: &[u32],
@@ -87,7 +137,7 @@ pub fn find_least(
     shared: &Shared,
     all: Counts,
     marks: &[Mark],
-) -> DepthCandidate
+) -> LeastCase
     requires a { IsRanking (length marks.now) a.now }
     requires b { IsRanking (length marks.now) b.now }
     requires first { AreBlockSums marks.now a.now first.now.numbers }
@@ -95,8 +145,7 @@ pub fn find_least(
     requires shared { AreShared marks.now a.now b.now shared.now.counts }
     requires topic { AreTopic marks.now all }
     requires few { all.relevant + all.unjudged ≤ DOCUMENT_LIMIT }
-    ensures least { IsLeast marks.now a.now b.now result }
-    ensures low { all.relevant ≤ result.count }
+    ensures { IsLeastCase marks.now a.now b.now result }
 {
     let longest = longest(a, b);
     let both = sums_of_shared(shared, longest);
@@ -115,6 +164,42 @@ pub fn find_least(
 }
 
 /// The same for two runs and for the runs swapped.
+pub fn find_cases(
+    a: &[u32],
+    b: &[u32],
+    first: &RunSums,
+    second: &RunSums,
+    shared: &Shared,
+    all: Counts,
+    marks: &[Mark],
+) -> Cases
+    requires a { IsRanking (length marks.now) a.now }
+    requires b { IsRanking (length marks.now) b.now }
+    requires first { AreBlockSums marks.now a.now first.now.numbers }
+    requires second { AreBlockSums marks.now b.now second.now.numbers }
+    requires shared { AreShared marks.now a.now b.now shared.now.counts }
+    requires topic { AreTopic marks.now all }
+    requires few { all.relevant + all.unjudged ≤ DOCUMENT_LIMIT }
+    ensures least { IsLeastCase marks.now a.now b.now result.least }
+    ensures most { IsLeastCase marks.now b.now a.now result.most }
+{
+    let longest = longest(a, b);
+    let both = sums_of_shared(shared, longest);
+    let pair = RunPair {
+        a,
+        b,
+        first,
+        second,
+        both: &both,
+        shared,
+        marks,
+        all,
+        longest,
+    };
+    pair.cases()
+}
+
+/// The least candidates of two runs and of the runs swapped.
 pub fn find_extremes(
     a: &[u32],
     b: &[u32],

@@ -5,9 +5,9 @@ ghost use Rattle.measure_core.specs.Laws.{AreMet};
 ghost use Rattle.measure_core.specs.Lists.{added_documents, AreCounted, HaveRoomFor};
 ghost use Rattle.measure_core.specs.Ranks.{AreRanksIn};
 ghost use Rattle.rprec.specs.Greedy.{AreTopic};
-ghost use Rattle.rprec.specs.Picks.{others};
+ghost use Rattle.rprec.specs.Picks.{others, AreWanted};
 
-use crate::values::wanted_for;
+use crate::values::Wanted;
 use desk_model::{Mark, Memory, Ranking};
 use marked_lists::push_own_marked;
 use measure_core::{More, RankTables, count_neutral, count_own, push_own_and_more};
@@ -19,18 +19,16 @@ use topic_counts::counts::Counts;
 pub fn push_chosen(
     alloc: Global,
     count: u32,
+    wanted: Wanted,
     a: &Ranking,
     b: &Ranking,
-    all: Counts,
     marks: &[Mark],
     docs: &mut Vec<u32>,
 ) -> Result<(), Memory>
     requires met { AreMet marks.now a.now b.now }
-    requires topic { AreTopic marks.now all }
-    requires low { all.relevant ≤ count }
+    requires wanted { AreWanted marks.now a.now b.now count wanted }
     ensures { OnOk result (docs.new.items ≡ docs.old.items ++ added_documents marks.now (greedy_truth marks.now a.now b.now count)) }
 {
-    let wanted = wanted_for(count, a, b, all, marks);
     if wanted.both > 0 {
         let others = More {
             both: wanted.both,

@@ -10,15 +10,16 @@ ghost use Rattle.measure_core.specs.Numbers.{exact_least, exact_cell};
 ghost use Rattle.measure_core.specs.Ranks.{AreRanksIn};
 ghost use Rattle.measure_core.specs.Rooms.{IsRoomFor};
 ghost use Rattle.rprec.specs.Greedy.{AreTopic, IsLeast, IsSmallCandidate};
+ghost use Rattle.rprec.specs.Picks.{IsLeastCase};
 ghost use Rattle.rprec.specs.Shared.{AreShared};
 ghost use Rattle.rprec.specs.Sums.{AreBlockSums};
 
-use crate::extremes::{Extremes, find_extremes, find_least};
+use crate::extremes::{Cases, Extremes, find_cases, find_extremes, find_least};
 use crate::greedy::DepthCandidate;
 use crate::lists::{count_chosen, push_chosen};
 use crate::shared::Shared;
 use crate::sums::sums_of_run;
-use crate::values::{values, wanted_for};
+use crate::values::{LeastCase, values};
 use desk_model::{Mark, MeasureName, Memory, Ranking};
 use measure_core::{
     Cell, CellRoom, FirstRun, KeptCell, KeptPair, ListRoom, ListSizes, Measure, RankTables,
@@ -92,18 +93,16 @@ fn cell_of(
     }
 }
 
-/// The number of relevant documents of the least case of two runs.
-fn least_count(a: &Ranking, b: &Ranking, all: Counts, marks: &[Mark]) -> u32
-    requires met { AreMet marks.now a.now b.now }
-    requires topic { AreTopic marks.now all }
-    requires few { all.relevant + all.unjudged ≤ DOCUMENT_LIMIT }
-    ensures count { result ≡ rprec_count marks.now a.now b.now }
-    ensures low { all.relevant ≤ result }
+/// The least case of two runs.
+fn least_of(a: &Ranking, b: &Ranking, marks: &[Mark]) -> LeastCase
+    requires { AreMet marks.now a.now b.now }
+    ensures { IsLeastCase marks.now a.now b.now result }
 {
+    let all = topic(marks);
     let shared = Shared::between(a, b, marks);
     let first = sums_of_run(a.docs(), marks);
     let second = sums_of_run(b.docs(), marks);
-    find_least(a.docs(), b.docs(), &first, &second, &shared, all, marks).count
+    find_least(a.docs(), b.docs(), &first, &second, &shared, all, marks)
 }
 
 /// Whether each document is relevant in the least case of two runs.
@@ -116,16 +115,8 @@ fn least_values(
     requires { AreMet marks.now a.now b.now }
     ensures { IfOk result (λ values. AreValues (rprec_truth marks.now a.now b.now) (length marks.now) values.items) }
 {
-    let all = topic(marks);
-    let count = least_count(a, b, all, marks);
-    values(
-        alloc,
-        wanted_for(count, a, b, all, marks),
-        count,
-        a,
-        b,
-        marks,
-    )
+    let least = least_of(a, b, marks);
+    values(alloc, least.wanted, least.count, a, b, marks)
 }
 
 /// Appends the unjudged documents that the least case of two runs makes relevant, ascending.
@@ -139,9 +130,41 @@ fn push_least(
     requires { AreMet marks.now a.now b.now }
     ensures { OnOk result (docs.new.items ≡ docs.old.items ++ added_documents marks.now (rprec_truth marks.now a.now b.now)) }
 {
+    let least = least_of(a, b, marks);
+    push_chosen(alloc, least.count, least.wanted, a, b, marks, docs)
+}
+
+/// The least cases of two runs and of the swapped runs, by one walk over both runs.
+fn cases_of(a: &Ranking, b: &Ranking, marks: &[Mark]) -> Cases
+    requires { AreMet marks.now a.now b.now }
+    ensures least { IsLeastCase marks.now a.now b.now result.least }
+    ensures most { IsLeastCase marks.now b.now a.now result.most }
+{
     let all = topic(marks);
-    let count = least_count(a, b, all, marks);
-    push_chosen(alloc, count, a, b, all, marks, docs)
+    let shared = Shared::between(a, b, marks);
+    let first = sums_of_run(a.docs(), marks);
+    let second = sums_of_run(b.docs(), marks);
+    find_cases(a.docs(), b.docs(), &first, &second, &shared, all, marks)
+}
+
+/// Appends the unjudged documents that the least cases of two runs and of the swapped runs make relevant, each ascending.
+fn push_cases(
+    alloc: Global,
+    a: &Ranking,
+    b: &Ranking,
+    marks: &[Mark],
+    least: &mut Vec<u32>,
+    most: &mut Vec<u32>,
+) -> Result<(), Memory>
+    requires { AreMet marks.now a.now b.now }
+    ensures least { OnOk result (least.new.items ≡ least.old.items ++ added_documents marks.now (rprec_truth marks.now a.now b.now)) }
+    ensures most { OnOk result (most.new.items ≡ most.old.items ++ added_documents marks.now (rprec_truth marks.now b.now a.now)) }
+{
+    let cases = cases_of(a, b, marks);
+    let low = cases.least;
+    push_chosen(alloc, low.count, low.wanted, a, b, marks, least)?;
+    let high = cases.most;
+    push_chosen(alloc, high.count, high.wanted, b, a, marks, most)
 }
 
 /// The least candidates of two runs and of the swapped runs, from the rank of each document in the first.
@@ -301,6 +324,18 @@ impl Measure for Rprec {
         docs: &mut Vec<u32>,
     ) -> Result<(), Memory> {
         push_least(alloc, a, b, marks, docs)
+    }
+
+    fn push_both_docs(
+        &self,
+        alloc: Global,
+        a: &Ranking,
+        b: &Ranking,
+        marks: &[Mark],
+        least: &mut Vec<u32>,
+        most: &mut Vec<u32>,
+    ) -> Result<(), Memory> {
+        push_cases(alloc, a, b, marks, least, most)
     }
 
     fn count_lists(

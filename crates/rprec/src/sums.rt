@@ -15,16 +15,33 @@ pub struct SharedSums {
     pub numbers: [u32; 1001],
 }
 
-/// The counts of a run's documents up to one place, from those up to an earlier one.
-fn with_documents(number: u32, start: u32, end: u32, docs: &[u32], marks: &[Mark]) -> u32
+/// The counts of a run's documents up to the end of a block that they fill, from those up to its start. No test of how
+/// many there are stands between them, since each block has as many.
+fn with_whole_block(number: u32, block: u32, docs: &[u32], marks: &[Mark]) -> u32
     requires docs { IsRanking (length marks.now) docs.now }
-    requires order { start ≤ end }
-    requires number { number ≡ pack (counts_of marks.now (take start docs.now)) }
-    ensures { result ≡ pack (counts_of marks.now (take end docs.now)) }
+    requires whole { 10 * (block + 1) ≤ length docs.now }
+    requires number { number ≡ pack (counts_of marks.now (take (10 * block) docs.now)) }
+    ensures { result ≡ pack (counts_of marks.now (take (10 * (block + 1)) docs.now)) }
 {
-    let last = end.min(docs.len() as u32);
+    let start = block * BLOCK;
+    let end = start + BLOCK;
     let mut longer = number;
-    for place in start..last {
+    for place in start..end {
+        longer = longer + number_at(docs, place, marks);
+    }
+    longer
+}
+
+/// The counts of all documents of a run, from those up to a place.
+fn with_rest(number: u32, start: u32, docs: &[u32], marks: &[Mark]) -> u32
+    requires docs { IsRanking (length marks.now) docs.now }
+    requires start { start ≤ length docs.now }
+    requires number { number ≡ pack (counts_of marks.now (take start docs.now)) }
+    ensures { result ≡ pack (counts_of marks.now docs.now) }
+{
+    let end = docs.len() as u32;
+    let mut longer = number;
+    for place in start..end {
         longer = longer + number_at(docs, place, marks);
     }
     longer
@@ -39,28 +56,20 @@ fn set_after(numbers: &mut [u32], blocks: u32, number: u32)
     numbers[blocks as usize + 1..].fill(number);
 }
 
-/// How many blocks some documents take up.
-fn blocks_of(docs: &[u32]) -> u32
-    requires { length docs.now ≤ RANK_LIMIT }
-    ensures whole { length docs.now ≤ 10 * result }
-    ensures few { result ≤ 1000 }
-{
-    (docs.len() as u32 + BLOCK - 1) / BLOCK
-}
-
 /// The counts of a run's documents up to the end of each block, both in one number.
 pub fn sums_of_run(docs: &[u32], marks: &[Mark]) -> RunSums
     requires { IsRanking (length marks.now) docs.now }
     ensures { AreBlockSums marks.now docs.now result.numbers }
 {
-    let blocks = blocks_of(docs);
+    let whole = docs.len() as u32 / BLOCK;
     let mut numbers = [0; 1001];
     let mut number = 0;
-    for block in 0..blocks {
-        number = with_documents(number, block * BLOCK, (block + 1) * BLOCK, docs, marks);
+    for block in 0..whole {
+        number = with_whole_block(number, block, docs, marks);
         numbers[block as usize + 1] = number;
     }
-    set_after(&mut numbers, blocks, number);
+    let all = with_rest(number, whole * BLOCK, docs, marks);
+    set_after(&mut numbers, whole, all);
     RunSums { numbers }
 }
 

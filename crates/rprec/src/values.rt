@@ -1,16 +1,13 @@
-ghost use Rattle.std.specs.Prelude.{◌≡◌, ◌+◌, ◌-◌, ◌≤◌, ◌&&◌, ◌||◌, not, nat_lt, length, IfOk, if◌then◌else◌};
+ghost use Rattle.std.specs.Prelude.{◌≡◌, ◌-◌, ◌≤◌, ◌&&◌, ◌||◌, not, nat_lt, length, IfOk, if◌then◌else◌};
 ghost use Rattle.desk_model.specs.Limits.{DOCUMENT_LIMIT};
 ghost use Rattle.desk_model.specs.Completion.{picked_value, with_picked};
-ghost use Rattle.desk_model.specs.Ranking.{IsRanking};
-ghost use Rattle.measure_laws.specs.Classes.{is_unjudged, open_in, size_of, judged_count};
-ghost use Rattle.measure_laws.specs.Prefixes.{only_second, neutral};
+ghost use Rattle.measure_laws.specs.Classes.{is_unjudged};
 ghost use Rattle.measure_core.specs.Laws.{AreValues};
-ghost use Rattle.rprec.specs.Greedy.{AreTopic};
 ghost use Rattle.rprec.specs.Picks.{picks};
 
 use desk_model::{Mark, Memory, Ranking};
 use std::alloc::Global;
-use topic_counts::counts::{Counts, is_among_first, own_counts};
+use topic_counts::counts::is_among_first;
 
 /// How many unjudged documents of each class are to be made relevant: of those that the second run
 /// alone has among its first ones, of those that both or neither have, and of the first run's own.
@@ -28,24 +25,24 @@ struct Choice {
     left: Wanted,
 }
 
-/// The greedy choice where a topic is to have so many relevant documents.
-pub fn wanted_for(count: u32, a: &Ranking, b: &Ranking, all: Counts, marks: &[Mark]) -> Wanted
-    requires a { IsRanking (length marks.now) a.now }
-    requires b { IsRanking (length marks.now) b.now }
-    requires topic { AreTopic marks.now all }
-    requires low { all.relevant ≤ count }
-    ensures second { result.second ≡ count - judged_count marks.now }
-    ensures both { result.both ≡ count - judged_count marks.now - size_of (length marks.now) (open_in marks.now (only_second count a.now b.now)) }
-    ensures first { result.first ≡ count - judged_count marks.now - size_of (length marks.now) (open_in marks.now (only_second count a.now b.now)) - size_of (length marks.now) (open_in marks.now (neutral count a.now b.now)) }
+/// The least case of two runs: how many relevant documents the topic has in it, and how many unjudged ones of each
+/// class are made relevant for that.
+#[derive(Clone, Copy, PartialEq, Eq)]
+pub struct LeastCase {
+    pub count: u32,
+    pub wanted: Wanted,
+}
+
+/// The greedy choice of so many documents out of all unjudged ones, from how many of these each run alone has.
+pub fn wanted_of(chosen: u32, first: u32, second: u32, unjudged: u32) -> Wanted
+    ensures second { result.second ≡ chosen }
+    ensures both { result.both ≡ chosen - second }
+    ensures first { result.first ≡ chosen - second - (unjudged - first - second) }
 {
-    let own = own_counts(count, a, b, marks);
-    let wanted = count - all.relevant;
-    let both = wanted.saturating_sub(own.second.unjudged);
-    let others = all
-        .unjudged
-        .saturating_sub(own.first.unjudged + own.second.unjudged);
+    let both = chosen.saturating_sub(second);
+    let others = unjudged.saturating_sub(first).saturating_sub(second);
     Wanted {
-        second: wanted,
+        second: chosen,
         both,
         first: both.saturating_sub(others),
     }

@@ -11,40 +11,34 @@ use measure_core::Measure;
 use order_bundle::{PairPicks, PickList, Picks};
 use std::alloc::Global;
 
-// Those that the least case of two rankings makes relevant, found in a list whose contents are anything.
-fn least<M: Measure>(
-    alloc: Global,
-    measure: &M,
-    a: &Ranking,
-    b: &Ranking,
-    marks: &[Mark],
-    docs: &mut Vec<u32>,
-) -> Result<PickList, Memory>
-    requires { AreMet marks.now a.now b.now }
-    ensures { IfOk result (λ picks. picks ≡ added_documents marks.now (least_truth (M.measured measure.now) marks.now a.now b.now)) }
+// A list of some documents, with no more room than it needs.
+fn copied(alloc: Global, docs: &[u32]) -> Result<PickList, Memory>
+    ensures { IfOk result (λ picks. picks ≡ docs.now) }
 {
-    docs.clear();
-    measure.push_least_docs(alloc, a, b, marks, docs)?;
     let mut picks = Vec::with_capacity(alloc, docs.len())?;
     picks.extend_from_slice(docs)?;
     Ok(PickList::new(picks))
 }
 
-// Those of the least and of the most case of two rankings.
+// Those of the least and of the most case of two rankings, found in two lists whose contents are anything.
 fn picks<M: Measure>(
     alloc: Global,
     measure: &M,
     a: &Ranking,
     b: &Ranking,
     marks: &[Mark],
-    docs: &mut Vec<u32>,
+    least: &mut Vec<u32>,
+    most: &mut Vec<u32>,
 ) -> Result<Picks, Memory>
     requires { AreMet marks.now a.now b.now }
     ensures low { IfOk result (λ picks. picks.low ≡ added_documents marks.now (least_truth (M.measured measure.now) marks.now a.now b.now)) }
     ensures high { IfOk result (λ picks. picks.high ≡ added_documents marks.now (least_truth (M.measured measure.now) marks.now b.now a.now)) }
 {
-    let low = least(alloc, measure, a, b, marks, docs)?;
-    let high = least(alloc, measure, b, a, marks, docs)?;
+    least.clear();
+    most.clear();
+    measure.push_both_docs(alloc, a, b, marks, least, most)?;
+    let low = copied(alloc, least)?;
+    let high = copied(alloc, most)?;
     Ok(Picks { low, high })
 }
 
@@ -62,12 +56,14 @@ pub fn pair_picks<M: Measure>(
     requires second { second < length desk.now.runs }
     ensures { IfOk result (λ picks. picks ≡ map (picks_on (M.measured measure.now) first second) (topics_under desk.now marks.now)) }
 {
-    let mut docs = Vec::new(alloc);
+    let mut least = Vec::new(alloc);
+    let mut most = Vec::new(alloc);
     let mut made = Vec::new(alloc);
     for topic in 0..desk.topic_count() {
         let a = desk.ranking(first, topic);
         let b = desk.ranking(second, topic);
-        let next = picks(alloc, measure, a, b, marks.topic(topic), &mut docs)?;
+        let topic_marks = marks.topic(topic);
+        let next = picks(alloc, measure, a, b, topic_marks, &mut least, &mut most)?;
         made.push(next)?;
     }
     Ok(PairPicks::new(made))

@@ -1,4 +1,3 @@
-use Rattle.std.proofs.Common.{arith}
 use Rattle.rprec.proofs.Counts.{few_shared, shared_below}
 use Rattle.rprec.proofs.extremes.find_least.Goals as goal
 
@@ -20,6 +19,3 @@ least_of_all-requires c = record {
   topic = c.requires.topic;
   total = c.requires.few;
 }
-
-pub returns-clause-low : goal.returns-clause-low
-returns-clause-low c = omega (arith, c.least_of_all.ensures.low, c.requires.topic.relevant)

@@ -20,8 +20,8 @@ returns-then-wanted-gt0 c =
     let r = c.args.count in
     let a = c.args.a.now in
     let b = c.args.b.now in
-    let w = c.wanted_for-wanted.result in
-    let is = c.wanted_for-wanted.ensures in
+    let w = c.args.wanted in
+    let is = c.requires.wanted in
     let more : More = record { both = w.both; first = w.first } in
     let before = c.args.docs.now.items in
     let now = c.push_own_and_more.new.docs.items in
@@ -40,8 +40,8 @@ returns c =
     let a = c.args.a.now in
     let b = c.args.b.now in
     let before = c.args.docs.now.items in
-    let wanted = c.wanted_for-wanted.result in
-    let is = c.wanted_for-wanted.ensures in
+    let wanted = c.args.wanted in
+    let is = c.requires.wanted in
     let chosen = wanted.second in
     let w : Wanted = record { second = chosen; both = 0; first = 0 } in
     let own = added_documents marks (with_picked marks (only_second r a b)) in

@@ -10,13 +10,13 @@ use Rattle.measure_core.specs.Lists.{added_documents}
 use Rattle.table_bundle.specs.Drafts.{picks_on}
 use Rattle.table_bundle.proofs.lists.pair_picks.Goals as goal
 
-pub topic-requires : goal.topic-requires
-topic-requires g c = omega (arith, c.topic_count-topic-end.ensures.count, length-marks c.args.desk.now c.args.marks.now c.requires.marks)
+pub topic-topic_marks-requires : goal.topic-topic_marks-requires
+topic-topic_marks-requires g c = omega (arith, c.topic_count-topic-end.ensures.count, length-marks c.args.desk.now c.args.marks.now c.requires.marks)
 
 pub picks-requires : goal.picks-requires
 picks-requires g c =
     rw (c.ranking-a.ensures.ranking, c.ranking-b.ensures.ranking)
-    (met_at c.args.desk.now c.args.marks.now c.topic_count-topic-end.ensures.desk c.requires.marks c.args.first c.args.second c.loop-topic.topic c.topic.result.now c.requires.first c.requires.second c.topic.ensures)
+    (met_at c.args.desk.now c.args.marks.now c.topic_count-topic-end.ensures.desk c.requires.marks c.args.first c.args.second c.loop-topic.topic c.topic-topic_marks.result.now c.requires.first c.requires.second c.topic-topic_marks.ensures)
 
 abbrev lists : List ℕ → List ℕ → Picks
 lists low high = record { low = low; high = high }
@@ -26,10 +26,10 @@ loop-topic-preserved g c =
     let measure = g.M.Measure.measured c.args.measure.now in
     let desk = c.args.desk.now in
     let t = c.loop-topic.topic in
-    let m = c.topic.result.now in
+    let m = c.topic-topic_marks.result.now in
     let topics = topics_under desk c.args.marks.now in
     let f = picks_on measure c.args.first c.args.second in
-    let there = topic_there desk c.args.marks.now t m c.topic.ensures in
+    let there = topic_there desk c.args.marks.now t m c.topic-topic_marks.ensures in
     let case = λ (u v : List ℕ). added_documents m (least_truth measure m u v) in
     let low = c.in_ok-next.ensures.low ∙ ap₂ case c.ranking-a.ensures.ranking c.ranking-b.ensures.ranking in
     let high = c.in_ok-next.ensures.high ∙ ap₂ case c.ranking-b.ensures.ranking c.ranking-a.ensures.ranking in

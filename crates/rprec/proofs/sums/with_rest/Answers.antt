@@ -1,10 +1,9 @@
-use Rattle.std.proofs.Common.{◌≡◌, ℕ, ◌+◌, take, length, arith, ap, ◌∙◌, sym, inl, inr}
-use Rattle.std.proofs.lemmas.Bool.{cases_lt}
+use Rattle.std.proofs.Common.{ℕ, ◌+◌, take, arith, ap, ◌∙◌}
 use Rattle.std.proofs.lemmas.List.{length-take, take_all}
 use Rattle.rprec.specs.Packed.{pack}
 use Rattle.rprec.specs.Sums.{counts_of}
 use Rattle.rprec.proofs.Counts.{all_few, number_adds}
-use Rattle.rprec.proofs.sums.with_documents.Goals as goal
+use Rattle.rprec.proofs.sums.with_rest.Goals as goal
 
 pub overflow_add-longer : goal.overflow_add-longer
 overflow_add-longer c =
@@ -18,12 +17,5 @@ loop-place-preserved c = omega (arith, c.loop-place.invariant, number_adds c.arg
 
 pub returns : goal.returns
 returns c =
-    let marks = c.args.marks.now in
     let docs = c.args.docs.now in
-    let end = c.args.end in
-    let place = c.loop-place.place in
-    let same : take place docs ≡ take end docs = elim (cases_lt end (length docs)) [
-      | inl lt ↦ let here : place ≡ end = omega (arith, lt, c.min-last.ensures, c.loop-place-test.false, c.loop-place.auto.place-end (omega (arith, lt, c.min-last.ensures, c.requires.order))) in ap (λ (k : ℕ). take k docs) here
-      | inr le ↦ take_all place docs (omega (arith, le, c.min-last.ensures, c.loop-place-test.false)) ∙ sym (take_all end docs le)
-    ] in
-    c.loop-place.invariant ∙ ap (λ xs. pack (counts_of marks xs)) same
+    c.loop-place.invariant ∙ ap (λ xs. pack (counts_of c.args.marks.now xs)) (take_all c.loop-place.place docs (omega (arith, c.loop-place-test.false)))
