@@ -20,7 +20,7 @@ abbrev pub grade_after : Option ℤ → ℕ → ℕ → List Change → Option �
 grade_after grade topic doc [] = grade
 grade_after grade topic doc (change ∷ changes) = grade_after (if is_live_on topic doc change then Some change.grade else grade) topic doc changes
 
--- a grade below 0 counts as unjudged
+-- a grade below 0 counts as none
 abbrev pub counted_grade : Option ℤ → Option ℤ
 counted_grade None = None
 counted_grade (Some (pos n)) = Some (pos n)

@@ -5,7 +5,7 @@ pub struct Changed {
     pub topic: u32,
     /// The number of the document in the topic's universe, from 0.
     pub doc: u32,
-    /// The grade in force, from 0, and `None` exactly where the document is unjudged.
+    /// The grade in force, from 0, and `None` exactly where the document has none.
     pub grade: Option<i32>,
 }
 

@@ -51,7 +51,7 @@ pub fn drop_undone(changes: &mut Vec<Change>, who: &[u8])
     changes.retain(|change| !is_undone_of(change, who));
 }
 
-/// The grade as it counts: below 0 is unjudged.
+/// The grade as it counts: one below 0 counts as none.
 pub fn counted(grade: Option<i32>) -> Option<i32>
     ensures { result ≡ counted_grade grade }
 {

@@ -17,8 +17,8 @@ use std::marker::Model;
 ///
 /// It is a list of at most 1,000,000 changes, each live or undone, where each caller's undone ones stand after that
 /// caller's live ones. The grade in force of a document is that of its last live change, else the judgements file's; a
-/// grade below 0, or none, is unjudged. Callers are told apart by name, byte by byte. Topics and documents are kept by
-/// number, so all calls on one session take the same desk.
+/// grade below 0 counts as none. Callers are told apart by name, byte by byte. Topics and documents are kept by number,
+/// so all calls on one session take the same desk.
 #[derive(Drop)]
 pub struct Session {
     changes: Vec<Change>,
@@ -50,13 +50,13 @@ impl Session {
     /// A session without changes. It takes no memory.
     ///
     /// # Example
-    /// Over a desk whose topic `401` has the document `d3`, unjudged by the file:
+    /// Over a desk whose topic `401` has the document `d3`, which has no grade in the file:
     /// ```text
     /// let mut session = Session::new(alloc);
     /// session.judge(alloc, &desk, b"ann", b"401", b"d3", 1)?; // its grade in force is Some(1)
     /// session.judge(alloc, &desk, b"bob", b"401", b"d3", 0)?; // Some(0)
     /// session.undo(&desk, b"ann")?;                           // Some(0): bob's judgement is live
-    /// session.undo(&desk, b"bob")?;                           // None: unjudged again
+    /// session.undo(&desk, b"bob")?;                           // None: no grade again
     /// ```
     pub fn new(alloc: Global) -> Session
         ensures { result ≡ [] }
@@ -71,8 +71,8 @@ impl Session {
     /// grade in force there afterwards, which is the new one, and `None` where that is below 0.
     ///
     /// `who` is the caller's name. The topic and the document are given by their names, and `grade` is from -1,000 to
-    /// 1,000; below 0 the document is unjudged from now on. The list is walked only where the caller has undone
-    /// changes.
+    /// 1,000; below 0 the document has no grade in force from now on. The list is walked only where the caller has
+    /// undone changes.
     ///
     /// # Errors
     /// The first that holds:
@@ -183,9 +183,9 @@ impl Session {
         Ok(told_at(&self.changes, desk, place))
     }
 
-    /// The grade in force of a document, and `None` exactly where it is unjudged. Topic and document are given by their
-    /// numbers. It takes no memory. It looks at the list once at most, from the end back to the document's last live
-    /// change.
+    /// The grade in force of a document, from 0, and `None` exactly where it has none. Topic and document are given by
+    /// their numbers. It takes no memory. It looks at the list once at most, from the end back to the document's last
+    /// live change.
     pub fn grade(&self, desk: &Desk, topic: u32, doc: u32) -> Option<i32>
         requires topic { topic < length desk.now.topics }
         requires doc { doc < length (book_at desk.now topic).docs }
@@ -194,8 +194,8 @@ impl Session {
         in_force(&self.changes, desk, topic, doc)
     }
 
-    /// The grades in force of all documents of a topic, in the order of their numbers, and `None` for each unjudged
-    /// one. The topic is given by its number.
+    /// The grades in force of all documents of a topic, in the order of their numbers, and `None` for each document
+    /// without one. The topic is given by its number.
     ///
     /// # Errors
     /// `Memory`: out of memory.
