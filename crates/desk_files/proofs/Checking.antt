@@ -4,8 +4,8 @@ use Rattle.std.specs.Prelude.{Option, Some, None, Result, Ok, Err}
 use Rattle.desk_outside.specs.Outside.{Files}
 use Rattle.desk_words.specs.declared.command.Check.{Check}
 use Rattle.line_forms.specs.Form.{IsFirstBad}
-use Rattle.order_bundle.specs.Places.{any_places, IsAnyText}
-use Rattle.order_bundle.specs.declared.any_certificate.AnyCertificate.{AnyCertificate}
+use Rattle.order_bundle.specs.Scoped.{IsScopedText, scoped_places}
+use Rattle.order_bundle.specs.declared.scoped.Scoped.{Scoped}
 use Rattle.desk_files.specs.Files.{Stop, Refused, BadLine, whole_file}
 use Rattle.desk_files.specs.Certificates.{CertificateComes}
 use Rattle.desk_files.specs.Load.{Loaded, Reads, loaded, paths_of, if_read, DeskMayOpen, Opens}
@@ -55,13 +55,13 @@ opens_all_and_certificate known check rows had between has read all last = recor
 
 -- ---- a certificate's file comes to one thing alone
 abbrev OneCertificate : Type 0
-OneCertificate = (bytes : List ℕ) (c d : AnyCertificate) → IsAnyText bytes c → IsAnyText bytes d → c ≡ d
+OneCertificate = (bytes : List ℕ) (c d : Scoped) → IsScopedText bytes c → IsScopedText bytes d → c ≡ d
 
 abbrev OneBadLine : Type 0
-OneBadLine = (bytes : List ℕ) (m n : ℕ) → IsFirstBad any_places bytes m → IsFirstBad any_places bytes n → m ≡ n
+OneBadLine = (bytes : List ℕ) (m n : ℕ) → IsFirstBad scoped_places bytes m → IsFirstBad scoped_places bytes n → m ≡ n
 
 abbrev NoBadLine : Type 0
-NoBadLine = (bytes : List ℕ) (c : AnyCertificate) (n : ℕ) → IsAnyText bytes c → IsFirstBad any_places bytes n → ⊥
+NoBadLine = (bytes : List ℕ) (c : Scoped) (n : ℕ) → IsScopedText bytes c → IsFirstBad scoped_places bytes n → ⊥
 
 same_stop : {X : Type 0} (h k : Stop) (r : Result X Stop) → r ≡ Err h → r ≡ Err k → h ≡ k
 same_stop {X} h k r e f = let both : ◌≡◌ {A = Result X Stop} (Err h) (Err k) = sym e ∙ f in cc
@@ -70,21 +70,21 @@ module _ (one : OneCertificate) (one_line : OneBadLine) (none : NoBadLine) where
   same_bytes : {r : Result (List ℕ) Stop} (a b : List ℕ) → r ≡ Ok a → r ≡ Ok b → a ≡ b
   same_bytes a b e f = let both : Ok a ≡ Ok b = sym e ∙ f in cc
 
-  one_file : (files : Files) (path : List ℕ) (x y : Result AnyCertificate Stop) → CertificateComes files path x → CertificateComes files path y → x ≡ y
-  one_file files path (Ok c) (Ok d) (a, read, text) (b, again, other) = ap Ok (one b c d (subst (λ z. IsAnyText z c) (same_bytes a b read again) text) other)
+  one_file : (files : Files) (path : List ℕ) (x y : Result Scoped Stop) → CertificateComes files path x → CertificateComes files path y → x ≡ y
+  one_file files path (Ok c) (Ok d) (a, read, text) (b, again, other) = ap Ok (one b c d (subst (λ z. IsScopedText z c) (same_bytes a b read again) text) other)
   one_file files path (Ok c) (Err h) (a, read, text) (inl stops) = let bad : Ok a ≡ Err h = sym read ∙ stops in absurd (cc)
-  one_file files path (Ok c) (Err h) (a, read, text) (inr (b, again, (line, bad, is))) = absurd (none b c line (subst (λ z. IsAnyText z c) (same_bytes a b read again) text) bad)
+  one_file files path (Ok c) (Err h) (a, read, text) (inr (b, again, (line, bad, is))) = absurd (none b c line (subst (λ z. IsScopedText z c) (same_bytes a b read again) text) bad)
   one_file files path (Err h) (Ok d) (inl stops) (b, again, other) = let bad : Ok b ≡ Err h = sym again ∙ stops in absurd (cc)
-  one_file files path (Err h) (Ok d) (inr (a, read, (line, bad, is))) (b, again, other) = absurd (none b d line other (subst (λ z. IsFirstBad any_places z line) (same_bytes a b read again) bad))
+  one_file files path (Err h) (Ok d) (inr (a, read, (line, bad, is))) (b, again, other) = absurd (none b d line other (subst (λ z. IsFirstBad scoped_places z line) (same_bytes a b read again) bad))
   one_file files path (Err h) (Err k) (inl stops) (inl also) = ap Err (same_stop h k (whole_file path (files path)) stops also)
   one_file files path (Err h) (Err k) (inl stops) (inr (b, again, (line, bad, is))) = let no : Ok b ≡ Err h = sym again ∙ stops in absurd (cc)
   one_file files path (Err h) (Err k) (inr (a, read, (line, bad, is))) (inl also) = let no : Ok a ≡ Err k = sym read ∙ also in absurd (cc)
   one_file files path (Err h) (Err k) (inr (a, read, (line, bad, is))) (inr (b, again, (number, other, also))) =
-      let same : line ≡ number = one_line b line number (subst (λ z. IsFirstBad any_places z line) (same_bytes a b read again) bad) other in
+      let same : line ≡ number = one_line b line number (subst (λ z. IsFirstBad scoped_places z line) (same_bytes a b read again) bad) other in
       ap Err (is ∙ ap (λ n. Refused (BadLine path n)) same ∙ sym also)
 
   -- so do the files of a check
-  pub one_check : (check : Check) (files : Files) (x y : Result (Loaded × AnyCertificate) Stop) → CheckComes files check x → CheckComes files check y → x ≡ y
+  pub one_check : (check : Check) (files : Files) (x y : Result (Loaded × Scoped) Stop) → CheckComes files check x → CheckComes files check y → x ≡ y
   one_check check files (Ok (p, c)) (Ok (q, d)) (read, text) (again, other) =
       let rows : Ok p ≡ Ok q = sym read ∙ again in
       let file : Ok c ≡ Ok d = one_file files check.cert (Ok c) (Ok d) text other in

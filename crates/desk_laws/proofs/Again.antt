@@ -9,7 +9,9 @@ use Rattle.std.proofs.lemmas.Map.Made.{length-from_same_keys}
 use Rattle.desk_outside.specs.Outside.{Files}
 use Rattle.desk_words.specs.declared.command.RunWord.{RunWord}
 use Rattle.desk_model.specs.Book.{Book}
+use Rattle.desk_model.specs.Closing.{closed_under}
 use Rattle.desk_model.specs.Desk.{Desk, file_marks, pair_count}
+use Rattle.desk_model.proofs.Closing.{closed-by_rankings}
 use Rattle.desk_model.specs.Mark.{mark_of}
 use Rattle.judge_session.specs.InForce.{counted_grade}
 use Rattle.desk_report.specs.Judging.{qrels_text}
@@ -99,7 +101,10 @@ marks_counted level (book ∷ books) =
     ap₂ (λ x xs. x ∷ xs) (sym (map-map (λ grade. mark_of grade level) counted_grade (λ grade. mark_of grade level) (mark_counted level) book.grades)) (marks_counted level books)
 
 desk_again : (desk again : Desk) (grades : List (List (Option ℤ))) → HasJudgements desk grades again → IsDeskAgain desk grades again
-desk_again desk again grades h = record { same = h; marks = λ level. marks_counted level again.topics ∙ ap (marks_by level) h.judgements }
+desk_again desk again grades h = record {
+  same = h;
+  marks = λ level depth. closed-by_rankings desk again depth (map (file_marks level) again.topics) h.rankings ∙ ap (closed_under desk depth) (marks_counted level again.topics ∙ ap (marks_by level) h.judgements);
+}
 
 -- ---- the law
 module _ (files again : Files) (from : Sources) (path : List ℕ) (rows : Loaded) (desk : Desk) (grades : List (List (Option ℤ))) (apart : AreLoaded files from rows) (judged : IsJudged apart.judgements.bytes rows.qrels rows.runs desk grades)

@@ -1,6 +1,6 @@
 -- What is asked of each command beside its statuses: one answer, in whole lines.
 use Rattle.std.proofs.Common.{◌≡◌, ◌≢◌, ℕ, List, [], ◌∷◌, length, map, refl, ap, ap₂, sym, subst, ◌∙◌, inl, inr, arith}
-use Rattle.std.specs.Prelude.{Result, Ok, Err}
+use Rattle.std.specs.Prelude.{Result, Ok, Err, None}
 use Rattle.std.specs.List.{AllByRecursion, Contains}
 use Rattle.desk_outside.specs.Inputs.{Input}
 use Rattle.desk_words.specs.declared.command.Job.{Job}
@@ -14,7 +14,7 @@ use Rattle.run_reader.specs.declared.used.Used.{Used}
 use Rattle.topics_pool.specs.Rows.{IsDeskOf, total_rows}
 use Rattle.next_document.specs.Laws.{NextIsOne}
 use Rattle.order_certificate.specs.declared.certificate.Certificate.{Certificate}
-use Rattle.order_bundle.specs.declared.any_certificate.AnyCertificate.{AnyCertificate}
+use Rattle.order_bundle.specs.declared.scoped.Scoped.{Scoped}
 use Rattle.bundle_verifier.specs.Either.{IsAnyVerified}
 use Rattle.bundle_verifier.specs.declared.rejected.BundleRejected.{BundleRejected}
 use Rattle.pair_table.specs.Numbers.{ArePairNumbers}
@@ -24,8 +24,8 @@ use Rattle.pair_table.specs.declared.evidence.EvidenceFault.TheVariants.{Close a
 use Rattle.pair_table.proofs.Answered.{one_answer}
 use Rattle.pair_table.proofs.Named.{pair_unique}
 use Rattle.pair_table.proofs.Zips.{zip_unique}
-use Rattle.order_bundle.specs.Bundle.{Bundle, bundle_text}
-use Rattle.bundle_report.specs.Bundled.{HasTooManyBytes, IsAllPairsText, IsBundleOn}
+use Rattle.order_bundle.specs.Bundle.{Bundle}
+use Rattle.bundle_report.specs.Bundled.{HasTooManyBytes, IsAllPairsText, IsBundleOn, text_on}
 use Rattle.desk_top.specs.Told.{too_long_line}
 use Rattle.desk_report.specs.Reports.{Subject, IsCertificateText, IsCloseText}
 use Rattle.demo_desk.specs.Demo.{SayRuns, IsDemoDesk, demo_runs, used_before_runs}
@@ -131,11 +131,11 @@ module _ (s : Subject) where
 -- the certificate of all pairs, or that its text would be too long
 module _ (bundle_one : BundleIsOne) (s : Subject) where
   -- the texts of the bundle are as long
-  one_length : (b other : Bundle) → IsBundleOn s b → IsBundleOn s other → length (bundle_text b) ≡ length (bundle_text other)
-  one_length b other h k = ap (λ x. length (bundle_text x)) (bundle_one s.measure s.desk s.marks s.level b other h.of_pairs k.of_pairs)
+  one_length : (b other : Bundle) → IsBundleOn s b → IsBundleOn s other → length (text_on s b) ≡ length (text_on s other)
+  one_length b other h k = ap (λ x. length (text_on s x)) (bundle_one s.measure s.desk s.marks s.level b other h.of_pairs k.of_pairs)
 
   one_bundle_text : (text other : List ℕ) → IsAllPairsText s text → IsAllPairsText s other → text ≡ other
-  one_bundle_text text other h k = h.is ∙ ap bundle_text (bundle_one s.measure s.desk s.marks s.level h.bundle k.bundle h.on.of_pairs k.on.of_pairs) ∙ sym k.is
+  one_bundle_text text other h k = h.is ∙ ap (text_on s) (bundle_one s.measure s.desk s.marks s.level h.bundle k.bundle h.on.of_pairs k.on.of_pairs) ∙ sym k.is
 
   not_too_long : (text : List ℕ) (bytes : ℕ) → IsAllPairsText s text → HasTooManyBytes s bytes → ⊥
   not_too_long text bytes h k = omega (arith, h.short, k.long, k.counted, ap length h.is, one_length h.bundle k.bundle h.on k.on)
@@ -149,14 +149,14 @@ module _ (bundle_one : BundleIsOne) (s : Subject) where
       h.2 ∙ ap (λ bytes. Refuses (too_long_line bytes)) same ∙ sym k.2
 
 -- ---- a check
-abbrev IsVerificationOf : AnyCertificate → Desk → Result (Unit {0}) BundleRejected → Outcome → Type 0
-IsVerificationOf c desk answer outcome = IsAnyVerified c desk (marks_for c desk) answer × (outcome ≡ verification c desk answer)
+abbrev IsVerificationOf : Scoped → Desk → Result (Unit {0}) BundleRejected → Outcome → Type 0
+IsVerificationOf c desk answer outcome = IsAnyVerified c.body desk (marks_for c desk) answer × (outcome ≡ verification c desk answer)
 
-pub check_one : DeskIsOne → VerifierIsOne → (found : Loaded × AnyCertificate) (first second : Outcome) → PrintsCheck found first → PrintsCheck found second → first ≡ second
+pub check_one : DeskIsOne → VerifierIsOne → (found : Loaded × Scoped) (first second : Outcome) → PrintsCheck found first → PrintsCheck found second → first ≡ second
 check_one desk_one verifier_one found first second h k =
     let same : k.desk ≡ h.desk = desk_one found.0.qrels found.0.runs k.desk h.desk k.ranked h.ranked in
     let other = subst (λ d. IsVerificationOf found.1 d k.answer second) same (k.verified, k.is) in
-    h.is ∙ ap (verification found.1 h.desk) (verifier_one found.1 h.desk (marks_for found.1 h.desk) h.answer k.answer h.verified other.0) ∙ sym other.1
+    h.is ∙ ap (verification found.1 h.desk) (verifier_one found.1.body h.desk (marks_for found.1 h.desk) h.answer k.answer h.verified other.0) ∙ sym other.1
 
 -- ---- a session
 replies_one : RepliesAreOne → (s : Setting) (changes : List Change) (lines texts others : List (List ℕ)) → AreReplies s changes lines texts → AreReplies s changes lines others → texts ≡ others
@@ -212,7 +212,7 @@ texts_one next_one seed desk valid rows lines others next last h k =
     let totals : h.totals ≡ k.totals =
     zip_unique (λ (pair : ℕ × ℕ) (sums : Totals). ArePairNumbers s.measure topics pair.0 pair.1 sums) (λ pair sums others. pair_unique s.measure topics pair.0 pair.1 sums others) (pairs_of (run_numbers (length desk.runs))) h.totals k.totals h.numbers k.numbers in (
       h.summary ∙ ap (λ (sums : List Totals). summary_lines seed rows s.marks (map verdict sums)) totals ∙ sym k.summary,
-      one_next next_one s next last (marks_known 1 desk valid) h.proposal k.proposal,
+      one_next next_one s next last (marks_known 1 None desk valid) h.proposal k.proposal,
     )
 
 pub demo_one : DeskIsOne → NextIsOne → (seed : ℕ) (first second : Outcome) → PrintsDemo seed first → PrintsDemo seed second → first ≡ second

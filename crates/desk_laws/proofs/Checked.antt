@@ -2,6 +2,7 @@
 use Rattle.std.proofs.Common.{◌≡◌, ℕ, List, [], ◌∷◌, map, Option, Result, Ok, Err, ℤ, refl, ap, ap₂, sym, subst, ◌∙◌}
 use Rattle.std.specs.List.{zip}
 use Rattle.desk_model.specs.Book.{Book}
+use Rattle.desk_model.specs.Closing.{closed_under}
 use Rattle.desk_model.specs.Desk.{Desk, topics_under, file_marks}
 use Rattle.desk_model.specs.Name.{number_of}
 use Rattle.desk_model.specs.Order.{Topic}
@@ -9,14 +10,12 @@ use Rattle.desk_model.specs.declared.types.Mark.{Mark}
 use Rattle.desk_model.specs.declared.types.Verdict.{Verdict}
 use Rattle.desk_model.specs.declared.types.Verdict.TheVariants.{Above, Below, Equal, Open, Close}
 use Rattle.order_certificate.specs.Claim.{NamedTopic, named_topics}
-use Rattle.order_certificate.specs.Certificate.{IsCertificate, certificate_text}
 use Rattle.order_certificate.specs.Evidence.{IsEvidence, Shows}
 use Rattle.order_certificate.specs.declared.certificate.Certificate.{Certificate}
-use Rattle.order_bundle.specs.Bundle.{Bundle, IsBundle, bundle_text}
-use Rattle.order_bundle.specs.Either.{any_level}
+use Rattle.order_bundle.specs.Bundle.{Bundle}
 use Rattle.order_bundle.specs.Evidence.{IsBundleEvidence}
-use Rattle.order_bundle.specs.Places.{IsAnyCertificate, IsAnyText, any_text}
-use Rattle.order_bundle.specs.declared.any_certificate.AnyCertificate.{AnyCertificate}
+use Rattle.order_bundle.specs.Scoped.{IsScoped, IsScopedText, scoped_text}
+use Rattle.order_bundle.specs.declared.scoped.Scoped.{Scoped}
 use Rattle.order_bundle.specs.declared.any_certificate.AnyCertificate.TheVariants.{One, Many}
 use Rattle.measure_core.specs.Made.{HasEnds}
 use Rattle.pair_table.specs.Evidence.{SaysOfVerdict}
@@ -26,6 +25,7 @@ use Rattle.bundle_verifier.specs.Either.{IsAnyVerified}
 use Rattle.bundle_verifier.specs.declared.rejected.BundleRejected.{BundleRejected}
 use Rattle.order_verifier.proofs.Answers.{rejected_no_evidence}
 use Rattle.bundle_verifier.proofs.Refused.{reason_refused}
+use Rattle.desk_top.specs.Answer.{marks_for}
 use Rattle.desk_top.specs.Report.{marks_in}
 use Rattle.desk_top.specs.Truths.{BundlesAreEvidence}
 use Rattle.desk_top.proofs.Marking.{marks_known}
@@ -57,12 +57,13 @@ same_topics : (desk again : Desk) (marks : List (List Mark)) → again.rankings 
 same_topics desk again marks e =
     ap (λ rankings. topics_under (record { topics = desk.topics; runs = desk.runs; rankings = rankings }) marks) e
 
-evidence_again : (c : Certificate) (desk again : Desk) (grades : List (List (Option ℤ))) (level : ℕ) → IsDeskAgain desk grades again → IsEvidence c desk (marks_by level grades) → IsEvidence c again (map (file_marks level) again.topics)
-evidence_again c desk again grades level is h =
-    let marks = marks_by level grades in
+evidence_again : (c : Certificate) (desk again : Desk) (grades : List (List (Option ℤ))) (level : ℕ) (depth : Option ℕ) → IsDeskAgain desk grades again → IsEvidence c desk (closed_under desk depth (marks_by level grades)) →
+    IsEvidence c again (closed_under again depth (map (file_marks level) again.topics))
+evidence_again c desk again grades level depth is h =
+    let marks = closed_under desk depth (marks_by level grades) in
     let topics : named_topics again marks ≡ named_topics desk marks =
     same_named desk.topics again.topics (topics_under again marks) is.same.universes ∙ ap (λ ts. map named (zip desk.topics ts)) (same_topics desk again marks is.same.rankings) in
-    subst (IsEvidence c again) (sym (is.marks level)) (record {
+    subst (IsEvidence c again) (sym (is.marks level depth)) (record {
       first = h.first;
       second = h.second;
       runs = (ap (λ runs. number_of runs c.first) is.same.runs ∙ h.runs.0, ap (λ runs. number_of runs c.second) is.same.runs ∙ h.runs.1);
@@ -89,10 +90,10 @@ accepted_bundle b desk marks (Ok done) h is = refl
 accepted_bundle b desk marks (Err rejected) h is = absurd (reason_refused b desk marks is.0 is.1 h)
 
 -- ---- the law
-module _ (one : (bytes : List ℕ) (c d : AnyCertificate) → IsAnyText bytes c → IsAnyText bytes d → c ≡ d) (texts : (c : AnyCertificate) → IsAnyCertificate c → IsAnyText (any_text c) c) where
-  -- the text of a certificate of one pair is of no other certificate
-  its_own : (text : List ℕ) (c : AnyCertificate) (d : Certificate) → IsCertificate d → text ≡ certificate_text d → IsAnyText text c → c ≡ One d
-  its_own text c d within is of_text = one text c (One d) of_text (subst (λ t. IsAnyText t (One d)) (sym is) (texts (One d) within))
+module _ (one : (bytes : List ℕ) (c d : Scoped) → IsScopedText bytes c → IsScopedText bytes d → c ≡ d) (texts : (c : Scoped) → IsScoped c → IsScopedText (scoped_text c) c) where
+  -- the text of a certificate is of no other one
+  its_own : (text : List ℕ) (c d : Scoped) → IsScoped d → text ≡ scoped_text d → IsScopedText text c → c ≡ d
+  its_own text c d within is of_text = one text c d of_text (subst (λ t. IsScopedText t d) (sym is) (texts d within))
 
   pub all_accepted : CertificatesAreAccepted
   all_accepted s lines files again from path desk a b text c answer setting taken h of_text verified =
@@ -105,20 +106,17 @@ module _ (one : (bytes : List ℕ) (c d : AnyCertificate) → IsAnyText bytes c 
       let is : IsDeskAgain s.desk grades desk = subst (ComesAgain (sources path from.runs) _ s.desk grades) taken.loads_again comes desk taken.of_later in
       let evidence = answered_evidence s.measure s.desk marks s.level a b d setting.measure h.valid (marks_of_desk s changes h.valid) h.runs.different h.runs.first h.runs.second h.of_pair in
       let level : d.level ≡ s.level = level_said s changes a b d _ h.of_pair.says in
-      accepted d desk (map (file_marks d.level) desk.topics) answer
-      (subst (λ l. IsEvidence d desk (map (file_marks l) desk.topics)) (sym level) (evidence_again d s.desk desk grades s.level is evidence))
-      (subst (λ e. IsAnyVerified e desk (map (file_marks (any_level e)) desk.topics) answer) (its_own text c d h.within h.is of_text) verified)
-
-  -- so is that of all pairs
-  its_own_bundle : (text : List ℕ) (c : AnyCertificate) (b : Bundle) → IsBundle b → text ≡ bundle_text b → IsAnyText text c → c ≡ Many b
-  its_own_bundle text c b within is of_text = one text c (Many b) of_text (subst (λ t. IsAnyText t (Many b)) (sym is) (texts (Many b) within))
+      let own : Scoped = record { depth = s.depth; body = One d } in
+      accepted d desk (closed_under desk s.depth (map (file_marks d.level) desk.topics)) answer
+      (subst (λ l. IsEvidence d desk (closed_under desk s.depth (map (file_marks l) desk.topics))) (sym level) (evidence_again d s.desk desk grades s.level s.depth is evidence))
+      (subst (λ (e : Scoped). IsAnyVerified e.body desk (marks_for e desk) answer) (its_own text c own h.within h.is of_text) verified)
 
   pub all_pairs_accepted : BundlesAreEvidence → AllPairsAreAccepted
   all_pairs_accepted evident job desk text c answer h of_text verified =
       let b : Bundle = h.bundle in
       let of = h.on.of_pairs in
-      let same : c ≡ Many b = its_own_bundle text c b of.form h.is of_text in
-      let shown = evident job.measure desk (marks_in job desk) job.level b h.on.valid (marks_known job.level desk h.on.valid) of in
-      accepted_bundle b desk (map (file_marks b.level) desk.topics) answer
-      (subst (λ l. IsBundleEvidence b desk (map (file_marks l) desk.topics)) (sym of.at_level) shown)
-      (subst (λ e. IsAnyVerified e desk (map (file_marks (any_level e)) desk.topics) answer) same verified)
+      let own : Scoped = record { depth = job.depth; body = Many b } in
+      let shown = evident job.measure desk (marks_in job desk) job.level b h.on.valid (marks_known job.level job.depth desk h.on.valid) of in
+      accepted_bundle b desk (closed_under desk job.depth (map (file_marks b.level) desk.topics)) answer
+      (subst (λ l. IsBundleEvidence b desk (closed_under desk job.depth (map (file_marks l) desk.topics))) (sym of.at_level) shown)
+      (subst (λ (e : Scoped). IsAnyVerified e.body desk (marks_for e desk) answer) (its_own text c own h.within h.is of_text) verified)

@@ -118,7 +118,7 @@ session_ends job rows input answer is = subst (λ (a : Answer). EndsIn (session_
 -- ---- whole lines
 check_lines : (check : Check) → HasLines (check_meaning check)
 check_lines check found input answer is =
-    outcome_lines (PrintsCheck found) (λ outcome holds. subst (λ o. EndsLines (answer_of o)) (sym holds.is) (record { said = (verification_ends holds.desk holds.answer, tt); told = inl refl })) answer is
+    outcome_lines (PrintsCheck found) (λ outcome holds. subst (λ o. EndsLines (answer_of o)) (sym holds.is) (record { said = (verification_ends holds.desk found.1.depth holds.answer, tt); told = inl refl })) answer is
 
 demo_lines : (seed : ℕ) → HasLines (demo_meaning seed)
 demo_lines seed found input answer is =

@@ -5,8 +5,8 @@ use Rattle.std.specs.List.{AllByRecursion, zip}
 use Rattle.desk_model.specs.Book.{Book}
 use Rattle.desk_model.specs.Desk.{Desk}
 use Rattle.desk_model.specs.Name.{number_of}
-use Rattle.order_certificate.specs.Certificate.{certificate_text, certificate_lines}
-use Rattle.order_bundle.specs.Bundle.{bundle_text, bundle_lines}
+use Rattle.order_bundle.specs.Scoped.{scoped_lines, scoped_text}
+use Rattle.order_bundle.specs.declared.any_certificate.AnyCertificate.TheVariants.{One, Many}
 use Rattle.bundle_report.specs.Bundled.{IsAllPairsText}
 use Rattle.bundle_verifier.specs.declared.rejected.BundleRejected.{BundleRejected}
 use Rattle.judge_session.specs.Request.{Judge, Undo, Redo, Table, Pair, Certify, Pool, Next, Qrels, Quit, Heard, Blank, TooLong, Bad, Asked, heard_of}
@@ -50,26 +50,22 @@ text_ends [] h = inl refl
 text_ends (one ∷ more) h = after one.text (text_of more) h.0 (text_ends more h.1)
 
 -- ---- the texts of a desk
-table_ends : (desk : Desk) (measure : _) (level : ℕ) (unit : _) (bounds : _) (totals : _) → EndsLastLine (table_text desk measure level unit bounds totals)
+table_ends : (desk : Desk) (measure : _) (level : ℕ) (depth : _) (unit : _) (bounds : _) (totals : _) → EndsLastLine (table_text desk measure level depth unit bounds totals)
 unfolding table_text
-table_ends desk measure level unit bounds totals = lines_end (table_lines desk measure level unit bounds totals)
+table_ends desk measure level depth unit bounds totals = lines_end (table_lines desk measure level depth unit bounds totals)
 
-certificate_ends : (c : _) → EndsLastLine (certificate_text c)
-unfolding certificate_text
-certificate_ends c = lines_end (certificate_lines c)
-
-bundle_ends : (b : _) → EndsLastLine (bundle_text b)
-unfolding bundle_text
-bundle_ends b = lines_end (bundle_lines b)
+certificate_ends : (c : _) → EndsLastLine (scoped_text c)
+unfolding scoped_text
+certificate_ends c = lines_end (scoped_lines c)
 
 pub all_pairs_text_ends : (s : Subject) (text : List ℕ) → IsAllPairsText s text → EndsLastLine text
-all_pairs_text_ends s text is = subst EndsLastLine (sym is.is) (bundle_ends is.bundle)
+all_pairs_text_ends s text is = subst EndsLastLine (sym is.is) (certificate_ends (record { depth = s.depth; body = Many is.bundle }))
 
 pub table_text_ends : (s : Subject) (text : List ℕ) → IsTableText s text → EndsLastLine text
-table_text_ends s text is = subst EndsLastLine (sym is.is) (table_ends _ _ _ _ _ _)
+table_text_ends s text is = subst EndsLastLine (sym is.is) (table_ends _ _ _ _ _ _ _)
 
 pub certificate_text_ends : (s : Subject) (a b : ℕ) (text : List ℕ) → IsCertificateText s a b text → EndsLastLine text
-certificate_text_ends s a b text is = subst EndsLastLine (sym is.is) (certificate_ends is.certificate)
+certificate_text_ends s a b text is = subst EndsLastLine (sym is.is) (certificate_ends (record { depth = s.depth; body = One is.certificate }))
 
 pub close_text_ends : (s : Subject) (a b : ℕ) (text : List ℕ) → IsCloseText s a b text → EndsLastLine text
 close_text_ends s a b text is = subst EndsLastLine (sym is.is) (line_ends (close_line (run_name s.desk a) (run_name s.desk b) is.totals))
@@ -77,9 +73,9 @@ close_text_ends s a b text is = subst EndsLastLine (sym is.is) (line_ends (close
 pub next_text_ends : (s : Subject) (text : List ℕ) → IsNextText s text → EndsLastLine text
 next_text_ends s text is = subst EndsLastLine (sym is.is) (line_ends (next_line s.desk is.proposal))
 
-pub verification_ends : (desk : Desk) (answer : Result (Unit {0}) BundleRejected) → EndsLastLine (verification_text desk answer)
-verification_ends desk (Ok _) = inr (codes "accepted", refl)
-verification_ends desk (Err rejected) = inr (codes "rejected " ++ rejection_text desk rejected, refl)
+pub verification_ends : (desk : Desk) (depth : Option ℕ) (answer : Result (Unit {0}) BundleRejected) → EndsLastLine (verification_text desk depth answer)
+verification_ends desk depth (Ok _) = inr (codes "accepted", refl)
+verification_ends desk depth (Err rejected) = inr (codes "rejected " ++ rejection_text desk depth rejected, refl)
 
 pub summary_ends : (f : List ℕ → Saying) → ((line : List ℕ) → EndsLastLine (f line).text) → (lines : List (List ℕ)) (last : Saying) → EndsLastLine last.text → AllByRecursion (λ (one : Saying). EndsLastLine one.text) (map f lines ++ last ∷ [])
 summary_ends f each [] last h = (h, tt)

@@ -8,8 +8,8 @@ use Rattle.desk_words.specs.declared.command.Check.{Check}
 use Rattle.desk_words.specs.declared.command.Job.{Job}
 use Rattle.desk_words.specs.declared.command.Command.TheVariants.{Verify}
 use Rattle.desk_model.specs.Desk.{Desk}
-use Rattle.order_bundle.specs.Places.{IsAnyCertificate, IsAnyText, any_text}
-use Rattle.order_bundle.specs.declared.any_certificate.AnyCertificate.{AnyCertificate}
+use Rattle.order_bundle.specs.Scoped.{IsScoped, IsScopedText, scoped_text}
+use Rattle.order_bundle.specs.declared.scoped.Scoped.{Scoped}
 use Rattle.order_bundle.specs.declared.any_certificate.AnyCertificate.TheVariants.{One, Many}
 use Rattle.bundle_verifier.specs.Either.{IsAnyVerified}
 use Rattle.bundle_verifier.specs.declared.rejected.BundleRejected.{BundleRejected}
@@ -42,9 +42,9 @@ short_file path held bytes is short = ap (whole_file path) is ∙ ap (λ (b : Bo
 -- files come to these rows and this certificate, which is accepted over the desk of the rows
 record ComesToAccepted (files : Files) (check : Check) : Type 0 where
   rows : Loaded
-  claimed : AnyCertificate
+  claimed : Scoped
   comes : CheckComes files check (Ok (rows, claimed))
-  passes : (desk : Desk) (answer : Result (Unit {0}) BundleRejected) → IsDeskOf rows.qrels rows.runs desk → IsAnyVerified claimed desk (marks_for claimed desk) answer → answer ≡ Ok tt
+  passes : (desk : Desk) (answer : Result (Unit {0}) BundleRejected) → IsDeskOf rows.qrels rows.runs desk → IsAnyVerified claimed.body desk (marks_for claimed desk) answer → answer ≡ Ok tt
 
 module _ (one : CheckIsOne) (files : Files) (check : Check) (words : List (List ℕ)) (call : Call) (status : Status) (found : ComesToAccepted files check) (over : IsCallOver words (Verify check) files call status) where
   -- so the command says that
@@ -72,14 +72,14 @@ module _ (one : CheckIsOne) (files : Files) (check : Check) (words : List (List 
       at (inr (inr (inl failed))) = absurd (calm failed.1)
       at (inr (inr (inr memory))) = inr memory
 
-module _ (one : CheckIsOne) (texts : (c : AnyCertificate) → IsAnyCertificate c → IsAnyText (any_text c) c) where
+module _ (one : CheckIsOne) (texts : (c : Scoped) → IsScoped c → IsScopedText (scoped_text c) c) where
   -- ---- of a session
   module _ (accepted : CertificatesAreAccepted) (s : Setting) (lines : List (List ℕ)) (files again : Files) (from : Sources) (check : Check) (words : List (List ℕ)) (call : Call) (status : Status) (setting : IsSetting s) (h : IsCheckOfSession s lines files again from check words call status) where
-    abbrev claimed : AnyCertificate
-    claimed = One h.shown.certificate
+    abbrev claimed : Scoped
+    claimed = record { depth = s.depth; body = One h.shown.certificate }
 
-    is_text : IsAnyText h.certificate claimed
-    is_text = subst (λ t. IsAnyText t claimed) (sym h.shown.is) (texts claimed h.shown.within)
+    is_text : IsScopedText h.certificate claimed
+    is_text = subst (λ t. IsScopedText t claimed) (sym h.shown.is) (texts claimed h.shown.within)
 
     of_session : ComesToAccepted again check
     of_session = record {
@@ -106,11 +106,11 @@ module _ (one : CheckIsOne) (texts : (c : AnyCertificate) → IsAnyCertificate c
 
   -- ---- of all pairs
   module _ (accepted : AllPairsAreAccepted) (desk_one : DeskIsOne) (job : Job) (files : Files) (check : Check) (words : List (List ℕ)) (call : Call) (status : Status) (h : IsCheckOfAllPairs job files check words call status) where
-    abbrev all_claimed : AnyCertificate
-    all_claimed = Many h.shown.bundle
+    abbrev all_claimed : Scoped
+    all_claimed = record { depth = job.depth; body = Many h.shown.bundle }
 
-    is_text_of_all : IsAnyText h.certificate all_claimed
-    is_text_of_all = subst (λ t. IsAnyText t all_claimed) (sym h.shown.is) (texts all_claimed h.shown.on.of_pairs.form)
+    is_text_of_all : IsScopedText h.certificate all_claimed
+    is_text_of_all = subst (λ t. IsScopedText t all_claimed) (sym h.shown.is) (texts all_claimed h.shown.within)
 
     of_all_pairs : ComesToAccepted files check
     of_all_pairs = record {
@@ -122,7 +122,7 @@ module _ (one : CheckIsOne) (texts : (c : AnyCertificate) → IsAnyCertificate c
       );
       passes = λ desk answer ranked verified.
           let same : desk ≡ h.desk = desk_one h.rows.qrels h.rows.runs desk h.desk ranked h.of_rows in
-          accepted job h.desk h.certificate all_claimed answer h.shown is_text_of_all (subst (λ d. IsAnyVerified all_claimed d (marks_for all_claimed d) answer) same verified);
+          accepted job h.desk h.certificate all_claimed answer h.shown is_text_of_all (subst (λ d. IsAnyVerified all_claimed.body d (marks_for all_claimed d) answer) same verified);
     }
 
   pub all_pairs_pass : AllPairsAreAccepted → DeskIsOne → AllPairsPass

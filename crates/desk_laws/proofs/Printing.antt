@@ -1,6 +1,6 @@
 -- Printed numbers, names of measures, and the lines of a table.
 use Rattle.std.proofs.Common.{◌≡◌, [], ◌∷◌, ◌++◌, refl, pos, negsuc, neg_ℤ, arith, lit<, lit≤}
-use Rattle.std.specs.Prelude.{codes}
+use Rattle.std.specs.Prelude.{codes, None}
 use Rattle.std.specs.Fmt.{digits}
 use Rattle.desk_model.specs.MeasureText.{measure_text, IsDepth, IsPersistence, IsMeasure, IsTextOf}
 use Rattle.desk_model.specs.declared.types.MeasureName.TheVariants.{Precision, Recall, Biased}
@@ -102,7 +102,7 @@ fifty_hundredths h = h.shortest refl
 
 -- ---- the table of the example under P_2
 pub lines_of_the_table :
-    table_lines two_runs (Precision 2) 1 (pos 2)
+    table_lines two_runs (Precision 2) 1 None (pos 2)
     (record { lo = pos 1; hi = pos 2 } ∷ record { lo = pos 0; hi = pos 1 } ∷ [])
     (sums (pos 1) (pos 1) (pos 1) (pos 1) ∷ [])
     ≡ codes "measure P_2" ∷ codes "level 1" ∷ codes "topics 1" ∷ codes "runs 2"
@@ -113,7 +113,7 @@ lines_of_the_table = refl
 
 -- one run: no pair, and each line is ended
 pub text_of_one_run :
-    table_text (record { topics = two_runs.topics; runs = codes "A" ∷ []; rankings = ((0 ∷ 2 ∷ []) ∷ []) ∷ [] }) (Precision 2) 1 (pos 2) (record { lo = pos 1; hi = pos 2 } ∷ []) []
+    table_text (record { topics = two_runs.topics; runs = codes "A" ∷ []; rankings = ((0 ∷ 2 ∷ []) ∷ []) ∷ [] }) (Precision 2) 1 None (pos 2) (record { lo = pos 1; hi = pos 2 } ∷ []) []
     ≡ codes "measure P_2" ++ 10 ∷ codes "level 1" ++ 10 ∷ codes "topics 1" ++ 10 ∷ codes "runs 1" ++ 10 ∷ codes "run A 0.500000 1.000000" ++ 10 ∷ []
 unfolding digits table_lines table_text
 text_of_one_run = refl

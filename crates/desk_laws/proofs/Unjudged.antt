@@ -6,6 +6,7 @@ use Rattle.std.proofs.Math.ListN.{set}
 use Rattle.std.proofs.lemmas.List.{length-map}
 use Rattle.desk_model.specs.Book.{Book}
 use Rattle.desk_model.specs.Desk.{Desk, IsDesk}
+use Rattle.desk_model.specs.Closing.{closed, is_within}
 use Rattle.desk_model.specs.Mark.{mark_of, mark_at}
 use Rattle.desk_model.specs.Name.{is_same_name, number_of}
 use Rattle.desk_model.specs.Named.{book_at}
@@ -97,7 +98,7 @@ judged_step s who place grade changes valid on is =
     let now = judged who place.0 place.1 grade changes in
     subst (AreAllRefinedBy (marks_after s changes))
     (marks_set s valid changes now place.0 place.1 on.topic on.doc (λ file t d apart. judged_elsewhere who place.0 place.1 grade changes file t d (not_both place.0 t place.1 d apart)))
-    (one_mark (marks_after s changes) place.0 place.1 (mark_of (grade_in_force s.desk place.0 place.1 now) s.level) is)
+    (one_mark (marks_after s changes) place.0 place.1 (closed (is_within s.desk s.depth place.0 place.1) (mark_of (grade_in_force s.desk place.0 place.1 now) s.level)) is)
 
 none_last : (test : Change → Bool) (xs : List Change) → last_that test xs ≡ None → list_any test xs ≡ false
 none_last test [] is = refl

@@ -6,7 +6,7 @@ use Rattle.std.proofs.lemmas.List.Elements.{All-from_recursion, All-nil}
 use Rattle.desk_model.specs.declared.types.MeasureName.TheVariants.{Precision}
 use Rattle.desk_words.specs.declared.command.Job.{Job}
 use Rattle.desk_words.specs.declared.command.Command.TheVariants.{Table, Demo}
-use Rattle.desk_words.specs.Words.{IsCommandOf, IsLevelOf, run_word_of, takes}
+use Rattle.desk_words.specs.Words.{IsCommandOf, IsDepthOf, IsLevelOf, run_word_of, takes}
 use Rattle.command_line.specs.Given.{Values, Allows, IsOne, IsOneAtMost}
 use Rattle.command_line.specs.Parts.{Part, spaced, joined, alone, given_by, line_of, values_of, words_alone}
 use Rattle.desk_words.specs.declared.read.Verb.TheVariants as verb
@@ -42,9 +42,20 @@ level_two = inr (refl, lit≤ tt, lit≤ tt)
 pub level_zero : IsLevelOf (codes "0" ∷ []) 0 → ⊥
 level_zero h = elim h [ inl x ↦ let e = x.0 in absurd (cc) | inr x ↦ let e = x.1 in absurd (omega arith) ]
 
+-- ---- depths: none where none is given
+pub no_depth : IsDepthOf [] None
+no_depth = refl
+
+pub depth_hundred : IsDepthOf (codes "100" ∷ []) (Some 100)
+unfolding digits
+depth_hundred = (refl, lit≤ tt, lit≤ tt)
+
+pub depth_zero : IsDepthOf (codes "0" ∷ []) (Some 0) → ⊥
+depth_zero h = let e = h.1 in absurd (omega arith)
+
 -- ---- `table a --level=2 --measure P_5 b --qrels q` and `table --qrels q --measure P_5 --level 2 a b`
 abbrev job : Job
-job = record { qrels = codes "q"; measure = Precision 5; level = 2; runs = record { name = None; path = codes "a" } ∷ record { name = None; path = codes "b" } ∷ [] }
+job = record { qrels = codes "q"; measure = Precision 5; level = 2; depth = None; runs = record { name = None; path = codes "a" } ∷ record { name = None; path = codes "b" } ∷ [] }
 
 abbrev mixed : List Part
 mixed = alone (codes "a") ∷ joined (codes "level") (codes "2") ∷ spaced (codes "measure") (codes "P_5") ∷ alone (codes "b") ∷ spaced (codes "qrels") (codes "q") ∷ []
@@ -65,12 +76,12 @@ pub words_of_runs : words_alone mixed ≡ codes "a" ∷ codes "b" ∷ []
 words_of_runs = refl
 
 -- judgements, a measure, a level and two runs are what a table takes
-allowed : (values : Values) → values (codes "qrels") ≡ codes "q" ∷ [] → values (codes "measure") ≡ codes "P_5" ∷ [] → values (codes "level") ≡ codes "2" ∷ [] → values (codes "RUN") ≡ codes "a" ∷ codes "b" ∷ [] → Allows (takes verb.Table) values
-allowed values qrels measure level runs =
+allowed : (values : Values) → values (codes "qrels") ≡ codes "q" ∷ [] → values (codes "measure") ≡ codes "P_5" ∷ [] → values (codes "level") ≡ codes "2" ∷ [] → values (codes "depth") ≡ [] → values (codes "RUN") ≡ codes "a" ∷ codes "b" ∷ [] → Allows (takes verb.Table) values
+allowed values qrels measure level depth runs =
     let count : length (values (codes "RUN")) ≡ 2 = ap length runs in
     record {
       needed = All-from_recursion (λ name. IsOne (values name)) (takes verb.Table).needed ((codes "q", qrels, lit< tt), ((codes "P_5", measure, lit< tt), tt));
-      optional = All-from_recursion (λ name. IsOneAtMost (values name)) (takes verb.Table).optional (inr (codes "2", level, lit< tt), tt);
+      optional = All-from_recursion (λ name. IsOneAtMost (values name)) (takes verb.Table).optional (inr (codes "2", level, lit< tt), (inl depth, tt));
       flags = All-from_recursion (λ name. IsOneAtMost (values name)) [] tt;
       enough = omega (arith, count);
       few = omega (arith, count);
@@ -79,13 +90,14 @@ allowed values qrels measure level runs =
 pub mixed_parts_say_the_job : PartsSay verb.Table mixed None (Table job)
 unfolding digits
 mixed_parts_say_the_job = record {
-  allowed = allowed (given_by (takes verb.Table) mixed None) refl refl refl refl;
+  allowed = allowed (given_by (takes verb.Table) mixed None) refl refl refl refl refl;
   said = record {
     of_verb = refl;
     says = record {
       qrels = (refl, lit< tt);
       measure = (codes "P_5", refl, (lit≤ tt, lit≤ tt), refl);
       level = inr (refl, lit≤ tt, lit≤ tt);
+      depth = refl;
       runs = record { each = refl; some = lit< tt; few = lit≤ tt };
     };
   };
@@ -94,13 +106,14 @@ mixed_parts_say_the_job = record {
 pub parts_in_order_say_the_job : PartsSay verb.Table in_order None (Table job)
 unfolding digits
 parts_in_order_say_the_job = record {
-  allowed = allowed (given_by (takes verb.Table) in_order None) refl refl refl refl;
+  allowed = allowed (given_by (takes verb.Table) in_order None) refl refl refl refl refl;
   said = record {
     of_verb = refl;
     says = record {
       qrels = (refl, lit< tt);
       measure = (codes "P_5", refl, (lit≤ tt, lit≤ tt), refl);
       level = inr (refl, lit≤ tt, lit≤ tt);
+      depth = refl;
       runs = record { each = refl; some = lit< tt; few = lit≤ tt };
     };
   };

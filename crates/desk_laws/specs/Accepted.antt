@@ -4,10 +4,9 @@ use Rattle.desk_outside.specs.Outside.{Files, Rose}
 use Rattle.desk_outside.specs.Seen.{ReceivedAll}
 use Rattle.desk_words.specs.declared.command.Check.{Check}
 use Rattle.desk_words.specs.declared.command.Command.TheVariants.{Verify}
-use Rattle.desk_model.specs.Desk.{Desk, file_marks}
-use Rattle.order_bundle.specs.Either.{any_level}
-use Rattle.order_bundle.specs.Places.{IsAnyText}
-use Rattle.order_bundle.specs.declared.any_certificate.AnyCertificate.{AnyCertificate}
+use Rattle.desk_model.specs.Desk.{Desk}
+use Rattle.order_bundle.specs.Scoped.{IsScopedText}
+use Rattle.order_bundle.specs.declared.scoped.Scoped.{Scoped}
 use Rattle.desk_report.specs.Reports.{IsCertificateText}
 use Rattle.topics_pool.specs.Rows.{IsDeskOf}
 use Rattle.judge_session.specs.Request.{Qrels, Asked}
@@ -21,6 +20,7 @@ use Rattle.desk_files.specs.Checks.{sources_of}
 use Rattle.desk_files.specs.declared.limits.TheConstants.{LONGEST_FILE}
 use Rattle.desk_top.specs.declared.status.Status.{Status}
 use Rattle.desk_top.specs.declared.status.Status.TheVariants.{Done, Memory}
+use Rattle.desk_top.specs.Answer.{marks_for}
 use Rattle.desk_top.specs.Meets.{Call}
 use Rattle.desk_laws.specs.Laws.{IsCallOver}
 use Rattle.desk_laws.specs.Replaced.{AreFilesWith}
@@ -40,9 +40,9 @@ pub record IsTakenUp (s : Setting) (lines : List (List ℕ)) (files again : File
 -- the certificate of two runs that the session replies at the same moment is accepted over that desk
 abbrev pub CertificatesAreAccepted : Type 0
 CertificatesAreAccepted =
-    (s : Setting) (lines : List (List ℕ)) (files again : Files) (from : Sources) (path : List ℕ) (desk : Desk) (a b : ℕ) (text : List ℕ) (c : AnyCertificate) (answer : Result (Unit {0}) BundleRejected) →
-    IsSetting s → IsTakenUp s lines files again from path desk → IsCertificateText (subject_after s (changes_over s.desk lines [])) a b text → IsAnyText text c →
-    IsAnyVerified c desk (map (file_marks (any_level c)) desk.topics) answer → answer ≡ Ok tt
+    (s : Setting) (lines : List (List ℕ)) (files again : Files) (from : Sources) (path : List ℕ) (desk : Desk) (a b : ℕ) (text : List ℕ) (c : Scoped) (answer : Result (Unit {0}) BundleRejected) →
+    IsSetting s → IsTakenUp s lines files again from path desk → IsCertificateText (subject_after s (changes_over s.desk lines [])) a b text → IsScopedText text c →
+    IsAnyVerified c.body desk (marks_for c desk) answer → answer ≡ Ok tt
 
 -- a call of `verify` over such files: the judgements file is the session's reply to `qrels`, the runs are the same, and the certificate's file is a certificate
 -- of the session of the same moment; all are within the limits, and nothing failed

@@ -6,8 +6,8 @@ use Rattle.desk_words.specs.declared.command.Check.{Check}
 use Rattle.desk_words.specs.declared.command.Job.{Job}
 use Rattle.desk_words.specs.declared.command.Command.TheVariants.{Verify}
 use Rattle.desk_model.specs.Desk.{Desk}
-use Rattle.order_bundle.specs.Places.{IsAnyText}
-use Rattle.order_bundle.specs.declared.any_certificate.AnyCertificate.{AnyCertificate}
+use Rattle.order_bundle.specs.Scoped.{IsScopedText}
+use Rattle.order_bundle.specs.declared.scoped.Scoped.{Scoped}
 use Rattle.bundle_report.specs.Bundled.{IsAllPairsText}
 use Rattle.topics_pool.specs.Rows.{IsDeskOf}
 use Rattle.bundle_verifier.specs.Either.{IsAnyVerified}
@@ -23,8 +23,8 @@ use Rattle.desk_laws.specs.Laws.{IsCallOver}
 -- the certificate of all pairs of runs on the desk of a job is accepted over that desk, with the same judgements
 abbrev pub AllPairsAreAccepted : Type 0
 AllPairsAreAccepted =
-    (job : Job) (desk : Desk) (text : List ℕ) (c : AnyCertificate) (answer : Result (Unit {0}) BundleRejected) →
-    IsAllPairsText (subject_of job desk) text → IsAnyText text c → IsAnyVerified c desk (marks_for c desk) answer → answer ≡ Ok tt
+    (job : Job) (desk : Desk) (text : List ℕ) (c : Scoped) (answer : Result (Unit {0}) BundleRejected) →
+    IsAllPairsText (subject_of job desk) text → IsScopedText text c → IsAnyVerified c.body desk (marks_for c desk) answer → answer ≡ Ok tt
 
 -- a call of `verify` over the judgements file and the runs of a job, where the certificate's file is what `certify --all` prints of them; nothing failed
 pub record IsCheckOfAllPairs (job : Job) (files : Files) (check : Check) (words : List (List ℕ)) (call : Call) (status : Status) : Type 0 where

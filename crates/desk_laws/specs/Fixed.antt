@@ -13,6 +13,7 @@ use Rattle.next_document.specs.Laws.{NextIsOne}
 use Rattle.order_bundle.specs.Bundle.{Bundle}
 use Rattle.table_bundle.specs.Bundles.{IsBundleOf}
 use Rattle.order_bundle.specs.declared.any_certificate.AnyCertificate.{AnyCertificate}
+use Rattle.order_bundle.specs.declared.scoped.Scoped.{Scoped}
 use Rattle.bundle_verifier.specs.Either.{IsAnyVerified}
 use Rattle.bundle_verifier.specs.declared.rejected.BundleRejected.{BundleRejected}
 use Rattle.session_replies.specs.Laws.{RepliesAreOne}
@@ -22,7 +23,7 @@ use Rattle.desk_files.specs.Checks.{CheckComes}
 
 -- the files of a check come to one thing alone
 abbrev pub CheckIsOne : Type 0
-CheckIsOne = (check : Check) (files : Files) (x y : Result (Loaded × AnyCertificate) Stop) → CheckComes files check x → CheckComes files check y → x ≡ y
+CheckIsOne = (check : Check) (files : Files) (x y : Result (Loaded × Scoped) Stop) → CheckComes files check x → CheckComes files check y → x ≡ y
 
 -- rows make one desk
 abbrev pub DeskIsOne : Type 0

@@ -3,6 +3,7 @@ use Rattle.std.specs.Prelude.{◌≡◌, ◌⊎◌, ℕ, ◌<◌, List, [], leng
 use Rattle.std.specs.List.{AllByRecursion, AllZip}
 use Rattle.desk_outside.specs.Outside.{Files}
 use Rattle.desk_words.specs.declared.command.RunWord.{RunWord}
+use Rattle.desk_model.specs.Closing.{closed_under}
 use Rattle.desk_model.specs.Desk.{Desk, file_marks}
 use Rattle.desk_model.specs.Mark.{mark_of}
 use Rattle.desk_model.specs.declared.types.Mark.{Mark}
@@ -39,10 +40,10 @@ GradesAreInForce =
 abbrev pub marks_by : ℕ → List (List (Option ℤ)) → List (List Mark)
 marks_by level grades = map (λ own. map (λ grade. mark_of grade level) own) grades
 
--- another desk has the topics, the universes, the runs and the rankings of a desk, and its judgements are the grades in force: so are its marks at each level
+-- another desk has the topics, the universes, the runs and the rankings of a desk, and its judgements are the grades in force: so are its marks at each level and under each depth
 pub record IsDeskAgain (desk : Desk) (grades : List (List (Option ℤ))) (again : Desk) : Type 0 where
   pub same : HasJudgements desk grades again
-  pub marks : (level : ℕ) → map (file_marks level) again.topics ≡ marks_by level grades
+  pub marks : (level : ℕ) (depth : Option ℕ) → closed_under again depth (map (file_marks level) again.topics) ≡ closed_under desk depth (marks_by level grades)
 
 -- the text is refused: it is too long for a file, or has too many rows or bytes of document names
 abbrev pub IsTextRefused : List ℕ → List ℕ → List Row → Stop → Type 0

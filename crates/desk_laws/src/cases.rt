@@ -1,10 +1,12 @@
 //! Cases of the definitions that most rests on, each a clause of a function that does nothing. Topic 401
 //! has d1 judged relevant, d2 judged and not relevant, and d3 unjudged. Run A retrieved d1 and d3, run B
 //! d2 and d3.
-ghost use Rattle.std.specs.Prelude.{◌≡◌, List, [], ◌∷◌, true, Some, None, pos, negsuc, codes};
+ghost use Rattle.std.specs.Prelude.{◌≡◌, List, [], ◌∷◌, true, false, Some, None, pos, negsuc, codes};
 ghost use Rattle.std.specs.declared.cmp.Ordering.TheVariants.{Less};
+ghost use Rattle.desk_model.specs.Closing.{closed_under};
 ghost use Rattle.desk_model.specs.Desk.{topics_under};
 ghost use Rattle.desk_model.specs.Fraction.{IsSame};
+ghost use Rattle.desk_model.specs.Graded.{mark_within};
 ghost use Rattle.desk_model.specs.Mark.{mark_of};
 ghost use Rattle.desk_model.specs.Name.{name_cmp};
 ghost use Rattle.desk_model.specs.Order.{run_mean};
@@ -16,7 +18,7 @@ ghost use Rattle.desk_model.specs.declared.types.Verdict.TheVariants.{Above, Ope
 ghost use Rattle.measure_laws.specs.Cases.{least_truth};
 ghost use Rattle.measure_laws.specs.Weights.{weight_of};
 ghost use Rattle.pair_table.specs.Sums.{swapped_totals};
-ghost use Rattle.desk_laws.specs.Example.{two_topics, marks_401, a, b, d3_false, d3_true, no_document, without_tails, parts, sums};
+ghost use Rattle.desk_laws.specs.Example.{two_runs, two_topics, marks_401, a, b, d3_false, d3_true, no_document, without_tails, parts, sums};
 
 /// At level 2 a grade of 2 is relevant, a grade of 1 is not, and a document without a grade is unjudged.
 pub fn marks_at_level_two()
@@ -24,6 +26,18 @@ pub fn marks_at_level_two()
     ensures below { mark_of (Some (pos 1)) 2 ≡ Other }
     ensures negative { mark_of (Some (negsuc 0)) 2 ≡ Unjudged }
     ensures none { mark_of None 2 ≡ Unjudged }
+{}
+
+/// Under depth 1 a document without a grade that a run ranks second is closed: it counts as one judged and not relevant.
+/// One that a run ranks first stays unjudged, and a grade counts wherever its document is ranked.
+pub fn marks_under_a_depth()
+    ensures within { mark_within None 1 true ≡ Unjudged }
+    ensures outside { mark_within None 1 false ≡ Other }
+    ensures judged_outside { mark_within (Some (pos 1)) 1 false ≡ Relevant }
+    ensures negative_outside { mark_within (Some (negsuc 0)) 1 false ≡ Other }
+    ensures pool { closed_under two_runs (Some 1) ((Unjudged ∷ Unjudged ∷ Unjudged ∷ []) ∷ []) ≡ (Unjudged ∷ Unjudged ∷ Other ∷ []) ∷ [] }
+    ensures deeper { closed_under two_runs (Some 2) ((Unjudged ∷ Unjudged ∷ Unjudged ∷ []) ∷ []) ≡ (Unjudged ∷ Unjudged ∷ Unjudged ∷ []) ∷ [] }
+    ensures no_depth { closed_under two_runs None ((Unjudged ∷ Unjudged ∷ Unjudged ∷ []) ∷ []) ≡ (Unjudged ∷ Unjudged ∷ Unjudged ∷ []) ∷ [] }
 {}
 
 /// d1 comes before d10, and d10 before d2: bytes are compared, and not numbers.

@@ -2,7 +2,8 @@
 ghost use Rattle.desk_laws.specs.AllPairs.{AllPairsAreAccepted, AllPairsPass};
 
 use order_bundle::{
-    any_certificates_have_texts, any_first_bad_line_is_unique, any_text_and_certificate_are_one,
+    scoped_certificates_have_texts, scoped_first_bad_line_is_unique,
+    scoped_text_and_certificate_are_one,
 };
 use table_bundle::laws::bundles_are_evidence;
 use topics_pool::desk_is_one;
@@ -11,8 +12,8 @@ use topics_pool::desk_is_one;
 pub fn all_pairs_are_accepted()
     ensures { AllPairsAreAccepted }
 {
-    any_certificates_have_texts();
-    any_text_and_certificate_are_one();
+    scoped_certificates_have_texts();
+    scoped_text_and_certificate_are_one();
     bundles_are_evidence();
 }
 
@@ -22,8 +23,8 @@ pub fn all_pairs_pass()
     ensures { AllPairsPass }
 {
     all_pairs_are_accepted();
-    any_certificates_have_texts();
-    any_text_and_certificate_are_one();
-    any_first_bad_line_is_unique();
+    scoped_certificates_have_texts();
+    scoped_text_and_certificate_are_one();
+    scoped_first_bad_line_is_unique();
     desk_is_one();
 }

@@ -4,7 +4,8 @@ ghost use Rattle.desk_laws.specs.Replaced.{FilesComeAgain, GradesAreInForce};
 ghost use Rattle.desk_laws.specs.Accepted.{CertificatesAreAccepted, ChecksAccept};
 
 use order_bundle::{
-    any_certificates_have_texts, any_first_bad_line_is_unique, any_text_and_certificate_are_one,
+    scoped_certificates_have_texts, scoped_first_bad_line_is_unique,
+    scoped_text_and_certificate_are_one,
 };
 
 /// Where a session replied to `pair FIRST SECOND` with the word `above`, `below` or `equal`, it replies to each later
@@ -22,8 +23,8 @@ pub fn grades_are_in_force()
 {}
 
 /// The files of a desk, with the judgements in force as a text in the place of the judgements file, come to rows whose
-/// desk has the same topics, universes, runs and rankings, and whose marks at each level are those in force. Else a
-/// limit is passed: the bytes of a file, the rows of a judgements file, or the bytes of document names.
+/// desk has the same topics, universes, runs and rankings, and whose marks at each level and under each depth are those
+/// in force. Else a limit is passed: the bytes of a file, the rows of a judgements file, or the bytes of document names.
 pub fn files_come_again()
     ensures { FilesComeAgain }
 {}
@@ -32,8 +33,8 @@ pub fn files_come_again()
 pub fn certificates_are_accepted()
     ensures { CertificatesAreAccepted }
 {
-    any_certificates_have_texts();
-    any_text_and_certificate_are_one();
+    scoped_certificates_have_texts();
+    scoped_text_and_certificate_are_one();
 }
 
 /// The command `verify` over the files of a session, with the session's reply to `qrels` as the judgements file and a
@@ -42,7 +43,7 @@ pub fn certificates_are_accepted()
 pub fn checks_accept()
     ensures { ChecksAccept }
 {
-    any_certificates_have_texts();
-    any_text_and_certificate_are_one();
-    any_first_bad_line_is_unique();
+    scoped_certificates_have_texts();
+    scoped_text_and_certificate_are_one();
+    scoped_first_bad_line_is_unique();
 }

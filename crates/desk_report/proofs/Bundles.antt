@@ -1,5 +1,5 @@
 -- The lines of a bundle claim nothing of runs by themselves.
-use Rattle.std.proofs.Common.{◌≡◌, ℕ, List, [], ◌∷◌, ◌++◌, length, get_or, map, refl, ap, sym, ◌∙◌, arith, rules, true}
+use Rattle.std.proofs.Common.{◌≡◌, ℕ, List, [], ◌∷◌, ◌++◌, length, get_or, map, refl, ap, sym, ◌∙◌, arith, rules, true, Option}
 use Rattle.std.specs.Prelude.{codes, decimal, flat_map}
 use Rattle.std.specs.List.{AllByRecursion}
 use Rattle.std.proofs.lemmas.Bool.{eqb-false}
@@ -13,7 +13,8 @@ use Rattle.desk_model.specs.declared.types.Mark.{Mark}
 use Rattle.desk_model.specs.declared.types.MeasureName.{MeasureName}
 use Rattle.desk_model.proofs.Words.{IsWord, name_word, fields_word, fields_last}
 use Rattle.order_certificate.specs.Certificate.{AreDocuments}
-use Rattle.order_bundle.specs.Bundle.{Bundle, IsBundle, both_bounds_line, bound_line, bundle_lines, claim_lines, claims_lines, evidence_lines, list_lines, opening_lines, pick_line, picks_lines, run_line, runs_lines, runs_text, topic_lines, topics_lines}
+use Rattle.order_bundle.specs.Scoped.{depth_lines}
+use Rattle.order_bundle.specs.Bundle.{Bundle, IsBundle, both_bounds_line, bound_line, claim_lines, claims_lines, evidence_lines, list_lines, opening_lines, pick_line, picks_lines, run_line, runs_lines, runs_text, topic_lines, topics_lines}
 use Rattle.order_bundle.specs.declared.bundle.Bound.{Bound}
 use Rattle.order_bundle.specs.declared.bundle.PairClaim.{PairClaim}
 use Rattle.order_bundle.specs.declared.bundle.PairEvidence.{PairEvidence}
@@ -22,7 +23,7 @@ use Rattle.order_bundle.specs.declared.bundle.Picks.{Picks}
 use Rattle.order_bundle.specs.declared.bundle.TopicNames.{TopicNames}
 use Rattle.desk_report.proofs.Spelling.{AreInLine, ink_in_line, in_line-append, in_line-spaced}
 use Rattle.desk_report.proofs.Texts.{measure_ink}
-use Rattle.desk_report.proofs.Lines.{IsSound, word, other_line, worded_line, number_in_line}
+use Rattle.desk_report.proofs.Lines.{IsSound, word, other_line, worded_line, number_in_line, depth_sound}
 use Rattle.desk_report.proofs.Others.{other_sound, signed_in_line, name_in_line, documents_sound, count_in_line, named_in, topics_sound}
 
 module _ (name : MeasureName) (desk : Desk) (marks : List (List Mark)) where
@@ -123,8 +124,8 @@ module _ (name : MeasureName) (desk : Desk) (marks : List (List Mark)) where
     ),
   )
 
-  pub bundle_sound : (b : Bundle) → IsBundle b → AreSound (bundle_lines b)
-  bundle_sound b is =
+  pub bundle_sound : (depth : Option ℕ) (b : Bundle) → IsBundle b → AreSound (opening_lines b.measure b.level ++ depth_lines depth ++ runs_lines b.runs b.topics b.claims)
+  bundle_sound depth b is =
       let from_topics : AreSound (topics_lines b.topics b.claims) = (
         topics_sound name desk marks (length b.topics),
         all-append (IsSound name desk marks) (flat_map topic_lines b.topics) (claims_lines b.claims)
@@ -134,4 +135,5 @@ module _ (name : MeasureName) (desk : Desk) (marks : List (List Mark)) where
         counted (codes "runs") (length b.runs) (word _ (omega arith) (search rules)) (λ e. eqb-false 114 112 refl (ap (λ w. get_or w 0 0) e)) (λ e. eqb-false 115 0 refl (ap (λ w. get_or w 3 0) e)),
         all-append (IsSound name desk marks) (map run_line b.runs) (topics_lines b.topics b.claims) (runs_alone b.runs (recursion_from_All _ _ is.runs.ascending.named)) from_topics,
       ) in
-      all-append (IsSound name desk marks) (opening_lines b.measure b.level) (runs_lines b.runs b.topics b.claims) (opening_sound b.measure b.level) from_runs
+      all-append (IsSound name desk marks) (opening_lines b.measure b.level) (depth_lines depth ++ runs_lines b.runs b.topics b.claims) (opening_sound b.measure b.level)
+      (all-append (IsSound name desk marks) (depth_lines depth) (runs_lines b.runs b.topics b.claims) (depth_sound name desk marks depth) from_runs)

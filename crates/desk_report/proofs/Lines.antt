@@ -1,5 +1,5 @@
 -- Each line of a table is true.
-use Rattle.std.proofs.Common.{◌≡◌, ℕ, ◌*◌, ◌<◌, List, [], ◌∷◌, ◌++◌, length, take, get_or, refl, ap, sym, subst, ◌∙◌, arith, rules, append_assoc, pos, ◌*ℤ◌, Some}
+use Rattle.std.proofs.Common.{◌≡◌, ℕ, ◌*◌, ◌<◌, List, [], ◌∷◌, ◌++◌, length, take, get_or, refl, ap, sym, subst, ◌∙◌, arith, rules, append_assoc, pos, ◌*ℤ◌, Option, Some, None}
 use Rattle.std.specs.Prelude.{◌==◌, if◌then◌else◌, codes, decimal, slice_get, slice_index_or, All, flat_map, true}
 use Rattle.std.specs.List.{AllZip, AllByRecursion}
 use Rattle.std.proofs.lemmas.Bool.{eqb-false}
@@ -27,6 +27,7 @@ use Rattle.measure_laws.specs.Measures.{unit_of}
 use Rattle.pair_table.specs.Sums.{run_numbers}
 use Rattle.pair_table.specs.Orders.{HoldsOfPair, HoldsOfRun, ForEachPair, ForEachRun}
 use Rattle.topic_counts.specs.Numbers.{floor_of, ceiling_of}
+use Rattle.order_bundle.specs.Scoped.{depth_lines}
 use Rattle.desk_report.specs.Means.{decimal_text}
 use Rattle.desk_report.specs.Table.{word_of, run_line, pair_line, head_lines, run_lines, pair_lines, ended, table_lines, table_text}
 use Rattle.desk_report.specs.Claims.{HoldsByName, HoldsByNames, SaysExactly, EnclosesDifference, EnclosesMean, IsPairLine, IsRunLine, IsTrueLine, ForEachLine}
@@ -153,22 +154,34 @@ module _ (name : MeasureName) (desk : Desk) (marks : List (List Mark)) where
   pub number_in_line : (n : ℕ) → AreInLine (decimal n)
   number_in_line n = ink_in_line (decimal n) (decimal_ink n)
 
-  head_sound : (level topics runs : ℕ) → AllByRecursion (IsSound name desk marks) (head_lines name level topics runs)
-  head_sound level topics runs = (
+  -- a line of a depth claims nothing of runs
+  pub depth_sound : (depth : Option ℕ) → AllByRecursion (IsSound name desk marks) (depth_lines depth)
+  depth_sound None = tt
+  depth_sound (Some d) = (
+    worded_line (codes "depth") (decimal d) (word _ (omega arith) (search rules)) (number_in_line d)
+        (λ e. eqb-false 100 112 refl (ap (λ w. get_or w 0 0) e)) (λ e. eqb-false 100 114 refl (ap (λ w. get_or w 0 0) e)),
+    tt,
+  )
+
+  counts_sound : (topics runs : ℕ) → AllByRecursion (IsSound name desk marks) ((codes "topics " ++ decimal topics) ∷ (codes "runs " ++ decimal runs) ∷ [])
+  counts_sound topics runs = (
+    worded_line (codes "topics") (decimal topics) (word _ (omega arith) (search rules)) (number_in_line topics)
+        (λ e. eqb-false 116 112 refl (ap (λ w. get_or w 0 0) e)) (λ e. eqb-false 116 114 refl (ap (λ w. get_or w 0 0) e)),
+    (
+      worded_line (codes "runs") (decimal runs) (word _ (omega arith) (search rules)) (number_in_line runs)
+          (λ e. eqb-false 114 112 refl (ap (λ w. get_or w 0 0) e)) (λ e. eqb-false 115 0 refl (ap (λ w. get_or w 3 0) e)),
+      tt,
+    ),
+  )
+
+  head_sound : (level : ℕ) (depth : Option ℕ) (topics runs : ℕ) → AllByRecursion (IsSound name desk marks) (head_lines name level depth topics runs)
+  head_sound level depth topics runs = (
     worded_line (codes "measure") (measure_text name) (word _ (omega arith) (search rules)) (ink_in_line (measure_text name) (measure_ink name))
         (λ e. eqb-false 109 112 refl (ap (λ w. get_or w 0 0) e)) (λ e. eqb-false 109 114 refl (ap (λ w. get_or w 0 0) e)),
     (
       worded_line (codes "level") (decimal level) (word _ (omega arith) (search rules)) (number_in_line level)
           (λ e. eqb-false 108 112 refl (ap (λ w. get_or w 0 0) e)) (λ e. eqb-false 108 114 refl (ap (λ w. get_or w 0 0) e)),
-      (
-        worded_line (codes "topics") (decimal topics) (word _ (omega arith) (search rules)) (number_in_line topics)
-            (λ e. eqb-false 116 112 refl (ap (λ w. get_or w 0 0) e)) (λ e. eqb-false 116 114 refl (ap (λ w. get_or w 0 0) e)),
-        (
-          worded_line (codes "runs") (decimal runs) (word _ (omega arith) (search rules)) (number_in_line runs)
-              (λ e. eqb-false 114 112 refl (ap (λ w. get_or w 0 0) e)) (λ e. eqb-false 115 0 refl (ap (λ w. get_or w 3 0) e)),
-          tt,
-        ),
-      ),
+      all-append (IsSound name desk marks) (depth_lines depth) ((codes "topics " ++ decimal topics) ∷ (codes "runs " ++ decimal runs) ∷ []) (depth_sound depth) (counts_sound topics runs),
     ),
   )
 
@@ -291,25 +304,25 @@ two_runs_sound name desk marks a b totals measure valid marked in_a in_b h =
     (some_parts name desk measure valid) (parts_under name desk marks marked) (named_at name desk marks a valid in_a) (named_at name desk marks b valid in_b) h
 
 -- ---- all lines
-pub table_sound : (name : MeasureName) (desk : Desk) (marks : List (List Mark)) (level : ℕ) (bounds : List Span) (totals : List Totals) → IsMeasure name → IsDesk desk → AreMarksOf desk marks →
+pub table_sound : (name : MeasureName) (desk : Desk) (marks : List (List Mark)) (level : ℕ) (depth : Option ℕ) (bounds : List Span) (totals : List Totals) → IsMeasure name → IsDesk desk → AreMarksOf desk marks →
     AllZip (λ run s. HoldsOfRun name (topics_under desk marks) run s) (run_numbers (length desk.runs)) bounds →
     AllZip (λ pair t. HoldsOnLine name desk marks pair.0 pair.1 t) (pairs_of (run_numbers (length desk.runs))) totals →
-    AllByRecursion (IsSound name desk marks) (table_lines desk name level (pos (unit_of name)) bounds totals)
+    AllByRecursion (IsSound name desk marks) (table_lines desk name level depth (pos (unit_of name)) bounds totals)
 unfolding table_lines
-table_sound name desk marks level bounds totals measure valid marked runs pairs =
+table_sound name desk marks level depth bounds totals measure valid marked runs pairs =
     let parts : ℕ = unit_of name * length desk.topics in
     let same : parts ≡ unit_of name * length (topics_under desk marks) = parts_under name desk marks marked in
     let some : 0 < parts = some_parts name desk measure valid in
     let words = all_weaker (λ run. is_name run ≡ true) IsWord desk.runs name_word (recursion_from_All (λ run. is_name run ≡ true) desk.runs valid.named) in
     let names = numbered_from_0 IsWord desk.runs words in
-    let head = head_sound name desk marks level (length desk.topics) (length desk.runs) in
+    let head = head_sound name desk marks level depth (length desk.topics) (length desk.runs) in
     let each_run = each_line (IsNamed name desk marks) (λ run s. HoldsOfRun name (topics_under desk marks) run s) (λ run. run_line parts run.0 run.1) (IsSound name desk marks)
     (λ run text s n h. run_sound name desk marks parts run text s some same n h) (run_numbers (length desk.runs)) desk.runs bounds names runs in
     let each_pair = each_line (AlikePairs (IsNamed name desk marks)) (λ pair t. HoldsOnLine name desk marks pair.0 pair.1 t) (λ pair. pair_line parts pair.0.0 pair.0.1 pair.1) (IsSound name desk marks)
     (λ pair texts t n h. pair_sound name desk marks parts pair.0 pair.1 texts.0 texts.1 t some same n.0 n.1 h)
     (pairs_of (run_numbers (length desk.runs))) (pairs_of desk.runs) totals (paired (IsNamed name desk marks) (run_numbers (length desk.runs)) desk.runs names) pairs in
-    all-append (IsSound name desk marks) (head_lines name level (length desk.topics) (length desk.runs) ++ run_lines parts desk.runs bounds) (pair_lines parts desk.runs totals)
-    (all-append (IsSound name desk marks) (head_lines name level (length desk.topics) (length desk.runs)) (run_lines parts desk.runs bounds) head each_run) each_pair
+    all-append (IsSound name desk marks) (head_lines name level depth (length desk.topics) (length desk.runs) ++ run_lines parts desk.runs bounds) (pair_lines parts desk.runs totals)
+    (all-append (IsSound name desk marks) (head_lines name level depth (length desk.topics) (length desk.runs)) (run_lines parts desk.runs bounds) head each_run) each_pair
 
 -- what holds of lines holds of the whole lines of any prefix of their text
 pub prefix_all : (P : List ℕ → Type 0) (lines : List (List ℕ)) (n : ℕ) → AllByRecursion AreInLine lines → AllByRecursion P lines → AllByRecursion P (whole_lines (take n (flat_map ended lines)))
@@ -326,8 +339,8 @@ prefix_true name desk marks lines n h =
 
 pub printed_lines : ForEachPair HoldsOfPair → ForEachRun HoldsOfRun → ForEachPair (λ name topics a b t. (k : ℕ) → name ≡ Precision k → IsExactVerdict name topics a b (verdict t)) → ForEachLine IsTrueLine
 unfolding table_text
-printed_lines pairs runs exact name desk marks level received bounds totals measure valid marked numbers =
-    prefix_true name desk marks (table_lines desk name level (pos (unit_of name)) bounds totals) received
-    (table_sound name desk marks level bounds totals measure valid marked (runs name desk marks bounds totals measure valid marked numbers)
+printed_lines pairs runs exact name desk marks level depth received bounds totals measure valid marked numbers =
+    prefix_true name desk marks (table_lines desk name level depth (pos (unit_of name)) bounds totals) received
+    (table_sound name desk marks level depth bounds totals measure valid marked (runs name desk marks bounds totals measure valid marked numbers)
     (both (λ pair t. HoldsOfPair name (topics_under desk marks) pair.0 pair.1 t) (λ pair t. (k : ℕ) → name ≡ Precision k → IsExactVerdict name (topics_under desk marks) pair.0 pair.1 (verdict t))
     (pairs_of (run_numbers (length desk.runs))) totals (pairs name desk marks bounds totals measure valid marked numbers) (exact name desk marks bounds totals measure valid marked numbers)))

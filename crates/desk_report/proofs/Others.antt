@@ -1,5 +1,5 @@
 -- Lines that are none of a table: those of a certificate, the close line, the answer of a check, and those of other words.
-use Rattle.std.proofs.Common.{◌≡◌, ℕ, suc, ◌<◌, List, [], ◌∷◌, ◌++◌, length, get_or, refl, ap, sym, subst, inl, inr, ◌∙◌, arith, rules, ℤ, pos, negsuc}
+use Rattle.std.proofs.Common.{◌≡◌, ℕ, suc, ◌<◌, List, [], ◌∷◌, ◌++◌, length, get_or, refl, ap, sym, subst, inl, inr, ◌∙◌, arith, rules, ℤ, pos, negsuc, Option}
 use Rattle.std.specs.Prelude.{codes, decimal, filter, map, flat_map, true, false, ◌==◌}
 use Rattle.std.specs.List.{AllByRecursion}
 use Rattle.std.specs.Fmt.{signed_decimal}
@@ -14,7 +14,8 @@ use Rattle.desk_model.specs.declared.types.MeasureName.{MeasureName}
 use Rattle.desk_model.specs.declared.types.Totals.{Totals}
 use Rattle.desk_report.specs.Close.{sum_text, sums_text, close_line}
 use Rattle.line_forms.specs.Places.{count_line}
-use Rattle.order_certificate.specs.Certificate.{opening_lines, low_line, low_high_line, document_line, witness_lines, topics_line, evidence_lines, certificate_lines, AreDocuments, IsWritable, IsCertificate}
+use Rattle.order_bundle.specs.Scoped.{depth_lines}
+use Rattle.order_certificate.specs.Certificate.{opening_lines, low_line, low_high_line, document_line, witness_lines, topics_line, evidence_lines, from_first_lines, AreDocuments, IsWritable, IsCertificate}
 use Rattle.order_certificate.specs.declared.certificate.Certificate.{Certificate}
 use Rattle.order_certificate.specs.declared.certificate.Evidence.{Evidence}
 use Rattle.order_certificate.specs.declared.certificate.Evidence.TheVariants.{Above, Equal, Open}
@@ -25,7 +26,7 @@ use Rattle.desk_model.proofs.Words.{piece_on, kept, name_word}
 use Rattle.desk_report.proofs.Spelling.{AreInLine, ink_in_line, in_line-append, in_line-spaced}
 use Rattle.desk_report.proofs.Texts.{decimal_ink, measure_ink}
 use Rattle.small_lemmas.proofs.Lists.{all-append}
-use Rattle.desk_report.proofs.Lines.{IsSound, word, other_line, worded_line, field}
+use Rattle.desk_report.proofs.Lines.{IsSound, word, other_line, worded_line, field, depth_sound}
 
 -- ---- a line's first byte is that of its first field
 first_kept : (b : ℕ) (ps : List (List ℕ)) → get_or (field 0 (filter is_filled (onto_first b ps))) 0 0 ≡ b
@@ -122,17 +123,20 @@ module _ (name : MeasureName) (desk : Desk) (marks : List (List Mark)) where
     ),
   )
 
-  pub certificate_sound : (c : Certificate) → IsCertificate c → AllByRecursion (IsSound name desk marks) (certificate_lines c)
-  certificate_sound c h =
-      all-append (IsSound name desk marks) (opening_lines c.measure c.level) ((codes "first " ++ c.first) ∷ (codes "second " ++ c.second) ∷ evidence_lines c.evidence ++ codes "end" ∷ [])
-      (opening_sound c.measure c.level) (
-        other_sound 102 _ (omega arith) (λ e. omega (arith, e)) (λ e. omega (arith, e)) (in_line-append (codes "first ") c.first (search rules) (name_in_line c.first h.first)),
-        (
-          other_sound 115 _ (omega arith) (λ e. omega (arith, e)) (λ e. omega (arith, e)) (in_line-append (codes "second ") c.second (search rules) (name_in_line c.second h.second)),
-          all-append (IsSound name desk marks) (evidence_lines c.evidence) (codes "end" ∷ []) (evidence_sound c.evidence h.evidence)
-              (other_sound 101 _ (omega arith) (λ e. omega (arith, e)) (λ e. omega (arith, e)) (search rules), tt),
-        ),
-      )
+  from_first_sound : (c : Certificate) → IsCertificate c → AllByRecursion (IsSound name desk marks) (from_first_lines c)
+  from_first_sound c h = (
+    other_sound 102 _ (omega arith) (λ e. omega (arith, e)) (λ e. omega (arith, e)) (in_line-append (codes "first ") c.first (search rules) (name_in_line c.first h.first)),
+    (
+      other_sound 115 _ (omega arith) (λ e. omega (arith, e)) (λ e. omega (arith, e)) (in_line-append (codes "second ") c.second (search rules) (name_in_line c.second h.second)),
+      all-append (IsSound name desk marks) (evidence_lines c.evidence) (codes "end" ∷ []) (evidence_sound c.evidence h.evidence)
+          (other_sound 101 _ (omega arith) (λ e. omega (arith, e)) (λ e. omega (arith, e)) (search rules), tt),
+    ),
+  )
+
+  pub certificate_sound : (depth : Option ℕ) (c : Certificate) → IsCertificate c → AllByRecursion (IsSound name desk marks) (opening_lines c.measure c.level ++ depth_lines depth ++ from_first_lines c)
+  certificate_sound depth c h =
+      all-append (IsSound name desk marks) (opening_lines c.measure c.level) (depth_lines depth ++ from_first_lines c) (opening_sound c.measure c.level)
+      (all-append (IsSound name desk marks) (depth_lines depth) (from_first_lines c) (depth_sound name desk marks depth) (from_first_sound c h))
 
   -- ---- the close line
   sum_in_line : (sum : ℤ) → AreInLine (sum_text sum)

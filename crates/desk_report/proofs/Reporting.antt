@@ -18,7 +18,8 @@ use Rattle.measure_laws.specs.Measures.{unit_of}
 use Rattle.measure_core.specs.Laws.{MeetsLaws}
 use Rattle.measure_core.specs.Made.{HasEnds}
 use Rattle.measure_core.specs.declared.cell.Cell.{Cell}
-use Rattle.order_certificate.specs.Certificate.{IsCertificate, certificate_text}
+use Rattle.order_bundle.specs.Scoped.{IsScoped, scoped_text}
+use Rattle.order_bundle.specs.declared.any_certificate.AnyCertificate.TheVariants.{One}
 use Rattle.order_certificate.specs.declared.certificate.Certificate.{Certificate}
 use Rattle.pair_table.specs.Evidence.{IsAnswered}
 use Rattle.pair_table.specs.Kept.{Kept, AreSumsOf, AreModestTotals}
@@ -95,16 +96,17 @@ module _ {M : Type 0} (measured : MeasureName) (cell : List Mark → List ℕ �
       subst (λ b. AreNumbersIn s.measure s.desk s.marks b table.totals) (sym of.on.stands.bounds)
       (subst (AreNumbersIn s.measure s.desk s.marks _) (sym of.on.stands.totals) (table_named s.measure cell bounds s.desk s.marks of.on.made.numbers valid_too of.marked))
 
-  pub table_is : (level : ℕ) (name : MeasureName) (unit : ℤ) (text : List ℕ) → s.level ≡ level → name ≡ measured → unit ≡ pos (unit_of measured) → text ≡ table_text desk name level unit table.bounds table.totals → IsTableText s text
-  table_is level name unit text at named units is = record {
+  pub table_is : (level : ℕ) (depth : Option ℕ) (name : MeasureName) (unit : ℤ) (text : List ℕ) → s.level ≡ level → s.depth ≡ depth → name ≡ measured → unit ≡ pos (unit_of measured) → text ≡ table_text desk name level depth unit table.bounds table.totals → IsTableText s text
+  table_is level depth name unit text at under named units is = record {
     valid = valid_too;
     bounds = table.bounds;
     totals = table.totals;
     numbers = table_numbers;
-    is = is ∙ ap (λ d. table_text d name level unit table.bounds table.totals) (sym of.over)
-        ∙ ap (λ m. table_text s.desk m level unit table.bounds table.totals) (named ∙ of.on.made.named)
-        ∙ ap (λ l. table_text s.desk s.measure l unit table.bounds table.totals) (sym at)
-        ∙ ap (λ u. table_text s.desk s.measure s.level u table.bounds table.totals) (units ∙ ap (λ m. pos (unit_of m)) of.on.made.named);
+    is = is ∙ ap (λ d. table_text d name level depth unit table.bounds table.totals) (sym of.over)
+        ∙ ap (λ m. table_text s.desk m level depth unit table.bounds table.totals) (named ∙ of.on.made.named)
+        ∙ ap (λ l. table_text s.desk s.measure l depth unit table.bounds table.totals) (sym at)
+        ∙ ap (λ o. table_text s.desk s.measure s.level o unit table.bounds table.totals) (sym under)
+        ∙ ap (λ u. table_text s.desk s.measure s.level s.depth u table.bounds table.totals) (units ∙ ap (λ m. pos (unit_of m)) of.on.made.named);
   }
 
   pub next_is : (marks : List (List Mark)) (measure : MeasureName) (verdicts : List Verdict) (proposal : Option Proposal) (text : List ℕ) → s.marks ≡ marks → measure ≡ measured → verdicts ≡ map verdict table.totals →
@@ -152,15 +154,15 @@ module _ {M : Type 0} (measured : MeasureName) (cell : List Mark → List ℕ �
       (subst (λ ms. IsAnswered (HasCellEnds cell) measured desk ms s.level a b answer) (sym marked)
       (subst (λ l. IsAnswered (HasCellEnds cell) measured desk marks l a b answer) (sym at) h))))
 
-  pub certificate_is : (level a b : ℕ) (marks : List (List Mark)) → s.level ≡ level → s.marks ≡ marks → AreRuns desk a b → (c : Certificate) (text : List ℕ) → IsCertificate c → IsAnswered (HasCellEnds cell) measured desk marks level a b (Ok c) →
-      text ≡ certificate_text c → IsCertificateText s a b text
-  certificate_is level a b marks at marked runs c text within h is = record {
+  pub certificate_is : (level : ℕ) (depth : Option ℕ) (a b : ℕ) (marks : List (List Mark)) → s.level ≡ level → s.depth ≡ depth → s.marks ≡ marks → AreRuns desk a b → (c : Certificate) (text : List ℕ) → IsScoped (record { depth = depth; body = One c }) → IsAnswered (HasCellEnds cell) measured desk marks level a b (Ok c) →
+      text ≡ scoped_text (record { depth = depth; body = One c }) → IsCertificateText s a b text
+  certificate_is level depth a b marks at under marked runs c text within h is = record {
     valid = valid_too;
     runs = runs_too a b runs;
     certificate = c;
-    within = within;
+    within = subst (λ o. IsScoped (record { depth = o; body = One c })) (sym under) within;
     of_pair = answered_by_name level a b marks (Ok c) at marked runs h;
-    is = is;
+    is = is ∙ ap (λ o. scoped_text (record { depth = o; body = One c })) (sym under);
   }
 
   pub close_is : (level a b : ℕ) (marks : List (List Mark)) → s.level ≡ level → s.marks ≡ marks → AreRuns desk a b → (sums : Totals) (x y text : List ℕ) → IsAnswered (HasCellEnds cell) measured desk marks level a b (Err (Close sums)) →

@@ -1,5 +1,5 @@
 -- What was received of a printed text is true.
-use Rattle.std.proofs.Common.{◌≡◌, ℕ, zero, suc, List, [], ◌∷◌, ◌++◌, take, drop, get_or, refl, ap, sym, subst, ◌∙◌, arith, ◌*◌, length, append-nil, append_assoc, Some, None, inl, inr, rules, ℤ, pos}
+use Rattle.std.proofs.Common.{◌≡◌, ℕ, zero, suc, List, [], ◌∷◌, ◌++◌, take, drop, get_or, refl, ap, sym, subst, ◌∙◌, arith, ◌*◌, length, append-nil, append_assoc, Option, Some, None, inl, inr, rules, ℤ, pos}
 use Rattle.std.specs.Prelude.{All, codes, decimal, flat_map, slice_index_or}
 use Rattle.std.specs.List.{AllByRecursion}
 use Rattle.std.proofs.lemmas.List.{take-append-drop}
@@ -14,12 +14,12 @@ use Rattle.desk_report.specs.Close.{close_line}
 use Rattle.desk_report.specs.Judging.{next_line}
 use Rattle.desk_report.specs.Table.{pair_line, table_text, table_lines, ended}
 use Rattle.desk_model.specs.MeasureText.{IsMeasure}
-use Rattle.order_certificate.specs.Certificate.{certificate_lines, certificate_text}
-use Rattle.order_bundle.specs.Bundle.{bundle_lines, bundle_text}
 use Rattle.order_bundle.specs.Either.{AnyClaimHolds, AnyEvidenceImpliesClaims, any_measure}
-use Rattle.order_bundle.specs.Places.{IsAnyCertificate, IsAnyText, any_text}
+use Rattle.order_bundle.specs.Places.{IsAnyCertificate}
+use Rattle.order_bundle.specs.Scoped.{IsScoped, IsScopedText, scoped_lines, scoped_text}
 use Rattle.order_bundle.specs.declared.any_certificate.AnyCertificate.{AnyCertificate}
 use Rattle.order_bundle.specs.declared.any_certificate.AnyCertificate.TheVariants.{One, Many}
+use Rattle.order_bundle.specs.declared.scoped.Scoped.{Scoped}
 use Rattle.topic_counts.specs.declared.span.Span.{Span}
 use Rattle.measure_laws.specs.Measures.{unit_of}
 use Rattle.pair_table.specs.Orders.{HoldsOfPair, HoldsOfRun, ForEachPair, ForTwoRuns, ForEachRun}
@@ -36,51 +36,57 @@ use Rattle.desk_report.proofs.QrelsTexts.{HasFourFields, qrels_lines, text_of_li
 
 -- a text is written as its certificate is
 abbrev AreWritten : Type 0
-AreWritten = (bytes : List ℕ) (c : AnyCertificate) → IsAnyText bytes c → bytes ≡ any_text c
+AreWritten = (bytes : List ℕ) (c : Scoped) → IsScopedText bytes c → bytes ≡ scoped_text c
 
-certificate_begins : (c : AnyCertificate) → get_or (any_text c) 0 0 ≡ 100
-unfolding certificate_text bundle_text
-certificate_begins (One c) = refl
-certificate_begins (Many b) = refl
+begins : (depth : Option ℕ) (body : AnyCertificate) → get_or (scoped_text (record { depth = depth; body = body })) 0 0 ≡ 100
+unfolding scoped_text
+begins depth (One c) = refl
+begins depth (Many b) = refl
+
+certificate_begins : (c : Scoped) → get_or (scoped_text c) 0 0 ≡ 100
+certificate_begins c = begins c.depth c.body
 
 -- a text that begins with another byte is no certificate, nor is a prefix of it
-no_certificate : AreWritten → (text : List ℕ) (n : ℕ) (c : AnyCertificate) → (get_or text 0 0 ≡ 100 → ⊥) → IsAnyText (take n text) c → ⊥
+no_certificate : AreWritten → (text : List ℕ) (n : ℕ) (c : Scoped) → (get_or text 0 0 ≡ 100 → ⊥) → IsScopedText (take n text) c → ⊥
 no_certificate written [] zero c other t = other (ap (λ xs. get_or xs 0 0) (written [] c t) ∙ certificate_begins c)
 no_certificate written [] (suc n) c other t = other (ap (λ xs. get_or xs 0 0) (written [] c t) ∙ certificate_begins c)
 no_certificate written (b ∷ bs) zero c other t = let e : 0 ≡ 100 = ap (λ xs. get_or xs 0 0) (written [] c t) ∙ certificate_begins c in absurd (omega (arith, e))
 no_certificate written (b ∷ bs) (suc n) c other t = other (ap (λ xs. get_or xs 0 0) (written (b ∷ take n bs) c t) ∙ certificate_begins c)
 
-table_begins : (desk : Desk) (name : MeasureName) (level : ℕ) (unit : ℤ) (bounds : List Span) (totals : List Totals) → get_or (table_text desk name level unit bounds totals) 0 0 ≡ 109
+table_begins : (desk : Desk) (name : MeasureName) (level : ℕ) (depth : Option ℕ) (unit : ℤ) (bounds : List Span) (totals : List Totals) → get_or (table_text desk name level depth unit bounds totals) 0 0 ≡ 109
 unfolding table_text table_lines
-table_begins desk name level unit bounds totals = refl
+table_begins desk name level depth unit bounds totals = refl
 
 pub tables_true : ForEachPair HoldsOfPair → ForEachRun HoldsOfRun → ForEachPair (λ name topics a b t. (k : ℕ) → name ≡ Precision k → IsExactVerdict name topics a b (verdict t)) → AreWritten → TablesAreTrue
-tables_true pairs runs exact written name desk marks level received bounds totals measure valid marked numbers =
-    let text = table_text desk name level (pos (unit_of name)) bounds totals in
+tables_true pairs runs exact written name desk marks level depth received bounds totals measure valid marked numbers =
+    let text = table_text desk name level depth (pos (unit_of name)) bounds totals in
     record {
-      lines = printed_lines pairs runs exact name desk marks level received bounds totals measure valid marked numbers;
-      claim = λ c t. absurd (no_certificate written text received c (λ e. let two : 109 ≡ 100 = sym (table_begins desk name level (pos (unit_of name)) bounds totals) ∙ e in omega (arith, two)) t);
+      lines = printed_lines pairs runs exact name desk marks level depth received bounds totals measure valid marked numbers;
+      claim = λ c t. absurd (no_certificate written text received c (λ e. let two : 109 ≡ 100 = sym (table_begins desk name level depth (pos (unit_of name)) bounds totals) ∙ e in omega (arith, two)) t);
     }
 
 -- the lines of a certificate of either version
-lines_true : (c : AnyCertificate) (desk : Desk) (marks : List (List Mark)) (received : ℕ) → IsAnyCertificate c → All (IsTrueLine (any_measure c) desk marks) (whole_lines (take received (any_text c)))
-unfolding certificate_text bundle_text
-lines_true (One c) desk marks received within = prefix_true c.measure desk marks (certificate_lines c) received (certificate_sound c.measure desk marks c within)
-lines_true (Many b) desk marks received within = prefix_true b.measure desk marks (bundle_lines b) received (bundle_sound b.measure desk marks b within)
+lines_sound : (depth : Option ℕ) (body : AnyCertificate) (desk : Desk) (marks : List (List Mark)) → IsAnyCertificate body → AllByRecursion (IsSound (any_measure body) desk marks) (scoped_lines (record { depth = depth; body = body }))
+lines_sound depth (One c) desk marks within = certificate_sound c.measure desk marks depth c within
+lines_sound depth (Many b) desk marks within = bundle_sound b.measure desk marks depth b within
+
+lines_true : (c : Scoped) (desk : Desk) (marks : List (List Mark)) (received : ℕ) → IsScoped c → All (IsTrueLine (any_measure c.body) desk marks) (whole_lines (take received (scoped_text c)))
+unfolding scoped_text
+lines_true c desk marks received is = prefix_true (any_measure c.body) desk marks (scoped_lines c) received (lines_sound c.depth c.body desk marks is.body)
 
 measure_within : (c : AnyCertificate) → IsAnyCertificate c → IsMeasure (any_measure c)
 measure_within (One c) within = within.measure
 measure_within (Many b) within = within.measure
 
-pub certificates_true : ((c : AnyCertificate) → IsAnyCertificate c → IsAnyText (any_text c) c) → AnyEvidenceImpliesClaims →
-    ((bytes more : List ℕ) (c d : AnyCertificate) → IsAnyText bytes c → IsAnyText (bytes ++ more) d → (more ≡ []) × (c ≡ d)) → CertificatesAreTrue
+pub certificates_true : ((c : Scoped) → IsScoped c → IsScopedText (scoped_text c) c) → AnyEvidenceImpliesClaims →
+    ((bytes more : List ℕ) (c d : Scoped) → IsScopedText bytes c → IsScopedText (bytes ++ more) d → (more ≡ []) × (c ≡ d)) → CertificatesAreTrue
 certificates_true texts holds alone c desk marks received is valid marked evidence = record { lines = lines_true c desk marks received is; claim = claim }
   where
-    claim : (d : AnyCertificate) → IsAnyText (take received (any_text c)) d → (any_measure d ≡ any_measure c) × AnyClaimHolds d desk marks
+    claim : (d : Scoped) → IsScopedText (take received (scoped_text c)) d → (any_measure d.body ≡ any_measure c.body) × AnyClaimHolds d.body desk marks
     claim d t =
-        let joined : IsAnyText (take received (any_text c) ++ drop received (any_text c)) c = subst (λ z. IsAnyText z c) (sym (take-append-drop received (any_text c))) (texts c is) in
-        let same : d ≡ c = (alone (take received (any_text c)) (drop received (any_text c)) d c t joined).1 in
-        (ap any_measure same, subst (λ z. AnyClaimHolds z desk marks) (sym same) (holds c desk marks (measure_within c is) valid marked evidence))
+        let joined : IsScopedText (take received (scoped_text c) ++ drop received (scoped_text c)) c = subst (λ z. IsScopedText z c) (sym (take-append-drop received (scoped_text c))) (texts c is) in
+        let same : d ≡ c = (alone (take received (scoped_text c)) (drop received (scoped_text c)) d c t joined).1 in
+        (ap (λ (z : Scoped). any_measure z.body) same, subst (λ (z : Scoped). AnyClaimHolds z.body desk marks) (sym same) (holds c.body desk marks (measure_within c.body is.body) valid marked evidence))
 
 -- the whole lines of a prefix of one line
 sound_lines : (name : MeasureName) (desk : Desk) (marks : List (List Mark)) (line : List ℕ) (received : ℕ) → IsSound name desk marks line → All (IsTrueLine name desk marks) (whole_lines (take received (ended line)))
@@ -116,24 +122,27 @@ answer_true written name desk marks word rest received is line = line_true writt
 
 -- ---- the judgements in force
 -- the first line of a certificate begins with its own word, and has two fields
-record FirstLine (c : AnyCertificate) : Type 0 where
+record FirstLine (text : List ℕ) : Type 0 where
   line : List ℕ
   more : List (List ℕ)
-  is : whole_lines (any_text c) ≡ line ∷ more
+  is : whole_lines text ≡ line ∷ more
   first : field 0 (fields_of line) ≡ codes "desk-certificate"
   two : length (fields_of line) ≡ 2
 
-certificate_first : (c : AnyCertificate) → FirstLine c
-unfolding certificate_text bundle_text
-certificate_first (One c) =
-    let rest : List ℕ = flat_map ended (drop 1 (certificate_lines c)) in
+first_of : (depth : Option ℕ) (body : AnyCertificate) → FirstLine (scoped_text (record { depth = depth; body = body }))
+unfolding scoped_text
+first_of depth (One c) =
+    let rest : List ℕ = flat_map ended (drop 1 (scoped_lines (record { depth = depth; body = One c }))) in
     record { line = codes "desk-certificate 1"; more = whole_lines rest; is = whole_lines-ended (codes "desk-certificate 1") rest (search rules); first = refl; two = refl }
-certificate_first (Many b) =
-    let rest : List ℕ = flat_map ended (drop 1 (bundle_lines b)) in
+first_of depth (Many b) =
+    let rest : List ℕ = flat_map ended (drop 1 (scoped_lines (record { depth = depth; body = Many b }))) in
     record { line = codes "desk-certificate 2"; more = whole_lines rest; is = whole_lines-ended (codes "desk-certificate 2") rest (search rules); first = refl; two = refl }
 
+certificate_first : (c : Scoped) → FirstLine (scoped_text c)
+certificate_first c = first_of c.depth c.body
+
 -- no prefix of lines of four fields is a certificate
-no_certificate_of_four : AreWritten → (lines : List (List ℕ)) (n : ℕ) (c : AnyCertificate) → AllByRecursion AreInLine lines → AllByRecursion HasFourFields lines → IsAnyText (take n (flat_map ended lines)) c → ⊥
+no_certificate_of_four : AreWritten → (lines : List (List ℕ)) (n : ℕ) (c : Scoped) → AllByRecursion AreInLine lines → AllByRecursion HasFourFields lines → IsScopedText (take n (flat_map ended lines)) c → ⊥
 no_certificate_of_four written lines n c in_line four t =
     let first = certificate_first c in
     let own : whole_lines (take n (flat_map ended lines)) ≡ first.line ∷ first.more = ap whole_lines (written (take n (flat_map ended lines)) c t) ∙ first.is in
@@ -142,7 +151,7 @@ no_certificate_of_four written lines n c in_line four t =
     omega (arith, two)
 
 -- no prefix of a line of another word is a certificate
-no_certificate_of_other : AreWritten → (word rest : List ℕ) (n : ℕ) (c : AnyCertificate) → IsOtherWord word → IsInLine rest → AreInLine (word ++ 32 ∷ rest) → IsAnyText (take n (ended (word ++ 32 ∷ rest))) c → ⊥
+no_certificate_of_other : AreWritten → (word rest : List ℕ) (n : ℕ) (c : Scoped) → IsOtherWord word → IsInLine rest → AreInLine (word ++ 32 ∷ rest) → IsScopedText (take n (ended (word ++ 32 ∷ rest))) c → ⊥
 no_certificate_of_other written word rest n c is line in_line t =
     let own : List ℕ = word ++ 32 ∷ rest in
     let first = certificate_first c in

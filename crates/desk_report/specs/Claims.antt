@@ -26,8 +26,8 @@ use Rattle.desk_report.specs.Judging.{qrels_text, next_line}
 use Rattle.next_document.specs.Proposal.{Standing, IsProposal, HaveNoWeight, IsNext}
 use Rattle.next_document.specs.declared.proposal.Proposal.{Proposal}
 use Rattle.order_bundle.specs.Either.{AnyClaimHolds, IsAnyEvidence, any_measure}
-use Rattle.order_bundle.specs.Places.{IsAnyCertificate, IsAnyText, any_text}
-use Rattle.order_bundle.specs.declared.any_certificate.AnyCertificate.{AnyCertificate}
+use Rattle.order_bundle.specs.Scoped.{IsScoped, IsScopedText, scoped_text}
+use Rattle.order_bundle.specs.declared.scoped.Scoped.{Scoped}
 
 -- the desk has a run of this name, and a fact holds of its number
 pub record HoldsByName (desk : Desk) (name : List ℕ) (fact : ℕ → Type 0) : Type 0 where
@@ -101,27 +101,27 @@ pub record IsTrueLine (name : MeasureName) (desk : Desk) (marks : List (List Mar
 -- a fact of each whole line of any prefix of a table, whose numbers are those of a measure's name over a desk and its marks
 abbrev pub ForEachLine : (MeasureName → Desk → List (List Mark) → List ℕ → Type 0) → Type 0
 ForEachLine fact =
-    (name : MeasureName) (desk : Desk) (marks : List (List Mark)) (level received : ℕ) (bounds : List Span) (totals : List Totals) →
+    (name : MeasureName) (desk : Desk) (marks : List (List Mark)) (level : ℕ) (depth : Option ℕ) (received : ℕ) (bounds : List Span) (totals : List Totals) →
     IsMeasure name → IsDesk desk → AreMarksOf desk marks → AreNumbersIn name desk marks bounds totals →
-    All (fact name desk marks) (whole_lines (take received (table_text desk name level (pos (unit_of name)) bounds totals)))
+    All (fact name desk marks) (whole_lines (take received (table_text desk name level depth (pos (unit_of name)) bounds totals)))
 
--- what received bytes claim of a desk under marks is true: each whole line, and where they are a certificate of either version, that too: its claim, or all its claims
+-- what received bytes claim of a desk under marks is true: each whole line, and where they are a certificate of either version, with a depth or without, that too: its claim, or all its claims
 pub record IsTrueText (name : MeasureName) (desk : Desk) (marks : List (List Mark)) (received : List ℕ) : Type 0 where
   pub lines : All (IsTrueLine name desk marks) (whole_lines received)
-  pub claim : (c : AnyCertificate) → IsAnyText received c → (any_measure c ≡ name) × AnyClaimHolds c desk marks
+  pub claim : (c : Scoped) → IsScopedText received c → (any_measure c.body ≡ name) × AnyClaimHolds c.body desk marks
 
 -- whatever was received of a table is true
 abbrev pub TablesAreTrue : Type 0
 TablesAreTrue =
-    (name : MeasureName) (desk : Desk) (marks : List (List Mark)) (level received : ℕ) (bounds : List Span) (totals : List Totals) →
+    (name : MeasureName) (desk : Desk) (marks : List (List Mark)) (level : ℕ) (depth : Option ℕ) (received : ℕ) (bounds : List Span) (totals : List Totals) →
     IsMeasure name → IsDesk desk → AreMarksOf desk marks → AreNumbersIn name desk marks bounds totals →
-    IsTrueText name desk marks (take received (table_text desk name level (pos (unit_of name)) bounds totals))
+    IsTrueText name desk marks (take received (table_text desk name level depth (pos (unit_of name)) bounds totals))
 
--- whatever was received of a certificate of either version that is evidence is true
+-- whatever was received of a certificate of either version, with a depth or without, that is evidence is true
 abbrev pub CertificatesAreTrue : Type 0
 CertificatesAreTrue =
-    (c : AnyCertificate) (desk : Desk) (marks : List (List Mark)) (received : ℕ) → IsAnyCertificate c → IsDesk desk → AreMarksOf desk marks → IsAnyEvidence c desk marks →
-    IsTrueText (any_measure c) desk marks (take received (any_text c))
+    (c : Scoped) (desk : Desk) (marks : List (List Mark)) (received : ℕ) → IsScoped c → IsDesk desk → AreMarksOf desk marks → IsAnyEvidence c.body desk marks →
+    IsTrueText (any_measure c.body) desk marks (take received (scoped_text c))
 
 -- whatever was received of the line of two different runs, in either order, is true where its sums are the numbers of the name
 abbrev pub PairLinesAreTrue : Type 0

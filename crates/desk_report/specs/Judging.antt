@@ -9,7 +9,7 @@ use Rattle.desk_model.specs.declared.pool.PoolCount.{PoolCount}
 use Rattle.next_document.specs.declared.proposal.Proposal.{Proposal}
 use Rattle.desk_report.specs.Table.{ended}
 
--- a grade in force, and `-` where the document is unjudged
+-- a grade in force, and `-` where the document has none
 abbrev pub grade_text : Option ℤ → List ℕ
 grade_text None = codes "-"
 grade_text (Some grade) = signed_decimal grade
@@ -31,7 +31,7 @@ next_line desk (Some p) = codes "next " ++ (book_at desk p.topic).name ++ 32 ∷
 abbrev pub qrels_line : List ℕ → List ℕ → ℤ → List ℕ
 qrels_line topic doc grade = topic ++ codes " 0 " ++ doc ++ 32 ∷ signed_decimal grade
 
--- the line of a document: its grade in force; -1 where it is unjudged and the judgements file lists it; none where it is not listed and unjudged
+-- the line of a document: its grade in force; -1 where it has none and the judgements file lists it; no line where it has none and is not listed
 abbrev pub qrels_lines_of : List ℕ → List ℕ → Option ℤ → Option ℤ → List (List ℕ)
 qrels_lines_of topic doc None None = []
 qrels_lines_of topic doc (Some file) None = qrels_line topic doc (negsuc 0) ∷ []

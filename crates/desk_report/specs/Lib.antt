@@ -1,3 +1,4 @@
+pub mod Grading
 pub mod Means
 pub mod Table
 pub mod Close

@@ -8,9 +8,11 @@ use Rattle.desk_model.specs.declared.types.Totals.{Totals}
 use Rattle.desk_model.specs.declared.types.Verdict.TheVariants.{Close}
 use Rattle.topic_counts.specs.declared.span.Span.{Span}
 use Rattle.measure_laws.specs.Measures.{unit_of}
-use Rattle.measure_core.specs.Made.{HasEnds, IsMadeFor}
+use Rattle.measure_core.specs.Made.{HasEnds}
 use Rattle.measure_core.specs.declared.cell.Cell.{Cell}
-use Rattle.order_certificate.specs.Certificate.{IsCertificate, certificate_text}
+use Rattle.order_bundle.specs.Scoped.{IsScoped, scoped_text}
+use Rattle.order_bundle.specs.declared.scoped.Scoped.{Scoped}
+use Rattle.order_bundle.specs.declared.any_certificate.AnyCertificate.TheVariants.{One}
 use Rattle.order_certificate.specs.declared.certificate.Certificate.{Certificate}
 use Rattle.pair_table.specs.Evidence.{IsCertificateOf}
 use Rattle.pair_table.specs.Kept.{Kept}
@@ -25,15 +27,16 @@ use Rattle.desk_report.specs.Table.{table_text, pair_line, ended}
 use Rattle.desk_report.specs.declared.reports.Certified.{Certified}
 use Rattle.desk_report.specs.declared.reports.Certified.TheVariants as answers
 
--- what a report speaks of: a desk under the marks of its documents at a level, by a measure
+-- what a report speaks of: a desk under the marks of its documents at a level and under a depth or none, by a measure
 pub record Subject : Type 0 where
   pub measure : MeasureName
   pub level : ℕ
+  pub depth : Option ℕ
   pub desk : Desk
   pub marks : List (List Mark)
 
-abbrev pub subject : MeasureName → ℕ → Desk → List (List Mark) → Subject
-subject measure level desk marks = record { measure = measure; level = level; desk = desk; marks = marks }
+abbrev pub subject : MeasureName → ℕ → Option ℕ → Desk → List (List Mark) → Subject
+subject measure level depth desk marks = record { measure = measure; level = level; depth = depth; desk = desk; marks = marks }
 
 -- the cells of a table: pairs times topics
 abbrev pub cells_of : Desk → ℕ
@@ -55,7 +58,7 @@ pub record IsTableText (s : Subject) (text : List ℕ) : Type 0 where
   pub bounds : List Span
   pub totals : List Totals
   pub numbers : AreNumbersIn s.measure s.desk s.marks bounds totals
-  pub is : text ≡ table_text s.desk s.measure s.level (pos (unit_of s.measure)) bounds totals
+  pub is : text ≡ table_text s.desk s.measure s.level s.depth (pos (unit_of s.measure)) bounds totals
 
 -- two different runs of a desk, by their numbers
 pub record AreRuns (desk : Desk) (a b : ℕ) : Type 0 where
@@ -75,14 +78,18 @@ pub record IsPairText (s : Subject) (a b : ℕ) (text : List ℕ) : Type 0 where
   pub summed : ArePairNumbers s.measure (topics_under s.desk s.marks) a b totals
   pub is : text ≡ ended (pair_line (unit_of s.measure * length s.desk.topics) (run_name s.desk a) (run_name s.desk b) totals)
 
--- the text is the certificate of two runs
+-- a certificate of two runs, under the depth of what is spoken of
+abbrev pub under_depth : Subject → Certificate → Scoped
+under_depth s c = record { depth = s.depth; body = One c }
+
+-- the text is the certificate of two runs, under the depth where there is one
 pub record IsCertificateText (s : Subject) (a b : ℕ) (text : List ℕ) : Type 0 where
   pub valid : IsDesk s.desk
   pub runs : AreRuns s.desk a b
   pub certificate : Certificate
-  pub within : IsCertificate certificate
+  pub within : IsScoped (under_depth s certificate)
   pub of_pair : IsCertificateOf (HasEnds s.measure) s.measure s.desk s.marks s.level a b certificate
-  pub is : text ≡ certificate_text certificate
+  pub is : text ≡ scoped_text (under_depth s certificate)
 
 -- the text is the close line of two runs
 pub record IsCloseText (s : Subject) (a b : ℕ) (text : List ℕ) : Type 0 where

@@ -3,12 +3,12 @@
 //! What was received of a text claims nothing false, under a measure's name and marks of a desk, where
 //! two things hold. Each whole line received claims nothing false of the runs: a line claims something
 //! only where it is `pair FIRST WORD SECOND LOW HIGH`, or `run NAME LOW HIGH` with LOW and HIGH printed
-//! with a point and six digits. And where what was received is a certificate of either version, it is one
-//! of that measure, and its claim holds, or all its claims.
+//! with a point and six digits. And where what was received is a certificate of either version, with a
+//! depth or without, it is one of that measure, and its claim holds, or all its claims.
 ghost use Rattle.desk_report.specs.Claims.{TablesAreTrue, CertificatesAreTrue, PairLinesAreTrue, CloseLinesAreTrue, AnswerLinesAreTrue, OtherLinesAreTrue, NextLinesAreTrue, QrelsTextsAreTrue, NoTextIsTrue};
 
 use order_bundle::{
-    any_certificates_have_texts, any_evidence_implies_claims, no_any_text_begins_another,
+    any_evidence_implies_claims, no_scoped_text_begins_another, scoped_certificates_have_texts,
 };
 use pair_table::laws::{
     numbers_hold_in_every_completion, numbers_of_two_runs_hold, precision_is_exact,
@@ -24,7 +24,7 @@ pub fn printed_tables_are_true()
 {
     numbers_hold_in_every_completion();
     precision_is_exact();
-    any_certificates_have_texts();
+    scoped_certificates_have_texts();
 }
 
 /// Whatever was received of the line of two different runs, in either order, claims nothing false, where
@@ -33,23 +33,24 @@ pub fn printed_pair_lines_are_true()
     ensures { PairLinesAreTrue }
 {
     numbers_of_two_runs_hold();
-    any_certificates_have_texts();
+    scoped_certificates_have_texts();
 }
 
-/// Whatever was received of the text of a certificate of either version that is evidence claims nothing false.
+/// Whatever was received of the text of a certificate of either version, with a depth or without, that is evidence claims
+/// nothing false.
 pub fn printed_certificates_are_true()
     ensures { CertificatesAreTrue }
 {
-    any_certificates_have_texts();
+    scoped_certificates_have_texts();
     any_evidence_implies_claims();
-    no_any_text_begins_another();
+    no_scoped_text_begins_another();
 }
 
 /// Whatever was received of a close line claims nothing false.
 pub fn close_lines_are_true()
     ensures { CloseLinesAreTrue }
 {
-    any_certificates_have_texts();
+    scoped_certificates_have_texts();
 }
 
 /// Whatever was received of the line that tells what checking a certificate answered claims nothing
@@ -57,7 +58,7 @@ pub fn close_lines_are_true()
 pub fn answer_lines_are_true()
     ensures { AnswerLinesAreTrue }
 {
-    any_certificates_have_texts();
+    scoped_certificates_have_texts();
 }
 
 /// Whatever was received of a line whose first word is not `pair`, `run` or `desk-certificate` claims
@@ -65,7 +66,7 @@ pub fn answer_lines_are_true()
 pub fn other_lines_are_true()
     ensures { OtherLinesAreTrue }
 {
-    any_certificates_have_texts();
+    scoped_certificates_have_texts();
 }
 
 /// Whatever was received of the line of what is to be judged next claims nothing false of the runs, and what
@@ -74,7 +75,7 @@ pub fn other_lines_are_true()
 pub fn next_lines_are_true()
     ensures { NextLinesAreTrue }
 {
-    any_certificates_have_texts();
+    scoped_certificates_have_texts();
 }
 
 /// Whatever was received of the judgements in force, as the text of a judgements file, claims nothing
@@ -83,12 +84,12 @@ pub fn next_lines_are_true()
 pub fn qrels_texts_are_true()
     ensures { QrelsTextsAreTrue }
 {
-    any_certificates_have_texts();
+    scoped_certificates_have_texts();
 }
 
 /// A text without bytes claims nothing false.
 pub fn no_text_is_true()
     ensures { NoTextIsTrue }
 {
-    any_certificates_have_texts();
+    scoped_certificates_have_texts();
 }

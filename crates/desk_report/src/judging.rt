@@ -45,7 +45,7 @@ fn push_changed(
 }
 
 /// The line `WORD TOPIC DOC NOW` with its line feed: the names of the topic and the document of a change, whose
-/// numbers are from 0, and the document's grade in force after it, `-` where it is unjudged.
+/// numbers are from 0, and the document's grade in force after it, `-` where it has none.
 ///
 /// # Errors
 /// `Memory`: out of memory.

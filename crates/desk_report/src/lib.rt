@@ -4,6 +4,7 @@
 
 pub mod claims;
 mod close;
+mod grading;
 mod judging;
 mod means;
 mod qrels;
@@ -11,6 +12,7 @@ mod reports;
 mod table;
 
 pub use close::close_line;
+pub use grading::Grading;
 pub use judging::{changed_line, next_line_text, pool_line};
 pub use qrels::qrels_text;
 pub use reports::{

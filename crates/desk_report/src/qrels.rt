@@ -7,7 +7,7 @@ ghost use Rattle.desk_report.specs.Judging.{qrels_line, qrels_lines_of, topic_qr
 use desk_model::{Desk, Memory, TopicBook, push_grade};
 use std::alloc::{AllocError, Global};
 
-const UNJUDGED: i32 = -1;
+const NO_GRADE: i32 = -1;
 
 fn push_line(out: &mut Vec<u8>, topic: &[u8], doc: &[u8], grade: i32) -> Result<(), AllocError>
     ensures { OnOk result (out.new.items ≡ out.old.items ++ ended (qrels_line topic.now doc.now grade)) }
@@ -32,7 +32,7 @@ fn push_document(
 {
     match (file, grade) {
         (_, Some(grade)) => push_line(out, topic, doc, grade),
-        (Some(_), None) => push_line(out, topic, doc, UNJUDGED),
+        (Some(_), None) => push_line(out, topic, doc, NO_GRADE),
         (None, None) => Ok(()),
     }
 }
@@ -54,8 +54,8 @@ fn push_topic(out: &mut Vec<u8>, book: &TopicBook, grades: &[Option<i32>]) -> Re
 }
 
 /// The judgements in force on a topic as lines `TOPIC 0 DOC GRADE`, the documents ascending: a line for each document
-/// that the judgements file lists or whose grade in force is given, with `-1` where it is unjudged. Topics are numbered
-/// from 0, and the grades in force are by document, `None` for an unjudged one.
+/// that the judgements file lists or that has a grade in force, with `-1` where it has none. Topics are numbered from 0,
+/// and the grades in force are by document, `None` where it has none.
 ///
 /// # Errors
 /// `Memory`: out of memory.

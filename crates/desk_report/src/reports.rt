@@ -4,15 +4,20 @@ ghost use Rattle.desk_model.specs.Desk.{AreMarksOf};
 ghost use Rattle.desk_model.specs.MeasureText.{IsMeasure};
 ghost use Rattle.desk_model.specs.declared.types.MeasureName.{MeasureName as Measured};
 ghost use Rattle.next_document.specs.Kept.{AreKeptFor};
-ghost use Rattle.order_certificate.specs.Certificate.{IsLevel};
+ghost use Rattle.order_bundle.specs.Scoped.{IsScope, scoped_text};
+ghost use Rattle.order_bundle.specs.declared.any_certificate.AnyCertificate.TheVariants.{One};
+ghost use Rattle.order_certificate.specs.Certificate.{IsCertificate};
 ghost use Rattle.pair_table.specs.Kept.{StandsFor};
 ghost use Rattle.desk_report.specs.Reports.{Subject, subject, IsTableOn, IsSubjectOf, IsTableText, IsPairText, IsCertifiedAs, IsNextText, AreWeightsOf, AreRuns, cells_of};
 
-use crate::{close_line, next_line_text, pair_line, table_text};
+use crate::{Grading, close_line, next_line_text, pair_line, table_text};
 use desk_model::{Desk, Marks, MeasureName, Memory};
 use measure_core::{Maker, Measure, Steps};
 use next_document::{Weights, next};
-use order_certificate::write_certificate;
+use order_bundle::{
+    AnyCertificate, BundleFault, Scoped, scoped_certificates_have_texts, write_scoped,
+};
+use order_certificate::Certificate;
 use pair_table::{EvidenceFault, Table};
 use std::alloc::Global;
 use std::sync::ledger::Ledger;
@@ -26,19 +31,20 @@ pub enum Certified {
     Close(Vec<u8>),
 }
 
-/// The text of a table over a desk: its head with the measure, the level, and how many topics and runs there are, a
-/// line for each run and a line for each pair. It speaks of the marks for which the table stands.
+/// The text of a table over a desk: its head with the measure, the level, the depth where there is one, and how many
+/// topics and runs there are, a line for each run and a line for each pair. It speaks of the marks for which the table
+/// stands.
 ///
 /// # Errors
 /// `Memory`: out of memory.
 pub fn table_report<M: Measure>(
     alloc: Global,
     desk: &Desk,
-    level: u32,
+    grading: Grading,
     table: &Table<M>,
 ) -> Result<Vec<u8>, Memory>
     requires { table.now.runs ≡ length desk.now.runs }
-    ensures { IfOk result (λ text. (s : Subject) → s.level ≡ level →
+    ensures { IfOk result (λ text. (s : Subject) → s.level ≡ grading.level → s.depth ≡ grading.depth →
         IsSubjectOf (M.measured table.now.measure) (M.cell_of table.now.measure) (M.bounds_of table.now.measure) desk.now table.now s →
         IsTableText s text.items) }
 {
@@ -49,7 +55,8 @@ pub fn table_report<M: Measure>(
         alloc,
         desk,
         &name,
-        level,
+        grading.level(),
+        grading.depth(),
         measure.unit(),
         table.all_bounds(),
         table.all_totals(),
@@ -91,8 +98,30 @@ pub fn pair_report<M: Measure>(
     Ok(text)
 }
 
-/// What shows the order of two different runs of a desk under marks, numbered from 0: their certificate at a level
-/// from 1 to 1,000, or their close line.
+// The text of a certificate of two runs, with a line of the depth where there is one.
+fn certificate_text(
+    alloc: Global,
+    certificate: Certificate,
+    depth: Option<u32>,
+) -> Result<Vec<u8>, Memory>
+    requires certificate { IsCertificate certificate }
+    requires depth { IsScope depth }
+    ensures { IfOk result (λ text. text.items ≡ scoped_text (record { depth = depth; body = One certificate })) }
+{
+    scoped_certificates_have_texts();
+    let scoped = Scoped {
+        depth,
+        body: AnyCertificate::One(certificate),
+    };
+    match write_scoped(alloc, &scoped) {
+        Ok(text) => Ok(text),
+        Err(BundleFault::Memory) => Err(Memory),
+        Err(BundleFault::TooLong { .. }) => unreachable!(),
+    }
+}
+
+/// What shows the order of two different runs of a desk under marks, numbered from 0: their certificate, with the level
+/// and the depth where there is one, or their close line.
 ///
 /// # Errors
 /// `Memory`: out of memory.
@@ -100,23 +129,22 @@ pub fn certified_report<M: Measure>(
     alloc: Global,
     desk: &Desk,
     marks: &Marks,
-    level: u32,
+    grading: Grading,
     table: &Table<M>,
     first: u32,
     second: u32,
 ) -> Result<Certified, Memory>
     requires runs { AreRuns desk.now first second }
-    requires level { IsLevel level }
     requires marks { AreMarksOf desk.now marks.now.rows }
     requires table { StandsFor (M.cell_of table.now.measure) (M.bounds_of table.now.measure) desk.now marks.now.rows table.now }
-    ensures { IfOk result (λ answer. (s : Subject) → s.level ≡ level → s.marks ≡ marks.now.rows →
+    ensures { IfOk result (λ answer. (s : Subject) → s.level ≡ grading.level → s.depth ≡ grading.depth → s.marks ≡ marks.now.rows →
         IsSubjectOf (M.measured table.now.measure) (M.cell_of table.now.measure) (M.bounds_of table.now.measure) desk.now table.now s →
         IsCertifiedAs s first second answer) }
 {
     desk.valid();
-    match table.evidence(alloc, desk, marks, level, first, second) {
+    match table.evidence(alloc, desk, marks, grading.level(), first, second) {
         Ok(certificate) => {
-            let text = write_certificate(alloc, &certificate)?;
+            let text = certificate_text(alloc, certificate, grading.depth())?;
             Ok(Certified::Certificate(text))
         }
         Err(EvidenceFault::Close(totals)) => {

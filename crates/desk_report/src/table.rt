@@ -4,6 +4,7 @@ ghost use Rattle.std.specs.Prelude.{unsigned_abs};
 ghost use Rattle.desk_model.specs.Limits.{TOPIC_LIMIT};
 ghost use Rattle.desk_model.specs.MeasureText.{measure_text};
 ghost use Rattle.desk_model.specs.Pairs.{pairs_of};
+ghost use Rattle.order_bundle.specs.Scoped.{depth_lines};
 ghost use Rattle.topic_counts.specs.Ends.{IsShort};
 ghost use Rattle.desk_report.specs.Table.{AreNearTotals, ended, word_of, head_lines, run_line, run_lines, pair_line, pair_lines, table_text};
 
@@ -36,17 +37,29 @@ fn push_number_line(out: &mut Vec<u8>, word: &[u8], number: u32) -> Result<(), A
     out.extend_from_slice(b"\n")
 }
 
+// The line of the depth, where there is one.
+fn push_depth(out: &mut Vec<u8>, depth: Option<u32>) -> Result<(), AllocError>
+    ensures { OnOk result (out.new.items ≡ out.old.items ++ flat_map ended (depth_lines depth)) }
+{
+    match depth {
+        Some(depth) => push_number_line(out, b"depth ", depth),
+        None => Ok(()),
+    }
+}
+
 fn push_head(
     out: &mut Vec<u8>,
     measure: &MeasureName,
     level: u32,
+    depth: Option<u32>,
     topics: u32,
     runs: u32,
 ) -> Result<(), AllocError>
-    ensures { OnOk result (out.new.items ≡ out.old.items ++ flat_map ended (head_lines measure.now level topics runs)) }
+    ensures { OnOk result (out.new.items ≡ out.old.items ++ flat_map ended (head_lines measure.now level depth topics runs)) }
 {
     push_measure_line(out, measure)?;
     push_number_line(out, b"level ", level)?;
+    push_depth(out, depth)?;
     push_number_line(out, b"topics ", topics)?;
     push_number_line(out, b"runs ", runs)
 }
@@ -171,37 +184,15 @@ pub fn pair_line(
     Ok(out)
 }
 
-fn push_table(
-    out: &mut Vec<u8>,
-    desk: &Desk,
-    measure: &MeasureName,
-    level: u32,
-    unit: i128,
-    bounds: &[Span],
-    totals: &[Totals],
-) -> Result<(), AllocError>
-    requires unit { pos 1 ≤ℤ unit }
-    requires unit_small { unit ≤ℤ pos (10 ^ 19) }
-    requires bounds_count { length bounds.now ≡ length desk.now.runs }
-    requires totals_count { length totals.now ≡ length (pairs_of desk.now.runs) }
-    requires bounds { All IsShort bounds.now }
-    requires totals { All AreNearTotals totals.now }
-    ensures { OnOk result (out.new.items ≡ out.old.items ++ table_text desk.now measure.now level unit bounds.now totals.now) }
-{
-    let topics = desk.topic_count();
-    let parts = parts(unit, topics);
-    push_head(out, measure, level, topics, desk.run_count())?;
-    push_runs(out, desk, parts, bounds)?;
-    push_pairs(out, desk, parts, totals)
-}
-
 /// The table: its head, a line for each run with its summed bounds, and a line for each pair in order with its four
-/// sums. Bounds and sums are over all topics, in units of the measure.
+/// sums. Bounds and sums are over all topics, in units of the measure. The head has the level, the least relevant grade,
+/// and the depth of the pool exactly where there is one.
 pub fn table_text(
     alloc: Global,
     desk: &Desk,
     measure: &MeasureName,
     level: u32,
+    depth: Option<u32>,
     unit: i128,
     bounds: &[Span],
     totals: &[Totals],
@@ -212,9 +203,13 @@ pub fn table_text(
     requires totals_count { length totals.now ≡ length (pairs_of desk.now.runs) }
     requires bounds { All IsShort bounds.now }
     requires totals { All AreNearTotals totals.now }
-    ensures { IfOk result (λ text. text.items ≡ table_text desk.now measure.now level unit bounds.now totals.now) }
+    ensures { IfOk result (λ text. text.items ≡ table_text desk.now measure.now level depth unit bounds.now totals.now) }
 {
     let mut out = Vec::new(alloc);
-    push_table(&mut out, desk, measure, level, unit, bounds, totals)?;
+    let topics = desk.topic_count();
+    let parts = parts(unit, topics);
+    push_head(&mut out, measure, level, depth, topics, desk.run_count())?;
+    push_runs(&mut out, desk, parts, bounds)?;
+    push_pairs(&mut out, desk, parts, totals)?;
     Ok(out)
 }

@@ -1,6 +1,6 @@
 -- The meaning of a check.
 use Rattle.std.proofs.Common.{◌≡◌, ℕ, zero, suc, ◌<◌, ◌≤◌, true, rules, List, [], ◌∷◌, ◌++◌, length, refl, ap, ap₂, sym, subst, ◌∙◌, arith, inl}
-use Rattle.std.specs.Prelude.{Bool, false, ◌==◌, if◌then◌else◌, Result, Ok, Err, IfErr, slice_get, unwrap_or, Some, codes, decimal, slice_index_or}
+use Rattle.std.specs.Prelude.{Bool, false, ◌==◌, if◌then◌else◌, Option, Result, Ok, Err, IfErr, slice_get, unwrap_or, Some, codes, decimal, slice_index_or}
 use Rattle.std.specs.List.{AllByRecursion, zip}
 use Rattle.std.proofs.Math.Nat.{min-le_left, min-le_right}
 use Rattle.desk_words.specs.declared.command.Check.{Check}
@@ -29,7 +29,8 @@ use Rattle.order_certificate.specs.declared.certificate.Evidence.TheVariants.{Ab
 use Rattle.order_verifier.specs.Refusal.{Compared, topics_in, HasBoundTooGreat}
 use Rattle.order_bundle.specs.Bundle.{Bundle}
 use Rattle.order_bundle.specs.Evidence.{written_out}
-use Rattle.order_bundle.specs.Places.{IsAnyCertificate}
+use Rattle.order_bundle.specs.Scoped.{IsScoped}
+use Rattle.order_bundle.specs.declared.scoped.Scoped.{Scoped}
 use Rattle.order_bundle.specs.declared.any_certificate.AnyCertificate.{AnyCertificate}
 use Rattle.order_bundle.specs.declared.any_certificate.AnyCertificate.TheVariants.{One, Many}
 use Rattle.order_verifier.specs.Verified.{IsRejected}
@@ -54,12 +55,12 @@ use Rattle.desk_top.specs.Answer.{OfCheck}
 use Rattle.desk_top.specs.Outcome.{Prints}
 use Rattle.desk_top.specs.Loading.{check_loading}
 use Rattle.desk_top.specs.Meaning.{check_meaning}
-use Rattle.desk_top.specs.Verification.{IsReasonOn, claim_text, reason_text, rejection_text, verification_status, IsChecked}
+use Rattle.desk_top.specs.Verification.{IsReasonOn, claim_text, file_line, reason_text, rejection_text, verification_status, IsChecked}
 use Rattle.desk_top.specs.Works.{MakesOutcome, StopsLoading, Works}
 use Rattle.desk_top.proofs.Reporting.{found_may_come, check_stops, makes_one_text}
 
 -- ---- what was made
-made_as : (check : Check) (cells : ℕ) (found : Loaded × AnyCertificate) (desk : Desk) → IsDeskOf found.0.qrels found.0.runs desk → IsAnyCertificate found.1 → (outcome : Made) → IsChecked found.1 desk outcome → MakesOutcome (check_meaning check) cells cells found outcome
+made_as : (check : Check) (cells : ℕ) (found : Loaded × Scoped) (desk : Desk) → IsDeskOf found.0.qrels found.0.runs desk → IsScoped found.1 → (outcome : Made) → IsChecked found.1 desk outcome → MakesOutcome (check_meaning check) cells cells found outcome
 made_as check cells found desk ranked within (made.Prints text status) is =
     let goes : GoesWithText status = subst GoesWithText (sym is.text.1) (goes_with is.answer) in (
       makes_one_text (check_meaning check) found (OfCheck found.1 desk) text.items status goes (λ input. (
@@ -81,9 +82,9 @@ made_as check cells found desk ranked within (made.Prints text status) is =
     goes_with (Ok _) = tt
     goes_with (Err rejected) = tt
 made_as check cells found desk ranked within (made.Refuses line) is = absurd is.text
-made_as check cells found desk ranked within (made.Holds other measure level) is = absurd is.text
+made_as check cells found desk ranked within (made.Holds other measure grading) is = absurd is.text
 
-pub check_works : (check : Check) (shelf : Shelf) (cells : ℕ) (made : Desk × AnyCertificate) (outcome : Made) → MakesCheck shelf.files shelf.before shelf.after check (Ok made) → IsAnyCertificate made.1 → IsChecked made.1 made.0 outcome → Works (check_meaning check) shelf cells cells (Ok outcome)
+pub check_works : (check : Check) (shelf : Shelf) (cells : ℕ) (made : Desk × Scoped) (outcome : Made) → MakesCheck shelf.files shelf.before shelf.after check (Ok made) → IsScoped made.1 → IsChecked made.1 made.0 outcome → Works (check_meaning check) shelf cells cells (Ok outcome)
 check_works check shelf cells made outcome makes within is =
     ((makes.0, made.1), found_may_come (λ files found. CheckComes files check found) shelf.files (makes.0, made.1) makes.1, made_as check cells (makes.0, made.1) made.0 makes.2 within outcome is)
 
@@ -111,12 +112,12 @@ joined_in_line : (word name : List ℕ) → AreInLine word → IsInLine name →
 joined_in_line [] name w h = h
 joined_in_line (b ∷ bs) name w h = (w.0, joined_in_line bs name w.1 h)
 
-reason_in_line : (desk : Desk) → IsDesk desk → (why : Rejected) → IsInLine (reason_text desk why)
-reason_in_line desk valid (WrongNames line) = number_in_line (codes "WrongNames line ") line (search rules)
-reason_in_line desk valid (BoundTooGreat topic) = joined_in_line (codes "BoundTooGreat topic ") _ (search rules) (name_there (topic_names desk.topics) topic (topics_named desk.topics (recursion_from_All IsBook desk.topics valid.books)))
-reason_in_line desk valid NoSum = search rules
-reason_in_line desk valid (NotCompletion line) = number_in_line (codes "NotCompletion line ") line (search rules)
-reason_in_line desk valid NoDifference = search rules
+reason_in_line : (desk : Desk) → IsDesk desk → (depth : Option ℕ) (why : Rejected) → IsInLine (reason_text desk depth why)
+reason_in_line desk valid depth (WrongNames line) = number_in_line (codes "WrongNames line ") (file_line depth line) (search rules)
+reason_in_line desk valid depth (BoundTooGreat topic) = joined_in_line (codes "BoundTooGreat topic ") _ (search rules) (name_there (topic_names desk.topics) topic (topics_named desk.topics (recursion_from_All IsBook desk.topics valid.books)))
+reason_in_line desk valid depth NoSum = search rules
+reason_in_line desk valid depth (NotCompletion line) = number_in_line (codes "NotCompletion line ") (file_line depth line) (search rules)
+reason_in_line desk valid depth NoDifference = search rules
 
 claim_in_line : (claim : ℕ) (rest : List ℕ) → IsInLine rest → IsInLine (claim_text claim ++ rest)
 claim_in_line claim rest h = at (claim == 0)
@@ -128,8 +129,8 @@ claim_in_line claim rest h = at (claim == 0)
     at true = h
     at false = joined_in_line (codes "claim " ++ decimal claim ++ 32 ∷ []) rest word h
 
-pub rejection_in_line : (desk : Desk) → IsDesk desk → (rejected : BundleRejected) → IsInLine (rejection_text desk rejected)
-rejection_in_line desk valid rejected = claim_in_line rejected.claim (reason_text desk rejected.why) (reason_in_line desk valid rejected.why)
+pub rejection_in_line : (desk : Desk) → IsDesk desk → (depth : Option ℕ) (rejected : BundleRejected) → IsInLine (rejection_text desk depth rejected)
+rejection_in_line desk valid depth rejected = claim_in_line rejected.claim (reason_text desk depth rejected.why) (reason_in_line desk valid depth rejected.why)
 
 -- ---- the topic of a reason
 pub topic_name_there : (books : List Book) (t : ℕ) (book : Book) → slice_get books t ≡ Some book → slice_index_or (topic_names books) t [] ≡ book.name

@@ -1,14 +1,15 @@
 -- What holds of each command, a row each.
 use Rattle.std.proofs.Common.{ℕ, ◌≤◌, List, [], ◌∷◌, length, sym, subst, arith, inl, inr}
-use Rattle.std.specs.Prelude.{codes}
+use Rattle.std.specs.Prelude.{codes, Option, Some, None}
 use Rattle.command_line.specs.Given.{Values}
-use Rattle.desk_words.specs.Words.{IsCommandOf, IsLevelOf, SaysJob}
+use Rattle.desk_words.specs.Words.{IsCommandOf, IsDepthOf, IsLevelOf, SaysJob}
 use Rattle.desk_words.specs.declared.command.Command.{Command}
 use Rattle.desk_words.specs.declared.command.Command.TheVariants.{Table, Certify, CertifyAll, Session, Verify, Demo}
 use Rattle.desk_words.specs.declared.command.Job.{Job}
 use Rattle.desk_words.proofs.Values.{run_count}
 use Rattle.desk_model.specs.MeasureText.{IsMeasure}
 use Rattle.order_certificate.specs.Certificate.{IsLevel}
+use Rattle.order_bundle.specs.Scoped.{IsScope}
 use Rattle.session_stream.specs.Hearing.{hearing_of}
 use Rattle.desk_top.specs.declared.status.Status.TheVariants as statuses
 use Rattle.desk_top.specs.Answer.{Answer, AreAlwaysTrue}
@@ -25,9 +26,13 @@ level_said : (values : List (List ℕ)) (level : ℕ) → IsLevelOf values level
 level_said values level (inl none) = (omega (arith, none.1), omega (arith, none.1))
 level_said values level (inr one) = (one.1, one.2)
 
+depth_said : (values : List (List ℕ)) (depth : Option ℕ) → IsDepthOf values depth → IsScope depth
+depth_said values None is = tt
+depth_said values (Some depth) is = (is.1, is.2)
+
 -- words with so many runs at least say a job that can be done on them
 job_asked : (values : Values) (least : ℕ) (job : Job) → SaysJob values job → least ≤ length (values (codes "RUN")) → IsAsked least job
-job_asked values least job says enough = record { measure = says.measure.2; level = level_said _ job.level says.level; runs = subst (λ n. least ≤ n) (run_count _ job.runs says.runs.each) enough }
+job_asked values least job says enough = record { measure = says.measure.2; grading = record { level = level_said _ job.level says.level; depth = depth_said _ job.depth says.depth }; runs = subst (λ n. least ≤ n) (run_count _ job.runs says.runs.each) enough }
 
 -- what words say of a command
 pub asked : (words : List (List ℕ)) (command : Command) → IsCommandOf words command → (meaning_of command).asked

@@ -26,7 +26,7 @@ use Rattle.desk_top.specs.declared.status.Status.TheVariants as statuses
 use Rattle.desk_top.specs.Told.{WritesLine}
 use Rattle.desk_top.specs.Answer.{Answer, Saying, text_of}
 use Rattle.desk_top.specs.Conversation.{sayings, status_at, told_at, status_by, told_by, session_cells, AnswersSession}
-use Rattle.desk_top.specs.Report.{IsAsked, sources_of}
+use Rattle.desk_top.specs.Report.{IsAsked, grading_of, sources_of}
 use Rattle.desk_top.specs.Loading.{OpensWithin}
 use Rattle.desk_top.specs.Meaning.{Meaning, session_meaning}
 use Rattle.desk_top.specs.Works.{HoldsSession, Works}
@@ -42,13 +42,13 @@ text_of_sayings s c (l ∷ ls) [] are = absurd are
 text_of_sayings s c (l ∷ ls) (t ∷ ts) are = ap (λ more. t ++ more) (text_of_sayings s (changes_after s.desk (heard_of l) c) ls ts are.1)
 
 -- ---- the desk on which it is held
-pub session_holds : (job : Job) (shelf : Shelf) (cells : ℕ) (rows : Loaded) (desk : Desk) → IsAsked 1 job → Reads shelf.files (sources_of job) rows → IsDeskOf rows.qrels rows.runs desk → Works (session_meaning job) shelf cells cells (Ok (made.Holds desk job.measure job.level))
+pub session_holds : (job : Job) (shelf : Shelf) (cells : ℕ) (rows : Loaded) (desk : Desk) → IsAsked 1 job → Reads shelf.files (sources_of job) rows → IsDeskOf rows.qrels rows.runs desk → Works (session_meaning job) shelf cells cells (Ok (made.Holds desk job.measure (grading_of job)))
 session_holds job shelf cells rows desk asked read ranked = (
   rows,
   found_may_come (λ files found. loaded files (sources_of job) ≡ found) shelf.files rows read,
   (
     record {
-      setting = record { measure = asked.measure; level = asked.level };
+      setting = record { measure = asked.measure; grading = asked.grading };
       reads = tt;
       answers = λ input answer is. record { desk = desk; ranked = ranked; holds = is };
       cells = λ taken. record { desk = desk; ranked = ranked; holds = refl };

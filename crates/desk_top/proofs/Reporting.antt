@@ -128,12 +128,12 @@ all_shown_makes job rows desk ranked before after counted (bundled.TooLong bytes
   desk_counts job 2 (Done ∷ Refused-status ∷ []) PrintsAllPairs rows desk ranked before after counted,
 )
 all_shown_makes job rows desk ranked before after counted (bundled.TooLong bytes) is (made.Prints text status) shown = absurd shown
-all_shown_makes job rows desk ranked before after counted (bundled.TooLong bytes) is (made.Holds other measure level) shown = absurd shown
+all_shown_makes job rows desk ranked before after counted (bundled.TooLong bytes) is (made.Holds other measure grading) shown = absurd shown
 
 -- what a desk with its table speaks of
 module _ {M : Type 0} (measured : MeasureName) (cell : List Mark → List ℕ → List ℕ → Cell) (bound : List Mark → List ℕ → Span) (job : Job) (known : Option Files) (on : DeskTable M) (is : IsTabled measured cell bound job known on) where
   pub tabled_subject : IsSubjectOf measured cell bound on.desk on.table (subject_of job on.desk)
-  tabled_subject = record { over = refl; marked = marks_known job.level on.desk is.ranked.valid; on = is.table }
+  tabled_subject = record { over = refl; marked = marks_known job.level job.depth on.desk is.ranked.valid; on = is.table }
 
   pub tabled_marks : AreMarksOf on.desk on.marks.rows
-  tabled_marks = subst (AreMarksOf on.desk) (sym is.marked) (marks_known job.level on.desk is.ranked.valid)
+  tabled_marks = subst (AreMarksOf on.desk) (sym is.marked) (marks_known job.level job.depth on.desk is.ranked.valid)

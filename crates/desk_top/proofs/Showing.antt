@@ -1,6 +1,6 @@
 -- The meaning of a demo.
 use Rattle.std.proofs.Common.{◌≡◌, ℕ, List, [], ◌∷◌, ◌++◌, take, flat_map, refl, ap, sym, subst, ◌∙◌, arith, inl, inr, append-nil, append_assoc}
-use Rattle.std.specs.Prelude.{codes, decimal, map, Ok, Err, Vec}
+use Rattle.std.specs.Prelude.{codes, decimal, map, None, Ok, Err, Vec}
 use Rattle.std.specs.declared.alloc.Global.{Global}
 use Rattle.desk_outside.specs.Seen.{Shelf}
 use Rattle.desk_model.specs.Desk.{Desk}
@@ -38,7 +38,7 @@ module _ (laws : PrintsTruth) (desk : Desk) where
   next_true next is n =
       let s : Subject = demo_subject desk in
       subst (λ t. IsTrueText s.measure s.desk s.marks (take n t) × IsTrueProposal s.measure s.desk s.marks (take n t)) (sym is.is)
-      (laws.next s.measure s.desk s.marks is.totals is.proposal n is.valid (marks_known 1 desk is.valid) is.summed is.next)
+      (laws.next s.measure s.desk s.marks is.totals is.proposal n is.valid (marks_known 1 None desk is.valid) is.summed is.next)
 
   demo_true : (seed rows : ℕ) (verdicts : List Verdict) (next : List ℕ) → IsNextText (demo_subject desk) next → AreAlwaysTrue (demo_sayings desk (summary_lines seed rows (demo_subject desk).marks verdicts) next)
   demo_true seed rows verdicts next is = (

@@ -18,7 +18,6 @@ use Rattle.desk_model.specs.declared.types.MeasureName.{MeasureName}
 use Rattle.desk_model.specs.declared.types.Verdict.{Verdict}
 use Rattle.desk_model.specs.declared.types.Verdict.TheVariants as verdicts
 use Rattle.measure_core.specs.Made.{HasEnds}
-use Rattle.order_certificate.specs.Certificate.{certificate_text}
 use Rattle.order_certificate.specs.declared.certificate.Certificate.{Certificate}
 use Rattle.order_bundle.specs.Either.{IsAnyEvidence, any_level, any_measure}
 use Rattle.order_bundle.specs.Places.{IsAnyCertificate}
@@ -28,7 +27,9 @@ use Rattle.bundle_verifier.specs.Either.{IsAnyVerified}
 use Rattle.bundle_verifier.specs.declared.rejected.BundleRejected.{BundleRejected}
 use Rattle.pair_table.specs.Numbers.{HaveEnds}
 use Rattle.pair_table.specs.Evidence.{SaysOfVerdict}
-use Rattle.order_bundle.specs.Bundle.{Bundle, bundle_text}
+use Rattle.order_bundle.specs.Bundle.{Bundle}
+use Rattle.order_bundle.specs.Scoped.{scoped_text}
+use Rattle.order_bundle.specs.declared.scoped.Scoped.{Scoped}
 use Rattle.bundle_report.specs.Bundled.{IsAllPairsText}
 use Rattle.desk_report.specs.Claims.{IsTrueText}
 use Rattle.desk_report.specs.Reports.{Subject, IsTableText, IsCertificateText, IsCloseText, run_name}
@@ -158,21 +159,21 @@ module _ (laws : PrintsTruth) where
 
   pub table_is_true : (s : Subject) (text : List ℕ) (n : ℕ) → IsMeasure s.measure → AreMarksOf s.desk s.marks → IsTableText s text → SubjectIsTrue s n text
   table_is_true s text n m known is =
-      subst (SubjectIsTrue s n) (sym is.is) (laws.tables s.measure s.desk s.marks s.level n is.bounds is.totals m is.valid known is.numbers)
+      subst (SubjectIsTrue s n) (sym is.is) (laws.tables s.measure s.desk s.marks s.level s.depth n is.bounds is.totals m is.valid known is.numbers)
 
   pub certificate_is_true : (s : Subject) (a b : ℕ) (text : List ℕ) (n : ℕ) → IsMeasure s.measure → AreMarksOf s.desk s.marks → IsCertificateText s a b text → SubjectIsTrue s n text
   certificate_is_true s a b text n m known is =
       let c = is.certificate in
       let shown = laws.evidence s.measure s.desk s.marks s.level a b c m is.valid known is.runs.different is.runs.first is.runs.second is.of_pair in
       let named : c.measure ≡ s.measure = measure_answered (HasEnds s.measure) s.measure s.desk s.marks s.level a b c (verdict is.of_pair.sums) is.of_pair.says in
-      subst (SubjectIsTrue s n) (sym is.is) (subst (λ m. IsTrueText m s.desk s.marks (take n (certificate_text c))) named (laws.certificates (One c) s.desk s.marks n is.within is.valid known shown))
+      subst (SubjectIsTrue s n) (sym is.is) (subst (λ m. IsTrueText m s.desk s.marks (take n (scoped_text (record { depth = s.depth; body = One c })))) named (laws.certificates (record { depth = s.depth; body = One c }) s.desk s.marks n is.within is.valid known shown))
 
   pub all_pairs_are_true : (s : Subject) (text : List ℕ) (n : ℕ) → AreMarksOf s.desk s.marks → IsAllPairsText s text → SubjectIsTrue s n text
   all_pairs_are_true s text n known is =
       let b : Bundle = is.bundle in
       let of = is.on.of_pairs in
       let shown = laws.bundles s.measure s.desk s.marks s.level b is.on.valid known of in
-      subst (SubjectIsTrue s n) (sym is.is) (subst (λ m. IsTrueText m s.desk s.marks (take n (bundle_text b))) of.by_measure (laws.certificates (Many b) s.desk s.marks n of.form is.on.valid known shown))
+      subst (SubjectIsTrue s n) (sym is.is) (subst (λ m. IsTrueText m s.desk s.marks (take n (scoped_text (record { depth = s.depth; body = Many b })))) of.by_measure (laws.certificates (record { depth = s.depth; body = Many b }) s.desk s.marks n is.within is.on.valid known shown))
 
   pub close_is_true : (s : Subject) (a b : ℕ) (text : List ℕ) (n : ℕ) → IsCloseText s a b text → SubjectIsTrue s n text
   close_is_true s a b text n is =
@@ -180,18 +181,18 @@ module _ (laws : PrintsTruth) where
       (laws.close_lines s.measure s.desk s.marks (run_name s.desk a) (run_name s.desk b) is.totals n (is.valid.named a [] is.runs.first) (is.valid.named b [] is.runs.second))
 
   -- no prefix of a rejection begins as an acceptance does
-  accepted_is_evidence : (c : AnyCertificate) (desk : Desk) (marks : List (List Mark)) (answer : Result (Unit {0}) BundleRejected) (n : ℕ) (more : List ℕ) → take n (verification_text desk answer) ≡ codes "accepted\n" ++ more → IsAnyVerified c desk marks answer → IsAnyEvidence c desk marks
-  accepted_is_evidence c desk marks (Ok _) n more e is = is
-  accepted_is_evidence c desk marks (Err rejected) zero more e is = absurd (let bad : 0 ≡ 97 = ap (λ t. get_or t 0 0) e in omega (arith, bad))
-  accepted_is_evidence c desk marks (Err rejected) (suc n) more e is = absurd (let bad : 114 ≡ 97 = ap (λ t. get_or t 0 0) e in omega (arith, bad))
+  accepted_is_evidence : (c : AnyCertificate) (desk : Desk) (depth : Option ℕ) (marks : List (List Mark)) (answer : Result (Unit {0}) BundleRejected) (n : ℕ) (more : List ℕ) → take n (verification_text desk depth answer) ≡ codes "accepted\n" ++ more → IsAnyVerified c desk marks answer → IsAnyEvidence c desk marks
+  accepted_is_evidence c desk depth marks (Ok _) n more e is = is
+  accepted_is_evidence c desk depth marks (Err rejected) zero more e is = absurd (let bad : 0 ≡ 97 = ap (λ t. get_or t 0 0) e in omega (arith, bad))
+  accepted_is_evidence c desk depth marks (Err rejected) (suc n) more e is = absurd (let bad : 114 ≡ 97 = ap (λ t. get_or t 0 0) e in omega (arith, bad))
 
   measure_within : (c : AnyCertificate) → IsAnyCertificate c → IsMeasure (any_measure c)
   measure_within (One c) within = within.measure
   measure_within (Many b) within = within.measure
 
-  answer_text : (answer : Result (Unit {0}) BundleRejected) (name : MeasureName) (desk : Desk) (marks : List (List Mark)) (n : ℕ) → IsDesk desk → IsTrueText name desk marks (take n (verification_text desk answer))
-  answer_text (Ok _) name desk marks n valid = laws.answers name desk marks (codes "accepted") [] n (inl refl) tt
-  answer_text (Err rejected) name desk marks n valid = laws.answers name desk marks (codes "rejected ") (rejection_text desk rejected) n (inr refl) (rejection_in_line desk valid rejected)
+  answer_text : (answer : Result (Unit {0}) BundleRejected) (name : MeasureName) (desk : Desk) (depth : Option ℕ) (marks : List (List Mark)) (n : ℕ) → IsDesk desk → IsTrueText name desk marks (take n (verification_text desk depth answer))
+  answer_text (Ok _) name desk depth marks n valid = laws.answers name desk marks (codes "accepted") [] n (inl refl) tt
+  answer_text (Err rejected) name desk depth marks n valid = laws.answers name desk marks (codes "rejected ") (rejection_text desk depth rejected) n (inr refl) (rejection_in_line desk valid depth rejected)
 
   -- ---- each command's outcome is true
   -- what is made of the desk of a job
@@ -199,7 +200,7 @@ module _ (laws : PrintsTruth) where
       IsTruthful (desk_meaning job least ends makes)
   on_desk_true job least ends makes true m rows input answer is =
       outcome_is_true (λ outcome. HasDeskOf rows (λ desk. makes (subject_of job desk) outcome))
-      (λ outcome has. true (subject_of job has.desk) outcome (marks_known job.level has.desk has.ranked.valid) m has.holds) answer is
+      (λ outcome has. true (subject_of job has.desk) outcome (marks_known job.level job.depth has.desk has.ranked.valid) m has.holds) answer is
 
   pub printed_table_true : (s : Subject) (outcome : Outcome) → AreMarksOf s.desk s.marks → IsMeasure s.measure → PrintsTable s outcome → IsTrueOutcome outcome
   printed_table_true s outcome known m is = one_text_is_true Done (OfRuns s) (IsTableText s) (λ text n holds. table_is_true s text n m known holds) outcome is
@@ -213,16 +214,16 @@ module _ (laws : PrintsTruth) where
   printed_all_pairs_true s outcome known m (inr (bytes, long, is)) = subst IsTrueOutcome (sym is) tt
 
   -- the line of a check: where it is `accepted`, all that the certificate claims holds
-  check_true : (found : Loaded × AnyCertificate) (outcome : Outcome) → PrintsCheck found outcome → IsTrueOutcome outcome
+  check_true : (found : Loaded × Scoped) (outcome : Outcome) → PrintsCheck found outcome → IsTrueOutcome outcome
   check_true found outcome is = subst IsTrueOutcome (sym is.is) (at, tt)
     where
-      at : (n : ℕ) → IsTrueOf (OfCheck found.1 is.desk) (take n (verification_text is.desk is.answer))
+      at : (n : ℕ) → IsTrueOf (OfCheck found.1 is.desk) (take n (verification_text is.desk found.1.depth is.answer))
       at n =
           let c = found.1 in
           let marks = marks_for c is.desk in
-          let known = marks_known (any_level c) is.desk is.ranked.valid in (
-            answer_text is.answer (any_measure c) is.desk marks n is.ranked.valid,
-            λ more e. laws.claims c is.desk marks (measure_within c is.within) is.ranked.valid known (accepted_is_evidence c is.desk marks is.answer n more e is.verified),
+          let known = marks_known (any_level c.body) c.depth is.desk is.ranked.valid in (
+            answer_text is.answer (any_measure c.body) is.desk c.depth marks n is.ranked.valid,
+            λ more e. laws.claims c.body is.desk marks (measure_within c.body is.within.body) is.ranked.valid known (accepted_is_evidence c.body is.desk c.depth marks is.answer n more e is.verified),
           )
 
   pub check_is_truthful : (check : Check) → IsTruthful (check_meaning check)

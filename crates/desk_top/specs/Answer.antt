@@ -1,10 +1,11 @@
 -- What a call answers, and what its texts speak of.
 use Rattle.std.specs.Prelude.{◌≡◌, ℕ, List, [], ◌∷◌, ◌++◌, flat_map, length, take, drop, map, codes}
+use Rattle.desk_model.specs.Closing.{closed_under}
 use Rattle.desk_model.specs.Desk.{Desk, file_marks}
 use Rattle.desk_model.specs.declared.types.Mark.{Mark}
 use Rattle.desk_model.specs.declared.types.MeasureName.{MeasureName}
 use Rattle.order_bundle.specs.Either.{AnyClaimHolds, any_level, any_measure}
-use Rattle.order_bundle.specs.declared.any_certificate.AnyCertificate.{AnyCertificate}
+use Rattle.order_bundle.specs.declared.scoped.Scoped.{Scoped}
 use Rattle.desk_report.specs.Claims.{IsTrueText, IsTrueProposal}
 use Rattle.desk_report.specs.Reports.{Subject}
 use Rattle.desk_files.specs.Files.{Stop, Outside, Memory, Refused}
@@ -20,7 +21,7 @@ pub data About : Type 0 where
   -- the document to judge next on such a desk
   OfProposal : (subject : Subject) → About
   -- whether a certificate of either version is accepted over a desk
-  OfCheck : (certificate : AnyCertificate) → (desk : Desk) → About
+  OfCheck : (certificate : Scoped) → (desk : Desk) → About
   -- nothing that hangs on a desk
   OfNothing : About
 
@@ -65,24 +66,24 @@ stop_line (Refused refusal) = refusal_line refusal
 abbrev pub stop_answer : Stop → Answer
 stop_answer why = told_with (stop_status why) (stop_line why)
 
--- the marks that the judgements file gives at the level of a certificate
-abbrev pub marks_for : AnyCertificate → Desk → List (List Mark)
-marks_for c desk = map (file_marks (any_level c)) desk.topics
+-- the marks that the judgements file gives at the level of a certificate, under its depth
+abbrev pub marks_for : Scoped → Desk → List (List Mark)
+marks_for c desk = closed_under desk c.depth (map (file_marks (any_level c.body)) desk.topics)
 
 -- what was received of a text claims nothing false of the runs of a desk
 abbrev pub IsTrueOfRuns : Subject → List ℕ → Type 0
 IsTrueOfRuns s received = IsTrueText s.measure s.desk s.marks received
 
 -- where what was received begins with the line `accepted`, all that the certificate claims holds
-abbrev pub AcceptsTruly : AnyCertificate → Desk → List ℕ → Type 0
-AcceptsTruly c desk received = (more : List ℕ) → received ≡ codes "accepted\n" ++ more → AnyClaimHolds c desk (marks_for c desk)
+abbrev pub AcceptsTruly : Scoped → Desk → List ℕ → Type 0
+AcceptsTruly c desk received = (more : List ℕ) → received ≡ codes "accepted\n" ++ more → AnyClaimHolds c.body desk (marks_for c desk)
 
 -- what was received of a text is true of what it speaks of: it claims nothing false of the runs; it is the line of the proposal; it accepts only a certificate
 -- of which all that it claims holds; and where it speaks of nothing, it claims nothing false of any desk
 abbrev pub IsTrueOf : About → List ℕ → Type 0
 IsTrueOf (OfRuns s) received = IsTrueOfRuns s received
 IsTrueOf (OfProposal s) received = IsTrueOfRuns s received × IsTrueProposal s.measure s.desk s.marks received
-IsTrueOf (OfCheck c desk) received = IsTrueText (any_measure c) desk (marks_for c desk) received × AcceptsTruly c desk received
+IsTrueOf (OfCheck c desk) received = IsTrueText (any_measure c.body) desk (marks_for c desk) received × AcceptsTruly c desk received
 IsTrueOf OfNothing received = (measure : MeasureName) (desk : Desk) (marks : List (List Mark)) → IsTrueText measure desk marks received
 
 -- what was received of each text is true

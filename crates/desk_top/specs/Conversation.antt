@@ -22,7 +22,7 @@ use Rattle.desk_top.specs.Told.{WritesLine, long_input_line}
 
 -- what the session of a job is over
 abbrev pub setting_on : Job → Desk → Setting
-setting_on job desk = record { measure = job.measure; level = job.level; desk = desk }
+setting_on job desk = record { measure = job.measure; level = job.level; depth = job.depth; desk = desk }
 
 -- what a reply to a line speaks of: the desk with the judgements in force after changes, and at `next` the document to judge next on it
 abbrev pub about_reply : Setting → List Change → Heard → About

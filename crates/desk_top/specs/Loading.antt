@@ -5,7 +5,7 @@ use Rattle.desk_outside.specs.Outside.{Files}
 use Rattle.desk_outside.specs.Seen.{Shelf}
 use Rattle.desk_words.specs.declared.command.Check.{Check}
 use Rattle.desk_words.specs.declared.command.Job.{Job}
-use Rattle.order_bundle.specs.declared.any_certificate.AnyCertificate.{AnyCertificate}
+use Rattle.order_bundle.specs.declared.scoped.Scoped.{Scoped}
 use Rattle.desk_files.specs.Files.{Stop, Outside, Memory}
 use Rattle.desk_files.specs.Load.{Loaded, loaded, DeskMayOpen, Opens}
 use Rattle.desk_files.specs.Checks.{CheckComes, CheckMayOpen}
@@ -38,7 +38,7 @@ desk_loading job = record {
 -- the rows of the desk of a check, and a certificate
 abbrev pub check_loading : Check → Loading
 check_loading check = record {
-  Found = Loaded × AnyCertificate;
+  Found = Loaded × Scoped;
   comes = λ known found. MayCome known (λ files found. CheckComes files check found) found;
   opens = λ known names. CheckMayOpen known check names;
 }

@@ -2,14 +2,15 @@
 use Rattle.std.specs.Prelude.{◌≡◌, ℕ, ◌≤◌, List, length, map, Option}
 use Rattle.desk_outside.specs.Outside.{Files}
 use Rattle.desk_words.specs.declared.command.Job.{Job}
+use Rattle.desk_model.specs.Closing.{closed_under}
 use Rattle.desk_model.specs.Desk.{Desk, file_marks}
 use Rattle.desk_model.specs.MeasureText.{IsMeasure}
 use Rattle.desk_model.specs.declared.types.Mark.{Mark}
 use Rattle.desk_model.specs.declared.types.MeasureName.{MeasureName}
 use Rattle.topic_counts.specs.declared.span.Span.{Span}
 use Rattle.measure_core.specs.declared.cell.Cell.{Cell}
-use Rattle.order_certificate.specs.Certificate.{IsLevel}
 use Rattle.topics_pool.specs.Rows.{IsDeskOf}
+use Rattle.desk_report.specs.Grading.{Grading, IsGrading}
 use Rattle.desk_report.specs.Reports.{Subject, subject, IsTableOn}
 use Rattle.desk_files.specs.Load.{Sources, sources, Loaded, Reads}
 use Rattle.bundle_report.specs.declared.report.Bundled.{Bundled}
@@ -26,19 +27,23 @@ use Rattle.desk_top.specs.Told.{too_long_line}
 abbrev pub sources_of : Job → Sources
 sources_of job = sources job.qrels job.runs
 
+-- how the grades of a job are read
+abbrev pub grading_of : Job → Grading
+grading_of job = record { level = job.level; depth = job.depth }
+
 -- a job that can be done on a desk of so many runs at least
 pub record IsAsked (least : ℕ) (job : Job) : Type 0 where
   pub measure : IsMeasure job.measure
-  pub level : IsLevel job.level
+  pub grading : IsGrading (grading_of job)
   pub runs : least ≤ length job.runs
 
--- the marks that the judgements file gives the documents of a desk
+-- the marks that the judgements file gives the documents of a desk, under the depth of the job
 abbrev pub marks_in : Job → Desk → List (List Mark)
-marks_in job desk = map (file_marks job.level) desk.topics
+marks_in job desk = closed_under desk job.depth (map (file_marks job.level) desk.topics)
 
 -- what a report on the desk of a job speaks of
 abbrev pub subject_of : Job → Desk → Subject
-subject_of job desk = subject job.measure job.level desk (marks_in job desk)
+subject_of job desk = subject job.measure job.level job.depth desk (marks_in job desk)
 
 -- what was made of the answer to two runs
 abbrev pub shown_as : Certified → Made

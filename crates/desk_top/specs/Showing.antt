@@ -1,5 +1,5 @@
 -- What `demo` makes.
-use Rattle.std.specs.Prelude.{◌≡◌, ◌⊎◌, ℕ, ◌+◌, ◌≤◌, List, [], ◌∷◌, ◌++◌, map, flat_map}
+use Rattle.std.specs.Prelude.{◌≡◌, ◌⊎◌, ℕ, ◌+◌, ◌≤◌, List, [], ◌∷◌, ◌++◌, map, flat_map, None}
 use Rattle.desk_model.specs.Desk.{Desk, file_marks}
 use Rattle.desk_model.specs.Verdict.{verdict}
 use Rattle.desk_model.specs.declared.types.MeasureName.TheVariants.{Precision}
@@ -15,7 +15,7 @@ use Rattle.desk_top.specs.Outcome.{Outcome, Prints}
 
 -- the demo is by precision at 10, and grades from 1 are relevant
 abbrev pub demo_subject : Desk → Subject
-demo_subject desk = subject (Precision 10) 1 desk (map (file_marks 1) desk.topics)
+demo_subject desk = subject (Precision 10) 1 None desk (map (file_marks 1) desk.topics)
 
 -- the lines of the summary of a demo over its desk, of which so many rows were kept, and the line of what is to be judged next
 pub record AreDemoTexts (seed : ℕ) (desk : Desk) (rows : ℕ) (lines : List (List ℕ)) (next : List ℕ) : Type 0 where

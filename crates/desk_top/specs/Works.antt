@@ -42,7 +42,7 @@ pub record HoldsSession (meaning : Meaning) (found : meaning.loading.Found) (s :
 abbrev pub MakesOutcome : (meaning : Meaning) → ℕ → ℕ → meaning.loading.Found → Made → Type 0
 MakesOutcome meaning before after found (made.Prints text status) = MakesText meaning found text.items status × CountsFor meaning before after found
 MakesOutcome meaning before after found (made.Refuses line) = ((input : Input) → meaning.answers found input (told_with statuses.Refused line.items)) × CountsFor meaning before after found
-MakesOutcome meaning before after found (made.Holds desk measure level) = HoldsSession meaning found (record { measure = measure; level = level; desk = desk }) × (after ≡ before)
+MakesOutcome meaning before after found (made.Holds desk measure grading) = HoldsSession meaning found (record { measure = measure; level = grading.level; depth = grading.depth; desk = desk }) × (after ≡ before)
 
 -- why files did not come to anything: to that refusal they come; the shelf failed, or one is missing; memory may run out at any time
 abbrev pub StopsLoading : Loading → Shelf → KeptStop → Type 0

@@ -7,6 +7,7 @@ use crate::status::Status;
 use crate::tell::tell_outside;
 use desk_model::{Desk, MeasureName};
 use desk_outside::{Sink, put_all};
+use desk_report::Grading;
 
 /// What a command makes of what its files come to.
 #[derive(Drop)]
@@ -20,11 +21,11 @@ pub enum Outcome {
     Refuses {
         line: Vec<u8>,
     },
-    /// A desk on which a session is held, by a measure and at a level from 1 to 1,000.
+    /// A desk on which a session is held, by a measure and with grades that are read so.
     Holds {
         desk: Desk,
         measure: MeasureName,
-        level: u32,
+        grading: Grading,
     },
 }
 

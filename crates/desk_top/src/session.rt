@@ -18,6 +18,7 @@ use crate::tell::{tell_long_input, tell_memory, tell_outside};
 use crate::tools::Tools;
 use desk_files::{Stop, load_desk};
 use desk_outside::{Shelf, Sink, Source};
+use desk_report::Grading;
 use desk_words::Job;
 use measure_core::{Maker, Steps};
 use session_replies::Given;
@@ -41,7 +42,7 @@ pub fn session_outcome<'a, F: Shelf>(
     Ok(Outcome::Holds {
         desk,
         measure: job.measure,
-        level: job.level,
+        grading: Grading::new(job.level, job.depth),
     })
 }
 

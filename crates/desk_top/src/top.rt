@@ -44,13 +44,13 @@ fn run_command<F: Shelf, S: Source, K: Sink, E: Sink, P: Maker, L: Ledger>(
             Outcome::Holds {
                 desk,
                 measure,
-                level,
+                grading,
             },
         ) => {
             let given = Given {
                 desk: &desk,
                 measure: &measure,
-                level,
+                grading,
             };
             answer_session(tools, &given, input, out, err, steps)
         }

@@ -22,7 +22,7 @@ use bundle_report::{Bundled, bundle_report};
 use desk_files::{Stop, load_desk};
 use desk_model::{Desk, Marks};
 use desk_outside::Shelf;
-use desk_report::{Certified, certified_report, table_report};
+use desk_report::{Certified, Grading, certified_report, table_report};
 use desk_words::{Command, Job};
 use measure_core::{Maker, Measure, Steps};
 use pair_table::{Table, table_on};
@@ -56,7 +56,7 @@ fn tabled<'a, F: Shelf, P: Maker, L: Ledger>(
 {
     let desk = load_desk(tools.alloc, files, &job.qrels, &job.runs)?;
     desk.valid();
-    let marks = Marks::of_file(tools.alloc, &desk, job.level, None)?;
+    let marks = Marks::of_file(tools.alloc, &desk, job.level, job.depth)?;
     let table = table_on(tools.alloc, &desk, &marks, job.measure, tools.maker, steps)?;
     Ok(DeskTable { desk, marks, table })
 }
@@ -75,7 +75,8 @@ pub fn table_outcome<'a, F: Shelf, P: Maker, L: Ledger>(
     ensures files { (F.state files.new).files ≡ (F.state files.old).files }
 {
     let on = tabled(tools, job, files, steps)?;
-    let text = table_report(tools.alloc, &on.desk, job.level, &on.table)?;
+    let grading = Grading::new(job.level, job.depth);
+    let text = table_report(tools.alloc, &on.desk, grading, &on.table)?;
     Ok(Outcome::Prints {
         text,
         status: Status::Done,
@@ -112,7 +113,8 @@ pub fn certificate_outcome<'a, F: Shelf, P: Maker, L: Ledger>(
     ensures files { (F.state files.new).files ≡ (F.state files.old).files }
 {
     let on = tabled(tools, job, files, steps)?;
-    let answer = certified_report(tools.alloc, &on.desk, &on.marks, job.level, &on.table, 0, 1)?;
+    let grading = Grading::new(job.level, job.depth);
+    let answer = certified_report(tools.alloc, &on.desk, &on.marks, grading, &on.table, 0, 1)?;
     Ok(shown(answer))
 }
 
@@ -146,7 +148,8 @@ pub fn all_pairs_outcome<'a, F: Shelf, P: Maker, L: Ledger>(
     ensures files { (F.state files.new).files ≡ (F.state files.old).files }
 {
     let on = tabled(tools, job, files, steps)?;
-    let answer = bundle_report(tools.alloc, &on.desk, &on.marks, job.level, &on.table)?;
+    let grading = Grading::new(job.level, job.depth);
+    let answer = bundle_report(tools.alloc, &on.desk, &on.marks, grading, &on.table)?;
     let outcome = all_shown(tools.alloc, answer)?;
     Ok(outcome)
 }

@@ -15,6 +15,8 @@ mod cuts;
 #[cfg(test)]
 mod demos;
 #[cfg(test)]
+mod depths;
+#[cfg(test)]
 mod failing;
 #[cfg(test)]
 mod files;

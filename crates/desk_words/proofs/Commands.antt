@@ -1,6 +1,6 @@
 -- No words are of two commands.
 use Rattle.std.proofs.Common.{◌≡◌, ℕ, Bool, true, false, List, [], ◌∷◌, length, map, refl, ap, sym, subst, ◌∙◌, arith, codes, decimal, inl, inr}
-use Rattle.std.specs.Prelude.{Some, None, find, if◌then◌else◌, unwrap_or}
+use Rattle.std.specs.Prelude.{Option, Some, None, find, if◌then◌else◌, unwrap_or}
 use Rattle.std.specs.List.{AllByRecursion}
 use Rattle.std.specs.Str.{bytes_eq}
 use Rattle.std.proofs.lemmas.Slice.Eq.{bytes_eq-Decides}
@@ -10,7 +10,7 @@ use Rattle.command_line.specs.Given.{Values}
 use Rattle.desk_model.specs.declared.types.MeasureName.{MeasureName}
 use Rattle.desk_model.specs.MeasureText.{IsTextOf}
 use Rattle.desk_model.proofs.Decimals.{unique}
-use Rattle.desk_words.specs.Words.{AsksForAll, AsksForTwo, IsCommandAfter, IsLevelOf, IsMeasureOf, Says, SaysCheck, SaysJob, verb_for, verb_of, word_of}
+use Rattle.desk_words.specs.Words.{AsksForAll, AsksForTwo, IsCommandAfter, IsDepthOf, IsLevelOf, IsMeasureOf, Says, SaysCheck, SaysJob, verb_for, verb_of, word_of}
 use Rattle.desk_words.specs.Laws.{CommandIsUnique}
 use Rattle.desk_words.specs.declared.read.Verb.{Verb}
 use Rattle.desk_words.specs.declared.command.RunWord.{RunWord}
@@ -31,6 +31,12 @@ one_level values a b (inl h) (inr k) = let no : [] ≡ decimal b ∷ [] = sym h.
 one_level values a b (inr h) (inl k) = let no : decimal a ∷ [] ≡ [] = sym h.0 ∙ k.0 in cc
 one_level values a b (inr h) (inr k) = decimal_injective a b (omega arith) (omega arith) (one_value values (decimal a) (decimal b) h.0 k.0)
 
+one_depth : (values : List Text) (a b : Option ℕ) → IsDepthOf values a → IsDepthOf values b → a ≡ b
+one_depth values None None h k = refl
+one_depth values None (Some b) h k = let no : [] ≡ decimal b ∷ [] = sym h ∙ k.0 in cc
+one_depth values (Some a) None h k = let no : decimal a ∷ [] ≡ [] = sym h.0 ∙ k in cc
+one_depth values (Some a) (Some b) h k = ap Some (decimal_injective a b (omega arith) (omega arith) (one_value values (decimal a) (decimal b) h.0 k.0))
+
 all_same : (runs others : List RunWord) → map Some runs ≡ map Some others → runs ≡ others
 all_same [] [] e = refl
 all_same [] (y ∷ ys) e = cc
@@ -46,8 +52,9 @@ one_job values a b h k =
     let qrels = one_value _ a.qrels b.qrels h.qrels.0 k.qrels.0 in
     let measure = one_measure _ a.measure b.measure h.measure k.measure in
     let level = one_level _ a.level b.level h.level k.level in
+    let depth = one_depth _ a.depth b.depth h.depth k.depth in
     let runs = all_same a.runs b.runs (sym h.runs.each ∙ k.runs.each) in
-    λ i. record { qrels = qrels i; measure = measure i; level = level i; runs = runs i }
+    λ i. record { qrels = qrels i; measure = measure i; level = level i; depth = depth i; runs = runs i }
 
 one_check : (values : Values) (a b : Check) → SaysCheck values a → SaysCheck values b → a ≡ b
 one_check values a b h k =

@@ -35,7 +35,7 @@ verb_of word = find (λ v. bytes_eq (word_of v) word) all_verbs
 -- runs under a measure, as many as the least number or more
 abbrev pub takes_runs : ℕ → Takes
 takes_runs least =
-    record { needed = codes "qrels" ∷ codes "measure" ∷ []; optional = codes "level" ∷ []; flags = []; other = codes "RUN"; least = least; most = RUN_LIMIT }
+    record { needed = codes "qrels" ∷ codes "measure" ∷ []; optional = codes "level" ∷ codes "depth" ∷ []; flags = []; other = codes "RUN"; least = least; most = RUN_LIMIT }
 
 -- the same, and a flag that asks for all their pairs
 abbrev pub takes_pairs : ℕ → Takes
@@ -84,6 +84,11 @@ IsMeasureOf values measure = (text : Text) × (values ≡ text ∷ []) × IsMeas
 abbrev pub IsLevelOf : List Text → ℕ → Type 0
 IsLevelOf values level = ((values ≡ []) × (level ≡ 1)) ⊎ ((values ≡ decimal level ∷ []) × (1 ≤ level) × (level ≤ 1000))
 
+-- one value, a number in digits from 1 to 10,000; with no value there is no depth
+abbrev pub IsDepthOf : List Text → Option ℕ → Type 0
+IsDepthOf values None = values ≡ []
+IsDepthOf values (Some depth) = (values ≡ decimal depth ∷ []) × (1 ≤ depth) × (depth ≤ 10000)
+
 -- one value, a number of 32 bits in digits
 abbrev pub IsSeedOf : List Text → ℕ → Type 0
 IsSeedOf values seed = (values ≡ decimal seed ∷ []) × (seed < 2 ^ 32)
@@ -99,6 +104,7 @@ pub record SaysJob (values : Values) (job : Job) : Type 0 where
   pub qrels : IsPathOf (values (codes "qrels")) job.qrels
   pub measure : IsMeasureOf (values (codes "measure")) job.measure
   pub level : IsLevelOf (values (codes "level")) job.level
+  pub depth : IsDepthOf (values (codes "depth")) job.depth
   pub runs : AreRunsOf (values (codes "RUN")) job.runs
 
 -- the values say this check

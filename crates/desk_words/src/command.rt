@@ -31,6 +31,9 @@ pub struct Job {
     pub measure: MeasureName,
     /// The least grade of a relevant document, from 1 to 1,000.
     pub level: u32,
+    /// The depth of the pool outside which a document without a grade counts as not relevant, from 1 to 10,000, or
+    /// none.
+    pub depth: Option<u32>,
     /// The runs in the order of the words; for a certificate two at least.
     pub runs: RunWords,
 }

@@ -7,7 +7,7 @@ ghost use Rattle.desk_words.specs.declared.command.Job.{Job};
 ghost use Rattle.desk_words.specs.declared.command.Check.{Check};
 
 use crate::command::{Check, Command, Job};
-use crate::value::{level, measure, path, runs, seed};
+use crate::value::{depth, level, measure, path, runs, seed};
 use command_line::{Given, Row, WordsFault};
 use desk_model::MOST_RUNS;
 use std::alloc::Global;
@@ -68,7 +68,7 @@ fn runs_from(least: usize) -> Row
 {
     Row {
         needed: &["qrels", "measure"],
-        optional: &["level"],
+        optional: &["level", "depth"],
         flags: &[],
         other: "RUN",
         least,
@@ -140,6 +140,7 @@ fn job(alloc: Global, given: &Given) -> Result<Job, WordsFault>
         qrels: path(alloc, given.values("qrels"))?,
         measure: measure(given.values("measure")).ok_or(WordsFault::Usage)?,
         level: level(given.values("level")).ok_or(WordsFault::Usage)?,
+        depth: depth(given.values("depth"))?,
         runs: runs(alloc, given.values("RUN"))?,
     })
 }

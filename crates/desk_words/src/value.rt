@@ -1,8 +1,8 @@
 //! The values of one entry.
-ghost use Rattle.std.specs.Prelude.{◌≡◌, ◌≢◌, ℕ, IfOk, Err, Some, None, map, List, decimal, [], ◌∷◌, ◌<◌, ◌≤◌, ◌^◌, length, IfSome, IfNone};
+ghost use Rattle.std.specs.Prelude.{◌≡◌, ◌≢◌, ℕ, IfErr, IfOk, Err, Option, Some, None, map, List, decimal, [], ◌∷◌, ◌<◌, ◌≤◌, ◌^◌, length, IfSome, IfNone};
 ghost use Rattle.clap.specs.Words.{Text};
 ghost use Rattle.desk_model.specs.declared.types.MeasureName.{MeasureName};
-ghost use Rattle.desk_words.specs.Words.{IsPathOf, IsMeasureOf, IsLevelOf, IsSeedOf, AreRunsOf, named, run_word_of};
+ghost use Rattle.desk_words.specs.Words.{IsPathOf, IsMeasureOf, IsDepthOf, IsLevelOf, IsSeedOf, AreRunsOf, named, run_word_of};
 ghost use Rattle.desk_words.specs.declared.command.RunWord.{RunWord};
 
 use crate::command::{Path, RunWord, RunWords};
@@ -40,21 +40,37 @@ pub fn level(values: &[&str]) -> Option<u32>
 {
     match *values {
         [] => Some(1),
-        [text] => level_in(text),
+        [text] => number_from_1(text, 1_000),
         _ => None,
     }
 }
 
-// The level that the text says.
-fn level_in(text: &str) -> Option<u32>
-    ensures some { IfSome result (λ n. (text.now ≡ decimal n) × (1 ≤ n) × (n ≤ 1000)) }
-    ensures none { IfNone result ((n : ℕ) → 1 ≤ n → n ≤ 1000 → text.now ≢ decimal n) }
+/// The depth that the one value says, or none where there is no value. `Usage` comes exactly where the values say
+/// neither.
+pub fn depth(values: &[&str]) -> Result<Option<u32>, WordsFault>
+    ensures ok { IfOk result (λ depth. IsDepthOf (map (λ v. v.now) values.now) depth) }
+    ensures usage { IfErr result (λ fault. (fault ≡ WordsFault.Usage) × ((depth : Option ℕ) → IsDepthOf (map (λ v. v.now) values.now) depth → ⊥)) }
 {
-    let level = number(text, 1000)?;
-    if level == 0 {
+    match *values {
+        [] => Ok(None),
+        [text] => match number_from_1(text, 10_000) {
+            Some(depth) => Ok(Some(depth)),
+            None => Err(WordsFault::Usage),
+        },
+        _ => Err(WordsFault::Usage),
+    }
+}
+
+// The number from 1 on that the text is, in digits with no sign and no leading zero.
+fn number_from_1(text: &str, most: u32) -> Option<u32>
+    ensures some { IfSome result (λ n. (text.now ≡ decimal n) × (1 ≤ n) × (n ≤ most)) }
+    ensures none { IfNone result ((n : ℕ) → 1 ≤ n → n ≤ most → text.now ≢ decimal n) }
+{
+    let number = number(text, most)?;
+    if number == 0 {
         return None;
     }
-    Some(level)
+    Some(number)
 }
 
 // The number that the text is, in digits with no sign and no leading zero.

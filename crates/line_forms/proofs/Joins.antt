@@ -15,6 +15,10 @@ pub text_of-append : (ls ms : List (List ℕ)) → text_of (ls ++ ms) ≡ text_o
 text_of-append [] ms = refl
 text_of-append (l ∷ ls) ms = ap (λ x. ended l ++ x) (text_of-append ls ms) ∙ sym (append_assoc (ended l) (text_of ls) (text_of ms))
 
+-- lines, and others
+pub lines_and_rest : (o p q : List ℕ) (lines rest : List (List ℕ)) → p ≡ o ++ text_of lines → q ≡ p ++ text_of rest → q ≡ o ++ text_of (lines ++ rest)
+lines_and_rest o p q lines rest e f = f ∙ ap (λ x. x ++ text_of rest) e ∙ append_assoc o (text_of lines) (text_of rest) ∙ ap (λ x. o ++ x) (sym (text_of-append lines rest))
+
 -- the next of values, and those after it
 pub next_and_rest : {V : Type 0} (vs : List V) (i : ℕ) (v : V) → i < length vs → v ≡ get_or vs i v → drop i vs ≡ v ∷ drop (i + 1) vs
 next_and_rest vs i v lt is = drop_more vs i v lt ∙ ap (λ w. w ∷ drop (i + 1) vs) (sym is)

@@ -17,3 +17,4 @@ pub mod EachPlace
 pub mod Lengths
 pub mod Tested
 pub mod Decided
+pub mod OrLine

@@ -1,5 +1,5 @@
 -- What a reader of a part of a text answers.
-use Rattle.std.specs.Prelude.{◌≡◌, ◌≢◌, ℕ, List, [], ◌∷◌, ◌++◌, Result, Ok, Err}
+use Rattle.std.specs.Prelude.{◌≡◌, ◌≢◌, ℕ, List, [], ◌∷◌, ◌++◌, Option, Some, None, Result, Ok, Err}
 use Rattle.std.specs.List.{AllByRecursion}
 use Rattle.line_forms.specs.declared.lines.FormFault.{FormFault}
 use Rattle.line_forms.specs.declared.lines.FormFault.TheVariants.{Bad, Memory}
@@ -36,6 +36,15 @@ abbrev pub IsPartOf : {P : Type 0} → (P → List ℕ) → (P → Type 0) → L
 IsPartOf show Fits line (Ok part) = Fits part × (line ≡ show part)
 IsPartOf {P} show Fits line (Err Bad) = (part : P) → Fits part → line ≢ show part
 IsPartOf show Fits line (Err Memory) = Unit {0}
+
+-- bytes do not begin with a line that shows a part that fits
+abbrev pub BeginsWithNone : {P : Type 0} → (P → List ℕ) → (P → Type 0) → List ℕ → Type 0
+BeginsWithNone {P} show Fits bytes = (part : P) (more : List ℕ) → Fits part → bytes ≢ ended (show part) ++ more
+
+-- the part that the next line shows, which was taken; or that line shows none that fits, and nothing was taken
+abbrev pub IsTakenIfNext : {P : Type 0} → (P → List ℕ) → (P → Type 0) → Left → Option P → Left → Type 0
+IsTakenIfNext show Fits old (Some part) new = Fits part × (old.rest ≡ ended (show part) ++ new.rest)
+IsTakenIfNext show Fits old None new = BeginsWithNone show Fits old.rest × (new ≡ old)
 
 -- bytes without one byte
 abbrev pub IsFreeOf : ℕ → List ℕ → Type 0

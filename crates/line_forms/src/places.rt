@@ -1,13 +1,14 @@
 //! Lines of the commonest kinds, each taken at its place.
-ghost use Rattle.std.specs.Prelude.{◌≡◌, ◌≢◌, ◌++◌, ◌<◌, ◌≤◌, decimal, IfSome};
+ghost use Rattle.std.specs.Prelude.{◌≡◌, ◌≢◌, ◌++◌, ◌<◌, ◌≤◌, decimal, IfSome, IfNone};
 ghost use Rattle.desk_model.specs.Limits.{DOCUMENT_LIMIT};
 ghost use Rattle.line_forms.specs.Form.{ended};
 ghost use Rattle.line_forms.specs.Places.{fixed_place, later_name_place, name_and_count_place, name_place, number_place};
-ghost use Rattle.line_forms.specs.Reading.{IsReading, IsFreeOf};
+ghost use Rattle.line_forms.specs.Reading.{BeginsWithNone, IsReading, IsFreeOf, IsTakenIfNext};
 
-use crate::lines::{FormFault, TextLines, after};
+use crate::lines::{FormFault, TextLines, after, cut};
 use crate::parts::{
-    ended_number, fixed_of, later_name_of, name_and_count_of, name_of, number_below_of, number_of,
+    count, ended_number, fixed_of, later_name_of, name_and_count_of, name_of, number_below_of,
+    number_of,
 };
 use desk_model::Name;
 use std::alloc::Global;
@@ -64,6 +65,46 @@ pub fn number_line(
     match lines.next_line() {
         Some(line) => number_of(line, word, least, most),
         None => Err(FormFault::Bad),
+    }
+}
+
+// The number from `least` to `most` that the first line of a text says after a word, and what follows that line.
+fn first_number<'a>(text: &'a [u8], word: &[u8], least: u64, most: u64) -> Option<(u32, &'a [u8])>
+    requires word { IsFreeOf 10 word.now }
+    requires most { most ≤ DOCUMENT_LIMIT }
+    ensures some { IfSome result (λ p. text.now ≡ ended (word.now ++ decimal p.0) ++ p.1.now) }
+    ensures within { IfSome result (λ p. (least ≤ p.0) × (p.0 ≤ most)) }
+    ensures none { IfNone result (BeginsWithNone (λ n. word.now ++ decimal n) (λ n. (least ≤ n) × (n ≤ most)) text.now) }
+{
+    let Some((line, rest)) = cut(text, b'\n') else {
+        return None;
+    };
+    let Some(digits) = after(line, word) else {
+        return None;
+    };
+    match count(digits, least, most) {
+        Some(number) => Some((number, rest)),
+        None => None,
+    }
+}
+
+/// Takes a word and a number from `least` to `most`, if they are the next line; else nothing is taken.
+pub fn number_line_if_next(
+    lines: &mut TextLines<'_>,
+    word: &[u8],
+    least: u64,
+    most: u64,
+) -> Option<u32>
+    requires word { IsFreeOf 10 word.now }
+    requires most { most ≤ DOCUMENT_LIMIT }
+    ensures { IsTakenIfNext (λ n. word.now ++ decimal n) (λ n. (least ≤ n) × (n ≤ most)) lines.old result lines.new }
+{
+    match first_number(lines.rest(), word, least, most) {
+        Some((number, rest)) => {
+            lines.take_up_to(rest);
+            Some(number)
+        }
+        None => None,
     }
 }
 

@@ -1,12 +1,13 @@
--- Bytes are the text of a certificate of either version or have a first bad line, and no line is long.
-use Rattle.std.proofs.Common.{◌⊎◌, ℕ, zero, suc, ◌+◌, ◌/◌, ◌%◌, ◌≤◌, Bool, true, false, List, [], ◌∷◌, ◌++◌, length, cond, arith, length-append}
+-- Bytes are the text of a certificate of either version or have a first bad line, and no line is long; with the line of a depth or without.
+use Rattle.std.proofs.Common.{◌⊎◌, inl, inr, ℕ, zero, suc, ◌+◌, ◌/◌, ◌%◌, ◌≤◌, Bool, true, false, List, [], ◌∷◌, ◌++◌, length, cond, arith, length-append}
 use Rattle.std.specs.Prelude.{codes, decimal, ◌==◌}
 use Rattle.std.specs.List.{All}
 use Rattle.std.specs.Fmt.{digit_glyph, digits, digits_onto, signed_decimal}
 use Rattle.std.proofs.lemmas.List.Elements.{All-from_recursion}
-use Rattle.line_forms.specs.Form.{CanStand, IsFirstBad}
+use Rattle.line_forms.specs.Form.{CanStand, IsFirstBad, IsTextIn}
 use Rattle.line_forms.proofs.Decided.{AreTested, text_or_bad}
 use Rattle.line_forms.proofs.Lengths.{AreShort, IsShortLine, count_short, name_short, number_short, signed_most, stand_short, word_short}
+use Rattle.line_forms.proofs.OrLine.{short_either, tested_either}
 use Rattle.line_forms.proofs.Tested.{later_name_found, name_and_count_found}
 use Rattle.order_certificate.specs.Places.{claim_line}
 use Rattle.order_certificate.specs.declared.places.Claim.{Claim}
@@ -15,19 +16,21 @@ use Rattle.order_certificate.proofs.Decided.{places_tested}
 use Rattle.order_certificate.proofs.Lengths.{places_short}
 use Rattle.order_certificate.proofs.Whole.{OneMeasure}
 use Rattle.order_bundle.specs.Bundle.{runs_text}
-use Rattle.order_bundle.specs.Places.{IsAnyText, any_places, version_line}
+use Rattle.order_bundle.specs.Places.{IsAnyText, any_places, places_with, version_line}
 use Rattle.order_bundle.specs.declared.any_certificate.AnyCertificate.{AnyCertificate}
 use Rattle.order_bundle.specs.declared.any_certificate.Version.{Version}
 use Rattle.order_bundle.specs.declared.any_certificate.Version.TheVariants as version
-use Rattle.order_bundle.proofs.Either.{any_plain}
-use Rattle.order_bundle.proofs.EveryLine.{AtAnyPlaces, in_any}
-use Rattle.order_bundle.proofs.Known.{both_bounds_found, bound_found, claim_count_found, head_found, list_count_found, pick_found, run_count_found, version_found}
+use Rattle.order_bundle.specs.declared.scoped.Scoped.{Scoped}
+use Rattle.order_bundle.proofs.Either.{places_plain, text_of_body}
+use Rattle.order_bundle.proofs.EveryLine.{AtAnyPlaces, in_places}
+use Rattle.order_bundle.proofs.Known.{both_bounds_found, bound_found, claim_count_found, depth_found, head_found, list_count_found, pick_found, run_count_found, version_found}
 
 -- ---- each line can be tested
 any_tested : AtAnyPlaces AreTested
 any_tested = record {
   one = places_tested;
   version = version_found;
+  depth = depth_found;
   runs = run_count_found;
   run = later_name_found (codes "run ");
   topic = name_and_count_found (codes "topic ") 25000000;
@@ -40,8 +43,14 @@ any_tested = record {
   pick = pick_found;
 }
 
+pub text_or_bad_with : OneMeasure → (depths : Bool) (bytes : List ℕ) → ((s : Scoped) × IsTextIn (places_with depths) bytes s) ⊎ ((n : ℕ) × IsFirstBad (places_with depths) bytes n)
+text_or_bad_with unique depths bytes = text_or_bad (places_with depths) (places_plain unique depths) (in_places AreTested tested_either any_tested depths) bytes
+
 pub any_or_bad : OneMeasure → (bytes : List ℕ) → ((a : AnyCertificate) × IsAnyText bytes a) ⊎ ((n : ℕ) × IsFirstBad any_places bytes n)
-any_or_bad unique bytes = text_or_bad any_places (any_plain unique) (in_any AreTested any_tested) bytes
+any_or_bad unique bytes = elim (text_or_bad_with unique false bytes) [
+  | inl h ↦ inl (h.0.body, text_of_body bytes h.0 h.1)
+  | inr bad ↦ inr bad
+]
 
 -- ---- each line is short
 -- a number has 64 digits at most, as it is written
@@ -70,6 +79,7 @@ any_short : AtAnyPlaces AreShort
 any_short = record {
   one = places_short;
   version = λ v fits. version_short v;
+  depth = λ d fits. number_short (codes "depth ") d (omega arith) (omega (arith, fits));
   runs = λ n fits. number_short (codes "runs ") n (omega arith) (omega (arith, fits));
   run = λ before name fits. name_short (codes "run ") name (omega arith) fits.0;
   topic = λ before p fits. count_short (codes "topic ") p.0 p.1 (omega arith) fits.0.0 fits.1;
@@ -89,5 +99,5 @@ any_short = record {
   pick = λ docs least k fits. let most = number_most k in word_short (codes "pick ") (decimal k) (omega arith) (omega arith);
 }
 
-pub any_lines_short : (lines : List (List ℕ)) → CanStand any_places lines → All IsShortLine lines
-any_lines_short lines stand = All-from_recursion IsShortLine lines (stand_short any_places lines (in_any AreShort any_short) stand)
+pub lines_short : (depths : Bool) (lines : List (List ℕ)) → CanStand (places_with depths) lines → All IsShortLine lines
+lines_short depths lines stand = All-from_recursion IsShortLine lines (stand_short (places_with depths) lines (in_places AreShort short_either any_short depths) stand)

@@ -1,19 +1,18 @@
 -- What the first line of a text says of the lines after it.
-use Rattle.std.proofs.Common.{◌≡◌, ◌≢◌, ℕ, List, [], ◌∷◌, ◌++◌, refl, ap, sym, subst, ◌∙◌, append_assoc}
-use Rattle.std.specs.Prelude.{codes}
+use Rattle.std.proofs.Common.{◌≡◌, ◌≢◌, ℕ, false, List, [], ◌∷◌, ◌++◌, refl, ap, sym, subst, ◌∙◌, append_assoc}
+use Rattle.std.specs.Prelude.{None, codes}
 use Rattle.line_forms.specs.Form.{Form, Whole, Line, Spells, CanStand, IsFirstBad, bind, ended, text_of}
 use Rattle.line_forms.proofs.Cuts.{AreAbove, same_parts, first_ended}
 use Rattle.line_forms.proofs.Forms.{IsPlain, stands_lines}
 use Rattle.line_forms.proofs.Spelling.{made_back, made_forth}
 use Rattle.order_certificate.specs.Places.{certificate_places, from_measure}
 use Rattle.order_certificate.specs.declared.certificate.Certificate.{Certificate}
-use Rattle.order_certificate.proofs.Whole.{OneMeasure, places_plain, version_plain as version_1_plain}
+use Rattle.order_certificate.proofs.Whole.{OneMeasure, places_plain as version_1_places_plain, version_plain as version_1_plain}
 use Rattle.order_bundle.specs.Places.{after_version, any_places, version_line}
-use Rattle.order_bundle.specs.declared.any_certificate.AnyCertificate.{AnyCertificate}
-use Rattle.order_bundle.specs.declared.any_certificate.AnyCertificate.TheVariants.{One}
 use Rattle.order_bundle.specs.declared.any_certificate.Version.{Version}
 use Rattle.order_bundle.specs.declared.any_certificate.Version.TheVariants as version
-use Rattle.order_bundle.proofs.Either.{any_plain, version_one}
+use Rattle.order_bundle.specs.declared.scoped.Scoped.{Scoped}
+use Rattle.order_bundle.proofs.Either.{one_under, places_plain, version_one}
 
 -- what stands in a form stands where its value is only made into another
 made_stands : {V X : Type 0} (form : Form V) (make : V → X) (ls : List (List ℕ)) → CanStand form ls → CanStand (bind form (λ v. Whole (make v))) ls
@@ -60,27 +59,30 @@ one_above : AreAbove 10 first_line
 one_above = version_1_plain.1 tt tt
 
 abbrev StandsAfter : Version → List (List ℕ) → Type 0
-StandsAfter v ls = CanStand (after_version v) ls
+StandsAfter v ls = CanStand (after_version false v) ls
+
+abbrev made : Certificate → Scoped
+made = one_under None
 
 to_any : (ls : List (List ℕ)) → CanStand certificate_places (first_line ∷ ls) → CanStand any_places (first_line ∷ ls)
-to_any ls (_, _, _, s) = (version.One, tt, refl, made_stands from_measure One ls s)
+to_any ls (_, _, _, s) = (version.One, tt, refl, made_stands from_measure made ls s)
 
 from_any : (ls : List (List ℕ)) → CanStand any_places (first_line ∷ ls) → CanStand certificate_places (first_line ∷ ls)
-from_any ls (v, _, is, s) = (tt, tt, refl, stands_made from_measure One ls (subst (λ w. StandsAfter w ls) (sym (version_one version.One v is)) s))
+from_any ls (v, _, is, s) = (tt, tt, refl, stands_made from_measure made ls (subst (λ w. StandsAfter w ls) (sym (version_one version.One v is)) s))
 
-one_to_any : (ls : List (List ℕ)) (c : Certificate) → Spells certificate_places (first_line ∷ ls) c → (a : AnyCertificate) × Spells any_places (first_line ∷ ls) a
-one_to_any ls c (_, _, _, s) = (One c, (version.One, tt, refl, made_back from_measure One ls c s))
+one_to_any : (ls : List (List ℕ)) (c : Certificate) → Spells certificate_places (first_line ∷ ls) c → (a : Scoped) × Spells any_places (first_line ∷ ls) a
+one_to_any ls c (_, _, _, s) = (made c, (version.One, tt, refl, made_back from_measure made ls c s))
 
-any_to_one : (ls : List (List ℕ)) (a : AnyCertificate) → Spells any_places (first_line ∷ ls) a → (c : Certificate) × Spells certificate_places (first_line ∷ ls) c
+any_to_one : (ls : List (List ℕ)) (a : Scoped) → Spells any_places (first_line ∷ ls) a → (c : Certificate) × Spells certificate_places (first_line ∷ ls) c
 any_to_one ls a (v, _, is, s) =
-    let h = made_forth from_measure One ls a (subst (λ w. Spells (after_version w) ls a) (sym (version_one version.One v is)) s) in
+    let h = made_forth from_measure made ls a (subst (λ w. Spells (after_version false w) ls a) (sym (version_one version.One v is)) s) in
     (h.0, (tt, tt, refl, h.2))
 
 pub bad_in_any : OneMeasure → (bytes more : List ℕ) (n : ℕ) → bytes ≡ ended first_line ++ more → IsFirstBad certificate_places bytes n → IsFirstBad any_places bytes n
-bad_in_any unique = same_bad certificate_places any_places (places_plain unique) first_line one_above to_any from_any (tt, tt, refl, tt) any_to_one
+bad_in_any unique = same_bad certificate_places any_places (version_1_places_plain unique) first_line one_above to_any from_any (tt, tt, refl, tt) any_to_one
 
 pub bad_in_one : OneMeasure → (bytes more : List ℕ) (n : ℕ) → bytes ≡ ended first_line ++ more → IsFirstBad any_places bytes n → IsFirstBad certificate_places bytes n
-bad_in_one unique = same_bad any_places certificate_places (any_plain unique) first_line one_above from_any to_any (version.One, tt, refl, tt) one_to_any
+bad_in_one unique = same_bad any_places certificate_places (places_plain unique false) first_line one_above from_any to_any (version.One, tt, refl, tt) one_to_any
 
 -- ---- no version
 pub no_version : (bytes : List ℕ) → ((v : Version) (more : List ℕ) → bytes ≢ ended (version_line v) ++ more) → IsFirstBad any_places bytes 1

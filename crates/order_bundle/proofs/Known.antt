@@ -5,11 +5,12 @@ use Rattle.std.specs.Fmt.{signed_decimal}
 use Rattle.std.proofs.lemmas.Bool.{cases_eq}
 use Rattle.line_forms.proofs.Cuts.{above_free, above_less, free_parts}
 use Rattle.line_forms.proofs.Shown.{decimal_above}
-use Rattle.line_forms.proofs.Tested.{Found, Known, at_most, below, both, cut_known, numbers_found, other, same_list, signed_found, two_known, word_found}
+use Rattle.line_forms.proofs.Tested.{Found, Known, at_most, below, both, cut_known, numbers_found, other, range_known, same_list, signed_found, two_known, word_found}
 use Rattle.order_certificate.specs.Places.{claim_line}
 use Rattle.order_certificate.specs.declared.places.Claim.{Claim}
 use Rattle.order_certificate.specs.declared.places.Claim.TheVariants as claimed
 use Rattle.order_bundle.specs.Bundle.{AreRunsOfClaim, IsClaimCount, IsLaterPair, IsLowerBound, AreBothBounds, IsRunCount, MayFollow, both_bounds_line, bound_line, pair_of, pick_line, runs_text}
+use Rattle.order_bundle.specs.Depths.{IsDepth, depth_line}
 use Rattle.order_bundle.specs.Places.{IsPick}
 use Rattle.order_bundle.specs.Places.{head_line, version_line}
 use Rattle.order_bundle.specs.declared.any_certificate.Version.{Version}
@@ -28,6 +29,9 @@ version_found line = elim (same_list line (codes "desk-certificate 1")) [
     by : line ≢ codes "desk-certificate 1" → line ≢ codes "desk-certificate 2" → (v : Version) → line ≢ version_line v
     by one many version.One e = one e
     by one many version.Many e = many e
+
+pub depth_found : (line : List ℕ) → Found depth_line IsDepth line
+depth_found line = numbers_found depth_line IsDepth 10001 (range_known 10000) (λ d fits. omega (arith, fits)) line
 
 pub run_count_found : (line : List ℕ) → Found (λ n. codes "runs " ++ decimal n) IsRunCount line
 run_count_found line = numbers_found (λ n. codes "runs " ++ decimal n) IsRunCount 257 (λ n. both (at_most 2 n) (at_most n 256)) (λ n fits. omega (arith, fits)) line

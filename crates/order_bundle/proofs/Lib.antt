@@ -5,8 +5,10 @@ pub mod ClaimRows
 pub mod WholeBundles
 pub mod Either
 pub mod FirstLines
+pub mod ReadDepths
 pub mod WrittenParts
 pub mod Counting
+pub mod ScopedLengths
 pub mod Known
 pub mod EveryLine
 pub mod Decided

@@ -1,7 +1,9 @@
 pub mod Bundle
+pub mod Depths
 pub mod Places
 pub mod Reading
 pub mod Lengths
 pub mod Writing
+pub mod Scoped
 pub mod Evidence
 pub mod Either

@@ -1,7 +1,8 @@
--- Which line may stand where in the text of a certificate of either version.
-use Rattle.std.specs.Prelude.{ℕ, suc, ◌<◌, ◌≤◌, List, ◌++◌, ◌∷◌, length, slice_get, codes, Option, Some, None}
+-- Which line may stand where in the text of a certificate of either version, and of one that was made under a depth.
+use Rattle.std.specs.Prelude.{ℕ, suc, ◌<◌, ◌≤◌, Bool, true, false, List, ◌++◌, ◌∷◌, length, slice_get, codes, Option, Some, None}
 use Rattle.desk_model.specs.declared.types.MeasureName.{MeasureName}
 use Rattle.line_forms.specs.Form.{Form, Whole, Line, IsTextIn, bind}
+use Rattle.line_forms.specs.OrLine.{or_line}
 use Rattle.line_forms.specs.Places.{fixed_place, name_and_count_place, number_place}
 use Rattle.line_forms.specs.Rows.{named_rows, rows}
 use Rattle.order_certificate.specs.Certificate.{IsDocumentCount, IsCertificate, certificate_text}
@@ -9,6 +10,7 @@ use Rattle.order_certificate.specs.Places.{claim_line, from_first, level_place, 
 use Rattle.order_certificate.specs.declared.places.Claim.{Claim}
 use Rattle.order_certificate.specs.declared.places.Claim.TheVariants as claimed
 use Rattle.order_bundle.specs.Bundle.{AreRunsOfClaim, Bundle, IsBundle, IsClaimCount, IsLowerBound, AreBothBounds, IsRunCount, both_bounds_line, bound_line, bundle_text, last_pair, pick_line, runs_text}
+use Rattle.order_bundle.specs.Depths.{IsDepth, depth_line}
 use Rattle.order_bundle.specs.declared.any_certificate.AnyCertificate.{AnyCertificate}
 use Rattle.order_bundle.specs.declared.any_certificate.AnyCertificate.TheVariants.{One, Many}
 use Rattle.order_bundle.specs.declared.any_certificate.Version.{Version}
@@ -21,6 +23,7 @@ use Rattle.order_bundle.specs.declared.bundle.Picks.{Picks}
 use Rattle.order_bundle.specs.declared.bundle.TopicNames.{TopicNames}
 use Rattle.order_bundle.specs.declared.places.ClaimHead.{ClaimHead}
 use Rattle.order_bundle.specs.declared.places.UnorderedPair.{UnorderedPair}
+use Rattle.order_bundle.specs.declared.scoped.Scoped.{Scoped}
 
 -- ---- runs and topics
 abbrev pub runs_place : Form ℕ
@@ -133,23 +136,36 @@ version_line version.Many = codes "desk-certificate 2"
 abbrev pub version_place : Form Version
 version_place = Line version_line (λ _. Unit {0}) Whole
 
--- what each version asks for after the level
-abbrev pub after_level : Version → MeasureName → ℕ → Form AnyCertificate
-after_level version.One measure level = bind (from_first measure level) (λ c. Whole (One c))
-after_level version.Many measure level = bind (from_runs measure level) (λ b. Whole (Many b))
+-- what each version asks for after the level, or after the line of a depth
+abbrev pub after_depth : Version → MeasureName → ℕ → Option ℕ → Form Scoped
+after_depth version.One measure level depth = bind (from_first measure level) (λ c. Whole (record { depth = depth; body = One c }))
+after_depth version.Many measure level depth = bind (from_runs measure level) (λ b. Whole (record { depth = depth; body = Many b }))
 
-abbrev pub after_measure : Version → MeasureName → Form AnyCertificate
-after_measure v measure = bind level_place (after_level v measure)
+-- after the level: where depths are allowed, the line of one may come first
+abbrev pub after_level : Bool → Version → MeasureName → ℕ → Form Scoped
+after_level false v measure level = after_depth v measure level None
+after_level true v measure level = or_line depth_line IsDepth (λ d. after_depth v measure level (Some d)) (after_depth v measure level None)
 
-abbrev pub after_version : Version → Form AnyCertificate
-after_version v = bind measure_place (after_measure v)
+abbrev pub after_measure : Bool → Version → MeasureName → Form Scoped
+after_measure depths v measure = bind level_place (after_level depths v measure)
 
-abbrev pub any_places : Form AnyCertificate
-any_places = bind version_place after_version
+abbrev pub after_version : Bool → Version → Form Scoped
+after_version depths v = bind measure_place (after_measure depths v)
 
--- bytes are the text of a certificate of either version
+-- the places of a certificate: where depths are allowed, of one that was made under a depth or under none
+abbrev pub places_with : Bool → Form Scoped
+places_with depths = bind version_place (after_version depths)
+
+-- a certificate of either version that was made under no depth
+abbrev pub any_places : Form Scoped
+any_places = places_with false
+
+abbrev pub unscoped : AnyCertificate → Scoped
+unscoped a = record { depth = None; body = a }
+
+-- bytes are the text of such a certificate
 abbrev pub IsAnyText : List ℕ → AnyCertificate → Type 0
-IsAnyText = IsTextIn any_places
+IsAnyText bytes a = IsTextIn any_places bytes (unscoped a)
 
 -- bytes are the text of a bundle
 abbrev pub IsBundleText : List ℕ → Bundle → Type 0

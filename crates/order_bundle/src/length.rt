@@ -1,10 +1,13 @@
 //! How long the text of a bundle is, counted without making it: the bytes of its parts, each line with its line feed.
-ghost use Rattle.std.specs.Prelude.{◌≡◌, ◌≤◌, ◌+◌, ◌*◌, ◌^◌, ◌++◌, All, length, decimal, map, flat_map};
+ghost use Rattle.std.specs.Prelude.{◌≡◌, ◌≤◌, ◌+◌, ◌*◌, ◌^◌, ◌++◌, All, length, decimal, map, flat_map, Option};
 ghost use Rattle.std.specs.Fmt.{signed_decimal};
 ghost use Rattle.desk_model.specs.Limits.{DOCUMENT_LIMIT, RUN_LIMIT, TOPIC_LIMIT};
 ghost use Rattle.desk_model.specs.MeasureText.{measure_text, IsMeasure};
 ghost use Rattle.order_bundle.specs.Bundle.{AreTopicNames, CLAIM_LIMIT, both_bounds_line, bound_line, bundle_text, claim_lines, claims_lines, list_lines, opening_lines, pick_line, picks_lines, runs_lines, runs_text, topic_lines, topics_lines};
+ghost use Rattle.order_bundle.specs.Depths.{depth_lines};
 ghost use Rattle.order_bundle.specs.Lengths.{AreFewLists, HasFewDocuments, HasFewRows, text_length};
+ghost use Rattle.order_bundle.specs.Scoped.{scoped_text};
+ghost use Rattle.order_bundle.specs.declared.any_certificate.AnyCertificate.TheVariants.{Many};
 
 use crate::bundle::{Bound, Bundle, PairClaim, PairEvidence, Picks, TopicNames};
 use desk_model::{MeasureName, Name};
@@ -241,7 +244,8 @@ fn from_runs_length(runs: &[Name], topics: &[TopicNames], claims: &[PairClaim]) 
 
 /// How many bytes the text of a bundle has. The text is not made, and no memory is taken.
 pub fn bundle_length(bundle: &Bundle) -> u64
-    ensures { result ≡ length (bundle_text bundle.now) }
+    ensures count { result ≡ length (bundle_text bundle.now) }
+    ensures few { result ≤ 10 ^ 18 + 10 ^ 17 }
 {
     let from_runs = from_runs_length(
         bundle.runs.as_slice(),
@@ -249,4 +253,22 @@ pub fn bundle_length(bundle: &Bundle) -> u64
         bundle.claims.as_slice(),
     );
     opening_length(&bundle.measure, bundle.level) + from_runs
+}
+
+/// How many bytes the line of a depth has, with its line feed: none where there is no depth.
+pub fn depth_length(depth: Option<u32>) -> u64
+    ensures count { result ≡ text_length (depth_lines depth) }
+    ensures few { result ≤ 50 }
+{
+    match depth {
+        Some(depth) => digits(u64::from(depth)) + 7,
+        None => 0,
+    }
+}
+
+/// How many bytes the text of a bundle has that was made under a depth or under none.
+pub fn bundle_length_under(depth: Option<u32>, bundle: &Bundle) -> u64
+    ensures { result ≡ length (scoped_text (record { depth = depth; body = Many bundle.now })) }
+{
+    bundle_length(bundle) + depth_length(depth)
 }

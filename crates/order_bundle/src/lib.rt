@@ -8,6 +8,7 @@ pub mod laws;
 pub mod length;
 mod places;
 mod reading;
+pub mod scoped;
 mod topics;
 mod writing;
 
@@ -20,9 +21,13 @@ pub use laws::{
     any_bad_line_exists, any_certificates_have_texts, any_evidence_implies_claims,
     any_first_bad_line_is_unique, any_lines_are_short, any_text_and_certificate_are_one,
     bundle_evidence_implies_claims, claims_are_certificates_written_out,
-    first_line_names_the_version, no_any_text_begins_another, version_1_is_as_before,
+    first_line_names_the_version, no_any_text_begins_another, no_scoped_text_begins_another,
+    scoped_bad_line_exists, scoped_certificates_have_texts, scoped_first_bad_line_is_unique,
+    scoped_lines_are_short, scoped_text_and_certificate_are_one, scoped_text_length,
+    texts_without_a_depth_are_as_before, version_1_is_as_before,
 };
-pub use length::bundle_length;
+pub use length::{bundle_length, depth_length};
 pub use places::{ClaimHead, UnorderedPair};
-pub use reading::read_any;
-pub use writing::{BundleFault, LONGEST_TEXT, write_bundle};
+pub use reading::{read_any, read_scoped};
+pub use scoped::Scoped;
+pub use writing::{BundleFault, LONGEST_TEXT, write_bundle, write_scoped};

@@ -7,6 +7,7 @@ ghost use Rattle.order_certificate.specs.Certificate.{IsDocumentCount};
 ghost use Rattle.order_certificate.specs.Places.{claim_line};
 ghost use Rattle.order_certificate.specs.declared.places.Claim.{Claim as OfClaim};
 ghost use Rattle.order_bundle.specs.Bundle.{AreRunsOfClaim, IsClaimCount, IsLowerBound, AreBothBounds, MayFollow, both_bounds_line, bound_line, pair_of, pick_line, runs_text};
+ghost use Rattle.order_bundle.specs.Depths.{IsDepthTaken};
 ghost use Rattle.order_bundle.specs.Places.{IsPick};
 ghost use Rattle.order_bundle.specs.Places.{bound_place, both_bounds_place, head_line, head_place, pick_place, topic_place, version_line, version_place};
 ghost use Rattle.order_bundle.specs.declared.places.ClaimHead.{ClaimHead as OfHead};
@@ -16,7 +17,7 @@ use crate::bundle::Bound;
 use desk_model::Name;
 use line_forms::lines::{after, cut};
 use line_forms::parts::{count, number, number_of};
-use line_forms::places::{name_and_count_line, number_below_line};
+use line_forms::places::{name_and_count_line, number_below_line, number_line_if_next};
 use line_forms::{FormFault, TextLines};
 use order_certificate::places::Claim;
 use std::alloc::Global;
@@ -180,6 +181,16 @@ pub fn version_line(lines: &mut TextLines<'_>) -> Result<Version, FormFault>
         Some(line) => version_of(line),
         None => Err(FormFault::Bad),
     }
+}
+
+/// Takes the line of a depth, if depths are allowed and it is the next line; else nothing is taken.
+pub fn depth_line(lines: &mut TextLines<'_>, depths: bool) -> Option<u32>
+    ensures { IsDepthTaken depths lines.old result lines.new }
+{
+    if !depths {
+        return None;
+    }
+    number_line_if_next(lines, b"depth ", 1, 10_000)
 }
 
 /// Takes a topic that comes after another, and how many documents follow.

@@ -1,17 +1,23 @@
-// The text of a bundle.
-ghost use Rattle.std.specs.Prelude.{◌≡◌, ◌++◌, ◌≤◌, length, map, flat_map, IfErr, IfOk, OnOk};
+// The texts of bundles and of certificates with a depth.
+ghost use Rattle.std.specs.Prelude.{◌≡◌, ◌++◌, ◌≤◌, length, map, flat_map, IfErr, IfOk, OnOk, Option};
 ghost use Rattle.line_forms.specs.Form.{ended, text_of};
 ghost use Rattle.order_bundle.specs.Bundle.{both_bounds_line, bound_line, bundle_text, claim_lines, claims_lines, list_lines, opening_lines, pick_line, picks_lines, run_line, runs_lines, runs_text, topic_lines, topics_lines};
+ghost use Rattle.order_bundle.specs.Depths.{depth_lines};
 ghost use Rattle.order_bundle.specs.Places.{IsBundleText};
+ghost use Rattle.order_bundle.specs.Scoped.{IsScoped, IsScopedFault, IsScopedText, IsShortFor, scoped_text};
 ghost use Rattle.order_bundle.specs.Writing.{IsWritingFault, TEXT_LIMIT};
+ghost use Rattle.order_bundle.specs.declared.any_certificate.AnyCertificate.TheVariants.{One, Many};
 ghost use Rattle.order_bundle.specs.declared.writing.BundleFault.TheVariants.{Memory as MemoryFault};
 
+use crate::any_certificate::AnyCertificate;
 use crate::bundle::{Bound, Bundle, PairClaim, PairEvidence, Picks, TopicNames};
-use crate::length::bundle_length;
+use crate::length::bundle_length_under;
+use crate::scoped::Scoped;
 use desk_model::{MeasureName, Name, push_number, push_signed};
+use order_certificate::Certificate;
 use order_certificate::writing::{
-    push_after_space, push_count_line, push_documents, push_line, push_measure_line,
-    push_number_line,
+    push_after_space, push_count_line, push_documents, push_from_first, push_line,
+    push_measure_line, push_number_line, push_opening as push_opening_of_one,
 };
 use std::alloc::{AllocError, Global};
 
@@ -227,16 +233,57 @@ fn push_from_runs(
     push_from_topics(out, topics, claims)
 }
 
-fn push_bundle(out: &mut Vec<u8>, bundle: &Bundle) -> Result<(), AllocError>
-    ensures { OnOk result (out.new.items ≡ out.old.items ++ bundle_text bundle.now) }
+// The line of a depth, where there is one.
+fn push_depth(out: &mut Vec<u8>, depth: Option<u32>) -> Result<(), AllocError>
+    ensures { OnOk result (out.new.items ≡ out.old.items ++ text_of (depth_lines depth)) }
+{
+    match depth {
+        Some(depth) => push_number_line(out, b"depth ", depth as usize),
+        None => Ok(()),
+    }
+}
+
+fn push_bundle(out: &mut Vec<u8>, depth: Option<u32>, bundle: &Bundle) -> Result<(), AllocError>
+    ensures { OnOk result (out.new.items ≡ out.old.items ++ scoped_text (record { depth = depth; body = Many bundle.now })) }
 {
     push_opening(out, &bundle.measure, bundle.level)?;
+    push_depth(out, depth)?;
     push_from_runs(
         out,
         bundle.runs.as_slice(),
         bundle.topics.as_slice(),
         bundle.claims.as_slice(),
     )
+}
+
+// The text of a bundle that was made under a depth or under none, if it is not too long.
+fn bundle_under(alloc: Global, depth: Option<u32>, bundle: &Bundle) -> Result<Vec<u8>, BundleFault>
+    ensures text { IfOk result (λ text. text.items ≡ scoped_text (record { depth = depth; body = Many bundle.now })) }
+    ensures short { IfOk result (λ text. length text.items ≤ TEXT_LIMIT) }
+    ensures fault { IfErr result (λ fault. IsScopedFault (record { depth = depth; body = Many bundle.now }) fault) }
+{
+    let bytes = bundle_length_under(depth, bundle);
+    if bytes > LONGEST_TEXT {
+        return Err(BundleFault::TooLong { bytes });
+    }
+    let mut out = Vec::new(alloc);
+    push_bundle(&mut out, depth, bundle)?;
+    Ok(out)
+}
+
+// The text of a certificate of one pair that was made under a depth or under none.
+fn certificate_under(
+    alloc: Global,
+    depth: Option<u32>,
+    certificate: &Certificate,
+) -> Result<Vec<u8>, AllocError>
+    ensures { IfOk result (λ text. text.items ≡ scoped_text (record { depth = depth; body = One certificate.now })) }
+{
+    let mut out = Vec::new(alloc);
+    push_opening_of_one(&mut out, &certificate.measure, certificate.level)?;
+    push_depth(&mut out, depth)?;
+    push_from_first(&mut out, certificate)?;
+    Ok(out)
 }
 
 /// The text of a bundle. `TooLong` comes exactly where it has more than 1,073,741,824 bytes, and then nothing is
@@ -247,11 +294,23 @@ pub fn write_bundle(alloc: Global, bundle: &Bundle) -> Result<Vec<u8>, BundleFau
     ensures fault { IfErr result (λ fault. IsWritingFault bundle.now fault) }
 {
     bundle.valid();
-    let bytes = bundle_length(bundle);
-    if bytes > LONGEST_TEXT {
-        return Err(BundleFault::TooLong { bytes });
+    bundle_under(alloc, None, bundle)
+}
+
+/// The text of a certificate, with the line `depth D` after that of the level where it was made under a depth. It has to be
+/// within the limits of its form. `TooLong` comes exactly where it is of many pairs and the text has more than 1,073,741,824
+/// bytes, and then nothing is written; the only other error is out of memory.
+pub fn write_scoped(alloc: Global, scoped: &Scoped) -> Result<Vec<u8>, BundleFault>
+    requires { IsScoped scoped.now }
+    ensures text { IfOk result (λ text. IsScopedText text.items scoped.now) }
+    ensures short { IfOk result (λ text. IsShortFor scoped.now.body (length text.items)) }
+    ensures fault { IfErr result (λ fault. IsScopedFault scoped.now fault) }
+{
+    match &scoped.body {
+        AnyCertificate::One(certificate) => {
+            let text = certificate_under(alloc, scoped.depth, certificate)?;
+            Ok(text)
+        }
+        AnyCertificate::Many(bundle) => bundle_under(alloc, scoped.depth, bundle),
     }
-    let mut out = Vec::new(alloc);
-    push_bundle(&mut out, bundle)?;
-    Ok(out)
 }

@@ -18,7 +18,7 @@ use Rattle.line_forms.proofs.Plain.{fixed_plain, name_plain, number_plain}
 use Rattle.line_forms.proofs.Rows.{Kind, rows_forth, rows_back}
 use Rattle.line_forms.proofs.Spelling.{line_forth, made_forth, made_back, flat_single}
 use Rattle.line_forms.proofs.Texts.{one_of_text, none_begins, no_bad_line, lines_of_text}
-use Rattle.order_certificate.specs.Certificate.{claim_of, first_lines, low_line, low_high_line, witness_lines, topics_line, evidence_lines, certificate_lines, certificate_text, opening_lines, IsLevel, IsTopicCount, IsLowBound, IsLowHighBound, AreLists, AreTopics, IsWritable, IsCertificate}
+use Rattle.order_certificate.specs.Certificate.{claim_of, first_lines, low_line, low_high_line, witness_lines, topics_line, evidence_lines, certificate_lines, certificate_text, from_first_lines, opening_lines, IsLevel, IsTopicCount, IsLowBound, IsLowHighBound, AreLists, AreTopics, IsWritable, IsCertificate}
 use Rattle.order_certificate.specs.Places.{low_place, low_high_place, witness_places, topics_place, claim_line, claim_place, claim_places, claim_rows, evidence_places, measure_place, level_place, from_end, from_evidence, from_second, from_first, from_level, from_measure, certificate_places, IsText}
 use Rattle.order_certificate.specs.declared.certificate.Certificate.{Certificate}
 use Rattle.order_certificate.specs.declared.certificate.Evidence.{Evidence}
@@ -98,32 +98,45 @@ end_forth v [] x s = absurd s
 end_forth v (l ∷ []) x s = (s.3, ap (λ z. z ∷ []) s.2)
 end_forth v (l ∷ m ∷ ls) x s = absurd s.3
 
+-- what lines spell from that of the first run on
+abbrev SpellsFromFirst : MeasureName → ℕ → List (List ℕ) → Certificate → Type 0
+SpellsFromFirst measure level ls c = IsCertificate c × (c.measure ≡ measure) × (c.level ≡ level) × (ls ≡ from_first_lines c)
+
+pub first_forth : (measure : MeasureName) (level : ℕ) (ls : List (List ℕ)) (c : Certificate) → IsMeasure measure → IsLevel level → Spells (from_first measure level) ls c → SpellsFromFirst measure level ls c
+first_forth measure level ls c is_measure is_level s =
+    let f = line_forth (λ name. codes "first " ++ name) (λ name. is_name name ≡ true) (from_second measure level) ls c s in
+    let t = line_forth (λ name. codes "second " ++ name) (λ name. is_name name ≡ true) (from_evidence measure level f.0) f.1 c f.4 in
+    let b = bind_forth evidence_places (from_end measure level f.0 t.0) t.1 c t.4 in
+    let e = evidence_forth b.1 b.0 b.4 in
+    let made : Certificate = record { measure = measure; level = level; first = f.0; second = t.0; evidence = b.0 } in
+    let last = end_forth made b.2 c b.5 in
+    let ending : t.1 ≡ evidence_lines b.0 ++ codes "end" ∷ [] = b.3 ∙ ap (λ zs. zs ++ b.2) e.1 ∙ ap (λ zs. evidence_lines b.0 ++ zs) last.1 in
+    let lines : ls ≡ from_first_lines made = f.3 ∙ ap (λ zs. (codes "first " ++ f.0) ∷ zs) (t.3 ∙ ap (λ zs. (codes "second " ++ t.0) ∷ zs) ending) in
+    let fine : IsCertificate made = record { measure = is_measure; level = is_level; first = f.2; second = t.2; evidence = e.0 } in
+    subst (SpellsFromFirst measure level ls) last.0 (fine, refl, refl, lines)
+
+pub first_back : (c : Certificate) → IsCertificate c → Spells (from_first c.measure c.level) (from_first_lines c) c
+first_back c h =
+    let ending : Spells (from_end c.measure c.level c.first c.second c.evidence) (codes "end" ∷ []) c = (tt, tt, refl, refl) in
+    let evidence = bind_back evidence_places (from_end c.measure c.level c.first c.second) (evidence_lines c.evidence) (codes "end" ∷ []) c.evidence c (evidence_back c.evidence h.evidence) ending in
+    (c.first, h.first, refl, (c.second, h.second, refl, evidence))
+
 -- lines that say a certificate are its lines, and it has a text
 pub spelled_only : (ls : List (List ℕ)) (c : Certificate) → Spells certificate_places ls c → (ls ≡ certificate_lines c) × IsCertificate c
 spelled_only ls c s =
     let v = line_forth {P = Unit {0}} (λ _. codes "desk-certificate 1") (λ _. Unit {0}) (λ _. from_measure) ls c s in
     let m = line_forth (λ measure. codes "measure " ++ measure_text measure) IsMeasure from_level v.1 c v.4 in
     let l = line_forth (λ level. codes "level " ++ decimal level) IsLevel (from_first m.0) m.1 c m.4 in
-    let f = line_forth (λ name. codes "first " ++ name) (λ name. is_name name ≡ true) (from_second m.0 l.0) l.1 c l.4 in
-    let t = line_forth (λ name. codes "second " ++ name) (λ name. is_name name ≡ true) (from_evidence m.0 l.0 f.0) f.1 c f.4 in
-    let b = bind_forth evidence_places (from_end m.0 l.0 f.0 t.0) t.1 c t.4 in
-    let e = evidence_forth b.1 b.0 b.4 in
-    let made : Certificate = record { measure = m.0; level = l.0; first = f.0; second = t.0; evidence = b.0 } in
-    let last = end_forth made b.2 c b.5 in
-    let ending : t.1 ≡ evidence_lines b.0 ++ codes "end" ∷ [] = b.3 ∙ ap (λ zs. zs ++ b.2) e.1 ∙ ap (λ zs. evidence_lines b.0 ++ zs) last.1 in
+    let h = first_forth m.0 l.0 l.1 c m.2 l.2 l.4 in
     let opening : ls ≡ opening_lines m.0 l.0 ++ l.1 =
     v.3 ∙ ap (λ zs. (codes "desk-certificate 1") ∷ zs) m.3 ∙ ap (λ zs. (codes "desk-certificate 1") ∷ (codes "measure " ++ measure_text m.0) ∷ zs) l.3 in
-    let whole : ls ≡ certificate_lines made =
-    opening ∙ ap (λ zs. opening_lines m.0 l.0 ++ zs) (f.3 ∙ ap (λ zs. (codes "first " ++ f.0) ∷ zs) (t.3 ∙ ap (λ zs. (codes "second " ++ t.0) ∷ zs) ending)) in
-    let fine : IsCertificate made = record { measure = m.2; level = l.2; first = f.2; second = t.2; evidence = e.0 } in
-    (whole ∙ ap certificate_lines last.0, subst IsCertificate last.0 fine)
+    let whole : ls ≡ certificate_lines c =
+    opening ∙ ap (λ zs. opening_lines m.0 l.0 ++ zs) h.3 ∙ ap (λ measure. opening_lines measure l.0 ++ from_first_lines c) (sym h.1) ∙ ap (λ level. opening_lines c.measure level ++ from_first_lines c) (sym h.2) in
+    (whole, h.0)
 
 -- the lines of a certificate say it
 pub spelled_all : (c : Certificate) → IsCertificate c → Spells certificate_places (certificate_lines c) c
-spelled_all c h =
-    let ending : Spells (from_end c.measure c.level c.first c.second c.evidence) (codes "end" ∷ []) c = (tt, tt, refl, refl) in
-    let evidence = bind_back evidence_places (from_end c.measure c.level c.first c.second) (evidence_lines c.evidence) (codes "end" ∷ []) c.evidence c (evidence_back c.evidence h.evidence) ending in
-    (tt, tt, refl, (c.measure, h.measure, refl, (c.level, h.level, refl, (c.first, h.first, refl, (c.second, h.second, refl, evidence)))))
+spelled_all c h = (tt, tt, refl, (c.measure, h.measure, refl, (c.level, h.level, refl, first_back c h)))
 
 -- a text is of one measure at most
 abbrev pub OneMeasure : Type 0

@@ -54,10 +54,12 @@ claim_of (Open witnesses) = codes "claim open"
 abbrev pub first_lines : Certificate → List (List ℕ)
 first_lines c = opening_lines c.measure c.level ++ (codes "first " ++ c.first) ∷ (codes "second " ++ c.second) ∷ claim_of c.evidence ∷ []
 
+-- the lines from that of the first run on: which runs they are, the evidence, and the end
+abbrev pub from_first_lines : Certificate → List (List ℕ)
+from_first_lines c = (codes "first " ++ c.first) ∷ (codes "second " ++ c.second) ∷ evidence_lines c.evidence ++ codes "end" ∷ []
+
 abbrev pub certificate_lines : Certificate → List (List ℕ)
-certificate_lines c =
-    opening_lines c.measure c.level
-    ++ (codes "first " ++ c.first) ∷ (codes "second " ++ c.second) ∷ evidence_lines c.evidence ++ codes "end" ∷ []
+certificate_lines c = opening_lines c.measure c.level ++ from_first_lines c
 
 -- the text of a certificate
 unfoldable pub certificate_text : Certificate → List ℕ

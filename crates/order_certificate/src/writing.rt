@@ -4,7 +4,7 @@ ghost use Rattle.std.specs.Fmt.{signed_decimal};
 ghost use Rattle.desk_model.specs.MeasureText.{measure_text};
 ghost use Rattle.line_forms.specs.Form.{ended, text_of};
 ghost use Rattle.line_forms.specs.Places.{count_line};
-ghost use Rattle.order_certificate.specs.Certificate.{IsCertificate, certificate_text, opening_lines, low_line, low_high_line, document_line, witness_lines, topics_line, evidence_lines};
+ghost use Rattle.order_certificate.specs.Certificate.{IsCertificate, certificate_text, from_first_lines, opening_lines, low_line, low_high_line, document_line, witness_lines, topics_line, evidence_lines};
 ghost use Rattle.order_certificate.specs.Places.{IsText};
 
 use crate::certificate::{Certificate, Evidence, TopicBound, TopicWitness};
@@ -170,7 +170,8 @@ fn push_evidence(out: &mut Vec<u8>, evidence: &Evidence) -> Result<(), AllocErro
     }
 }
 
-fn push_opening(out: &mut Vec<u8>, measure: &MeasureName, level: u32) -> Result<(), AllocError>
+/// Puts the first lines: which form it is, and what the runs are compared by.
+pub fn push_opening(out: &mut Vec<u8>, measure: &MeasureName, level: u32) -> Result<(), AllocError>
     ensures { OnOk result (out.new.items ≡ out.old.items ++ text_of (opening_lines measure.now level)) }
 {
     push_line(out, b"desk-certificate 1", b"")?;
@@ -185,10 +186,10 @@ fn push_runs(out: &mut Vec<u8>, first: &[u8], second: &[u8]) -> Result<(), Alloc
     push_line(out, b"second ", second)
 }
 
-fn push_certificate(out: &mut Vec<u8>, certificate: &Certificate) -> Result<(), AllocError>
-    ensures { OnOk result (out.new.items ≡ out.old.items ++ certificate_text certificate.now) }
+/// Puts the lines of a certificate from that of its first run on.
+pub fn push_from_first(out: &mut Vec<u8>, certificate: &Certificate) -> Result<(), AllocError>
+    ensures { OnOk result (out.new.items ≡ out.old.items ++ text_of (from_first_lines certificate.now)) }
 {
-    push_opening(out, &certificate.measure, certificate.level)?;
     push_runs(
         out,
         certificate.first.as_bytes(),
@@ -196,6 +197,13 @@ fn push_certificate(out: &mut Vec<u8>, certificate: &Certificate) -> Result<(), 
     )?;
     push_evidence(out, &certificate.evidence)?;
     push_line(out, b"end", b"")
+}
+
+fn push_certificate(out: &mut Vec<u8>, certificate: &Certificate) -> Result<(), AllocError>
+    ensures { OnOk result (out.new.items ≡ out.old.items ++ certificate_text certificate.now) }
+{
+    push_opening(out, &certificate.measure, certificate.level)?;
+    push_from_first(out, certificate)
 }
 
 /// The text of a certificate, which has to be within the limits of the form. The only error is out of memory.

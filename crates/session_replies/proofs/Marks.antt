@@ -3,14 +3,19 @@ use Rattle.std.proofs.Common.{◌≡◌, ℕ, zero, suc, ◌+◌, ◌<◌, ◌�
 use Rattle.std.proofs.Math.ListN.{set}
 use Rattle.std.specs.List.{AllZip, enumerate_from, range_with_len}
 use Rattle.std.proofs.lemmas.List.{length-map, get_or-map, ext_get_or}
+use Rattle.std.proofs.lemmas.Option.{slice_get-get_or}
 use Rattle.desk_model.specs.Book.{Book}
+use Rattle.desk_model.specs.Closing.{closed_under, is_within}
 use Rattle.desk_model.specs.Desk.{Desk, IsDesk, AreMarksOf, file_marks}
+use Rattle.desk_model.specs.Graded.{is_in_pools, mark_within, pools_of}
 use Rattle.desk_model.specs.Mark.{mark_of}
 use Rattle.desk_model.specs.declared.types.Mark.{Mark}
 use Rattle.judge_session.specs.declared.change.Change.{Change}
 use Rattle.judge_session.specs.InForce.{grade_after, counted_grade, grade_in_force, grades_in_force}
 use Rattle.desk_model.specs.Named.{book_at}
-use Rattle.session_replies.specs.Replies.{Setting, marks_after}
+use Rattle.desk_model.proofs.Closing.{length-closed, docs-closed, set-closed}
+use Rattle.desk_model.proofs.Judging.{pools_say}
+use Rattle.session_replies.specs.Replies.{Setting, graded_marks, marks_after}
 
 -- the marks of documents from one on
 abbrev row : ℕ → ℕ → ℕ → List (Option ℤ) → List Change → List Mark
@@ -69,27 +74,39 @@ module _ (s : Setting) where
       ∙ ap (λ zs. row_of a ys ∷ zs) (rows_set (a + 1) n k t xs ys r (omega arith) (omega arith) is same)
 
   -- ---- how many marks there are
+  length-graded : (changes : List Change) → length (graded_marks s changes) ≡ length s.desk.topics
+  length-graded changes = length-rows 0 (length s.desk.topics) changes
+
   pub length-marks : (changes : List Change) → length (marks_after s changes) ≡ length s.desk.topics
-  length-marks changes = length-rows 0 (length s.desk.topics) changes
+  length-marks changes = length-closed s.desk s.depth (graded_marks s changes) ∙ length-graded changes
 
   graded : IsDesk s.desk → (t : ℕ) → t < length s.desk.topics → length (book_at s.desk t).grades ≡ length (book_at s.desk t).docs
   graded valid t lt = (valid.books t (record { name = []; docs = []; grades = [] }) lt).graded
 
   pub length-marks_at : IsDesk s.desk → (t : ℕ) (changes : List Change) → t < length s.desk.topics → length (get_or (marks_after s changes) t []) ≡ length (book_at s.desk t).docs
   length-marks_at valid t changes lt =
-      ap length (row_at 0 (length s.desk.topics) t t changes lt (omega arith)) ∙ length-row s.level t 0 (book_at s.desk t).grades changes ∙ graded valid t lt
+      docs-closed s.desk s.depth (graded_marks s changes) t ∙ ap length (row_at 0 (length s.desk.topics) t t changes lt (omega arith)) ∙ length-row s.level t 0 (book_at s.desk t).grades changes ∙ graded valid t lt
 
   -- ---- one mark set
-  pub marks_set : IsDesk s.desk → (xs ys : List Change) (topic doc : ℕ) → topic < length s.desk.topics → doc < length (book_at s.desk topic).docs →
-      ((file : Option ℤ) (t d : ℕ) → (topic ≡ t → doc ≡ d → ⊥) → grade_after file t d ys ≡ grade_after file t d xs) →
-      set (marks_after s xs) topic (set (get_or (marks_after s xs) topic []) doc (mark_of (grade_in_force s.desk topic doc ys) s.level)) ≡ marks_after s ys
-  marks_set valid xs ys topic doc in_topics in_docs same =
-      let n = length s.desk.topics in
-      let m = mark_of (grade_in_force s.desk topic doc ys) s.level in
-      ap (λ r. set (rows 0 n xs) topic (set r doc m)) (row_at 0 n topic topic xs in_topics (omega arith))
-      ∙ rows_set 0 n topic topic xs ys (set (row_of topic xs) doc m) in_topics (omega arith)
-      (row_set s.level topic 0 (book_at s.desk topic).grades xs ys doc doc m (omega (arith, in_docs, graded valid topic in_topics)) (omega arith) refl (λ file d other. same file topic d (λ _ e. other e)))
-      (λ u other. row_same s.level u 0 (book_at s.desk u).grades xs ys (λ file d _. same file u d (λ e _. other e)))
+  module _ (valid : IsDesk s.desk) (xs ys : List Change) (topic doc : ℕ) (in_topics : topic < length s.desk.topics) (in_docs : doc < length (book_at s.desk topic).docs)
+      (same : (file : Option ℤ) (t d : ℕ) → (topic ≡ t → doc ≡ d → ⊥) → grade_after file t d ys ≡ grade_after file t d xs) where
+    graded_set : set (graded_marks s xs) topic (set (get_or (graded_marks s xs) topic []) doc (mark_of (grade_in_force s.desk topic doc ys) s.level)) ≡ graded_marks s ys
+    graded_set =
+        let n = length s.desk.topics in
+        let m = mark_of (grade_in_force s.desk topic doc ys) s.level in
+        ap (λ r. set (rows 0 n xs) topic (set r doc m)) (row_at 0 n topic topic xs in_topics (omega arith))
+        ∙ rows_set 0 n topic topic xs ys (set (row_of topic xs) doc m) in_topics (omega arith)
+        (row_set s.level topic 0 (book_at s.desk topic).grades xs ys doc doc m (omega (arith, in_docs, graded valid topic in_topics)) (omega arith) refl (λ file d other. same file topic d (λ _ e. other e)))
+        (λ u other. row_same s.level u 0 (book_at s.desk u).grades xs ys (λ file d _. same file u d (λ e _. other e)))
+
+    pub marks_set : set (marks_after s xs) topic (set (get_or (marks_after s xs) topic []) doc (mark_within (grade_in_force s.desk topic doc ys) s.level (is_within s.desk s.depth topic doc))) ≡ marks_after s ys
+    marks_set = sym (set-closed s.desk s.depth (graded_marks s xs) topic doc (mark_of (grade_in_force s.desk topic doc ys) s.level)) ∙ ap (closed_under s.desk s.depth) graded_set
+
+    -- the same by the pools of the desk
+    pub pooled_set : set (marks_after s xs) topic (set (get_or (marks_after s xs) topic []) doc (mark_within (grade_in_force s.desk topic doc ys) s.level (is_in_pools (pools_of s.desk s.depth) topic doc))) ≡ marks_after s ys
+    pooled_set =
+        ap (λ b. set (marks_after s xs) topic (set (get_or (marks_after s xs) topic []) doc (mark_within (grade_in_force s.desk topic doc ys) s.level b)))
+        (pools_say s.desk s.depth topic doc (book_at s.desk topic) (slice_get-get_or s.desk.topics topic (record { name = []; docs = []; grades = [] }) in_topics) in_docs) ∙ marks_set
 
 -- ---- the marks of a desk
 zip_at : {A B : Type 0} (R : A → B → Type 0) (d : A) (e : B) (xs : List A) (ys : List B) → length ys ≡ length xs → ((i : ℕ) → i < length xs → R (get_or xs i d) (get_or ys i e)) → AllZip R xs ys
@@ -113,14 +130,17 @@ row_none : (level t n : ℕ) (grades : List (Option ℤ)) → row level t n grad
 row_none level t n [] = refl
 row_none level t n (g ∷ gs) = ap (λ z. z ∷ row level t (n + 1) gs []) (mark_counted level g) ∙ ap (λ zs. mark_of g level ∷ zs) (row_none level t (n + 1) gs)
 
-pub marks_at_start : (s : Setting) → map (file_marks s.level) s.desk.topics ≡ marks_after s []
-marks_at_start s =
+graded_at_start : (s : Setting) → map (file_marks s.level) s.desk.topics ≡ graded_marks s []
+graded_at_start s =
     let topics = s.desk.topics in
     let none : Book = record { name = []; docs = []; grades = [] } in
-    ext_get_or [] (map (file_marks s.level) topics) (marks_after s []) (length-map topics (file_marks s.level) ∙ sym (length-marks s []))
+    ext_get_or [] (map (file_marks s.level) topics) (graded_marks s []) (length-map topics (file_marks s.level) ∙ sym (length-graded s []))
     (λ t lt.
     let here : t < length topics = omega (arith, lt, length-map topics (file_marks s.level)) in
     get_or-map (file_marks s.level) topics t none [] here ∙ sym (row_none s.level t 0 (book_at s.desk t).grades) ∙ sym (row_at s 0 (length topics) t t [] here (omega arith)))
+
+pub marks_at_start : (s : Setting) → closed_under s.desk s.depth (map (file_marks s.level) s.desk.topics) ≡ marks_after s []
+marks_at_start s = ap (closed_under s.desk s.depth) (graded_at_start s)
 
 -- ---- the grades in force of a topic
 length-forced : (t n : ℕ) (grades : List (Option ℤ)) (changes : List Change) → length (map (λ p. counted_grade (grade_after p.1 t p.0 changes)) (enumerate_from n grades)) ≡ length grades

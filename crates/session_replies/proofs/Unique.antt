@@ -14,7 +14,8 @@ use Rattle.desk_model.specs.declared.pool.PoolCount.{PoolCount}
 use Rattle.judge_session.specs.declared.change.Change.{Change}
 use Rattle.next_document.specs.Laws.{NextIsOne}
 use Rattle.next_document.specs.Proposal.{IsNext}
-use Rattle.order_certificate.specs.Certificate.{certificate_text}
+use Rattle.order_bundle.specs.Scoped.{scoped_text}
+use Rattle.order_bundle.specs.declared.any_certificate.AnyCertificate.TheVariants.{One}
 use Rattle.order_certificate.specs.declared.certificate.Certificate.{Certificate}
 use Rattle.pair_table.specs.declared.evidence.EvidenceFault.{EvidenceFault}
 use Rattle.pair_table.specs.declared.evidence.EvidenceFault.TheVariants.{Close, Memory}
@@ -31,8 +32,8 @@ use Rattle.session_replies.proofs.Marks.{marks_of_desk}
 pub one_table : (s : Subject) (text other : List ℕ) → IsTableText s text → IsTableText s other → text ≡ other
 one_table s text other h k =
     let same = table_determined s.measure s.desk s.marks h.bounds k.bounds h.totals k.totals h.numbers k.numbers in
-    h.is ∙ ap (λ bounds. table_text s.desk s.measure s.level (pos (unit_of s.measure)) bounds h.totals) same.0
-    ∙ ap (λ totals. table_text s.desk s.measure s.level (pos (unit_of s.measure)) k.bounds totals) same.1 ∙ sym k.is
+    h.is ∙ ap (λ bounds. table_text s.desk s.measure s.level s.depth (pos (unit_of s.measure)) bounds h.totals) same.0
+    ∙ ap (λ totals. table_text s.desk s.measure s.level s.depth (pos (unit_of s.measure)) k.bounds totals) same.1 ∙ sym k.is
 
 one_pair : (s : Subject) (a b : ℕ) (text other : List ℕ) → IsPairText s a b text → IsPairText s a b other → text ≡ other
 one_pair s a b text other h k =
@@ -48,7 +49,7 @@ pub one_certified : (s : Subject) (a b : ℕ) (text other : List ℕ) → IsCert
 one_certified s a b text other (inl h) (inl k) =
     let same : Ok h.certificate ≡ Ok k.certificate = one_answer s.measure s.desk s.marks s.level a b (Ok h.certificate) (Ok k.certificate) h.of_pair k.of_pair (given h.certificate (Ok h.certificate) refl) (given k.certificate (Ok k.certificate) refl) in
     let one : h.certificate ≡ k.certificate = cc in
-    h.is ∙ ap certificate_text one ∙ sym k.is
+    h.is ∙ ap (λ c. scoped_text (record { depth = s.depth; body = One c })) one ∙ sym k.is
 one_certified s a b text other (inl h) (inr k) =
     let same : Ok h.certificate ≡ Err (Close k.totals) = one_answer s.measure s.desk s.marks s.level a b (Ok h.certificate) (Err (Close k.totals)) h.of_pair (k.summed, k.close) (given h.certificate (Ok h.certificate) refl) (close_given k.totals (Err (Close k.totals)) refl) in
     absurd (cc)

@@ -1,7 +1,8 @@
 -- What follows of replies and of marks.
 use Rattle.std.specs.Prelude.{◌≡◌, ℕ, ◌<◌, List, [], length, Some, slice_set, slice_index_or, ℤ}
+use Rattle.desk_model.specs.Closing.{is_within}
 use Rattle.desk_model.specs.Desk.{IsDesk}
-use Rattle.desk_model.specs.Mark.{mark_of}
+use Rattle.desk_model.specs.Graded.{mark_within}
 use Rattle.desk_model.specs.declared.types.Mark.{Mark}
 use Rattle.judge_session.specs.Session.{judged, undone, redone, last_that, first_that, is_live_by, is_undone_by}
 use Rattle.judge_session.specs.InForce.{IsOnDesk, grade_in_force}
@@ -10,9 +11,9 @@ use Rattle.judge_session.specs.declared.change.Change.{Change}
 use Rattle.judge_session.specs.Request.{Heard}
 use Rattle.session_replies.specs.Replies.{Setting, marks_after, IsReply}
 
--- marks, with that of one document by the judgements in force after changes
+-- marks, with that of one document by the judgements in force after changes: by its grade, and without one by whether it is in the pool
 abbrev pub remarked : Setting → ℕ → ℕ → List Change → List (List Mark) → List (List Mark)
-remarked s topic doc now marks = slice_set marks topic (slice_set (slice_index_or marks topic []) doc (mark_of (grade_in_force s.desk topic doc now) s.level))
+remarked s topic doc now marks = slice_set marks topic (slice_set (slice_index_or marks topic []) doc (mark_within (grade_in_force s.desk topic doc now) s.level (is_within s.desk s.depth topic doc)))
 
 -- a line has one reply, by the changes before it
 abbrev pub RepliesAreOne : Type 0

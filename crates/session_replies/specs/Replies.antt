@@ -2,6 +2,7 @@
 use Rattle.std.specs.Prelude.{◌≡◌, ◌⊎◌, ℕ, nat_eq, List, [], ◌++◌, length, map, slice_index_or, MatchBool, Option, None, Some, Result, Ok, Err, codes, ℤ}
 use Rattle.std.specs.List.{range_with_len}
 use Rattle.desk_model.specs.Book.{Book}
+use Rattle.desk_model.specs.Closing.{closed_under}
 use Rattle.desk_model.specs.Desk.{Desk}
 use Rattle.desk_model.specs.Mark.{mark_of}
 use Rattle.desk_model.specs.Name.{number_of}
@@ -20,23 +21,28 @@ use Rattle.desk_report.specs.Judging.{changed_line, pool_line, qrels_text}
 use Rattle.desk_report.specs.Reports.{Subject, subject, IsTableText, IsPairText, IsCertificateText, IsCloseText, IsNextText}
 use Rattle.judge_session.specs.Request.{Judge, Undo, Redo, Table, Pair, Certify, Pool, Next, Qrels, Quit, Heard, Blank, TooLong, Bad, Asked}
 
--- what a session is over: a measure, a level and a desk
+-- what a session is over: a measure, a level, a depth or none, and a desk
 pub record Setting : Type 0 where
   pub measure : MeasureName
   pub level : ℕ
+  pub depth : Option ℕ
   pub desk : Desk
 
 -- the grades in force of all topics
 abbrev pub all_in_force : Desk → List Change → List (List (Option ℤ))
 all_in_force desk changes = map (λ topic. grades_in_force desk topic changes) (range_with_len 0 (length desk.topics))
 
--- the marks of the documents by the judgements in force
+-- the marks of the documents by their grades in force
+abbrev pub graded_marks : Setting → List Change → List (List Mark)
+graded_marks s changes = map (λ grades. map (λ grade. mark_of grade s.level) grades) (all_in_force s.desk changes)
+
+-- the same where the documents outside the pool are closed, that is the marks by the judgements in force
 abbrev pub marks_after : Setting → List Change → List (List Mark)
-marks_after s changes = map (λ grades. map (λ grade. mark_of grade s.level) grades) (all_in_force s.desk changes)
+marks_after s changes = closed_under s.desk s.depth (graded_marks s changes)
 
 -- what reports speak of after changes
 abbrev pub subject_after : Setting → List Change → Subject
-subject_after s changes = subject s.measure s.level s.desk (marks_after s changes)
+subject_after s changes = subject s.measure s.level s.depth s.desk (marks_after s changes)
 
 abbrev pub after_judging : List ℕ → ℤ → List Change → Result (ℕ × ℕ) JudgeFault → List Change
 after_judging who grade changes (Err fault) = changes

@@ -2,6 +2,7 @@
 pub use Rattle.desk_report.specs.Reports.{cells_of}
 use Rattle.std.specs.Prelude.{◌≡◌, ℕ, ◌*◌, ◌+◌, ◌≤◌, List, length, map, codes, Option, None, Some, IfSome, IsSome}
 use Rattle.desk_model.specs.Desk.{Desk, pair_count}
+use Rattle.desk_model.specs.Graded.{pools_of}
 use Rattle.desk_model.specs.MeasureText.{IsMeasure}
 use Rattle.desk_model.specs.Pairs.{pairs_of}
 use Rattle.desk_model.specs.Verdict.{verdict}
@@ -10,8 +11,8 @@ use Rattle.desk_model.specs.declared.types.MeasureName.{MeasureName}
 use Rattle.topic_counts.specs.declared.span.Span.{Span}
 use Rattle.measure_core.specs.declared.cell.Cell.{Cell}
 use Rattle.next_document.specs.Kept.{HeldTotals as Weights, AreKeptFor, AreKeptBut}
-use Rattle.order_certificate.specs.Certificate.{IsLevel}
 use Rattle.judge_session.specs.InForce.{IsSessionOf}
+use Rattle.desk_report.specs.Grading.{IsGrading}
 use Rattle.desk_report.specs.Reports.{Subject, AreRuns, IsTableOn, IsTableText, IsPairText}
 use Rattle.desk_report.specs.declared.reports.Certified.{Certified}
 use Rattle.desk_report.specs.declared.reports.Certified.TheVariants as certified
@@ -29,7 +30,7 @@ use Rattle.session_replies.specs.declared.replies.Reply.TheVariants as replies
 
 -- what is given to a session
 abbrev pub setting_of : Given → Setting
-setting_of given = record { measure = given.measure.now; level = given.level; desk = given.desk.now }
+setting_of given = record { measure = given.measure.now; level = given.grading.level; depth = given.grading.depth; desk = given.desk.now }
 
 abbrev pub word_of : RunFault → List ℕ
 word_of UnknownRun = codes "UnknownRun"
@@ -52,10 +53,10 @@ abbrev pub shown_text : Certified → List ℕ
 shown_text (certified.Certificate text) = text.items
 shown_text (certified.Close text) = text.items
 
--- a measure that can be made and a level in range
+-- a measure that can be made, and a level and a depth in range
 pub record IsSetting (s : Setting) : Type 0 where
   pub measure : IsMeasure s.measure
-  pub level : IsLevel s.level
+  pub grading : IsGrading (record { level = s.level; depth = s.depth })
 
 -- the numbers of a measure: its name, its cells and its bounds
 pub record Numbers (M : Type 0) : Type 0 where
@@ -75,11 +76,11 @@ AreWeightsElsewhere n topic desk marks None table = Unit {0}
 AreWeightsElsewhere n topic desk marks (Some weights) None = ⊥
 AreWeightsElsewhere n topic desk marks (Some weights) (Some table) = AreKeptBut topic (n.name table.measure) desk marks weights × (length weights.verdicts ≡ length (pairs_of desk.runs))
 
--- the changes are of the desk, the marks are those by the judgements in force without a depth, and a table and totals that are there are those of these marks
+-- the changes are of the desk, the marks are those by the judgements in force, with the pools of the depth, and a table and totals that are there are those of these marks
 pub record IsReadyForLine {M : Type 0} (n : Numbers M) (s : Setting) (kept : Judging M) : Type 0 where
   pub on_desk : IsSessionOf s.desk kept.session
   pub marked : kept.marks.rows ≡ marks_after s kept.session
-  pub pools : kept.marks.pools ≡ None
+  pub pools : kept.marks.pools ≡ pools_of s.desk s.depth
   pub table : IfSome kept.table (λ table. IsTableOn (n.name table.measure) (n.cell table.measure) (n.bound table.measure) (subject_after s kept.session) table)
   pub weights : AreWeightsFor n s.desk kept.marks.rows kept.weights kept.table
 

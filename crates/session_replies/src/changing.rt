@@ -1,7 +1,7 @@
 // Lines that judge, undo and redo.
-ghost use Rattle.std.specs.Prelude.{◌≡◌, ◌≢◌, ◌+◌, ◌<◌, ◌≤◌, ◌≤ℤ◌, [], true, length, slice_index_or, slice_set, pos, negsuc, codes, None, IfOk, IfSome, IsSome, OnOk, OnErr};
+ghost use Rattle.std.specs.Prelude.{◌≡◌, ◌≢◌, ◌+◌, ◌<◌, ◌≤◌, ◌≤ℤ◌, [], true, length, slice_index_or, slice_set, pos, negsuc, codes, IfOk, IfSome, IsSome, OnOk, OnErr};
 ghost use Rattle.desk_model.specs.Desk.{AreMarksOf};
-ghost use Rattle.desk_model.specs.Mark.{mark_of};
+ghost use Rattle.desk_model.specs.Graded.{is_in_pools, mark_within};
 ghost use Rattle.desk_model.specs.Name.{is_name};
 ghost use Rattle.judge_session.specs.InForce.{IsOfDesk};
 ghost use Rattle.desk_model.specs.Named.{book_at};
@@ -65,7 +65,8 @@ fn take_over<M: Measure, L: Ledger>(
 }
 
 impl<M: Measure> Judging<M> {
-    // Takes over a change: the mark of its document, and a table and totals that are there.
+    // Takes over a change: the mark of its document, by its grade and by whether it is in the pool, and a table and totals
+    // that are there.
     fn follow<L: Ledger>(
         &mut self,
         alloc: Global,
@@ -76,14 +77,14 @@ impl<M: Measure> Judging<M> {
     ) -> Result<Vec<u8>, Memory>
         requires document { IsOfDesk given.now.desk.now changed.now }
         requires marks { AreMarksOf given.now.desk.now self.old.marks.rows }
-        requires pools { self.old.marks.pools ≡ None }
         requires topic { changed.now.topic < length self.old.marks.rows }
         requires doc { changed.now.doc < length (slice_index_or self.old.marks.rows changed.now.topic []) }
         requires table { IfSome self.old.table (λ table. StandsFor (M.cell_of table.measure) (M.bounds_of table.measure) given.now.desk.now self.old.marks.rows table) }
         requires totals { AreWeightsFor (record { name = M.measured; cell = M.cell_of; bound = M.bounds_of }) given.now.desk.now self.old.marks.rows self.old.weights self.old.table }
         ensures marks { OnOk result (self.new.marks.rows ≡ slice_set self.old.marks.rows changed.now.topic
-            (slice_set (slice_index_or self.old.marks.rows changed.now.topic []) changed.now.doc (mark_of changed.now.grade given.now.level))) }
-        ensures pools { self.new.marks.pools ≡ None }
+            (slice_set (slice_index_or self.old.marks.rows changed.now.topic []) changed.now.doc
+            (mark_within changed.now.grade given.now.grading.level (is_in_pools self.old.marks.pools changed.now.topic changed.now.doc)))) }
+        ensures pools { self.new.marks.pools ≡ self.old.marks.pools }
         ensures table { OnOk result (TakesOver (record { name = M.measured; cell = M.cell_of; bound = M.bounds_of }) given.now.desk.now self.new.marks.rows self.old.table self.new.table) }
         ensures totals { AreWeightsFor (record { name = M.measured; cell = M.cell_of; bound = M.bounds_of }) given.now.desk.now self.new.marks.rows self.new.weights self.new.table }
         ensures kept { Keeps self.old self.new }
@@ -96,7 +97,7 @@ impl<M: Measure> Judging<M> {
         // Where memory runs out, nothing was evaluated.
         let line = changed_line(alloc, word, given.desk, changed)?;
         let pooled = self.marks.pooled(changed.topic, changed.doc);
-        let mark = mark(changed.grade, given.level, pooled);
+        let mark = mark(changed.grade, given.grading.level(), pooled);
         self.marks.set(changed.topic, changed.doc, mark);
         take_over(
             &mut self.table,

@@ -2,7 +2,6 @@
 ghost use Rattle.std.specs.Prelude.{◌≡◌, ◌+◌, ◌≤◌, Some, IfOk, IfErr, IsSome, OnOk};
 ghost use Rattle.desk_model.specs.Desk.{AreMarksOf};
 ghost use Rattle.desk_model.specs.Name.{number_of};
-ghost use Rattle.order_certificate.specs.Certificate.{IsLevel};
 ghost use Rattle.desk_report.specs.Reports.{Subject, IsSubjectOf, IsNextText, AreRuns};
 ghost use Rattle.pair_table.specs.Kept.{StandsFor};
 ghost use Rattle.session_replies.specs.Replies.{refusal, subject_after, IsRunRefusal};
@@ -114,20 +113,19 @@ fn report_text<M: Measure>(
     table: &Table<M>,
     report: TableRequest,
 ) -> Result<Vec<u8>, Memory>
-    requires level { IsLevel given.now.level }
     requires marks { AreMarksOf given.now.desk.now marks.now.rows }
     requires table { StandsFor (M.cell_of table.now.measure) (M.bounds_of table.now.measure) given.now.desk.now marks.now.rows table.now }
     requires runs { AreReportedRuns given.now.desk.now report }
-    ensures { IfOk result (λ text. (s : Subject) → s.level ≡ given.now.level → s.marks ≡ marks.now.rows →
+    ensures { IfOk result (λ text. (s : Subject) → s.level ≡ given.now.grading.level → s.depth ≡ given.now.grading.depth → s.marks ≡ marks.now.rows →
         IsSubjectOf (M.measured table.now.measure) (M.cell_of table.now.measure) (M.bounds_of table.now.measure) given.now.desk.now table.now s →
         IsReported s report text.items) }
 {
-    let (desk, level) = (given.desk, given.level);
+    let (desk, grading) = (given.desk, given.grading);
     match report {
-        TableRequest::Table => table_report(alloc, desk, level, table),
+        TableRequest::Table => table_report(alloc, desk, grading, table),
         TableRequest::Pair((first, second)) => pair_report(alloc, desk, table, first, second),
         TableRequest::Certificate((first, second)) => {
-            let answer = certified_report(alloc, desk, marks, level, table, first, second)?;
+            let answer = certified_report(alloc, desk, marks, grading, table, first, second)?;
             Ok(shown(answer))
         }
     }

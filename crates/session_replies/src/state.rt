@@ -5,6 +5,7 @@ ghost use Rattle.session_replies.specs.Replies.{Setting};
 ghost use Rattle.session_replies.specs.State.{IsReadyForLine};
 
 use desk_model::{Desk, Marks, MeasureName, Memory};
+use desk_report::Grading;
 use judge_session::Session;
 use measure_core::Measure;
 use next_document::Weights;
@@ -16,13 +17,12 @@ use std::alloc::Global;
 pub struct Given<'a> {
     pub desk: &'a Desk,
     pub measure: &'a MeasureName,
-    /// The least grade that is relevant, 1 to 1,000.
-    pub level: u32,
+    pub grading: Grading,
 }
 
 /// What a session keeps between its lines: the changes so far, the marks of the documents by the judgements in force,
-/// a table of these marks, once a line asked for one, and the totals of the documents by this table, once a line asked
-/// for the next document.
+/// under the depth where there is one, a table of these marks, once a line asked for one, and the totals of the documents
+/// by this table, once a line asked for the next document.
 #[derive(Drop)]
 pub struct Judging<M: Measure> {
     pub session: Session,
@@ -32,19 +32,19 @@ pub struct Judging<M: Measure> {
 }
 
 impl<M: Measure> Judging<M> {
-    /// A session before its first line: nothing was judged, and the marks are those of the judgements file. The level
-    /// is the least grade that is relevant.
+    /// A session before its first line: nothing was judged, and the marks are those of the judgements file, under the
+    /// depth where there is one.
     ///
     /// # Errors
     /// `Memory`: out of memory.
-    pub fn new(alloc: Global, desk: &Desk, level: u32) -> Result<Judging<M>, Memory>
+    pub fn new(alloc: Global, desk: &Desk, grading: Grading) -> Result<Judging<M>, Memory>
         ensures session { IfOk result (λ judging. judging.session ≡ []) }
         ensures table { IfOk result (λ judging. judging.table ≡ None) }
         ensures ready { IfOk result (λ judging. (measure : N) →
-            IsReadyForLine (record { name = M.measured; cell = M.cell_of; bound = M.bounds_of }) (record { measure = measure; level = level; desk = desk.now }) judging) }
+            IsReadyForLine (record { name = M.measured; cell = M.cell_of; bound = M.bounds_of }) (record { measure = measure; level = grading.level; depth = grading.depth; desk = desk.now }) judging) }
     {
         desk.valid();
-        let marks = Marks::of_file(alloc, desk, level, None)?;
+        let marks = Marks::of_file(alloc, desk, grading.level(), grading.depth())?;
         Ok(Judging {
             session: Session::new(alloc),
             marks,

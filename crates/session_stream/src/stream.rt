@@ -202,7 +202,7 @@ pub fn hold_session<S: Source, K: Sink, P: Maker, L: Ledger>(
     let Ok(mut lines) = Lines::new(alloc) else {
         return Err(Fault::Memory);
     };
-    let Ok(mut judging) = Judging::<P::Made>::new(alloc, given.desk, given.level) else {
+    let Ok(mut judging) = Judging::<P::Made>::new(alloc, given.desk, given.grading) else {
         return Err(Fault::Memory);
     };
     answer_input(

@@ -1,16 +1,14 @@
 // A session of hostile lines, over a desk of one topic with one document.
-ghost use Rattle.std.specs.Prelude.{◌≡◌, ◌<◌};
-
+use crate::held::hears;
 use crate::one_document::one_document;
 use desk_model::{Desk, MeasureName, Memory};
-use desk_outside::{MemSink, MemSource};
-use measure_core::{Maker, Steps};
+use desk_report::Grading;
+use measure_core::Maker;
 use precision::Precision;
 use session_replies::Given;
-use session_stream::{Ended, Fault, hold_session};
 use std::alloc::{AllocError, Global};
 use std::marker::Brand;
-use std::sync::ledger::{Blank, Ledger};
+use std::sync::ledger::Blank;
 use std::test::Fail;
 
 // What stands before and after the number of a line, and the reply to it.
@@ -91,33 +89,22 @@ fn hostile_texts(alloc: Global) -> Result<Texts, AllocError> {
     Ok(texts)
 }
 
-fn hold<L: Ledger>(
-    alloc: Global,
-    input: &mut MemSource,
-    out: &mut MemSink,
-    desk: &Desk,
-    blank: Blank,
-) -> Result<Ended, Fault>
-    requires name { blank.name ≡ L.name }
-    requires parts { blank.parts ≡ L.parts }
-    requires some { 0 < blank.parts }
-{
+// Whether a session hears these lines to their end with these replies.
+fn is_answered(alloc: Global, desk: &Desk, texts: &Texts) -> Result<bool, Fail> {
     let measure = MeasureName::Precision(1);
     let given = Given {
         desk,
         measure: &measure,
-        level: 1,
+        grading: Grading::new(1, None),
     };
-    let mut steps: Steps<L> = Steps::new(blank);
-    hold_session(alloc, input, out, &given, &NoMeasure, &mut steps)
-}
-
-// Whether a session hears these lines to their end with these replies.
-fn is_answered(alloc: Global, desk: &Desk, texts: &Texts) -> Result<bool, Fail> {
-    let mut input = MemSource::new(texts.lines.to_vec(alloc)?, 100_000, Vec::new(alloc));
-    let mut out = MemSink::new(alloc, 40_000, 4096, Vec::new(alloc))?;
-    let ended = hold::<Brand>(alloc, &mut input, &mut out, desk, Blank::new(1));
-    Ok(ended == Ok(Ended::Done) && out.received() == texts.replies.as_slice())
+    hears::<_, Brand>(
+        alloc,
+        &given,
+        &NoMeasure,
+        &texts.lines,
+        &texts.replies,
+        Blank::new(1),
+    )
 }
 
 #[test]

@@ -1,5 +1,5 @@
 // How long the text of the bundle of a table is, counted without making the bundle.
-ghost use Rattle.std.specs.Prelude.{◌≡◌, ◌+◌, ◌≤◌, length, decimal, IfOk};
+ghost use Rattle.std.specs.Prelude.{◌≡◌, ◌+◌, ◌*◌, ◌^◌, ◌≤◌, length, decimal, IfOk};
 ghost use Rattle.desk_model.specs.Desk.{AreMarksOf};
 ghost use Rattle.order_certificate.specs.Certificate.{IsLevel};
 ghost use Rattle.pair_table.specs.Kept.{StandsFor};
@@ -39,7 +39,8 @@ pub fn table_bundle_length<M: Measure>(
     requires marks { AreMarksOf desk.now marks.now.rows }
     requires level { IsLevel level }
     requires stands { StandsFor (M.cell_of table.now.measure) (M.bounds_of table.now.measure) desk.now marks.now.rows table.now }
-    ensures { IfOk result (IsBundleLength (HasCellEnds (M.cell_of table.now.measure)) (M.measured table.now.measure) desk.now marks.now.rows level) }
+    ensures bytes { IfOk result (IsBundleLength (HasCellEnds (M.cell_of table.now.measure)) (M.measured table.now.measure) desk.now marks.now.rows level) }
+    ensures few { IfOk result (λ bytes. bytes ≤ 2 * 10 ^ 18) }
 {
     // The laws speak of desks, and of measures that have a name.
     desk.valid();

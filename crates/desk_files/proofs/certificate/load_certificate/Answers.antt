@@ -3,8 +3,8 @@ use Rattle.std.specs.Prelude.{Option, Some, None, Result, Ok, Err, IfSome, IsErr
 use Rattle.std.proofs.lemmas.Result.{IfOk-from_err}
 use Rattle.std.proofs.Math.Nat.{le_refl}
 use Rattle.line_forms.specs.Form.{IsFirstBad}
-use Rattle.order_bundle.specs.Places.{any_places, IsAnyText}
-use Rattle.order_bundle.specs.declared.any_certificate.AnyCertificate.{AnyCertificate}
+use Rattle.order_bundle.specs.Scoped.{IsScopedText, scoped_places}
+use Rattle.order_bundle.specs.declared.scoped.Scoped.{Scoped}
 use Rattle.desk_outside.specs.Outside.{Files}
 use Rattle.desk_files.specs.declared.stop.Stop.{Stop as KeptStop}
 use Rattle.desk_files.specs.Files.{Refused, BadLine, whole_file}
@@ -17,18 +17,18 @@ use Rattle.desk_files.proofs.Loading.{IsFedWhole}
 use Rattle.desk_files.proofs.certificate.load_certificate.Goals as goal
 
 -- what stops the reading of the file
-stops_with_file : (known : Option Files) (before now : ℕ) (path : List ℕ) (r : Result AnyCertificate KeptStop) (e : KeptStop) → IsErrAnd r (λ stop. stop ≡ e) → Stops known before now e (λ held. whole_file path (held path)) → ReadsCertificate known before now path r
+stops_with_file : (known : Option Files) (before now : ℕ) (path : List ℕ) (r : Result Scoped KeptStop) (e : KeptStop) → IsErrAnd r (λ stop. stop ≡ e) → Stops known before now e (λ held. whole_file path (held path)) → ReadsCertificate known before now path r
 stops_with_file known before now path r e is stops =
     handed_on (λ r. ReadsCertificate known before now path r) r e is
     (stops_at_too known before before now e (λ files why. whole_file path (files path) ≡ Err why) (λ files why. CertificateComes files path (Err why)) (le_refl before) stops (λ files why told stops. inl stops))
 
 -- the bytes of the file are the text of a certificate
-is_of_file : (known : Option Files) (path bytes : List ℕ) (c : AnyCertificate) → IsFedWhole known path bytes → IsAnyText bytes c → IfSome known (λ files. CertificateComes files path (Ok c))
+is_of_file : (known : Option Files) (path bytes : List ℕ) (c : Scoped) → IsFedWhole known path bytes → IsScopedText bytes c → IfSome known (λ files. CertificateComes files path (Ok c))
 is_of_file None path bytes c fed text = tt
 is_of_file (Some files) path bytes c fed text = (bytes, fed, text)
 
 -- the bytes of the file have a bad line
-has_bad_line : (known : Option Files) (there path bytes : List ℕ) (line : ℕ) → there ≡ path → IsFedWhole known path bytes → IsFirstBad any_places bytes line → IfSome known (λ files. CertificateComes files path (Err (Refused (BadLine there line))))
+has_bad_line : (known : Option Files) (there path bytes : List ℕ) (line : ℕ) → there ≡ path → IsFedWhole known path bytes → IsFirstBad scoped_places bytes line → IfSome known (λ files. CertificateComes files path (Err (Refused (BadLine there line))))
 has_bad_line None there path bytes line same fed bad = tt
 has_bad_line (Some files) there path bytes line same fed bad = inr (bytes, fed, (line, bad, ap (λ p. Refused (BadLine p line)) same))
 
@@ -50,7 +50,7 @@ returns-in-Err-BadLine-clause-comes g c =
     has_bad_line (g.F.Shelf.state c.args.files.now).files c.as_str-path.result.now c.args.path.now c.in_ok-bytes.bytes.items c.in-Err-BadLine.line c.as_str-path.ensures whole (rw (c.in-Err-BadLine.field-0-is, c.deref.ensures.value) at c.in-Err-BadLine.ensures)
 
 pub returns-in-Ok-clause-certificate : goal.returns-in-Ok-clause-certificate
-returns-in-Ok-clause-certificate g c = c.any_certificates_have_texts.ensures.within c.deref.result.now c.in-Ok.certificate c.in-Ok.ensures
+returns-in-Ok-clause-certificate g c = c.scoped_certificates_have_texts.ensures.within c.deref.result.now c.in-Ok.certificate c.in-Ok.ensures
 
 pub returns-in_err-bytes-clause-files : goal.returns-in_err-bytes-clause-files
 returns-in_err-bytes-clause-files g c = c.read_file.ensures.files

@@ -4,7 +4,7 @@ use Rattle.std.proofs.lemmas.Result.{IfOk-from_err}
 use Rattle.std.proofs.Math.Nat.{le_refl, le_trans}
 use Rattle.desk_outside.specs.Outside.{Files}
 use Rattle.desk_words.specs.declared.command.Check.{Check}
-use Rattle.order_bundle.specs.declared.any_certificate.AnyCertificate.{AnyCertificate}
+use Rattle.order_bundle.specs.declared.scoped.Scoped.{Scoped}
 use Rattle.desk_files.specs.Outcome.{StopsAt}
 use Rattle.desk_files.specs.Load.{Loaded, Reads, loaded}
 use Rattle.desk_files.specs.Certificates.{CertificateComes}
@@ -15,7 +15,7 @@ use Rattle.desk_files.proofs.Checking.{opens_for_desk, opens_all_and_certificate
 use Rattle.desk_files.proofs.check.load_check.Goals as goal
 
 -- the files come to the rows and the certificate
-comes_to_both : (known : Option Files) (check : Check) (rows : Loaded) (c : AnyCertificate) → Reads known (sources_of check) rows → IfSome known (λ files. CertificateComes files check.cert (Ok c)) → IfSome known (λ files. CheckComes files check (Ok (rows, c)))
+comes_to_both : (known : Option Files) (check : Check) (rows : Loaded) (c : Scoped) → Reads known (sources_of check) rows → IfSome known (λ files. CertificateComes files check.cert (Ok c)) → IfSome known (λ files. CheckComes files check (Ok (rows, c)))
 comes_to_both None check rows c read text = tt
 comes_to_both (Some files) check rows c read text = (read, text)
 

@@ -5,5 +5,5 @@ use Rattle.desk_laws.proofs.sessions.checks_accept.Goals as goal
 
 pub returns : goal.returns
 returns c =
-    all_pass (one_check c.any_text_and_certificate_are_one.ensures.certificate c.any_first_bad_line_is_unique.ensures.unique c.any_first_bad_line_is_unique.ensures.none) c.any_certificates_have_texts.ensures.text
-    (all_accepted c.any_text_and_certificate_are_one.ensures.certificate c.any_certificates_have_texts.ensures.text)
+    all_pass (one_check c.scoped_text_and_certificate_are_one.ensures.certificate c.scoped_first_bad_line_is_unique.ensures.unique c.scoped_first_bad_line_is_unique.ensures.none) c.scoped_certificates_have_texts.ensures.text
+    (all_accepted c.scoped_text_and_certificate_are_one.ensures.certificate c.scoped_certificates_have_texts.ensures.text)

@@ -2,4 +2,4 @@ use Rattle.desk_report.proofs.Truths.{close_true}
 use Rattle.desk_report.proofs.claims.close_lines_are_true.Goals as goal
 
 pub returns : goal.returns
-returns c = close_true c.any_certificates_have_texts.ensures.written
+returns c = close_true c.scoped_certificates_have_texts.ensures.written

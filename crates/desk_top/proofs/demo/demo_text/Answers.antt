@@ -2,18 +2,19 @@ use Rattle.std.proofs.Common.{ap, subst}
 use Rattle.std.proofs.lemmas.Result.{IfOk-weaker}
 use Rattle.desk_model.specs.Graded.{Marked}
 use Rattle.desk_model.specs.declared.types.MeasureName.TheVariants.{Precision}
+use Rattle.std.specs.Prelude.{None}
 use Rattle.desk_report.specs.Reports.{IsTableOn, subject}
 use Rattle.desk_top.proofs.Marking.{marks_known}
 use Rattle.desk_top.proofs.demo.demo_text.Goals as goal
 
 pub table_on-requires-clause-marks : goal.table_on-requires-clause-marks
-table_on-requires-clause-marks g c = rw c.in_ok-marks.ensures (marks_known 1 c.in_ok-demo.demo.desk c.valid.ensures)
+table_on-requires-clause-marks g c = rw c.in_ok-marks.ensures (marks_known 1 None c.in_ok-demo.demo.desk c.valid.ensures)
 
 pub texts_of-requires-clause-table : goal.texts_of-requires-clause-table
 texts_of-requires-clause-table g c =
     let M = g.P.Made.Measure in
     let kept = c.in_ok-table.table in
-    subst (λ marks. IsTableOn (M.measured kept.measure) (M.cell_of kept.measure) (M.bounds_of kept.measure) (subject (Precision 10) 1 c.in_ok-demo.demo.desk marks) kept) (ap (λ (m : Marked). m.rows) c.in_ok-marks.ensures) c.in_ok-table.ensures.table
+    subst (λ marks. IsTableOn (M.measured kept.measure) (M.cell_of kept.measure) (M.bounds_of kept.measure) (subject (Precision 10) 1 None c.in_ok-demo.demo.desk marks) kept) (ap (λ (m : Marked). m.rows) c.in_ok-marks.ensures) c.in_ok-table.ensures.table
 
 pub returns-clause-text : goal.returns-clause-text
 returns-clause-text g c =

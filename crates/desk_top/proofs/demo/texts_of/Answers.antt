@@ -4,15 +4,16 @@ use Rattle.desk_model.specs.Verdict.{verdict}
 use Rattle.demo_desk.specs.Summary.{summary_lines, summary_text}
 use Rattle.desk_report.specs.Reports.{IsSubjectOf}
 use Rattle.desk_report.proofs.Reporting.{table_numbers}
+use Rattle.std.specs.Prelude.{None}
 use Rattle.desk_top.specs.Showing.{demo_subject}
 use Rattle.desk_top.proofs.Marking.{marks_known}
 use Rattle.desk_top.proofs.demo.texts_of.Goals as goal
 
 pub summary_text-requires : goal.summary_text-requires
-summary_text-requires g c = let desk = c.args.demo.now.desk in subst (AreMarksOf desk) (sym (c.rows.ensures ∙ c.requires.marks)) (marks_known 1 desk c.requires.valid)
+summary_text-requires g c = let desk = c.args.demo.now.desk in subst (AreMarksOf desk) (sym (c.rows.ensures ∙ c.requires.marks)) (marks_known 1 None desk c.requires.valid)
 
 pub next_report-requires-clause-marks : goal.next_report-requires-clause-marks
-next_report-requires-clause-marks g c = let desk = c.args.demo.now.desk in subst (AreMarksOf desk) (sym c.requires.marks) (marks_known 1 desk c.requires.valid)
+next_report-requires-clause-marks g c = let desk = c.args.demo.now.desk in subst (AreMarksOf desk) (sym c.requires.marks) (marks_known 1 None desk c.requires.valid)
 
 pub returns : goal.returns
 returns g c =
@@ -22,7 +23,7 @@ returns g c =
     let M = g.M.Measure in
     let s = demo_subject desk in
     let seed = c.args.seed in
-    let of : IsSubjectOf (M.measured table.measure) (M.cell_of table.measure) (M.bounds_of table.measure) desk table s = record { over = refl; marked = marks_known 1 desk c.requires.valid; on = c.requires.table } in
+    let of : IsSubjectOf (M.measured table.measure) (M.cell_of table.measure) (M.bounds_of table.measure) desk table s = record { over = refl; marked = marks_known 1 None desk c.requires.valid; on = c.requires.table } in
     record {
       lines = summary_lines seed demo.rows s.marks (map verdict table.totals);
       next = c.in_ok-next.next.items;

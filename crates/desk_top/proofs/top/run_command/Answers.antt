@@ -24,7 +24,7 @@ returns-in-Ok-Holds-clause-meets g c =
     let works = c.in-Ok-Holds.ensures.works in
     let made = subst (MakesOutcome (meaning_of c.args.command.now) c.args.steps.now c.outcome_of.new.steps works.0) c.in-Ok-Holds.field-0-is works.2 in
     meets_held (meaning_of c.args.command.now) _ works.0 works.1 _ made.0 _ c.answer_session.ensures.answered
-    (subst (λ cells. EvaluatesWithin (record { measure = c.in-Ok-Holds.measure; level = c.in-Ok-Holds.level; desk = c.in-Ok-Holds.desk }) (source (g.S.Source.state c.args.input.now) (g.S.Source.state c.answer_session.new.input)) cells c.answer_session.new.steps) made.1 c.answer_session.ensures.cells) c.outcome_of.ensures.opened c.in-Ok-Holds.ensures.reads c.answer_session.ensures.heard
+    (subst (λ cells. EvaluatesWithin (record { measure = c.in-Ok-Holds.measure; level = c.in-Ok-Holds.grading.level; depth = c.in-Ok-Holds.grading.depth; desk = c.in-Ok-Holds.desk }) (source (g.S.Source.state c.args.input.now) (g.S.Source.state c.answer_session.new.input)) cells c.answer_session.new.steps) made.1 c.answer_session.ensures.cells) c.outcome_of.ensures.opened c.in-Ok-Holds.ensures.reads c.answer_session.ensures.heard
 
 pub returns-in-Err-clause-meets : goal.returns-in-Err-clause-meets
 returns-in-Err-clause-meets g c =

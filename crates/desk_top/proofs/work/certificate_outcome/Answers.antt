@@ -28,7 +28,7 @@ returns-clause-works g c =
     let on = c.in_ok-on.on in
     let is = c.in_ok-on.ensures.on in
     let files = shelf (g.F.Shelf.state c.args.files.now) (g.F.Shelf.state c.tabled.new.files) in
-    let answer = c.in_ok-answer.ensures (subject_of job on.desk) refl (sym is.marked) (tabled_subject _ _ _ job _ on is) in
+    let answer = c.in_ok-answer.ensures (subject_of job on.desk) (sym c.new-grading.ensures.level) (sym c.new-grading.ensures.depth) (sym is.marked) (tabled_subject _ _ _ job _ on is) in
     desk_works job 2 (Done ∷ Close ∷ []) PrintsCertificate is.rows on.desk is.ranked files is.read _ _ c.in_ok-on.ensures.steps c.shown.result
     (subst (MakesOutcome (meaning_of (commands.Certify job)) c.args.steps.now c.tabled.new.steps is.rows) (sym c.shown.ensures) (shown_makes job is.rows on.desk is.ranked _ _ c.in_ok-on.ensures.steps c.in_ok-answer.answer answer))
 

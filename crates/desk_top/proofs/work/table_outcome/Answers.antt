@@ -1,4 +1,4 @@
-use Rattle.std.proofs.Common.{[], ◌∷◌, refl}
+use Rattle.std.proofs.Common.{[], ◌∷◌, refl, sym}
 use Rattle.desk_words.specs.declared.command.Command.TheVariants as commands
 use Rattle.desk_outside.specs.Seen.{shelf}
 use Rattle.desk_files.specs.declared.stop.Stop.TheVariants as kept
@@ -27,7 +27,7 @@ returns-clause-works g c =
     let is = c.in_ok-on.ensures.on in
     let text = c.in_ok-text.text in
     let files = shelf (g.F.Shelf.state c.args.files.now) (g.F.Shelf.state c.tabled.new.files) in
-    let table = c.in_ok-text.ensures (subject_of job on.desk) refl (tabled_subject _ _ _ job _ on is) in
+    let table = c.in_ok-text.ensures (subject_of job on.desk) (sym c.new-grading.ensures.level) (sym c.new-grading.ensures.depth) (tabled_subject _ _ _ job _ on is) in
     desk_works job 1 (Done ∷ []) PrintsTable is.rows on.desk is.ranked files is.read _ _ c.in_ok-on.ensures.steps (made.Prints text Done)
     (desk_makes job 1 (Done ∷ []) PrintsTable is.rows on.desk is.ranked text.items Done tt (text.items, table, refl), desk_counts job 1 (Done ∷ []) PrintsTable is.rows on.desk is.ranked _ _ c.in_ok-on.ensures.steps)
 

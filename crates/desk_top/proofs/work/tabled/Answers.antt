@@ -13,7 +13,7 @@ returns-in_err-desk-clause-stops g c =
     handed_on (λ result. IfErr result (StopsLoading (desk_loading c.args.job.now) files)) c.from_residual.result _ c.from_residual.ensures.1 (desk_stops c.args.job.now files _ c.in_err-desk.ensures.makes)
 
 pub table_on-requires-clause-marks : goal.table_on-requires-clause-marks
-table_on-requires-clause-marks g c = rw c.in_ok-marks.ensures (marks_known c.args.job.now.level c.in_ok-desk.desk c.valid.ensures)
+table_on-requires-clause-marks g c = rw c.in_ok-marks.ensures (marks_known c.args.job.now.level c.args.job.now.depth c.in_ok-desk.desk c.valid.ensures)
 
 pub returns-in_err-desk-clause-reads : goal.returns-in_err-desk-clause-reads
 returns-in_err-desk-clause-reads g c = files_handed_on _ _ c.from_residual.result c.in_err-desk.field-0.0 c.from_residual.ensures.1 c.in_err-desk.ensures.reads

@@ -1,5 +1,6 @@
-use Rattle.order_bundle.proofs.Decided.{any_lines_short}
+use Rattle.std.proofs.Common.{false}
+use Rattle.order_bundle.proofs.Decided.{lines_short}
 use Rattle.order_bundle.proofs.laws.any_lines_are_short.Goals as goal
 
 pub returns : goal.returns
-returns c = any_lines_short
+returns c = lines_short false

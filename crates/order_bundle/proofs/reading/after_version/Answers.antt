@@ -12,7 +12,7 @@ use Rattle.order_bundle.proofs.reading.after_version.Goals as goal
 pub returns-in_err-measure : goal.returns-in_err-measure
 returns-in_err-measure c =
     let p = err_from_is_err_and c.from_residual.result c.from_residual.ensures.1 in
-    rw (p.1, p.2) (stop_reads measure_place (after_measure c.args.version) c.args.lines.now.rest c.measure_line.new.lines c.in_err-measure.field-0.0 (measure_plain c.measure_of_text_is_unique.ensures) c.in_err-measure.ensures)
+    rw (p.1, p.2) (stop_reads measure_place (after_measure c.args.depths c.args.version) c.args.lines.now.rest c.measure_line.new.lines c.in_err-measure.field-0.0 (measure_plain c.measure_of_text_is_unique.ensures) c.in_err-measure.ensures)
 
 pub after_measure-requires : goal.after_measure-requires
 after_measure-requires c =
@@ -20,4 +20,4 @@ after_measure-requires c =
     (one_forth (λ measure. codes "measure " ++ measure_text measure) IsMeasure h.lines c.in_ok-measure.measure h.spells).0
 
 pub returns : goal.returns
-returns c = then_reads measure_place (after_measure c.args.version) c.args.lines.now.rest c.measure_line.new.lines.rest c.in_ok-measure.measure c.after_measure.new.lines c.after_measure.result (measure_plain c.measure_of_text_is_unique.ensures) c.in_ok-measure.ensures c.after_measure.ensures
+returns c = then_reads measure_place (after_measure c.args.depths c.args.version) c.args.lines.now.rest c.measure_line.new.lines.rest c.in_ok-measure.measure c.after_measure.new.lines c.after_measure.result (measure_plain c.measure_of_text_is_unique.ensures) c.in_ok-measure.ensures c.after_measure.ensures

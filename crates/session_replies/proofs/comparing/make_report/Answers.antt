@@ -18,6 +18,6 @@ returns-clause-told g c =
     let before = c.args.judging.now.session in
     let kept = c.in_ok-prepare.ensures in
     IfOk-weaker c.report_text.result _ _
-    (λ text told. told (subject_after s before) refl (sym (kept.ready.marked ∙ ap (marks_after s) kept.session))
+    (λ text told. told (subject_after s before) refl refl (sym (kept.ready.marked ∙ ap (marks_after s) kept.session))
     (subject_ready _ s c.prepare.new.judging c.in-Some.table before c.valid.ensures kept.ready c.in-Some.is kept.session))
     c.report_text.ensures

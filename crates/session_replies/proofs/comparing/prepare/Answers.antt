@@ -20,6 +20,6 @@ returns-in_ok-table-clause-ready g c =
       on_desk = c.requires.ready.on_desk;
       marked = c.requires.ready.marked;
       pools = c.requires.ready.pools;
-      table = subst (λ marks. IsTableOn (M.measured kept.measure) (M.cell_of kept.measure) (M.bounds_of kept.measure) (subject s.measure s.level s.desk marks) kept) c.requires.ready.marked c.in_ok-table.ensures.table;
+      table = subst (λ marks. IsTableOn (M.measured kept.measure) (M.cell_of kept.measure) (M.bounds_of kept.measure) (subject s.measure s.level s.depth s.desk marks) kept) c.requires.ready.marked c.in_ok-table.ensures.table;
       weights = weights_where_none (record { name = M.measured; cell = M.cell_of; bound = M.bounds_of }) s.desk c.args.judging.now.marks.rows c.args.judging.now.weights c.args.judging.now.table kept (c.is_none.ensures ∙ ap not c.if-is_none.true) c.requires.ready.weights;
     }

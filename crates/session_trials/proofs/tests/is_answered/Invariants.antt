@@ -1,4 +1,4 @@
 use Rattle.session_trials.proofs.tests.is_answered.Given as goal
 
-abbrev pub ghosts-hold : goal.ghosts-hold
-ghosts-hold a = record { name = a.blank.name; parts = a.blank.parts }
+abbrev pub ghosts-hears : goal.ghosts-hears
+ghosts-hears a = record { name = a.blank.name; parts = a.blank.parts }

@@ -109,8 +109,14 @@ overflow_add-result-3 g c =
     let is : c.as_slice.result.now ≡ map (name_at desk.runs) c.in_ok-order.order.items = c.as_slice.ensures ∙ c.in_ok-runs.ensures ∙ ap (map (name_at desk.runs)) c.deref.ensures.value in
     omega (arith, c.opening_length.ensures.few, c.names_length.ensures.few, c.counting_lines-counting.ensures.few, c.in_ok-topics.ensures.few, c.in_ok-claims.ensures.few.1, runs_few desk c.valid.ensures c.in_ok-order.order.items c.in_ok-order.ensures c.as_slice.result.now is)
 
-pub returns : goal.returns
-returns g c =
+pub returns-clause-few : goal.returns-clause-few
+returns-clause-few g c =
+    let desk = c.args.desk.now in
+    let is : c.as_slice.result.now ≡ map (name_at desk.runs) c.in_ok-order.order.items = c.as_slice.ensures ∙ c.in_ok-runs.ensures ∙ ap (map (name_at desk.runs)) c.deref.ensures.value in
+    omega (arith, c.opening_length.ensures.few, c.names_length.ensures.few, c.counting_lines-counting.ensures.few, c.in_ok-topics.ensures.few, c.in_ok-claims.ensures.few.1, runs_few desk c.valid.ensures c.in_ok-order.order.items c.in_ok-order.ensures c.as_slice.result.now is)
+
+pub returns-clause-bytes : goal.returns-clause-bytes
+returns-clause-bytes g c =
     let table = c.args.table.now in
     let name = g.M.Measure.measured table.measure in
     let cell = g.M.Measure.cell_of table.measure in

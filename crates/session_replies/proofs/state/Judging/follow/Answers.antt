@@ -1,7 +1,7 @@
 use Rattle.std.proofs.Common.{[], ap, sym, subst, ◌∙◌}
 use Rattle.std.specs.Prelude.{IfSome, slice_index_or, slice_set}
 use Rattle.desk_model.specs.Desk.{AreMarksOf}
-use Rattle.desk_model.specs.Graded.{Marked, Pools, is_in_pools, mark_within}
+use Rattle.desk_model.specs.Graded.{Marked, mark_within}
 use Rattle.pair_table.specs.Kept.{StandsElsewhere}
 use Rattle.session_replies.specs.State.{Numbers, AreWeightsElsewhere}
 use Rattle.session_replies.proofs.Following.{marks_with, table_elsewhere}
@@ -38,7 +38,7 @@ returns-clause-marks g c =
     let old = c.args.self.now in
     ap (λ (m : Marked). m.rows) c.set.ensures
     ∙ ap (λ m. slice_set old.marks.rows told.topic (slice_set (slice_index_or old.marks.rows told.topic []) told.doc m))
-    (c.mark-mark.ensures ∙ ap (mark_within told.grade c.args.given.now.level) (c.pooled-pooled.ensures ∙ ap (λ (p : Pools). is_in_pools p told.topic told.doc) c.requires.pools))
+    (c.mark-mark.ensures ∙ ap (λ l. mark_within told.grade l c.pooled-pooled.result) c.level.ensures.value ∙ ap (mark_within told.grade c.args.given.now.grading.level) c.pooled-pooled.ensures)
 
 pub returns-clause-pools : goal.returns-clause-pools
-returns-clause-pools g c = ap (λ (m : Marked). m.pools) c.set.ensures ∙ c.requires.pools
+returns-clause-pools g c = ap (λ (m : Marked). m.pools) c.set.ensures

@@ -43,7 +43,7 @@ returns-in-Ok-clause-answers g c =
     let changes : now ≡ changes_after s.desk heard old.session = list ∙ sym (ap (after_judging who grade old.session) said.place) in
     ok_with c.follow.result _ _ _ _
     (λ text line marks table.
-    followed _ s c.valid.ensures heard old c.follow.new.self now told c.requires.ready.marked c.in-Ok.ensures.document c.in-Ok.ensures.desk said.in_force
+    followed _ s c.valid.ensures heard old c.follow.new.self now told c.requires.ready.marked c.requires.ready.pools c.in-Ok.ensures.document c.in-Ok.ensures.desk said.in_force
     (λ file t d apart. ap (grade_after file t d) list ∙ judged_elsewhere who told.topic told.doc grade old.session file t d (not_both told.topic t told.doc d apart))
     c.follow.ensures.session c.follow.ensures.pools marks table c.follow.ensures.totals (table_made _ s (marks_after s old.session) old.table c.requires.ready.table) changes (codes "judged") text.items
     (λ is. is ∙ ap (change_reply s.desk (codes "judged") told.topic told.doc) changes ∙ sym (ap (judge_reply s.desk (changes_after s.desk heard old.session)) said.place))

@@ -46,7 +46,7 @@ returns-in-Ok-clause-answers g c =
     let changes : now ≡ undone who old.session = c.in-Ok.ensures.undone in
     ok_with c.follow.result _ _ _ _
     (λ text line marks table.
-    followed _ s c.valid.ensures heard old c.follow.new.self now told c.requires.marked c.in-Ok.ensures.document c.in-Ok.ensures.desk grade
+    followed _ s c.valid.ensures heard old c.follow.new.self now told c.requires.marked c.requires.pools c.in-Ok.ensures.document c.in-Ok.ensures.desk grade
     (λ file t d apart. ap (grade_after file t d) changes ∙ undone_elsewhere t d change (not_both change.topic t change.doc d (λ e f. apart (sym topic ∙ e) (sym doc ∙ f))) who old.session file found.1)
     c.follow.ensures.session c.follow.ensures.pools marks table c.follow.ensures.totals (table_made _ s (marks_after s old.session) old.table c.requires.table) changes (codes "undone") text.items
     (λ is. is

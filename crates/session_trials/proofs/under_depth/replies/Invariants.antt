@@ -1,0 +1,4 @@
+use Rattle.session_trials.proofs.under_depth.replies.Given as goal
+
+abbrev pub ghosts-hears : goal.ghosts-hears
+ghosts-hears a = record { name = a.blank.name; parts = a.blank.parts }
