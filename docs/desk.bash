@@ -3,8 +3,8 @@ _desk() {
     local word=${COMP_WORDS[COMP_CWORD]} before=${COMP_WORDS[COMP_CWORD - 1]} at=1 options
     [ "${COMP_WORDS[1]:-}" != --unproved ] || at=2
     case ${COMP_WORDS[at]:-} in
-        table | session) options="--qrels --measure --level --help" ;;
-        certify) options="--qrels --measure --level --all --help" ;;
+        table | session) options="--qrels --measure --level --depth --help" ;;
+        certify) options="--qrels --measure --level --depth --all --help" ;;
         verify) options="--qrels --cert --help" ;;
         *) options="--help" ;;
     esac
