@@ -13,7 +13,7 @@ use Rattle.std.proofs.Math.Nat.{pow-suc, mul_assoc, add-mul, mul-one, one-le-pow
 use Rattle.std.proofs.Math.Seq.{take-append_seam}
 use Rattle.std.specs.Borrow.{Bor}
 use Rattle.desk_model.specs.declared.types.MeasureName.{MeasureName}
-use Rattle.desk_model.specs.declared.types.MeasureName.TheVariants.{Precision, Recall, RPrecision, Reciprocal, Biased}
+use Rattle.desk_model.specs.declared.types.MeasureName.TheVariants.{Precision, Recall, RPrecision, Reciprocal, Biased, AveragePrecision}
 use Rattle.desk_text.specs.Numbers.{read_on, is_plain, plain_of, is_digits, whole_of}
 use Rattle.desk_text.proofs.Digits.{plain_is_decimal, plain_of-decimal, own}
 use Rattle.desk_model.specs.MeasureText.{IsDepth, IsMeasure, IsPersistence, IsTextOf}
@@ -271,6 +271,7 @@ letter (Recall k) = 101
 letter RPrecision = 112
 letter Reciprocal = 101
 letter (Biased top bottom) = 98
+letter AveragePrecision = 97
 
 second : (m : MeasureName) (text : List ℕ) → IsTextOf m text → get_or text 1 0 ≡ letter m
 unfolding letter
@@ -279,6 +280,7 @@ second (Recall k) text e = ap (λ t. get_or t 1 0) e
 second RPrecision text e = ap (λ t. get_or t 1 0) e
 second Reciprocal text e = ap (λ t. get_or t 1 0) e
 second (Biased top bottom) text (more, e, few) = ap (λ t. get_or t 1 0) e
+second AveragePrecision text e = ap (λ t. get_or t 1 0) e
 
 fourth : (k : ℕ) (text : List ℕ) → text ≡ codes "recall_" ++ decimal k → text ≡ codes "recip_rank" → ⊥
 fourth k text e f =
@@ -292,19 +294,21 @@ unique text (Precision j) (Precision k) mj mk tj tk = ap Precision (decimal_inje
 unique text (Recall j) (Recall k) mj mk tj tk = ap Recall (decimal_injective j k (omega arith) (omega arith) (ap (drop 7) (sym tj ∙ tk)))
 unique text RPrecision RPrecision ma mb ta tb = refl
 unique text Reciprocal Reciprocal ma mb ta tb = refl
+unique text AveragePrecision AveragePrecision ma mb ta tb = refl
 unique text (Biased t b) (Biased u c) ma mb ta tb = same_persistence t b u c text ma mb ta tb
 unique text (Recall k) Reciprocal ma mb ta tb = absurd (fourth k text ta tb)
 unique text Reciprocal (Recall k) ma mb ta tb = absurd (fourth k text tb ta)
 unique text a b ma mb ta tb = let p = second a text ta in let q = second b text tb in absurd (omega arith)
 
 -- a text of no measure is none of each kind
-pub no_measure : (text : List ℕ) → text ≢ codes "Rprec" → text ≢ codes "recip_rank" → ((k : ℕ) → IsDepth k → text ≢ codes "P_" ++ decimal k) → ((k : ℕ) → IsDepth k → text ≢ codes "recall_" ++ decimal k)
+pub no_measure : (text : List ℕ) → text ≢ codes "Rprec" → text ≢ codes "recip_rank" → text ≢ codes "map" → ((k : ℕ) → IsDepth k → text ≢ codes "P_" ++ decimal k) → ((k : ℕ) → IsDepth k → text ≢ codes "recall_" ++ decimal k)
     → ((top bottom : ℕ) → IsPersistence top bottom → IsTextOf (Biased top bottom) text → ⊥) → (m : MeasureName) → IsMeasure m → IsTextOf m text → ⊥
-no_measure text a b p r c (Precision k) m t = p k m t
-no_measure text a b p r c (Recall k) m t = r k m t
-no_measure text a b p r c RPrecision m t = a t
-no_measure text a b p r c Reciprocal m t = b t
-no_measure text a b p r c (Biased top bottom) m t = c top bottom m t
+no_measure text a b v p r c (Precision k) m t = p k m t
+no_measure text a b v p r c (Recall k) m t = r k m t
+no_measure text a b v p r c RPrecision m t = a t
+no_measure text a b v p r c Reciprocal m t = b t
+no_measure text a b v p r c AveragePrecision m t = v t
+no_measure text a b v p r c (Biased top bottom) m t = c top bottom m t
 
 -- what a prefix taken off says
 pub split_some : (r : Option (Bor (List ℕ))) (text prefix : List ℕ)

@@ -11,7 +11,7 @@ use Rattle.desk_model.specs.Extremes.{InEvery, InSome, InEveryScore, IsAtMostSco
 use Rattle.desk_model.specs.Enclosure.{AreLowEnds, AreHighEnds, AreLowBounds, AreHighBounds}
 use Rattle.desk_model.specs.Verdict.{whole_sum}
 use Rattle.desk_model.specs.declared.types.MeasureName.{MeasureName}
-use Rattle.desk_model.specs.declared.types.MeasureName.TheVariants.{Precision, Recall, RPrecision, Reciprocal, Biased}
+use Rattle.desk_model.specs.declared.types.MeasureName.TheVariants.{Precision, Recall, RPrecision, Reciprocal, Biased, AveragePrecision}
 use Rattle.desk_model.proofs.Fractions.{AllPositive, at_most_step, at_least_step, at_most_in, at_least_in, total-den, below_from_at_most, below_from_at_least, not_below_from_at_least, not_below_from_at_most, same_from_bounds, not_positive_from_same, not_negative_from_same, mean_below, mean_below_out, mean_same, mean_same_out, at_most_mean, at_least_mean, at_most_one_mean, at_least_one_mean}
 
 pub over-den : (n d : ℕ) → 0 < (over n d).den
@@ -29,6 +29,7 @@ score-den (Recall k) n truth ranking tail = over-den _ _
 score-den RPrecision n truth ranking tail = over-den _ _
 score-den Reciprocal n truth ranking tail = reciprocal-den (first_true truth ranking)
 score-den (Biased a b) n truth ranking tail = over-den _ _
+score-den AveragePrecision n truth ranking tail = over-den _ _
 
 run_scores-den : (m : MeasureName) (r : ℕ) (topics : List Topic) (cs : List Completion) → AllPositive (run_scores m r topics cs)
 run_scores-den m r [] cs = tt

@@ -3,6 +3,7 @@ pub mod Mark
 pub mod Completion
 pub mod Ranking
 pub mod Fraction
+pub mod Precisions
 pub mod Score
 pub mod Order
 pub mod Extremes

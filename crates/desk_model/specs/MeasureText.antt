@@ -2,7 +2,7 @@
 use Rattle.std.specs.Prelude.{◌≡◌, ◌≢◌, ℕ, ◌+◌, ◌^◌, ◌%◌, ◌<◌, ◌≤◌, List, ◌++◌, drop, replicate, length, codes, decimal}
 use Rattle.desk_model.specs.Limits.{DEPTH_LIMIT}
 use Rattle.desk_model.specs.declared.types.MeasureName.{MeasureName}
-use Rattle.desk_model.specs.declared.types.MeasureName.TheVariants.{Precision, Recall, RPrecision, Reciprocal, Biased}
+use Rattle.desk_model.specs.declared.types.MeasureName.TheVariants.{Precision, Recall, RPrecision, Reciprocal, Biased, AveragePrecision}
 
 -- the decimals of a persistence, whose bottom is a power of ten
 abbrev pub persistence_digits : ℕ → ℕ → List ℕ
@@ -15,6 +15,7 @@ measure_text (Recall k) = codes "recall_" ++ decimal k
 measure_text RPrecision = codes "Rprec"
 measure_text Reciprocal = codes "recip_rank"
 measure_text (Biased top bottom) = codes "rbp_0." ++ persistence_digits top bottom
+measure_text AveragePrecision = codes "map"
 
 -- k is from 1 to 10,000
 abbrev pub IsDepth : ℕ → Type 0
@@ -37,6 +38,7 @@ IsMeasure (Recall k) = IsDepth k
 IsMeasure RPrecision = Unit {0}
 IsMeasure Reciprocal = Unit {0}
 IsMeasure (Biased top bottom) = IsPersistence top bottom
+IsMeasure AveragePrecision = Unit {0}
 
 -- a text of a measure: as it is printed, and for a persistence also with zeros after it, up to 6 decimals
 abbrev pub IsTextOf : MeasureName → List ℕ → Type 0

@@ -25,6 +25,9 @@ pub fn read_measure(text: &[u8]) -> Result<MeasureName, UnknownMeasure>
     if text == b"recip_rank".as_slice() {
         return Ok(MeasureName::Reciprocal);
     }
+    if text == b"map".as_slice() {
+        return Ok(MeasureName::AveragePrecision);
+    }
     if let Some(k) = depth_after(text, b"P_") {
         return Ok(MeasureName::Precision(k));
     }

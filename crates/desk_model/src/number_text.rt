@@ -69,6 +69,7 @@ pub fn push_measure(out: &mut Vec<u8>, measure: &MeasureName) -> Result<(), Allo
         }
         MeasureName::RPrecision => out.extend_from_slice(b"Rprec"),
         MeasureName::Reciprocal => out.extend_from_slice(b"recip_rank"),
+        MeasureName::AveragePrecision => out.extend_from_slice(b"map"),
         MeasureName::Biased { top, bottom } => {
             out.extend_from_slice(b"rbp_0.")?;
             push_digits_after_first(out, *bottom as u64 + *top as u64)

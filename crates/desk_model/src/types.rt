@@ -25,6 +25,9 @@ pub enum MeasureName {
     Reciprocal,
     /// Rank-biased precision (Moffat and Zobel 2008), with the persistence `top / bottom`.
     Biased { top: u32, bottom: u32 },
+    /// `map` of trec_eval: average precision, the sum of the precisions at the ranks of relevant
+    /// documents, out of all relevant ones.
+    AveragePrecision,
 }
 
 /// Four sums over all topics, in units of the measure: the lower and the upper ends of the least

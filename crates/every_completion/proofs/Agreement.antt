@@ -10,7 +10,7 @@ use Rattle.desk_model.specs.Extremes.{IsGreatest, IsSmallest, InEvery, InSome, A
 use Rattle.desk_model.specs.declared.types.Mark.{Mark}
 use Rattle.desk_model.specs.declared.types.Mark.TheVariants.{Unjudged, Relevant, Other}
 use Rattle.desk_model.specs.declared.types.MeasureName.{MeasureName}
-use Rattle.desk_model.specs.declared.types.MeasureName.TheVariants.{Precision, Recall, RPrecision, Reciprocal, Biased}
+use Rattle.desk_model.specs.declared.types.MeasureName.TheVariants.{Precision, Recall, RPrecision, Reciprocal, Biased, AveragePrecision}
 use Rattle.desk_model.proofs.Completions.{with_picked-Completes}
 use Rattle.desk_model.proofs.Counts.{one_if, count_by-cons}
 use Rattle.desk_model.proofs.Agreement.{Agree, score_agree}
@@ -44,6 +44,7 @@ score_alone (Recall k) n s t docs tail v r h = score_agree (Recall k) n s t docs
 score_alone RPrecision n s t docs tail v r h = score_agree RPrecision n s t docs [] r h
 score_alone Reciprocal n s t docs tail v r h = score_agree Reciprocal n s t docs [] r h
 score_alone (Biased top bottom) n s t docs tail v r h = absurd v
+score_alone AveragePrecision n s t docs tail v r h = absurd v
 
 judged_value : (mark : Mark) (b : Bool) → is_unjudged mark ≡ false → Allows mark b → b ≡ picked_value false mark
 judged_value Unjudged b h a = absurd (cc)

@@ -5,7 +5,7 @@ use Rattle.desk_model.specs.Limits.{DEPTH_LIMIT, DOCUMENT_LIMIT, RANK_LIMIT}
 use Rattle.desk_model.specs.Fraction as model
 use Rattle.desk_model.specs.Extremes as extremes
 use Rattle.desk_model.specs.declared.types.MeasureName.{MeasureName}
-use Rattle.desk_model.specs.declared.types.MeasureName.TheVariants.{Precision, Recall, RPrecision, Reciprocal, Biased}
+use Rattle.desk_model.specs.declared.types.MeasureName.TheVariants.{Precision, Recall, RPrecision, Reciprocal, Biased, AveragePrecision}
 use Rattle.every_completion.specs.declared.scores.ScoreFraction.{ScoreFraction}
 use Rattle.every_completion.specs.declared.ends.ExtremeEnds.{ExtremeEnds}
 
@@ -16,6 +16,7 @@ LooksAtNoTail (Recall k) = (1 ≤ k) × (k ≤ DEPTH_LIMIT)
 LooksAtNoTail RPrecision = Unit {0}
 LooksAtNoTail Reciprocal = Unit {0}
 LooksAtNoTail (Biased top bottom) = ⊥
+LooksAtNoTail AveragePrecision = ⊥
 
 -- a computed fraction as the fraction that it is
 abbrev pub value_of : ScoreFraction → model.Fraction

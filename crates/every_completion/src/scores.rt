@@ -103,6 +103,6 @@ pub fn score_of(measure: MeasureName, docs: &[u32], marks: &[Mark]) -> ScoreFrac
             Some(rank) => quotient(1, rank),
             None => quotient(0, 1),
         },
-        MeasureName::Biased { .. } => unreachable!(),
+        MeasureName::Biased { .. } | MeasureName::AveragePrecision => unreachable!(),
     }
 }

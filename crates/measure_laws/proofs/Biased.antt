@@ -9,7 +9,7 @@ use Rattle.measure_laws.specs.Cases.{IsLongTail, HasLeastTails}
 use Rattle.measure_laws.specs.Powers.{ceil_div, low_power, high_power}
 use Rattle.std.proofs.lemmas.Nat.{pow-add}
 use Rattle.desk_model.specs.declared.types.MeasureName.{MeasureName}
-use Rattle.desk_model.specs.declared.types.MeasureName.TheVariants.{Precision, Recall, RPrecision, Reciprocal, Biased as MeasureBiased}
+use Rattle.desk_model.specs.declared.types.MeasureName.TheVariants.{Precision, Recall, RPrecision, Reciprocal, Biased as MeasureBiased, AveragePrecision}
 
 -- Bernoulli's inequality, where the base grows from a to a + c
 pub bernoulli : (a c m : ℕ) → a ^ m * (a + c + m * c) ≤ (a + c) ^ suc m
@@ -145,6 +145,7 @@ least_tails (Recall k) = ([], [], (refl, refl))
 least_tails RPrecision = ([], [], (refl, refl))
 least_tails Reciprocal = ([], [], (refl, refl))
 least_tails (MeasureBiased top bottom) = let long = long_tail in ([], long.0, (refl, long.1))
+least_tails AveragePrecision = ([], [], (refl, refl))
 
 -- S times what a tail of 10^24 relevant places leaves out is below 1: what it adds after a prefix is at least the kept power less 1
 pub long_tail_adds : (a c n k : ℕ) → k ≡ 10 ^ 24 → 0 < a → 0 < c → a + c ≤ 1000000 →

@@ -10,8 +10,14 @@ use Rattle.desk_model.specs.MeasureText.{IsMeasure}
 use Rattle.desk_model.specs.Verdict.{whole_sum}
 use Rattle.desk_model.specs.declared.types.Mark.{Mark}
 use Rattle.desk_model.specs.declared.types.MeasureName.{MeasureName}
-use Rattle.desk_model.specs.declared.types.MeasureName.TheVariants.{Precision, Recall, RPrecision, Reciprocal, Biased}
-use Rattle.desk_model.proofs.Agreement.{Agree, score_agree}
+use Rattle.desk_model.specs.declared.types.MeasureName.TheVariants.{Precision, Recall, RPrecision, Reciprocal, Biased, AveragePrecision}
+use Rattle.std.proofs.lemmas.List.Elements.{recursion_from_All}
+use Rattle.desk_model.specs.Precisions.{true_ranks}
+use Rattle.desk_model.specs.Score.{true_count}
+use Rattle.measure_laws.specs.Parts.{ranked_sum, low_part, high_part, low_out_of, high_out_of, low_average, high_average}
+use Rattle.measure_laws.specs.AverageEnds.{is_same_list}
+use Rattle.measure_laws.proofs.AverageLeast.{ends_swapped as average_swapped}
+use Rattle.desk_model.proofs.Agreement.{Agree, score_agree, values_agree, count_agree}
 use Rattle.desk_model.proofs.Topics.{score-den}
 use Rattle.measure_laws.specs.Cases.{least_truth}
 use Rattle.measure_laws.specs.Ends.{HasEnds, IsUpperEnd, IsLowerEnd}
@@ -40,6 +46,7 @@ least_case_upper (Recall k) marks a b e valid ra rb h = exact_case (Recall k) ma
 least_case_upper RPrecision marks a b e valid ra rb h = exact_case RPrecision marks a b e valid tt ra rb h
 least_case_upper Reciprocal marks a b e valid ra rb h = exact_case Reciprocal marks a b e valid tt ra rb h
 least_case_upper (Biased top bottom) marks a b e valid ra rb h = ap (λ (x : Ends). x.least_hi) h
+least_case_upper AveragePrecision marks a b e valid ra rb h = ap (λ (x : Ends). x.least_hi) h
 
 pub named_swapped : (m : MeasureName) (marks : List Mark) (a b : List ℕ) (e : Ends) → IsMeasure m → IsRanking (length marks) a → IsRanking (length marks) b → HasEnds m marks a b e → HasEnds m marks b a (swapped_ends e)
 named_swapped (Precision k) marks a b e valid ra rb h = extremes_swapped (Precision k) k marks a b e h
@@ -47,6 +54,7 @@ named_swapped (Recall k) marks a b e valid ra rb h = extremes_swapped (Recall k)
 named_swapped RPrecision marks a b e valid ra rb h = extremes_swapped RPrecision (10 ^ 18) marks a b e h
 named_swapped Reciprocal marks a b e valid ra rb h = extremes_swapped Reciprocal (10 ^ 18) marks a b e h
 named_swapped (Biased top bottom) marks a b e valid ra rb h = ap swapped_ends h ∙ sym (ends_swapped top bottom marks a b valid ra rb)
+named_swapped AveragePrecision marks a b e valid ra rb h = ap swapped_ends h ∙ sym (average_swapped marks a b)
 
 pub most_case_lower : (m : MeasureName) (marks : List Mark) (a b : List ℕ) (e : Ends) → IsMeasure m → IsRanking (length marks) a → IsRanking (length marks) b → HasEnds m marks a b e → IsLowerEnd m (length marks) (least_truth m marks b a) a b e.most_lo
 most_case_lower m marks a b e valid ra rb h = least_case_upper m marks b a (swapped_ends e) valid rb ra (named_swapped m marks a b e valid ra rb h)
@@ -66,6 +74,12 @@ exact_agree m n s t a b z ra rb same h =
     subst (λ (x : Fraction). IsSmallest (λ w. IsAtLeast w (unit_of m) x (score m n t b [])) z) (score_agree m n s t a [] ra same)
     (subst (λ (y : Fraction). IsSmallest (λ w. IsAtLeast w (unit_of m) (score m n s a []) y) z) (score_agree m n s t b [] rb same) h)
 
+average_agree : (out_of : ℕ → ℕ → ℕ) (part : ℕ → ℕ → ℕ) (n : ℕ) (s t : ℕ → Bool) (docs : List ℕ) → IsRanking n docs → Agree n s t →
+    out_of (ranked_sum part 1 (true_ranks 1 (map s docs))) (true_count s n) ≡ out_of (ranked_sum part 1 (true_ranks 1 (map t docs))) (true_count t n)
+average_agree out_of part n s t docs r h =
+    ap (λ gains. out_of (ranked_sum part 1 (true_ranks 1 gains)) (true_count s n)) (values_agree n s t docs (recursion_from_All (λ d. d < n) docs r.within) h)
+    ∙ ap (out_of (ranked_sum part 1 (true_ranks 1 (map t docs)))) (count_agree n s t h)
+
 pub upper_agree : (m : MeasureName) (n : ℕ) (s t : ℕ → Bool) (a b : List ℕ) (z : ℤ) → IsRanking n a → IsRanking n b → Agree n s t → IsUpperEnd m n s a b z → IsUpperEnd m n t a b z
 upper_agree (Precision k) n s t a b z ra rb same h = exact_agree (Precision k) n s t a b z ra rb same h
 upper_agree (Recall k) n s t a b z ra rb same h = exact_agree (Recall k) n s t a b z ra rb same h
@@ -73,3 +87,7 @@ upper_agree RPrecision n s t a b z ra rb same h = exact_agree RPrecision n s t a
 upper_agree Reciprocal n s t a b z ra rb same h = exact_agree Reciprocal n s t a b z ra rb same h
 upper_agree (Biased top bottom) n s t a b z ra rb same h =
     h ∙ ap (λ (zs : List ℤ). whole_sum zs -ℤ pos (low_power top bottom (length b) - 1)) (taken_agree (λ doc. high_share top bottom (rank a doc) (rank b doc)) s t 0 n (λ doc k. same doc (omega arith)))
+upper_agree AveragePrecision n s t a b z ra rb same h =
+    let one : low_average n s b ≡ low_average n t b = average_agree low_out_of low_part n s t b rb same in
+    let other : high_average n s a ≡ high_average n t a = average_agree high_out_of high_part n s t a ra same in
+    h ∙ ap (λ (w : ℕ). if is_same_list a b then pos 0 else pos w -ℤ pos (low_average n s b)) other ∙ ap (λ (w : ℕ). if is_same_list a b then pos 0 else pos (high_average n t a) -ℤ pos w) one

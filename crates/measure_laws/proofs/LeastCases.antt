@@ -1,4 +1,5 @@
 -- The least case of each measure but rank-biased precision has the least difference of all completions.
+use Rattle.measure_laws.proofs.AverageLeast.{truth-Completes}
 use Rattle.std.proofs.Common.{ℕ, ◌+◌, ◌*◌, ◌<◌, ◌≤◌, nat_lt, List, length, take, arith}
 use Rattle.std.proofs.Math.Nat.{mul-le-mul_left}
 use Rattle.std.proofs.lemmas.Bool.{ltb-true, ltb-false}
@@ -22,7 +23,7 @@ use Rattle.measure_laws.proofs.ReciprocalEnds.{reciprocal_least_case}
 use Rattle.measure_laws.proofs.RprecEnds.{rprec_least_case}
 use Rattle.desk_model.specs.declared.types.Mark.{Mark}
 use Rattle.desk_model.specs.declared.types.MeasureName.{MeasureName}
-use Rattle.desk_model.specs.declared.types.MeasureName.TheVariants.{Precision, Recall, RPrecision, Reciprocal, Biased}
+use Rattle.desk_model.specs.declared.types.MeasureName.TheVariants.{Precision, Recall, RPrecision, Reciprocal, Biased, AveragePrecision}
 
 same_denominator : (a b a' b' k : ℕ) → 0 < k → a' + b ≤ a + b' → IsNoGreater (over a' k) (over b' k) (over a k) (over b k)
 same_denominator a b a' b' k h le =
@@ -54,6 +55,7 @@ least_case_is_least (Recall k) marks a b h e ra rb = recall_case k marks a b ra 
 least_case_is_least RPrecision marks a b h e ra rb = rprec_least_case marks a b ra rb
 least_case_is_least Reciprocal marks a b h e ra rb = reciprocal_least_case marks a b ra rb
 least_case_is_least (Biased top bottom) marks a b h e ra rb = absurd e
+least_case_is_least AveragePrecision marks a b h e ra rb = absurd e
 
 -- the least case is a completion
 pub least_truth-Completes : (m : MeasureName) (marks : List Mark) (a b : List ℕ) → Completes marks (least_truth m marks a b)
@@ -62,3 +64,4 @@ least_truth-Completes (Recall k) marks a b = with_picked-Completes marks (recall
 least_truth-Completes RPrecision marks a b = with_picked-Completes marks (greedy_pick marks a b (rprec_count marks a b))
 least_truth-Completes Reciprocal marks a b = with_picked-Completes marks (is_choice (reciprocal_choice marks a b))
 least_truth-Completes (Biased top bottom) marks a b = with_picked-Completes marks (λ doc. comes_before (rank b doc) (rank a doc))
+least_truth-Completes AveragePrecision marks a b = truth-Completes marks a b

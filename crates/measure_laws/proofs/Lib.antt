@@ -6,6 +6,11 @@ pub mod Weights
 pub mod RecallEnds
 pub mod ReciprocalEnds
 pub mod RprecEnds
+pub mod Earliest
+pub mod RankSums
+pub mod AlongRanking
+pub mod AverageBounds
+pub mod AverageLeast
 pub mod LeastCases
 pub mod Biased
 pub mod BiasedEnds

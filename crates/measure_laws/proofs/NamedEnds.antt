@@ -7,13 +7,16 @@ use Rattle.desk_model.specs.Extremes.{InEvery, Ends}
 use Rattle.desk_model.specs.MeasureText.{IsMeasure}
 use Rattle.desk_model.specs.declared.types.Mark.{Mark}
 use Rattle.desk_model.specs.declared.types.MeasureName.{MeasureName}
-use Rattle.desk_model.specs.declared.types.MeasureName.TheVariants.{Precision, Recall, RPrecision, Reciprocal, Biased}
+use Rattle.desk_model.specs.declared.types.MeasureName.TheVariants.{Precision, Recall, RPrecision, Reciprocal, Biased, AveragePrecision}
 use Rattle.measure_laws.specs.Measures.{unit_of}
 use Rattle.measure_laws.specs.Shares.{biased_upper_end}
 use Rattle.measure_laws.specs.Cases.{HasLeastTails}
 use Rattle.measure_laws.specs.Ends.{HasEnds, IsUpperEnd, IsLowerEnd}
 use Rattle.small_lemmas.proofs.Numbers.{neg_twice}
-use Rattle.measure_laws.proofs.Swapping.{at_least_swapped}
+use Rattle.measure_laws.specs.Parts.{average_precision}
+use Rattle.measure_laws.specs.AverageEnds.{average_least_lo}
+use Rattle.measure_laws.proofs.AverageLeast.{low_encloses as average_low, upper_holds as average_upper}
+use Rattle.measure_laws.proofs.Swapping.{at_most_swapped, at_least_swapped}
 use Rattle.measure_laws.proofs.Weights.{persistence-small}
 use Rattle.measure_laws.proofs.BiasedUpper.{biased_high}
 use Rattle.measure_laws.proofs.Persistence.{least_encloses, most_encloses}
@@ -25,6 +28,8 @@ low_encloses RPrecision marks a b e valid ra rb h = h.least_lo.so
 low_encloses Reciprocal marks a b e valid ra rb h = h.least_lo.so
 low_encloses (Biased top bottom) marks a b e valid ra rb h =
     subst (λ (ends : Ends). InEvery (Biased top bottom) marks a b (IsAtMost ends.least_lo (10 ^ 18))) (sym h) (least_encloses top bottom marks a b valid ra rb)
+low_encloses AveragePrecision marks a b e valid ra rb h = λ truth tail_a tail_b c.
+    subst (λ (ends : Ends). IsAtMost ends.least_lo (10 ^ 18) (average_precision (length marks) truth a) (average_precision (length marks) truth b)) (sym h) (average_low marks a b truth ra rb c)
 
 pub high_encloses : (m : MeasureName) (marks : List Mark) (a b : List ℕ) (e : Ends) → IsMeasure m → IsRanking (length marks) a → IsRanking (length marks) b → HasEnds m marks a b e → InEvery m marks a b (IsAtLeast e.most_hi (unit_of m))
 high_encloses (Precision k) marks a b e valid ra rb h = h.most_hi.so
@@ -33,6 +38,9 @@ high_encloses RPrecision marks a b e valid ra rb h = h.most_hi.so
 high_encloses Reciprocal marks a b e valid ra rb h = h.most_hi.so
 high_encloses (Biased top bottom) marks a b e valid ra rb h =
     subst (λ (ends : Ends). InEvery (Biased top bottom) marks a b (IsAtLeast ends.most_hi (10 ^ 18))) (sym h) (most_encloses top bottom marks a b valid ra rb)
+high_encloses AveragePrecision marks a b e valid ra rb h = λ truth tail_a tail_b c.
+    subst (λ (ends : Ends). IsAtLeast ends.most_hi (10 ^ 18) (average_precision (length marks) truth a) (average_precision (length marks) truth b)) (sym h)
+    (at_most_swapped (average_least_lo marks b a) (10 ^ 18) _ _ (average_low marks b a truth rb ra c))
 
 -- the upper end of a completion
 pub upper_holds : (m : MeasureName) (n : ℕ) (truth : ℕ → Bool) (a b : List ℕ) (z : ℤ) (tail_a tail_b : List Bool) → IsMeasure m → IsRanking n a → IsRanking n b → IsUpperEnd m n truth a b z → HasLeastTails m tail_a tail_b →
@@ -50,6 +58,8 @@ upper_holds (Biased top bottom) n truth a b z tail_a tail_b valid ra rb h tails 
     (biased_high top (bottom - top) n truth a b valid.positive apart few ra rb tail_b tails.1) in
     subst (λ (w : ℤ). IsAtLeast w (10 ^ 18) (biased top bottom (map truth a ++ tail_a)) (biased top bottom (map truth b ++ tail_b))) (sym h)
     (subst (λ (t : List Bool). IsAtLeast (biased_upper_end top bottom truth n a b) (10 ^ 18) (biased top bottom (map truth a ++ t)) (biased top bottom (map truth b ++ tail_b))) (sym tails.0) high)
+upper_holds AveragePrecision n truth a b z tail_a tail_b valid ra rb h tails =
+    subst (λ (w : ℤ). IsAtLeast w (10 ^ 18) (average_precision n truth a) (average_precision n truth b)) (sym h) (average_upper n truth a b)
 
 -- the lower end, with the tails swapped
 pub lower_holds : (m : MeasureName) (n : ℕ) (truth : ℕ → Bool) (a b : List ℕ) (z : ℤ) (tail_a tail_b : List Bool) → IsMeasure m → IsRanking n a → IsRanking n b → IsLowerEnd m n truth a b z → HasLeastTails m tail_b tail_a →

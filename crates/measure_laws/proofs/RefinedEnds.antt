@@ -8,7 +8,7 @@ use Rattle.desk_model.specs.MeasureText.{IsMeasure, IsPersistence}
 use Rattle.desk_model.specs.Ranking.{IsRanking}
 use Rattle.desk_model.specs.declared.types.Mark.{Mark}
 use Rattle.desk_model.specs.declared.types.MeasureName.{MeasureName}
-use Rattle.desk_model.specs.declared.types.MeasureName.TheVariants.{Precision, Recall, RPrecision, Reciprocal, Biased}
+use Rattle.desk_model.specs.declared.types.MeasureName.TheVariants.{Precision, Recall, RPrecision, Reciprocal, Biased, AveragePrecision}
 use Rattle.desk_model.proofs.Completions.{with_picked-Completes}
 use Rattle.desk_model.proofs.Exact.{at_most_least}
 use Rattle.desk_model.proofs.Topics.{score-den}
@@ -16,6 +16,8 @@ use Rattle.measure_laws.specs.Ends.{HasEnds}
 use Rattle.measure_laws.specs.Measures.{unit_of}
 use Rattle.measure_laws.specs.Refinement.{AreRefinedBy}
 use Rattle.measure_laws.specs.Shares.{biased_ends}
+use Rattle.measure_laws.specs.AverageEnds.{average_ends}
+use Rattle.measure_laws.proofs.AverageLeast.{least_lo_rises, most_hi_falls}
 use Rattle.measure_laws.proofs.NamedEnds.{low_encloses, high_encloses}
 use Rattle.measure_laws.proofs.Refined.{in_every_refined, in_every_score_refined}
 use Rattle.measure_laws.proofs.RefinedShares.{least_rises}
@@ -36,13 +38,15 @@ biased_close_in top bottom marks later a b p h =
     let some : 0 < bottom = omega (arith, p.below_one) in
     (least_rises marks later h top bottom a b le some, omega (arith, ints, least_rises marks later h top bottom b a le some))
 
-pub named_ends_close_in : (m : MeasureName) (marks later : List Mark) (a b : List ℕ) (e f : Ends) → IsMeasure m → AreRefinedBy marks later → HasEnds m marks a b e → HasEnds m later a b f → CloseIn e f
-named_ends_close_in (Precision k) marks later a b e f valid h x y = extremes_close_in (Precision k) (unit_of (Precision k)) marks later a b e f h x y
-named_ends_close_in (Recall k) marks later a b e f valid h x y = extremes_close_in (Recall k) (unit_of (Recall k)) marks later a b e f h x y
-named_ends_close_in RPrecision marks later a b e f valid h x y = extremes_close_in RPrecision (unit_of RPrecision) marks later a b e f h x y
-named_ends_close_in Reciprocal marks later a b e f valid h x y = extremes_close_in Reciprocal (unit_of Reciprocal) marks later a b e f h x y
-named_ends_close_in (Biased top bottom) marks later a b e f valid h x y =
+pub named_ends_close_in : (m : MeasureName) (marks later : List Mark) (a b : List ℕ) (e f : Ends) → IsMeasure m → IsRanking (length marks) a → IsRanking (length marks) b → AreRefinedBy marks later → HasEnds m marks a b e → HasEnds m later a b f → CloseIn e f
+named_ends_close_in (Precision k) marks later a b e f valid ra rb h x y = extremes_close_in (Precision k) (unit_of (Precision k)) marks later a b e f h x y
+named_ends_close_in (Recall k) marks later a b e f valid ra rb h x y = extremes_close_in (Recall k) (unit_of (Recall k)) marks later a b e f h x y
+named_ends_close_in RPrecision marks later a b e f valid ra rb h x y = extremes_close_in RPrecision (unit_of RPrecision) marks later a b e f h x y
+named_ends_close_in Reciprocal marks later a b e f valid ra rb h x y = extremes_close_in Reciprocal (unit_of Reciprocal) marks later a b e f h x y
+named_ends_close_in (Biased top bottom) marks later a b e f valid ra rb h x y =
     subst (λ (r : Ends). CloseIn r f) (sym x) (subst (λ (r : Ends). CloseIn (biased_ends top bottom marks a b) r) (sym y) (biased_close_in top bottom marks later a b valid h))
+named_ends_close_in AveragePrecision marks later a b e f valid ra rb h x y =
+    subst (λ (r : Ends). CloseIn r f) (sym x) (subst (λ (r : Ends). CloseIn (average_ends marks a b) r) (sym y) (least_lo_rises marks later a b h ra rb, most_hi_falls marks later a b h ra rb))
 
 -- the bounds of one run
 pub bounds_within : (m : MeasureName) (unit : ℕ) (marks later : List Mark) (a : List ℕ) (lo hi lo' hi' : ℤ) → AreRefinedBy marks later → AreBounds m unit marks a lo hi → AreBounds m unit later a lo' hi' → (lo ≤ℤ lo') × (hi' ≤ℤ hi)

@@ -6,7 +6,7 @@ use Rattle.desk_model.specs.Ranking.{IsRanking}
 use Rattle.desk_model.specs.Fraction.{Fraction, over, IsAtMost, IsAtLeast}
 use Rattle.desk_model.specs.Score.{score, true_count, true_among, first_true, reciprocal}
 use Rattle.desk_model.specs.declared.types.MeasureName.{MeasureName}
-use Rattle.desk_model.specs.declared.types.MeasureName.TheVariants.{Precision, Recall, RPrecision, Reciprocal, Biased}
+use Rattle.desk_model.specs.declared.types.MeasureName.TheVariants.{Precision, Recall, RPrecision, Reciprocal, Biased, AveragePrecision}
 use Rattle.desk_model.proofs.Fractions.{at_most_in, at_least_in}
 use Rattle.desk_model.proofs.Counts.{IsDistinct-take}
 use Rattle.desk_model.proofs.PrecisionEnds.{prefix_within}
@@ -34,6 +34,7 @@ score-most (Recall k) n truth docs tail exact r = over-most (true_among truth k 
 score-most RPrecision n truth docs tail exact r = over-most (true_among truth (true_count truth n) docs) (true_count truth n) (among_few truth (true_count truth n) docs)
 score-most Reciprocal n truth docs tail exact r = reciprocal-most (first_true truth docs)
 score-most (Biased top bottom) n truth docs tail exact r = absurd exact
+score-most AveragePrecision n truth docs tail exact r = absurd exact
 
 small_low : (u a b c d : ℕ) → c ≤ d → u * (c * b) ≤ u * (a * d) + u * (b * d)
 small_low u a b c d h = omega (arith, mul-le-mul_left (u * b) h)

@@ -6,7 +6,7 @@ use Rattle.desk_model.specs.Extremes.{IsGreatest, IsSmallest, Ends, AreExtremes}
 use Rattle.desk_model.specs.Classes.{precision_ends}
 use Rattle.desk_model.specs.declared.types.Mark.{Mark}
 use Rattle.desk_model.specs.declared.types.MeasureName.{MeasureName}
-use Rattle.desk_model.specs.declared.types.MeasureName.TheVariants.{Precision, Recall, RPrecision, Reciprocal, Biased}
+use Rattle.desk_model.specs.declared.types.MeasureName.TheVariants.{Precision, Recall, RPrecision, Reciprocal, Biased, AveragePrecision}
 use Rattle.measure_laws.specs.Ends.{HasEnds}
 use Rattle.desk_model.proofs.PrecisionEnds.{precision_extremes}
 
@@ -36,6 +36,7 @@ named_ends_unique (Recall k) marks a b e f h g = extremes_unique (Recall k) (10 
 named_ends_unique RPrecision marks a b e f h g = extremes_unique RPrecision (10 ^ 18) marks a b e f h g
 named_ends_unique Reciprocal marks a b e f h g = extremes_unique Reciprocal (10 ^ 18) marks a b e f h g
 named_ends_unique (Biased top bottom) marks a b e f h g = h ∙ sym g
+named_ends_unique AveragePrecision marks a b e f h g = h ∙ sym g
 
 -- under precision they are counts of documents
 pub precision_ends_are : (k : ℕ) (marks : List Mark) (a b : List ℕ) (e : Ends) → 0 < k → IsRanking (length marks) a → IsRanking (length marks) b → AreExtremes (Precision k) k marks a b e → e ≡ precision_ends k marks a b

@@ -12,7 +12,7 @@ use Rattle.measure_laws.specs.Weights.{weight_of, reciprocal_weight, one_side_we
 use Rattle.measure_laws.specs.Powers.{ceil_div, low_power, low_weight, high_power, high_weight}
 use Rattle.desk_model.specs.declared.types.Mark.{Mark}
 use Rattle.desk_model.specs.declared.types.MeasureName.{MeasureName}
-use Rattle.desk_model.specs.declared.types.MeasureName.TheVariants.{Precision, Recall, RPrecision, Reciprocal, Biased}
+use Rattle.desk_model.specs.declared.types.MeasureName.TheVariants.{Precision, Recall, RPrecision, Reciprocal, Biased, AveragePrecision}
 
 -- a part that is at most the whole, divided
 part_most : (n a b : ℕ) → a ≤ b → n * a / b ≤ n
@@ -58,6 +58,7 @@ weight-most (Precision k) marks a b doc h = one_or_none (only_second k a b doc |
 weight-most (Recall k) marks a b doc h = one_or_none (only_second k a b doc || only_second k b a doc)
 weight-most RPrecision marks a b doc h = one_or_none (only_second (max 1 (judged_count marks)) a b doc || only_second (max 1 (judged_count marks)) b a doc)
 weight-most Reciprocal marks a b doc h = abs_diff-most _ _ (10 ^ 18) (reciprocal_weight-most (rank a doc)) (reciprocal_weight-most (rank b doc))
+weight-most AveragePrecision marks a b doc h = abs_diff-most _ _ (10 ^ 18) (reciprocal_weight-most (rank a doc)) (reciprocal_weight-most (rank b doc))
 weight-most (Biased top bottom) marks a b doc h =
     abs_diff-most _ _ (10 ^ 18) (low_weight-most top bottom (rank a doc) (omega (arith, h.below_one))) (low_weight-most top bottom (rank b doc) (omega (arith, h.below_one)))
 
@@ -67,6 +68,7 @@ weight-even (Recall k) marks a b doc = one_side-even k a b doc
 weight-even RPrecision marks a b doc = one_side-even (max 1 (judged_count marks)) a b doc
 weight-even Reciprocal marks a b doc = abs_diff-even (reciprocal_weight (rank a doc)) (reciprocal_weight (rank b doc))
 weight-even (Biased top bottom) marks a b doc = abs_diff-even (low_weight top bottom (rank a doc)) (low_weight top bottom (rank b doc))
+weight-even AveragePrecision marks a b doc = abs_diff-even (reciprocal_weight (rank a doc)) (reciprocal_weight (rank b doc))
 
 pub unit-size : (m : MeasureName) → IsMeasure m → (1 ≤ unit_of m) × (unit_of m ≤ 10 ^ 18)
 unit-size (Precision k) h = (h.0, omega (arith, h.1))
@@ -74,6 +76,7 @@ unit-size (Recall k) h = (lit≤ tt, lit≤ tt)
 unit-size RPrecision h = (lit≤ tt, lit≤ tt)
 unit-size Reciprocal h = (lit≤ tt, lit≤ tt)
 unit-size (Biased top bottom) h = (lit≤ tt, lit≤ tt)
+unit-size AveragePrecision h = (lit≤ tt, lit≤ tt)
 
 part_up_most : (n a b : ℕ) → 0 < b → a ≤ b → ceil_div (n * a) b ≤ n
 part_up_most n a zero p h = absurd (omega arith)

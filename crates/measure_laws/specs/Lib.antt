@@ -7,6 +7,10 @@ pub mod Powers
 pub mod Shares
 pub mod ReciprocalCase
 pub mod RprecCase
+pub mod Parts
+pub mod Candidates
+pub mod AverageEnds
+pub mod AverageLaws
 pub mod Cases
 pub mod Weights
 pub mod Ends

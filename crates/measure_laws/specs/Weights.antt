@@ -5,7 +5,7 @@ use Rattle.desk_model.specs.Limits.{PARTS_OF_ONE}
 use Rattle.desk_model.specs.Ranking.{rank}
 use Rattle.desk_model.specs.declared.types.Mark.{Mark}
 use Rattle.desk_model.specs.declared.types.MeasureName.{MeasureName}
-use Rattle.desk_model.specs.declared.types.MeasureName.TheVariants.{Precision, Recall, RPrecision, Reciprocal, Biased}
+use Rattle.desk_model.specs.declared.types.MeasureName.TheVariants.{Precision, Recall, RPrecision, Reciprocal, Biased, AveragePrecision}
 use Rattle.measure_laws.specs.Prefixes.{only_second}
 use Rattle.measure_laws.specs.Classes.{judged_count}
 use Rattle.measure_laws.specs.Powers.{low_weight}
@@ -26,3 +26,4 @@ weight_of (Recall k) marks a b doc = one_side_weight k a b doc
 weight_of RPrecision marks a b doc = one_side_weight (max 1 (judged_count marks)) a b doc
 weight_of Reciprocal marks a b doc = abs_diff (reciprocal_weight (rank a doc)) (reciprocal_weight (rank b doc))
 weight_of (Biased top bottom) marks a b doc = abs_diff (low_weight top bottom (rank a doc)) (low_weight top bottom (rank b doc))
+weight_of AveragePrecision marks a b doc = abs_diff (reciprocal_weight (rank a doc)) (reciprocal_weight (rank b doc))

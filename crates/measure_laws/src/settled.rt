@@ -8,6 +8,7 @@ ghost use Rattle.desk_model.specs.Order.{Topic, IsCompletion, IsAlwaysAbove, Are
 ghost use Rattle.desk_model.specs.Ranking.{IsRanking};
 ghost use Rattle.desk_model.specs.declared.types.Mark.{Mark};
 ghost use Rattle.desk_model.specs.declared.types.MeasureName.{MeasureName};
+ghost use Rattle.measure_laws.specs.Candidates.{average_bound_lo, average_bound_hi};
 ghost use Rattle.measure_laws.specs.Ends.{HasEnds};
 ghost use Rattle.measure_laws.specs.Refinement.{AreRefinedBy, AreTopicsRefinedBy};
 ghost use Rattle.measure_laws.specs.Shares.{biased_bound_lo, biased_bound_hi};
@@ -28,11 +29,11 @@ pub fn always_stays_always()
 /// Under any marks the first is at most the second.
 pub fn ends_close_in()
     ensures least { (measure : MeasureName) (marks later : List Mark) (a b : List ℕ) (before after : Ends) →
-        IsMeasure measure → AreRefinedBy marks later →
+        IsMeasure measure → IsRanking (length marks) a → IsRanking (length marks) b → AreRefinedBy marks later →
         HasEnds measure marks a b before → HasEnds measure later a b after →
         before.least_lo ≤ℤ after.least_lo }
     ensures most { (measure : MeasureName) (marks later : List Mark) (a b : List ℕ) (before after : Ends) →
-        IsMeasure measure → AreRefinedBy marks later →
+        IsMeasure measure → IsRanking (length marks) a → IsRanking (length marks) b → AreRefinedBy marks later →
         HasEnds measure marks a b before → HasEnds measure later a b after →
         after.most_hi ≤ℤ before.most_hi }
     ensures order { (measure : MeasureName) (marks : List Mark) (a b : List ℕ) (ends : Ends) →
@@ -41,7 +42,7 @@ pub fn ends_close_in()
 {}
 
 /// Under refined marks the bounds of a run close in: the lower does not fall and the upper does not
-/// rise. Those of rank-biased precision are sums of weights.
+/// rise. Those of rank-biased precision are sums of weights, and those of average precision averages of candidates.
 pub fn bounds_close_in()
     ensures exact { (measure : MeasureName) (unit : ℕ) (marks later : List Mark) (a : List ℕ) (lo hi lo' hi' : ℤ) →
         AreRefinedBy marks later → AreBounds measure unit marks a lo hi → AreBounds measure unit later a lo' hi' →
@@ -49,4 +50,6 @@ pub fn bounds_close_in()
     ensures biased { (top bottom : ℕ) (marks later : List Mark) (a : List ℕ) → AreRefinedBy marks later →
         (biased_bound_lo top bottom marks a ≤ biased_bound_lo top bottom later a)
         × (biased_bound_hi top bottom later a ≤ biased_bound_hi top bottom marks a) }
+    ensures average { (marks later : List Mark) (a : List ℕ) → AreRefinedBy marks later → IsRanking (length marks) a →
+        (average_bound_lo marks a ≤ average_bound_lo later a) × (average_bound_hi later a ≤ average_bound_hi marks a) }
 {}
