@@ -27,7 +27,7 @@ use Rattle.topic_counts.specs.Numbers.{difference_span, negated}
 use Rattle.topic_counts.proofs.Spans.{difference_floor, difference_ceiling, span, span_same}
 use Rattle.desk_model.specs.declared.types.Mark.{Mark}
 use Rattle.desk_model.specs.declared.types.MeasureName.{MeasureName}
-use Rattle.desk_model.specs.declared.types.MeasureName.TheVariants.{Precision, Recall, RPrecision, Reciprocal, Biased}
+use Rattle.desk_model.specs.declared.types.MeasureName.TheVariants.{Precision, Recall, RPrecision, Reciprocal, Biased, AveragePrecision}
 use Rattle.topic_counts.specs.declared.span.Span.{Span}
 use Rattle.measure_laws.proofs.Unique.{greatest_unique, smallest_unique, extremes_unique}
 use Rattle.measure_core.specs.declared.cell.Cell.{Cell}
@@ -68,6 +68,7 @@ no_tails (Recall k) tail_a tail_b exact h = h
 no_tails RPrecision tail_a tail_b exact h = h
 no_tails Reciprocal tail_a tail_b exact h = h
 no_tails (Biased top bottom) tail_a tail_b exact h = absurd exact
+no_tails AveragePrecision tail_a tail_b exact h = absurd exact
 
 -- with the tails that go with it, its difference is at most the upper end
 case_high : (m : MeasureName) (marks : List Mark) (a b : List ℕ) (tail_a tail_b : List Bool) → IsExactMeasure m → HasLeastTails m tail_a tail_b →
@@ -136,6 +137,7 @@ empty_score (Recall k) n truth tail exact = over-zero _ _ (none_among truth k)
 empty_score RPrecision n truth tail exact = over-zero _ _ (none_among truth (true_count truth n))
 empty_score Reciprocal n truth tail exact = refl
 empty_score (Biased top bottom) n truth tail exact = absurd exact
+empty_score AveragePrecision n truth tail exact = absurd exact
 
 nothing_off : (p n u a b c d : ℕ) → c ≡ 0 → 0 < d → p * (b * d) + u * (c * b) ≤ u * (a * d) + n * (b * d) → p * (b * 1) + u * (0 * b) ≤ u * (a * 1) + n * (b * 1)
 nothing_off p n u a b c d e h k =
@@ -227,6 +229,7 @@ has_ends (Recall k) marks a b valid exact ra rb = extremes (Recall k) marks a b 
 has_ends RPrecision marks a b valid exact ra rb = extremes RPrecision marks a b valid exact ra rb
 has_ends Reciprocal marks a b valid exact ra rb = extremes Reciprocal marks a b valid exact ra rb
 has_ends (Biased top bottom) marks a b valid exact ra rb = absurd exact
+has_ends AveragePrecision marks a b valid exact ra rb = absurd exact
 
 has_bounds : (m : MeasureName) (marks : List Mark) (a : List ℕ) → IsMeasure m → IsExactMeasure m → IsRanking (length marks) a → HasBounds m marks a (exact_bounds m marks a)
 has_bounds (Precision k) marks a valid exact ra = ranges (Precision k) marks a valid exact ra
@@ -234,6 +237,7 @@ has_bounds (Recall k) marks a valid exact ra = ranges (Recall k) marks a valid e
 has_bounds RPrecision marks a valid exact ra = ranges RPrecision marks a valid exact ra
 has_bounds Reciprocal marks a valid exact ra = ranges Reciprocal marks a valid exact ra
 has_bounds (Biased top bottom) marks a valid exact ra = absurd exact
+has_bounds AveragePrecision marks a valid exact ra = absurd exact
 
 pub exact_numbers : (m : MeasureName) → IsMeasure m → IsExactMeasure m → AreNumbersOfName m (exact_cell m) (exact_bounds m)
 exact_numbers m valid exact = record {

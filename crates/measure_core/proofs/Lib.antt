@@ -22,3 +22,4 @@ pub mod InStep
 pub mod Tallying
 pub mod Splitting
 pub mod Slots
+pub mod PairListing

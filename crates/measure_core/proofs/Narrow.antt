@@ -7,7 +7,7 @@ use Rattle.desk_model.specs.Score.{score}
 use Rattle.desk_model.specs.Extremes.{Ends, AreExtremes}
 use Rattle.desk_model.specs.declared.types.Mark.{Mark}
 use Rattle.desk_model.specs.declared.types.MeasureName.{MeasureName}
-use Rattle.desk_model.specs.declared.types.MeasureName.TheVariants.{Precision, Recall, RPrecision, Reciprocal, Biased}
+use Rattle.desk_model.specs.declared.types.MeasureName.TheVariants.{Precision, Recall, RPrecision, Reciprocal, Biased, AveragePrecision}
 use Rattle.desk_model.proofs.Topics.{score-den}
 use Rattle.desk_model.specs.MeasureText.{IsMeasure}
 use Rattle.measure_laws.specs.Measures.{IsExactMeasure, unit_of}
@@ -20,7 +20,7 @@ use Rattle.topic_counts.specs.Numbers.{scaled_difference, difference_span}
 use Rattle.topic_counts.proofs.Spans.{difference_floor, difference_ceiling}
 use Rattle.measure_core.specs.Laws.{AreMet}
 use Rattle.measure_laws.specs.Ends.{HasEnds}
-use Rattle.measure_core.specs.Made.{ends_of, AreNarrow}
+use Rattle.measure_core.specs.Made.{ends_of, AreNarrow, HasWidth}
 use Rattle.measure_core.specs.Numbers.{exact_least, exact_cell}
 use Rattle.measure_core.proofs.Exact.{extremes}
 
@@ -74,12 +74,13 @@ biased_narrow top bottom marks a b valid met = record {
       (swapped a b (biased_least_lo top bottom marks b a) (biased_least_hi top bottom marks b a) (ends_near top bottom marks b a valid met.second met.first));
 }
 
-pub ends_narrow : (m : MeasureName) (marks : List Mark) (a b : List ℕ) (e : Ends) → IsMeasure m → AreMet marks a b → HasEnds m marks a b e → AreNarrow m a b e
-ends_narrow (Precision k) marks a b e valid met h = let n = exact_narrow (Precision k) marks a b e valid tt met h in record { least = n.0; most = n.1 }
-ends_narrow (Recall k) marks a b e valid met h = let n = exact_narrow (Recall k) marks a b e valid tt met h in record { least = n.0; most = n.1 }
-ends_narrow RPrecision marks a b e valid met h = let n = exact_narrow RPrecision marks a b e valid tt met h in record { least = n.0; most = n.1 }
-ends_narrow Reciprocal marks a b e valid met h = let n = exact_narrow Reciprocal marks a b e valid tt met h in record { least = n.0; most = n.1 }
-ends_narrow (Biased top bottom) marks a b e valid met h = subst (AreNarrow (Biased top bottom) a b) (sym h) (biased_narrow top bottom marks a b valid met)
+pub ends_narrow : (m : MeasureName) (marks : List Mark) (a b : List ℕ) (e : Ends) → IsMeasure m → HasWidth m → AreMet marks a b → HasEnds m marks a b e → AreNarrow m a b e
+ends_narrow (Precision k) marks a b e valid wide met h = let n = exact_narrow (Precision k) marks a b e valid tt met h in record { least = n.0; most = n.1 }
+ends_narrow (Recall k) marks a b e valid wide met h = let n = exact_narrow (Recall k) marks a b e valid tt met h in record { least = n.0; most = n.1 }
+ends_narrow RPrecision marks a b e valid wide met h = let n = exact_narrow RPrecision marks a b e valid tt met h in record { least = n.0; most = n.1 }
+ends_narrow Reciprocal marks a b e valid wide met h = let n = exact_narrow Reciprocal marks a b e valid tt met h in record { least = n.0; most = n.1 }
+ends_narrow (Biased top bottom) marks a b e valid wide met h = subst (AreNarrow (Biased top bottom) a b) (sym h) (biased_narrow top bottom marks a b valid met)
+ends_narrow AveragePrecision marks a b e valid wide met h = absurd wide
 
 -- the ends under precision are whole numbers of units
 pub precision_whole : (k : ℕ) (marks : List Mark) (a b : List ℕ) (e : Ends) → IsMeasure (Precision k) → AreMet marks a b → HasEnds (Precision k) marks a b e → (e.least_lo ≡ e.least_hi) × (e.most_lo ≡ e.most_hi)

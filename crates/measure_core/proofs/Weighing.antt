@@ -5,7 +5,7 @@ use Rattle.desk_model.specs.Ranking.{rank}
 use Rattle.desk_model.proofs.Unranked.{unranked_in}
 use Rattle.desk_model.specs.declared.types.Mark.{Mark}
 use Rattle.desk_model.specs.declared.types.MeasureName.{MeasureName}
-use Rattle.desk_model.specs.declared.types.MeasureName.TheVariants.{Precision, Recall, RPrecision, Reciprocal, Biased}
+use Rattle.desk_model.specs.declared.types.MeasureName.TheVariants.{Precision, Recall, RPrecision, Reciprocal, Biased, AveragePrecision}
 use Rattle.measure_laws.specs.Classes.{judged_count}
 use Rattle.measure_laws.specs.Weights.{weight_of, one_side_weight}
 
@@ -18,6 +18,7 @@ weighs_nothing (Recall k) marks a b doc h j = on_no_side k a b doc h j
 weighs_nothing RPrecision marks a b doc h j = on_no_side (max 1 (judged_count marks)) a b doc h j
 weighs_nothing Reciprocal marks a b doc h j = rw (h, j) refl
 weighs_nothing (Biased top bottom) marks a b doc h j = rw (h, j) refl
+weighs_nothing AveragePrecision marks a b doc h j = rw (h, j) refl
 
 -- where no rank was found there is none
 pub no_rank : (o r : Option ℕ) (found : Bool) → r ≡ o → found ≡ is_some r → found ≡ false → o ≡ None

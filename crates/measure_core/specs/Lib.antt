@@ -11,3 +11,4 @@ pub mod Told
 pub mod Bits
 pub mod Ranks
 pub mod Rooms
+pub mod PairLists

@@ -10,7 +10,7 @@ ghost use Rattle.topic_counts.specs.declared.span.Span.{Span};
 ghost use Rattle.measure_core.specs.declared.cell.Cell.{Cell};
 ghost use Rattle.measure_core.specs.Laws.{AreMet, MeetsLaws, OwesLaws};
 ghost use Rattle.measure_laws.specs.Ends.{HasEnds};
-ghost use Rattle.measure_core.specs.Made.{AreNumbersOfName, AreNarrow};
+ghost use Rattle.measure_core.specs.Made.{AreNumbersOfName, AreNarrow, HasWidth};
 ghost use Rattle.measure_core.specs.Numbers.{exact_cell, exact_bounds};
 
 /// A few laws of a measure give all of them.
@@ -34,7 +34,7 @@ pub fn exact_numbers_meet_laws()
 /// documents, and under precision they are one number.
 pub fn ends_are_narrow()
     ensures width { (measure : MeasureName) (marks : List Mark) (a b : List ℕ) (ends : Ends) →
-        IsMeasure measure → AreMet marks a b → HasEnds measure marks a b ends →
+        IsMeasure measure → HasWidth measure → AreMet marks a b → HasEnds measure marks a b ends →
         AreNarrow measure a b ends }
     ensures precision { (k : ℕ) (marks : List Mark) (a b : List ℕ) (ends : Ends) →
         IsMeasure (Precision k) → AreMet marks a b → HasEnds (Precision k) marks a b ends →

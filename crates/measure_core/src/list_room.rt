@@ -1,5 +1,5 @@
 // What is kept of a topic, and of two runs, while the documents of many lists are counted.
-ghost use Rattle.std.specs.Prelude.{◌≡◌, ℕ, ◌≤◌, List, length, IfOk};
+ghost use Rattle.std.specs.Prelude.{◌≡◌, ℕ, ◌≤◌, List, length, Some, IfOk};
 ghost use Rattle.desk_model.specs.Limits.{DOCUMENT_LIMIT};
 ghost use Rattle.desk_model.specs.Ranking.{IsRanking};
 ghost use Rattle.desk_model.specs.declared.types.Mark.{Mark as M};
@@ -55,6 +55,21 @@ impl ListRoom {
         ensures { (marks : List M) → IsTopicRoom marks self.old → IsRoomFor marks run.now self.new }
     {
         place_ranks(run, &mut self.first);
+    }
+
+    /// Makes a run with this number the first one, unless it is so already. `first` is the number of the first run.
+    pub fn change_first(&mut self, first: &mut Option<u32>, number: u32, run: &Ranking)
+        requires { IsRanking (length self.old.first.items) run.now }
+        ensures first { first.new ≡ Some number }
+        ensures room { (marks : List M) → IsTopicRoom marks self.old → (first.old ≡ Some number → AreRanksIn marks run.now self.old.first.items) → IsRoomFor marks run.now self.new }
+    {
+        match *first {
+            Some(kept) if kept == number => {}
+            _ => {
+                self.set_first(run);
+                *first = Some(number);
+            }
+        }
     }
 
     /// Makes a run the second one.

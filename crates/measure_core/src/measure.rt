@@ -1,4 +1,4 @@
-ghost use Rattle.std.specs.Prelude.{◌≡◌, ℕ, ◌+◌, ◌<◌, ◌++◌, All, List, length, pos, IfOk, OnOk};
+ghost use Rattle.std.specs.Prelude.{◌≡◌, ℕ, ◌+◌, ◌<◌, ◌++◌, All, List, length, map, pos, IfOk, OnOk};
 ghost use Rattle.desk_model.specs.declared.types.Mark.{Mark as M};
 ghost use Rattle.desk_model.specs.declared.types.MeasureName.{MeasureName as N};
 ghost use Rattle.desk_model.specs.MeasureText.{IsMeasure};
@@ -10,6 +10,7 @@ ghost use Rattle.measure_core.specs.declared.cell.Cell.{Cell as C};
 ghost use Rattle.topic_counts.specs.declared.span.Span.{Span as S};
 ghost use Rattle.measure_core.specs.Laws.{AreMet, IsMet, AreValues, CellIsModest, MeetsLaws};
 ghost use Rattle.measure_core.specs.Lists.{added_documents, case_documents, least_documents, AreCounted, HaveRoomFor};
+ghost use Rattle.measure_core.specs.PairLists.{pair_documents, sizes_on, IsOfRuns};
 ghost use Rattle.measure_core.specs.Pairs.{AreAllMet, pair_cells, run_numbers, runs_on};
 ghost use Rattle.measure_core.specs.Rooms.{IsRoomFor};
 ghost use Rattle.measure_core.specs.Shifts.{HaveRoom, AreShifted};
@@ -21,6 +22,7 @@ use crate::list_room::ListRoom;
 use crate::lists::push_added;
 use crate::rankings::TopicRankings;
 use crate::room::CellRoom;
+use crate::run_pair::RunPair;
 use crate::shift::Shift;
 use crate::steps::Steps;
 use desk_model::{Mark, MeasureName, Memory, PairPlaces, Ranking};
@@ -200,6 +202,40 @@ pub trait Measure: Drop {
         ensures counts { OnOk result (AreCounted counts.old (case_documents (measured self.now) marks.now a.now b.now) counts.new) }
     {
         self.count_pushed(alloc, a, b, marks, &mut room.docs, counts)
+    }
+
+    /// Counts the documents of the lists of pairs of runs on a topic, each once more for each list that has it, and
+    /// answers the sizes of the two lists of each pair, as `count_lists` does. Counts go by the number of the document.
+    ///
+    /// This body asks `count_lists` of each pair; a measure may have a faster one, which keeps what several pairs need.
+    ///
+    /// # Errors
+    /// `Memory`: out of memory. It is then not known what is counted.
+    fn count_pairs(
+        &self,
+        alloc: Global,
+        rankings: &TopicRankings<'_>,
+        marks: &[Mark],
+        pairs: &[RunPair],
+        counts: &mut [u32],
+    ) -> Result<Vec<ListSizes>, Memory>
+        requires met { AreAllMet marks.now rankings.now }
+        requires pairs { All (IsOfRuns (runs_on rankings.now)) pairs.now }
+        requires size { length counts.old ≡ length marks.now }
+        requires room { HaveRoomFor counts.old (pair_documents (measured self.now) marks.now rankings.now pairs.now) }
+        ensures sizes { IfOk result (λ sizes. sizes.items ≡ map (sizes_on (measured self.now) marks.now rankings.now) pairs.now) }
+        ensures counts { OnOk result (AreCounted counts.old (pair_documents (measured self.now) marks.now rankings.now pairs.now) counts.new) }
+    {
+        let mut room = ListRoom::new(alloc, marks)?;
+        let mut first = None;
+        let mut sizes = Vec::with_capacity(alloc, pairs.len())?;
+        for pair in pairs {
+            let a = rankings.ranking(pair.first);
+            let b = rankings.ranking(pair.second);
+            room.change_first(&mut first, pair.first, a);
+            sizes.push(self.count_lists(alloc, a, b, marks, &mut room, counts)?)?;
+        }
+        Ok(sizes)
     }
 
     /// How much a document tells of the difference of a and b.

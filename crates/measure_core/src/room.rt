@@ -1,4 +1,4 @@
-ghost use Rattle.std.specs.Prelude.{◌≡◌, ◌+◌, ◌/◌, length, IfOk};
+ghost use Rattle.std.specs.Prelude.{◌≡◌, ◌+◌, ◌*◌, ◌/◌, length, IfOk};
 
 use desk_model::Mark;
 use std::alloc::{AllocError, Global};
@@ -41,6 +41,64 @@ impl RunSums {
     pub const NONE: RunSums = RunSums { numbers: [0; 1001] };
 }
 
+/// In which of the two completions that are chosen for a run, where its score is greatest and where it is least, a
+/// document is relevant.
+#[derive(Clone, Copy, PartialEq, Eq)]
+pub enum Class {
+    Neither,
+    High,
+    Low,
+    Both,
+}
+
+/// What is kept of a run on a topic, and of the two completions that are chosen for it: where its score is greatest,
+/// and where it is least. Scores are in parts of 10^18.
+#[derive(Clone, Copy, PartialEq, Eq)]
+pub struct RunCandidates {
+    /// The bounds of the run's score.
+    pub lo: u128,
+    pub hi: u128,
+    /// The run's score where it is greatest, rounded down, and where it is least, rounded up.
+    pub low_in_high: u128,
+    pub high_in_low: u128,
+    /// How many documents are relevant in each of the two.
+    pub in_high: u32,
+    pub in_low: u32,
+    /// How many of the run's unjudged documents, by rank, the first makes relevant, and how many the second does not.
+    pub taken: u32,
+    pub left_out: u32,
+}
+
+impl RunCandidates {
+    /// Those of no run.
+    pub const NONE: RunCandidates = RunCandidates {
+        lo: 0,
+        hi: 0,
+        low_in_high: 0,
+        high_in_low: 0,
+        in_high: 0,
+        in_low: 0,
+        taken: 0,
+        left_out: 0,
+    };
+}
+
+/// A ranking's scores in the two completions that are chosen for a run, in parts of 10^18: rounded up where the run's
+/// score is greatest, and down where it is least.
+#[derive(Clone, Copy, PartialEq, Eq)]
+pub struct CrossScores {
+    pub in_high: u128,
+    pub in_low: u128,
+}
+
+impl CrossScores {
+    /// Those of no ranking.
+    pub const NONE: CrossScores = CrossScores {
+        in_high: 0,
+        in_low: 0,
+    };
+}
+
 /// Room for what a measure keeps while it finds the cells of all pairs on a topic. What it holds
 /// between two topics is anything, and a measure does without it on a topic that it is too small for.
 #[derive(Drop)]
@@ -57,6 +115,12 @@ pub struct CellRoom {
     pub weights: Vec<RunWeights>,
     /// Sums for each run.
     pub sums: Vec<RunSums>,
+    /// A class for each document.
+    pub classes: Vec<Class>,
+    /// Candidates for each run.
+    pub candidates: Vec<RunCandidates>,
+    /// Scores for each two runs, those of one in the completions that are chosen for the other.
+    pub crossed: Vec<CrossScores>,
 }
 
 impl CellRoom {
@@ -68,6 +132,9 @@ impl CellRoom {
         ensures counts { IfOk result (λ room. length room.counts.items ≡ runs) }
         ensures weights { IfOk result (λ room. length room.weights.items ≡ runs) }
         ensures sums { IfOk result (λ room. length room.sums.items ≡ runs) }
+        ensures classes { IfOk result (λ room. length room.classes.items ≡ documents) }
+        ensures candidates { IfOk result (λ room. length room.candidates.items ≡ runs) }
+        ensures crossed { IfOk result (λ room. length room.crossed.items ≡ runs * runs) }
     {
         let marks = vec![in alloc; Mark::Other; documents as usize]?;
         let bits = vec![in alloc; 0u64; documents as usize / 64 + 1]?;
@@ -75,6 +142,9 @@ impl CellRoom {
         let counts = vec![in alloc; Counts::NONE; runs as usize]?;
         let weights = vec![in alloc; RunWeights::NONE; runs as usize]?;
         let sums = vec![in alloc; RunSums::NONE; runs as usize]?;
+        let classes = vec![in alloc; Class::Neither; documents as usize]?;
+        let candidates = vec![in alloc; RunCandidates::NONE; runs as usize]?;
+        let crossed = vec![in alloc; CrossScores::NONE; runs as usize * runs as usize]?;
         Ok(CellRoom {
             marks,
             bits,
@@ -82,6 +152,9 @@ impl CellRoom {
             counts,
             weights,
             sums,
+            classes,
+            candidates,
+            crossed,
         })
     }
 }
