@@ -14,8 +14,10 @@ use Rattle.recip_rank.specs.Laws as recip_rank
 use Rattle.rprec.specs.Laws as rprec
 use Rattle.rbp.specs.Laws as rbp
 use Rattle.rbp.specs.Numbers.{biased_cell, biased_bounds}
+use Rattle.average_precision.specs.Laws as average
+use Rattle.average_precision.specs.Numbers.{average_cell, average_bounds}
 use Rattle.any_measure.specs.declared.any.AnyMeasure.{AnyMeasure}
-use Rattle.any_measure.specs.declared.any.AnyMeasure.TheVariants.{Precision, Recall, RPrecision, Reciprocal, Biased}
+use Rattle.any_measure.specs.declared.any.AnyMeasure.TheVariants.{Precision, Recall, RPrecision, Reciprocal, Biased, Average}
 
 -- the name that the measure is of
 abbrev pub measured_by : AnyMeasure → MeasureName
@@ -24,6 +26,7 @@ measured_by (Recall k) = name.Recall k
 measured_by (RPrecision r) = name.RPrecision
 measured_by (Reciprocal r) = name.Reciprocal
 measured_by (Biased r) = name.Biased r.top r.bottom
+measured_by (Average m) = name.AveragePrecision
 
 -- what its cells are
 abbrev pub cell_by : AnyMeasure → List Mark → List ℕ → List ℕ → Cell
@@ -32,6 +35,7 @@ cell_by (Recall k) = exact_cell (name.Recall k)
 cell_by (RPrecision r) = exact_cell name.RPrecision
 cell_by (Reciprocal r) = exact_cell name.Reciprocal
 cell_by (Biased r) = biased_cell r.top r.bottom
+cell_by (Average m) = average_cell
 
 -- what its bounds are
 abbrev pub bounds_by : AnyMeasure → List Mark → List ℕ → Span
@@ -40,6 +44,7 @@ bounds_by (Recall k) = exact_bounds (name.Recall k)
 bounds_by (RPrecision r) = exact_bounds name.RPrecision
 bounds_by (Reciprocal r) = exact_bounds name.Reciprocal
 bounds_by (Biased r) = biased_bounds r.top r.bottom
+bounds_by (Average m) = average_bounds
 
 pub laws : (m : AnyMeasure) → IsMeasure (measured_by m) → MeetsLaws (measured_by m) (cell_by m) (bounds_by m)
 laws (Precision k) valid = precision.laws k valid
@@ -47,3 +52,4 @@ laws (Recall k) valid = recall.laws k valid
 laws (RPrecision r) valid = rprec.laws
 laws (Reciprocal r) valid = recip_rank.laws
 laws (Biased r) valid = rbp.laws r.top r.bottom valid
+laws (Average m) valid = average.laws

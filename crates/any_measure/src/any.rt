@@ -3,6 +3,7 @@ ghost use Rattle.desk_model.specs.MeasureText.{IsMeasure};
 ghost use Rattle.measure_core.specs.Made.{IsMadeFor};
 ghost use Rattle.any_measure.specs.Any.{measured_by, cell_by, bounds_by};
 
+use average_precision::AveragePrecision;
 use desk_model::{MeasureName, Memory};
 use precision::Precision;
 use rbp::Rbp;
@@ -24,6 +25,8 @@ pub enum AnyMeasure {
     Reciprocal(RecipRank),
     /// `rbp_p`.
     Biased(Rbp),
+    /// `map`.
+    Average(AveragePrecision),
 }
 
 impl AnyMeasure {
@@ -41,6 +44,9 @@ impl AnyMeasure {
             }
             MeasureName::Biased { top, bottom } => {
                 Ok(AnyMeasure::Biased(Rbp::new(alloc, top, bottom)?))
+            }
+            MeasureName::AveragePrecision => {
+                Ok(AnyMeasure::Average(AveragePrecision::with_parts(alloc)?))
             }
         }
     }

@@ -1,7 +1,7 @@
 use crate::any::AnyMeasure;
 use desk_model::{Mark, MeasureName, Memory, Ranking};
 use measure_core::{
-    Cell, CellRoom, KeptCell, ListRoom, ListSizes, Measure, Shift, Steps, TopicRankings,
+    Cell, CellRoom, KeptCell, ListRoom, ListSizes, Measure, RunPair, Shift, Steps, TopicRankings,
 };
 use std::alloc::Global;
 use std::sync::ledger::Ledger;
@@ -23,6 +23,7 @@ impl Measure for AnyMeasure {
             AnyMeasure::RPrecision(m) => m.name(),
             AnyMeasure::Reciprocal(m) => m.name(),
             AnyMeasure::Biased(m) => m.name(),
+            AnyMeasure::Average(m) => m.name(),
         }
     }
 
@@ -33,6 +34,7 @@ impl Measure for AnyMeasure {
             AnyMeasure::RPrecision(m) => m.unit(),
             AnyMeasure::Reciprocal(m) => m.unit(),
             AnyMeasure::Biased(m) => m.unit(),
+            AnyMeasure::Average(m) => m.unit(),
         }
     }
 
@@ -49,6 +51,7 @@ impl Measure for AnyMeasure {
             AnyMeasure::RPrecision(m) => m.cell(a, b, marks, steps),
             AnyMeasure::Reciprocal(m) => m.cell(a, b, marks, steps),
             AnyMeasure::Biased(m) => m.cell(a, b, marks, steps),
+            AnyMeasure::Average(m) => m.cell(a, b, marks, steps),
         }
     }
 
@@ -66,6 +69,7 @@ impl Measure for AnyMeasure {
             AnyMeasure::RPrecision(m) => m.cells(rankings, marks, room, cells, steps),
             AnyMeasure::Reciprocal(m) => m.cells(rankings, marks, room, cells, steps),
             AnyMeasure::Biased(m) => m.cells(rankings, marks, room, cells, steps),
+            AnyMeasure::Average(m) => m.cells(rankings, marks, room, cells, steps),
         }
     }
 
@@ -76,6 +80,7 @@ impl Measure for AnyMeasure {
             AnyMeasure::RPrecision(m) => m.bounds(a, marks),
             AnyMeasure::Reciprocal(m) => m.bounds(a, marks),
             AnyMeasure::Biased(m) => m.bounds(a, marks),
+            AnyMeasure::Average(m) => m.bounds(a, marks),
         }
     }
 
@@ -92,6 +97,7 @@ impl Measure for AnyMeasure {
             AnyMeasure::RPrecision(m) => m.least_case(alloc, a, b, marks),
             AnyMeasure::Reciprocal(m) => m.least_case(alloc, a, b, marks),
             AnyMeasure::Biased(m) => m.least_case(alloc, a, b, marks),
+            AnyMeasure::Average(m) => m.least_case(alloc, a, b, marks),
         }
     }
 
@@ -109,6 +115,7 @@ impl Measure for AnyMeasure {
             AnyMeasure::RPrecision(m) => m.push_least_docs(alloc, a, b, marks, docs),
             AnyMeasure::Reciprocal(m) => m.push_least_docs(alloc, a, b, marks, docs),
             AnyMeasure::Biased(m) => m.push_least_docs(alloc, a, b, marks, docs),
+            AnyMeasure::Average(m) => m.push_least_docs(alloc, a, b, marks, docs),
         }
     }
 
@@ -127,6 +134,7 @@ impl Measure for AnyMeasure {
             AnyMeasure::RPrecision(m) => m.push_both_docs(alloc, a, b, marks, least, most),
             AnyMeasure::Reciprocal(m) => m.push_both_docs(alloc, a, b, marks, least, most),
             AnyMeasure::Biased(m) => m.push_both_docs(alloc, a, b, marks, least, most),
+            AnyMeasure::Average(m) => m.push_both_docs(alloc, a, b, marks, least, most),
         }
     }
 
@@ -145,6 +153,25 @@ impl Measure for AnyMeasure {
             AnyMeasure::RPrecision(m) => m.count_lists(alloc, a, b, marks, room, counts),
             AnyMeasure::Reciprocal(m) => m.count_lists(alloc, a, b, marks, room, counts),
             AnyMeasure::Biased(m) => m.count_lists(alloc, a, b, marks, room, counts),
+            AnyMeasure::Average(m) => m.count_lists(alloc, a, b, marks, room, counts),
+        }
+    }
+
+    fn count_pairs(
+        &self,
+        alloc: Global,
+        rankings: &TopicRankings<'_>,
+        marks: &[Mark],
+        pairs: &[RunPair],
+        counts: &mut [u32],
+    ) -> Result<Vec<ListSizes>, Memory> {
+        match self {
+            AnyMeasure::Precision(m) => m.count_pairs(alloc, rankings, marks, pairs, counts),
+            AnyMeasure::Recall(m) => m.count_pairs(alloc, rankings, marks, pairs, counts),
+            AnyMeasure::RPrecision(m) => m.count_pairs(alloc, rankings, marks, pairs, counts),
+            AnyMeasure::Reciprocal(m) => m.count_pairs(alloc, rankings, marks, pairs, counts),
+            AnyMeasure::Biased(m) => m.count_pairs(alloc, rankings, marks, pairs, counts),
+            AnyMeasure::Average(m) => m.count_pairs(alloc, rankings, marks, pairs, counts),
         }
     }
 
@@ -155,6 +182,7 @@ impl Measure for AnyMeasure {
             AnyMeasure::RPrecision(m) => m.weight(a, b, marks, doc),
             AnyMeasure::Reciprocal(m) => m.weight(a, b, marks, doc),
             AnyMeasure::Biased(m) => m.weight(a, b, marks, doc),
+            AnyMeasure::Average(m) => m.weight(a, b, marks, doc),
         }
     }
 
@@ -172,6 +200,7 @@ impl Measure for AnyMeasure {
             AnyMeasure::RPrecision(m) => m.shift_weights(a, b, marks, shift, totals),
             AnyMeasure::Reciprocal(m) => m.shift_weights(a, b, marks, shift, totals),
             AnyMeasure::Biased(m) => m.shift_weights(a, b, marks, shift, totals),
+            AnyMeasure::Average(m) => m.shift_weights(a, b, marks, shift, totals),
         }
     }
 

@@ -21,6 +21,9 @@ count_lists-requires-in-Reciprocal-clause-room c = subst (λ (m : AnyMeasure). H
 pub count_lists-requires-in-Biased-clause-room : goal.count_lists-requires-in-Biased-clause-room
 count_lists-requires-in-Biased-clause-room c = subst (λ (m : AnyMeasure). HaveRoomFor c.args.counts.now (case_documents (measured_by m) c.args.marks.now c.args.a.now c.args.b.now)) c.in-Biased.is c.requires.room
 
+pub count_lists-requires-in-Average-clause-room : goal.count_lists-requires-in-Average-clause-room
+count_lists-requires-in-Average-clause-room c = subst (λ (m : AnyMeasure). HaveRoomFor c.args.counts.now (case_documents (measured_by m) c.args.marks.now c.args.a.now c.args.b.now)) c.in-Average.is c.requires.room
+
 pub returns-in-Recall-clause-least : goal.returns-in-Recall-clause-least
 returns-in-Recall-clause-least c = subst (λ (m : AnyMeasure). IfOk c.count_lists-in-Recall.result (λ (sizes : ListSizes). sizes.least ≡ length (least_documents (measured_by m) c.args.marks.now c.args.a.now c.args.b.now))) (sym c.in-Recall.is) c.count_lists-in-Recall.ensures.least
 

@@ -1,0 +1,15 @@
+use Rattle.std.proofs.Common.{ℕ, Option, not, ap, ◌∙◌}
+use Rattle.desk_model.specs.Completion.{picked_value}
+use Rattle.desk_model.specs.Mark.{mark_at}
+use Rattle.measure_core.specs.OneSide.{is_by}
+use Rattle.average_precision.proofs.LastRanks.{class_by_rank}
+use Rattle.average_precision.proofs.by_rank.RankClassesClasses.class_of.Goals as goal
+
+pub returns : goal.returns
+returns c =
+    let r = c.args.self.now in
+    let marks = r.marks.now in
+    let doc = c.args.doc in
+    class_by_rank marks r.run.now r.cuts doc c.class_by.result c.docs.ensures.distinct r.are
+    (c.class_by.ensures.high ∙ ap (λ (rank : Option ℕ). picked_value (is_by r.cuts.taken rank) (mark_at marks doc)) c.rank_of.ensures)
+    (c.class_by.ensures.low ∙ ap (λ (rank : Option ℕ). picked_value (not (is_by r.cuts.left_out rank)) (mark_at marks doc)) c.rank_of.ensures)

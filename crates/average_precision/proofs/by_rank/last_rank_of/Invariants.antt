@@ -1,0 +1,9 @@
+use Rattle.std.proofs.Common.{◌≡◌, ◌+◌, drop}
+use Rattle.average_precision.specs.Cuts.{last_rank}
+use Rattle.average_precision.proofs.by_rank.last_rank_of.Given as goal
+
+abbrev pub invariant-loop-doc : goal.invariant-loop-doc
+invariant-loop-doc l = record {
+  rank : l.rank ≡ l.doc-index + 1;
+  last : last_rank l.marks l.last.rank l.rank (drop l.doc-index l.docs) l.last.left ≡ last_rank l.marks 0 1 l.docs l.count;
+}

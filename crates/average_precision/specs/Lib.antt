@@ -1,0 +1,16 @@
+pub mod Sums
+pub mod Side
+pub mod Firsts
+pub mod Walk
+pub mod Classes
+pub mod Table
+pub mod Inverse
+pub mod Cuts
+pub mod Runs
+pub mod Numbers
+pub mod Laws
+pub mod RankCases
+pub mod Rooms
+pub mod Crossed
+pub mod Pairs
+pub mod Uses
