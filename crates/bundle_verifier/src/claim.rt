@@ -6,6 +6,7 @@ ghost use Rattle.order_certificate.specs.Claim.{topics_of};
 ghost use Rattle.order_certificate.specs.Evidence.{IsEvidence};
 ghost use Rattle.order_bundle.specs.Evidence.{named_evidence, written_out};
 ghost use Rattle.order_verifier.specs.Refusal.{ShowsOf, topics_in};
+ghost use Rattle.order_verifier.specs.RunBounds.{AreBoundsOf};
 ghost use Rattle.order_verifier.specs.Verified.{FailsBy};
 ghost use Rattle.bundle_verifier.specs.Refusal.{FailsOn, HasRows, IsClaimOf, NamesDesk};
 ghost use Rattle.bundle_verifier.specs.Rows.{AreNumbersOf};
@@ -15,7 +16,7 @@ use crate::numbers::DocumentNumbers;
 use crate::rows::{ClaimLists, ClaimNumbers};
 use desk_model::Desk;
 use order_bundle::{Bundle, PairClaim, PairEvidence, TopicNames};
-use order_verifier::{Comparison, DeskMarks, Failure, RunNumbers, TopicEnds};
+use order_verifier::{BoundsOnTopic, Comparison, DeskMarks, Failure, RunNumbers, TopicEnds};
 
 /// Whether the evidence of a claim shows what it claims of two runs.
 fn check(
@@ -51,6 +52,7 @@ pub fn check_claim(
     marks: &DeskMarks<'_>,
     bundle: &Bundle,
     numbers: &[DocumentNumbers],
+    bounds: &[BoundsOnTopic],
     claim: &PairClaim,
 ) -> Result<(), Failure>
     requires made { ends.now ≡ bundle.now.measure }
@@ -58,6 +60,7 @@ pub fn check_claim(
     requires marks { AreMarksOf desk.now marks.now }
     requires names { NamesDesk bundle.now desk.now }
     requires numbers { AreNumbersOf desk.now bundle.now.topics numbers.now }
+    requires bounds { AreBoundsOf desk.now marks.now bounds.now }
     requires claim { IsClaimOf bundle.now claim.now }
     ensures { MatchResult result (λ _. IsEvidence (written_out bundle.now claim.now) desk.now marks.now) (FailsOn bundle.now desk.now marks.now claim.now) }
 {
@@ -65,7 +68,7 @@ pub fn check_claim(
     let names = bundle.runs.as_slice();
     let first = run_number(desk, names, claim.first);
     let second = run_number(desk, names, claim.second);
-    let comparison = Comparison::new(ends, desk, marks, RunNumbers { first, second });
+    let comparison = Comparison::new(ends, desk, marks, RunNumbers { first, second }, bounds);
     match check(
         &comparison,
         bundle.topics.as_slice(),

@@ -2,6 +2,7 @@ ghost use Rattle.std.specs.Prelude.{◌≡◌, IfOk};
 ghost use Rattle.desk_model.specs.Desk.{AreMarksOf, IsDesk};
 ghost use Rattle.desk_model.specs.MeasureText.{IsMeasure};
 ghost use Rattle.order_bundle.specs.Evidence.{ClaimsHold};
+ghost use Rattle.order_verifier.specs.RunBounds.{AreBoundsOf};
 ghost use Rattle.bundle_verifier.specs.Lines.{IsAnswer};
 ghost use Rattle.bundle_verifier.specs.Refusal.{NamesDesk};
 ghost use Rattle.bundle_verifier.specs.Rows.{AreNumbersOf};
@@ -16,7 +17,7 @@ use crate::room::Room;
 use crate::told::told;
 use desk_model::{Desk, Marks, MeasureName, Memory, Rows};
 use order_bundle::{Bundle, bundle_evidence_implies_claims};
-use order_verifier::{DeskMarks, TopicEnds};
+use order_verifier::{BoundsOnTopic, DeskMarks, TopicEnds};
 use std::alloc::Global;
 use std::marker::Model;
 
@@ -53,18 +54,22 @@ impl BundleVerifier {
         marks: &DeskMarks<'_>,
         bundle: &Bundle,
         numbers: &[DocumentNumbers],
+        bounds: &[BoundsOnTopic],
     ) -> Result<(), BundleReason>
         requires made { self.now ≡ bundle.now.measure }
         requires whole { IsDesk desk.now }
         requires marks { AreMarksOf desk.now marks.now }
         requires names { NamesDesk bundle.now desk.now }
         requires numbers { AreNumbersOf desk.now bundle.now.topics numbers.now }
+        requires bounds { AreBoundsOf desk.now marks.now bounds.now }
         ensures { IsVerified bundle.now desk.now marks.now result }
     {
         bundle.valid();
         let mut number = 0;
         for claim in bundle.claims.as_slice() {
-            if let Err(failure) = check_claim(&self.ends, desk, marks, bundle, numbers, claim) {
+            if let Err(failure) = check_claim(
+                &self.ends, desk, marks, bundle, numbers, bounds, claim,
+            ) {
                 return Err(BundleReason::ClaimFails {
                     claim: number,
                     failure,
@@ -82,10 +87,12 @@ impl BundleVerifier {
         marks: &DeskMarks<'_>,
         bundle: &Bundle,
         numbers: &[DocumentNumbers],
+        bounds: &[BoundsOnTopic],
     ) -> Result<(), BundleReason>
         requires made { self.now ≡ bundle.now.measure }
         requires marks { AreMarksOf desk.now marks.now }
         requires numbers { AreNumbersOf desk.now bundle.now.topics numbers.now }
+        requires bounds { AreBoundsOf desk.now marks.now bounds.now }
         ensures verified { IsVerified bundle.now desk.now marks.now result }
         ensures claims { IfOk result (λ _. ClaimsHold bundle.now desk.now marks.now) }
     {
@@ -94,7 +101,7 @@ impl BundleVerifier {
         if let Some(name) = wrong_name(desk, bundle) {
             return Err(BundleReason::WrongName { name });
         }
-        self.check_claims(desk, marks, bundle, numbers)
+        self.check_claims(desk, marks, bundle, numbers, bounds)
     }
 
     /// Whether a bundle is evidence for all that it claims of a desk under its marks, or the first reason why not.
@@ -110,7 +117,7 @@ impl BundleVerifier {
         ensures verified { IsVerified bundle.now desk.now marks.now result }
         ensures claims { IfOk result (λ _. ClaimsHold bundle.now desk.now marks.now) }
     {
-        self.check(desk, &DeskMarks::anew(marks), bundle, &[])
+        self.check(desk, &DeskMarks::anew(marks), bundle, &[], &[])
     }
 
     /// The same, with what is told of a reason: the claim, counted from 1, and the line of the bundle's text.
@@ -140,7 +147,13 @@ impl BundleVerifier {
         ensures claims { IfOk result (λ _. ClaimsHold room.now.bundle room.now.desk room.now.marks) }
     {
         let marks = DeskMarks::counted(room.marks, room.counts.as_slice());
-        self.check(room.desk, &marks, room.bundle, room.numbers.as_slice())
+        self.check(
+            room.desk,
+            &marks,
+            room.bundle,
+            room.numbers.as_slice(),
+            room.bounds.as_slice(),
+        )
     }
 
     /// What `verify_bundle` answers, for the bundle of a room.

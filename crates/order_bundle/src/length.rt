@@ -195,6 +195,7 @@ fn measure_length(measure: &MeasureName) -> u64
         MeasureName::Recall(k) => digits(u64::from(*k)) + 7,
         MeasureName::RPrecision => 5,
         MeasureName::Reciprocal => 10,
+        MeasureName::AveragePrecision => 3,
         MeasureName::Biased { top, bottom } => digits(u64::from(*bottom) + u64::from(*top)) + 5,
     }
 }

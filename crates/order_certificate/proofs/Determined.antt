@@ -5,7 +5,7 @@ use Rattle.std.specs.List.{AllZip, zip}
 use Rattle.small_lemmas.proofs.Numbers.{neg_twice}
 use Rattle.desk_model.specs.Verdict.{whole_sum}
 use Rattle.desk_model.specs.declared.types.MeasureName.{MeasureName}
-use Rattle.desk_model.specs.declared.types.MeasureName.TheVariants.{Precision, Recall, RPrecision, Reciprocal, Biased}
+use Rattle.desk_model.specs.declared.types.MeasureName.TheVariants.{Precision, Recall, RPrecision, Reciprocal, Biased, AveragePrecision}
 use Rattle.measure_laws.specs.Ends.{IsUpperEnd, IsLowerEnd}
 use Rattle.measure_laws.proofs.Unique.{smallest_unique}
 use Rattle.order_certificate.specs.Claim.{NamedTopic}
@@ -18,6 +18,7 @@ one_upper (Recall k) n truth a b z w h g = smallest_unique _ z w h g
 one_upper RPrecision n truth a b z w h g = smallest_unique _ z w h g
 one_upper Reciprocal n truth a b z w h g = smallest_unique _ z w h g
 one_upper (Biased top bottom) n truth a b z w h g = h ∙ sym g
+one_upper AveragePrecision n truth a b z w h g = h ∙ sym g
 
 one_lower : (m : MeasureName) (n : ℕ) (truth : ℕ → Bool) (a b : List ℕ) (z w : ℤ) → IsLowerEnd m n truth a b z → IsLowerEnd m n truth a b w → z ≡ w
 one_lower m n truth a b z w h k = sym (neg_twice z) ∙ ap neg_ℤ (one_upper m n truth b a (neg_ℤ z) (neg_ℤ w) h k) ∙ neg_twice w

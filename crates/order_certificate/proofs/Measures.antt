@@ -6,7 +6,7 @@ use Rattle.std.proofs.lemmas.Fmt.{length-decimal-le}
 use Rattle.std.proofs.Math.Nat.{pow-le-pow_right}
 use Rattle.desk_model.specs.MeasureText.{measure_text, persistence_digits, IsDepth, IsMeasure, IsTextOf}
 use Rattle.desk_model.specs.declared.types.MeasureName.{MeasureName}
-use Rattle.desk_model.specs.declared.types.MeasureName.TheVariants.{Precision, Recall, RPrecision, Reciprocal, Biased}
+use Rattle.desk_model.specs.declared.types.MeasureName.TheVariants.{Precision, Recall, RPrecision, Reciprocal, Biased, AveragePrecision}
 use Rattle.line_forms.proofs.Cuts.{AreAbove, above-append, above_less}
 use Rattle.line_forms.proofs.Lengths.{decimal_most}
 use Rattle.line_forms.proofs.Shown.{decimal_above}
@@ -24,6 +24,7 @@ measure_above (Precision k) = above-append 10 (codes "P_") (decimal k) (search r
 measure_above (Recall k) = above-append 10 (codes "recall_") (decimal k) (search rules) (digits_in_line (decimal k) (decimal_above k))
 measure_above RPrecision = search rules
 measure_above Reciprocal = search rules
+measure_above AveragePrecision = search rules
 measure_above (Biased top bottom) = above-append 10 (codes "rbp_0.") (drop 1 (decimal (bottom + top))) (search rules) (rest_above 10 (decimal (bottom + top)) (digits_in_line (decimal (bottom + top)) (decimal_above (bottom + top))))
 
 -- a measure that is printed has that text
@@ -32,6 +33,7 @@ measure_is_text (Precision k) h = refl
 measure_is_text (Recall k) h = refl
 measure_is_text RPrecision h = refl
 measure_is_text Reciprocal h = refl
+measure_is_text AveragePrecision h = refl
 measure_is_text (Biased top bottom) h =
     let ds = persistence_digits top bottom in
     let most : 10 ^ h.decimals ≤ 10 ^ 6 = pow-le-pow_right {n = 10} (omega arith) h.few in
@@ -46,6 +48,7 @@ measure_most (Precision k) h = let most = decimal_most k (omega (arith, h)) in o
 measure_most (Recall k) h = let most = decimal_most k (omega (arith, h)) in omega (arith, length-append (codes "recall_") (decimal k))
 measure_most RPrecision h = omega arith
 measure_most Reciprocal h = omega arith
+measure_most AveragePrecision h = omega arith
 measure_most (Biased top bottom) h =
     let most : 10 ^ h.decimals ≤ 10 ^ 6 = pow-le-pow_right {n = 10} (omega arith) h.few in
     let power : bottom ≡ 10 ^ h.decimals = h.power in
@@ -85,24 +88,28 @@ measures_found text = elim (depth_found (λ k. measure_text (Precision k)) text)
       | inl e ↦ inl (RPrecision, tt, e)
       | inr s ↦ elim (same_list text (measure_text Reciprocal)) [
         | inl e ↦ inl (Reciprocal, tt, e)
-        | inr t ↦ elim (try_all (λ decimals. (top : ℕ) × IsShortest decimals top × (text ≡ biased_text decimals top)) (tops_known text) 7) [
-          | inl h ↦
-              let fits = h.1.1 in
-              inl (Biased h.1.0 (10 ^ h.0), record { decimals = h.0; some = fits.0; few = fits.1; power = refl; positive = fits.2; below_one = fits.3; shortest = fits.4 }, h.1.2)
-          | inr none ↦ inr (by p r s t none)
+        | inr t ↦ elim (same_list text (measure_text AveragePrecision)) [
+          | inl e ↦ inl (AveragePrecision, tt, e)
+          | inr v ↦ elim (try_all (λ decimals. (top : ℕ) × IsShortest decimals top × (text ≡ biased_text decimals top)) (tops_known text) 7) [
+            | inl h ↦
+                let fits = h.1.1 in
+                inl (Biased h.1.0 (10 ^ h.0), record { decimals = h.0; some = fits.0; few = fits.1; power = refl; positive = fits.2; below_one = fits.3; shortest = fits.4 }, h.1.2)
+            | inr none ↦ inr (by p r s t v none)
+          ]
         ]
       ]
     ]
   ]
 ]
   where
-    by : ((k : ℕ) → IsDepth k → text ≢ measure_text (Precision k)) → ((k : ℕ) → IsDepth k → text ≢ measure_text (Recall k)) → text ≢ measure_text RPrecision → text ≢ measure_text Reciprocal →
+    by : ((k : ℕ) → IsDepth k → text ≢ measure_text (Precision k)) → ((k : ℕ) → IsDepth k → text ≢ measure_text (Recall k)) → text ≢ measure_text RPrecision → text ≢ measure_text Reciprocal → text ≢ measure_text AveragePrecision →
         ((d : ℕ) → d < 7 → (top : ℕ) × IsShortest d top × (text ≡ biased_text d top) → ⊥) → (m : MeasureName) → IsMeasure m → text ≢ measure_text m
-    by p r s t none (Precision k) fits e = p k fits e
-    by p r s t none (Recall k) fits e = r k fits e
-    by p r s t none RPrecision fits e = s e
-    by p r s t none Reciprocal fits e = t e
-    by p r s t none (Biased top bottom) fits e =
+    by p r s t v none (Precision k) fits e = p k fits e
+    by p r s t v none (Recall k) fits e = r k fits e
+    by p r s t v none RPrecision fits e = s e
+    by p r s t v none Reciprocal fits e = t e
+    by p r s t v none AveragePrecision fits e = v e
+    by p r s t v none (Biased top bottom) fits e =
         none fits.decimals (omega (arith, fits.few)) (top, (fits.some, fits.few, fits.positive, subst (λ (b : ℕ). top < b) fits.power fits.below_one, fits.shortest), e ∙ ap (λ (b : ℕ). measure_text (Biased top b)) fits.power)
 
 pub measure_found : (line : List ℕ) → Found (λ measure. codes "measure " ++ measure_text measure) IsMeasure line

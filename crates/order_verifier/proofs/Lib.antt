@@ -23,3 +23,9 @@ pub mod SameNames
 pub mod ListNames
 pub mod Answers
 pub mod Told
+pub mod RoundedParts
+pub mod Passes
+pub mod CandidateCounts
+pub mod EstimateSteps
+pub mod BestNumbers
+pub mod KnownBounds

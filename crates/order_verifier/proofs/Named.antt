@@ -9,16 +9,18 @@ use Rattle.desk_model.specs.Ranking.{IsRanking}
 use Rattle.desk_model.specs.Score.{score}
 use Rattle.desk_model.specs.declared.types.Mark.{Mark}
 use Rattle.desk_model.specs.declared.types.MeasureName.{MeasureName}
-use Rattle.desk_model.specs.declared.types.MeasureName.TheVariants.{Precision, Recall, RPrecision, Reciprocal, Biased}
+use Rattle.desk_model.specs.declared.types.MeasureName.TheVariants.{Precision, Recall, RPrecision, Reciprocal, Biased, AveragePrecision}
 use Rattle.desk_model.proofs.Completions.{with_picked-Completes}
 use Rattle.desk_model.proofs.Exact.{at_most_least}
 use Rattle.desk_model.proofs.Topics.{score-den}
 use Rattle.topic_counts.specs.Numbers.{difference_span}
 use Rattle.topic_counts.proofs.Spans.{difference_floor, difference_ceiling}
+use Rattle.measure_laws.specs.AverageEnds.{average_ends}
 use Rattle.measure_laws.specs.Cases.{least_truth}
 use Rattle.measure_laws.specs.Ends.{HasEnds, IsUpperEnd}
 use Rattle.measure_laws.specs.Measures.{IsExactMeasure, unit_of}
 use Rattle.measure_laws.specs.Shares.{IsModest, biased_ends}
+use Rattle.measure_laws.proofs.AverageLeast.{least_lo-modest, upper_end-modest}
 use Rattle.measure_laws.proofs.BiasedTopic.{least_lo_modest, upper_end_modest}
 use Rattle.measure_laws.proofs.CaseEnds.{named_swapped}
 use Rattle.measure_laws.proofs.LeastCases.{least_case_is_least}
@@ -38,6 +40,7 @@ low_is (Recall k) marks a b z e h g = greatest_unique _ z e.least_lo h g.least_l
 low_is RPrecision marks a b z e h g = greatest_unique _ z e.least_lo h g.least_lo
 low_is Reciprocal marks a b z e h g = greatest_unique _ z e.least_lo h g.least_lo
 low_is (Biased top bottom) marks a b z e h g = h ∙ ap (λ (x : Ends). x.least_lo) (sym g)
+low_is AveragePrecision marks a b z e h g = h ∙ ap (λ (x : Ends). x.least_lo) (sym g)
 
 -- negated it is the upper end of the greatest difference of the swapped rankings
 pub most_is : (m : MeasureName) (marks : List Mark) (a b : List ℕ) (z : ℤ) (e : Ends) → IsMeasure m → IsRanking (length marks) a → IsRanking (length marks) b → IsLeastLow m marks a b z → HasEnds m marks b a e → neg_ℤ z ≡ e.most_hi
@@ -65,6 +68,7 @@ ends_exist (Recall k) marks a b valid ra rb = exact_exist (Recall k) marks a b v
 ends_exist RPrecision marks a b valid ra rb = exact_exist RPrecision marks a b valid tt ra rb
 ends_exist Reciprocal marks a b valid ra rb = exact_exist Reciprocal marks a b valid tt ra rb
 ends_exist (Biased top bottom) marks a b valid ra rb = (biased_ends top bottom marks a b, refl)
+ends_exist AveragePrecision marks a b valid ra rb = (average_ends marks a b, refl)
 
 -- ---- sizes
 exact_low_modest : (m : MeasureName) (marks : List Mark) (a b : List ℕ) (z : ℤ) → IsMeasure m → IsExactMeasure m → IsRanking (length marks) a → IsRanking (length marks) b → IsGreatest (λ w. InEvery m marks a b (IsAtMost w (unit_of m))) z → IsModest z
@@ -81,6 +85,7 @@ low_modest (Recall k) marks a b z valid ra rb h = exact_low_modest (Recall k) ma
 low_modest RPrecision marks a b z valid ra rb h = exact_low_modest RPrecision marks a b z valid tt ra rb h
 low_modest Reciprocal marks a b z valid ra rb h = exact_low_modest Reciprocal marks a b z valid tt ra rb h
 low_modest (Biased top bottom) marks a b z valid ra rb h = subst IsModest (sym h) (least_lo_modest top bottom marks a b (omega (arith, valid.below_one)) (omega (arith, valid.below_one)) ra rb)
+low_modest AveragePrecision marks a b z valid ra rb h = subst IsModest (sym h) (least_lo-modest marks a b ra rb)
 
 exact_upper_modest : (m : MeasureName) (n : ℕ) (truth : ℕ → Bool) (a b : List ℕ) (z : ℤ) → IsMeasure m → IsExactMeasure m → IsRanking n a → IsRanking n b → IsSmallest (λ w. IsAtLeast w (unit_of m) (score m n truth a []) (score m n truth b [])) z → IsModest z
 exact_upper_modest m n truth a b z valid exact ra rb h =
@@ -95,6 +100,7 @@ upper_modest (Recall k) n truth a b z valid ra rb h = exact_upper_modest (Recall
 upper_modest RPrecision n truth a b z valid ra rb h = exact_upper_modest RPrecision n truth a b z valid tt ra rb h
 upper_modest Reciprocal n truth a b z valid ra rb h = exact_upper_modest Reciprocal n truth a b z valid tt ra rb h
 upper_modest (Biased top bottom) n truth a b z valid ra rb h = subst IsModest (sym h) (upper_end_modest top bottom n truth a b (omega (arith, valid.below_one)) (omega (arith, valid.below_one)) ra rb)
+upper_modest AveragePrecision n truth a b z valid ra rb h = subst IsModest (sym h) (upper_end-modest n truth a b ra rb)
 
 -- ---- what the ends are computed from
 pub kind_measure : (k : Kind) → IsKind k → IsMeasure (name_of k)
@@ -103,3 +109,4 @@ kind_measure (kind.Recall k) h = h
 kind_measure kind.RPrecision h = tt
 kind_measure kind.Reciprocal h = tt
 kind_measure (kind.Biased powers) h = h.persistence
+kind_measure kind.AveragePrecision h = tt

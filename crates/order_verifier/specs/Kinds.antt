@@ -6,7 +6,7 @@ use Rattle.desk_model.specs.declared.types.MeasureName.{MeasureName}
 use Rattle.desk_model.specs.declared.types.MeasureName.TheVariants as name
 use Rattle.topic_counts.specs.Places.{Known}
 use Rattle.order_verifier.specs.declared.kind.Kind.{Kind}
-use Rattle.order_verifier.specs.declared.kind.Kind.TheVariants.{Precision, Recall, RPrecision, Reciprocal, Biased}
+use Rattle.order_verifier.specs.declared.kind.Kind.TheVariants.{Precision, Recall, RPrecision, Reciprocal, Biased, AveragePrecision}
 
 -- the name of the measure
 abbrev pub name_of : Kind → MeasureName
@@ -15,6 +15,7 @@ name_of (Recall k) = name.Recall k
 name_of RPrecision = name.RPrecision
 name_of Reciprocal = name.Reciprocal
 name_of (Biased powers) = name.Biased powers.top powers.bottom
+name_of AveragePrecision = name.AveragePrecision
 
 -- the powers of a persistence, as many as a ranking has ranks
 pub record ArePowers (powers : Known) : Type 0 where
@@ -28,3 +29,4 @@ IsKind (Recall k) = IsDepth k
 IsKind RPrecision = Unit {0}
 IsKind Reciprocal = Unit {0}
 IsKind (Biased powers) = ArePowers powers
+IsKind AveragePrecision = Unit {0}

@@ -9,3 +9,7 @@ pub mod Refusal
 pub mod Verified
 pub mod Checks
 pub mod CompletionEnds
+pub mod PartSums
+pub mod Candidates
+pub mod Estimates
+pub mod RunBounds

@@ -8,6 +8,7 @@ ghost use Rattle.order_certificate.specs.Evidence.{AreUnjudged, listed_truth};
 ghost use Rattle.order_verifier.specs.Checks.{IsComparison as IsOne, OfTopic};
 ghost use Rattle.order_verifier.specs.Refusal.{OfEnds, topics_in};
 ghost use Rattle.order_verifier.specs.Rows.{OfRow};
+ghost use Rattle.order_verifier.specs.RunBounds.{AreBoundsOf as BoundsOf};
 
 use crate::TopicEnds;
 use crate::completion::CompletionEnds;
@@ -15,27 +16,30 @@ use crate::counted::DeskMarks;
 use crate::documents::{Documents, FoundNear};
 use crate::listed::Listed;
 use crate::names::RunNumbers;
+use crate::ranked::{BoundsOnTopic, known_ranking};
 use desk_model::{Desk, Mark, TopicBook};
 use std::marker::Model;
 
-/// Two runs of a desk under its marks, and what their ends are computed by.
+/// Two runs of a desk under its marks, what their ends are computed by, and bounds of runs where they are known.
 #[derive(Drop)]
 pub struct Comparison<'a> {
     ends: &'a TopicEnds,
     desk: &'a Desk,
     marks: &'a DeskMarks<'a>,
     runs: RunNumbers,
+    bounds: &'a [BoundsOnTopic],
 }
 
 impl<'a> Model for Comparison<'a> {
     ghost use Rattle.order_verifier.specs.Checks.{IsComparison};
     ghost use Rattle.order_verifier.specs.Refusal.{Compared};
+    ghost use Rattle.order_verifier.specs.RunBounds.{AreBoundsOf};
 
     ghost Value = { Compared };
 
     ghost view = { λ c. record { measure = c.ends.now; desk = c.desk.now; marks = c.marks.now; first = c.runs.first; second = c.runs.second } };
 
-    ghost invariant = { λ c. IsComparison c.desk.now c.marks.now c.runs.first c.runs.second };
+    ghost invariant = { λ c. IsComparison c.desk.now c.marks.now c.runs.first c.runs.second × AreBoundsOf c.desk.now c.marks.now c.bounds.now };
 }
 
 /// The outer ends of the differences of two runs on a topic.
@@ -55,14 +59,16 @@ fn is_open(mark: Mark) -> bool
 }
 
 impl<'a> Comparison<'a> {
-    /// Two runs of a desk by their numbers, under its marks.
+    /// Two runs of a desk by their numbers, under its marks, with the bounds of its runs on the first topics.
     pub fn new(
         ends: &'a TopicEnds,
         desk: &'a Desk,
         marks: &'a DeskMarks<'a>,
         runs: RunNumbers,
+        bounds: &'a [BoundsOnTopic],
     ) -> Comparison<'a>
-        requires { IsOne desk.now marks.now runs.first runs.second }
+        requires runs { IsOne desk.now marks.now runs.first runs.second }
+        requires bounds { BoundsOf desk.now marks.now bounds.now }
         ensures { result ≡ record { measure = ends.now; desk = desk.now; marks = marks.now; first = runs.first; second = runs.second } }
     {
         Comparison {
@@ -70,6 +76,7 @@ impl<'a> Comparison<'a> {
             desk,
             marks,
             runs,
+            bounds,
         }
     }
 
@@ -87,10 +94,10 @@ impl<'a> Comparison<'a> {
         requires { topic < length (topics_in self.now) }
         ensures { OfTopic (topics_in self.now) topic (λ t. OfEnds self.now t (λ ends. result ≡ ends.least_lo)) }
     {
-        let first = self.desk.ranking(self.runs.first, topic);
-        let second = self.desk.ranking(self.runs.second, topic);
+        let first = known_ranking(self.desk, self.bounds, self.runs.first, topic);
+        let second = known_ranking(self.desk, self.bounds, self.runs.second, topic);
         let marks = self.marks.topic(topic);
-        self.ends.least_low(first, second, &marks)
+        self.ends.least_low_of(&first, &second, &marks)
     }
 
     /// The outer ends of the differences of the two runs on a topic.
@@ -98,12 +105,12 @@ impl<'a> Comparison<'a> {
         requires { topic < length (topics_in self.now) }
         ensures { OfTopic (topics_in self.now) topic (λ t. OfEnds self.now t (λ ends. result ≡ record { least_low = ends.least_lo; most_high = ends.most_hi })) }
     {
-        let first = self.desk.ranking(self.runs.first, topic);
-        let second = self.desk.ranking(self.runs.second, topic);
+        let first = known_ranking(self.desk, self.bounds, self.runs.first, topic);
+        let second = known_ranking(self.desk, self.bounds, self.runs.second, topic);
         let marks = self.marks.topic(topic);
         OuterEnds {
-            least_low: self.ends.least_low(first, second, &marks),
-            most_high: -self.ends.least_low(second, first, &marks),
+            least_low: self.ends.least_low_of(&first, &second, &marks),
+            most_high: -self.ends.least_low_of(&second, &first, &marks),
         }
     }
 

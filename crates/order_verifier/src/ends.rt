@@ -4,10 +4,12 @@ ghost use Rattle.desk_model.specs.MeasureText.{IsMeasure};
 ghost use Rattle.measure_laws.specs.Ends.{HasEnds, IsUpperEnd};
 ghost use Rattle.measure_laws.specs.Shares.{IsModest};
 ghost use Rattle.order_verifier.specs.Least.{AreRankings};
+ghost use Rattle.order_verifier.specs.RunBounds.{AreKnown};
 
 use crate::completion::UpperEnds;
 use crate::counted::TopicMarks;
 use crate::kind::Kind;
+use crate::ranked::Ranked;
 use crate::relevance::Relevance;
 use desk_model::{MeasureName, Memory, Ranking};
 use std::alloc::Global;
@@ -45,6 +47,7 @@ impl TopicEnds {
             MeasureName::Biased { top, bottom } => {
                 Kind::Biased(Powers::new(alloc, top, bottom, 10_000)?)
             }
+            MeasureName::AveragePrecision => Kind::AveragePrecision,
         };
         Ok(TopicEnds { kind })
     }
@@ -57,6 +60,27 @@ impl TopicEnds {
         ensures low { (ends : Ends) → HasEnds self.now marks.now a.now b.now ends → result ≡ ends.least_lo }
         ensures most { (ends : Ends) → HasEnds self.now marks.now b.now a.now ends → neg_ℤ result ≡ ends.most_hi }
         ensures ends { (ends : Ends) × HasEnds self.now marks.now a.now b.now ends }
+        ensures modest { IsModest result }
+    {
+        let a = Ranked {
+            ranking: a,
+            bounds: None,
+        };
+        let b = Ranked {
+            ranking: b,
+            bounds: None,
+        };
+        self.least_low_of(&a, &b, marks)
+    }
+
+    /// The same, where bounds of the runs may be known.
+    pub fn least_low_of(&self, a: &Ranked<'_>, b: &Ranked<'_>, marks: &TopicMarks<'_>) -> i128
+        requires rankings { AreRankings (length marks.now) a.now.ranking.now b.now.ranking.now }
+        requires a { AreKnown marks.now a.now.ranking.now a.now.bounds }
+        requires b { AreKnown marks.now b.now.ranking.now b.now.bounds }
+        ensures low { (ends : Ends) → HasEnds self.now marks.now a.now.ranking.now b.now.ranking.now ends → result ≡ ends.least_lo }
+        ensures most { (ends : Ends) → HasEnds self.now marks.now b.now.ranking.now a.now.ranking.now ends → neg_ℤ result ≡ ends.most_hi }
+        ensures ends { (ends : Ends) × HasEnds self.now marks.now a.now.ranking.now b.now.ranking.now ends }
         ensures modest { IsModest result }
     {
         self.kind.least_low(a, b, marks)

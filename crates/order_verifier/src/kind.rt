@@ -1,7 +1,8 @@
 use crate::completion::UpperEnds;
 use crate::counted::TopicMarks;
+use crate::ranked::Ranked;
 use crate::relevance::Relevance;
-use crate::{biased, precision, recall, reciprocal, rprecision};
+use crate::{average, biased, precision, recall, reciprocal, rprecision};
 use desk_model::Ranking;
 use topic_counts::Powers;
 
@@ -18,6 +19,8 @@ pub enum Kind {
     Reciprocal,
     /// `rbp_p`, with the powers of its persistence.
     Biased(Powers),
+    /// `map`.
+    AveragePrecision,
 }
 
 impl Kind {
@@ -25,19 +28,25 @@ impl Kind {
     ghost use Rattle.measure_laws.specs.Ends.{IsUpperEnd};
     ghost use Rattle.order_verifier.specs.Kinds.{name_of, IsKind};
     ghost use Rattle.order_verifier.specs.Least.{AreRankings, IsLeastLow};
+    ghost use Rattle.order_verifier.specs.RunBounds.{AreKnown};
 
     /// The lower end of the least difference.
-    pub fn least_low(&self, a: &Ranking, b: &Ranking, marks: &TopicMarks<'_>) -> i128
+    pub fn least_low(&self, x: &Ranked<'_>, y: &Ranked<'_>, marks: &TopicMarks<'_>) -> i128
         requires kind { IsKind self.now }
-        requires rankings { AreRankings (length marks.now) a.now b.now }
-        ensures { IsLeastLow (name_of self.now) marks.now a.now b.now result }
+        requires rankings { AreRankings (length marks.now) x.now.ranking.now y.now.ranking.now }
+        requires x { AreKnown marks.now x.now.ranking.now x.now.bounds }
+        requires y { AreKnown marks.now y.now.ranking.now y.now.bounds }
+        ensures { IsLeastLow (name_of self.now) marks.now x.now.ranking.now y.now.ranking.now result }
     {
+        let a = x.ranking;
+        let b = y.ranking;
         match self {
             Kind::Precision(k) => precision::least_low(*k, a, b, marks.as_slice()),
             Kind::Recall(k) => recall::least_low(*k, a, b, marks.as_slice(), marks.all()),
             Kind::RPrecision => rprecision::least_low(a, b, marks.as_slice(), marks.all()),
             Kind::Reciprocal => reciprocal::least_low(a, b, marks.as_slice()),
             Kind::Biased(powers) => biased::least_low(powers, a, b, marks.as_slice()),
+            Kind::AveragePrecision => average::least_low(x, y, marks.as_slice(), marks.all()),
         }
     }
 
@@ -68,6 +77,10 @@ impl Kind {
                 high: reciprocal::upper_end(b, a, high),
             },
             Kind::Biased(powers) => biased::upper_ends(powers, a, b, low, high),
+            Kind::AveragePrecision => UpperEnds {
+                low: average::upper_end(a, b, low),
+                high: average::upper_end(b, a, high),
+            },
         }
     }
 }

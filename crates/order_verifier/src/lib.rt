@@ -2,8 +2,10 @@
 //! evidence speaks of are computed anew here, by counts, on no crate of a measure.
 #![tactic(auto)]
 
+pub mod average;
 pub mod biased;
 mod bounds;
+pub mod candidate;
 pub mod comparison;
 pub mod completion;
 pub mod counted;
@@ -11,13 +13,16 @@ pub mod counts;
 pub mod difference;
 pub mod documents;
 pub mod ends;
+pub mod estimate;
 pub mod failure;
 pub mod kind;
 pub mod laws;
 mod listed;
 pub mod names;
 pub mod own;
+pub mod part_sum;
 pub mod precision;
+pub mod ranked;
 pub mod ranks;
 pub mod recall;
 pub mod reciprocal;
@@ -25,6 +30,7 @@ pub mod rejected;
 pub mod relevance;
 pub mod rows;
 pub mod rprecision;
+pub mod run_bound;
 mod search;
 pub mod verifier;
 pub mod walk;
@@ -38,6 +44,7 @@ pub use ends::TopicEnds;
 pub use failure::Failure;
 pub use laws::{answers_are_one, numbers_are_of_lines, rejected_certificates_are_no_evidence};
 pub use names::RunNumbers;
+pub use ranked::{BoundsOnTopic, bounds_of_desk};
 pub use rejected::Rejected;
 pub use relevance::Relevance;
 pub use rows::{BoundRows, ListRows};

@@ -68,7 +68,7 @@ impl Verifier {
         }
         let marks = DeskMarks::anew(rows);
         match check(
-            &Comparison::new(&self.ends, desk, &marks, runs),
+            &Comparison::new(&self.ends, desk, &marks, runs, &[]),
             &certificate.evidence,
         ) {
             Ok(()) => Ok(()),

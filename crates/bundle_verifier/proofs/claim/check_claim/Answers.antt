@@ -14,8 +14,8 @@ use Rattle.bundle_verifier.specs.Rows.{AreNumbersOf}
 use Rattle.bundle_verifier.proofs.Matched.{different_numbers, rows_of, topics_named}
 use Rattle.bundle_verifier.proofs.claim.check_claim.Goals as goal
 
-pub new-comparison-requires : goal.new-comparison-requires
-new-comparison-requires c = record {
+pub new-comparison-requires-clause-runs : goal.new-comparison-requires-clause-runs
+new-comparison-requires-clause-runs c = record {
   whole = c.requires.whole;
   known = c.requires.marks;
   first_known = let at = place_within _ c.args.desk.now.runs 0 c.run_number-first.result c.run_number-first.ensures in omega (arith, at);

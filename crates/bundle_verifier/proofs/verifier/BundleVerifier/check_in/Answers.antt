@@ -1,5 +1,7 @@
-use Rattle.std.proofs.Common.{subst, sym}
+use Rattle.std.proofs.Common.{List, subst, sym}
+use Rattle.desk_model.specs.declared.types.Mark.{Mark}
 use Rattle.order_verifier.specs.Counted.{AreCountsOf}
+use Rattle.order_verifier.specs.RunBounds.{AreBoundsOf}
 use Rattle.bundle_verifier.specs.Room.{BesideDesk}
 use Rattle.bundle_verifier.specs.Verified.{IsVerified}
 use Rattle.bundle_verifier.proofs.verifier.BundleVerifier.check_in.Goals as goal
@@ -11,3 +13,8 @@ pub returns-clause-verified : goal.returns-clause-verified
 returns-clause-verified c =
     subst (λ (r : BesideDesk). IsVerified r.bundle r.desk r.marks c.check.result) c.room.view_is
     (subst (λ marks. IsVerified c.room.inside.bundle.now c.room.inside.desk.now marks c.check.result) c.counted-marks.ensures c.check.ensures.verified)
+
+pub check-requires-clause-bounds : goal.check-requires-clause-bounds
+check-requires-clause-bounds c =
+    subst (λ (marks : List (List Mark)). AreBoundsOf c.room.inside.desk.now marks c.as_slice-3.result.now) (sym c.counted-marks.ensures)
+    (subst (AreBoundsOf c.room.inside.desk.now c.room.inside.marks.now) (sym c.as_slice-3.ensures.value) c.room.invariant.bounded)

@@ -15,48 +15,48 @@ abbrev swapped : Compared → Compared
 swapped v = record v { first = v.second; second = v.first }
 
 pub ranking-first-requires-clause-topic : goal.ranking-first-requires-clause-topic
-ranking-first-requires-clause-topic c = topic_within _ _ c.self.view_is c.self.invariant.known c.args.topic _ c.requires.low_topic
+ranking-first-requires-clause-topic c = topic_within _ _ c.self.view_is c.self.invariant.0.known c.args.topic _ c.requires.low_topic
 
 pub ranking-second-requires-clause-topic : goal.ranking-second-requires-clause-topic
-ranking-second-requires-clause-topic c = topic_within _ _ c.self.view_is c.self.invariant.known c.args.topic _ c.requires.low_topic
+ranking-second-requires-clause-topic c = topic_within _ _ c.self.view_is c.self.invariant.0.known c.args.topic _ c.requires.low_topic
 
 pub topic-marks-requires : goal.topic-marks-requires
-topic-marks-requires c = marks_within c.self.inside.desk.now c.self.inside.marks.now c.self.invariant.known c.args.topic (topic_within _ _ c.self.view_is c.self.invariant.known c.args.topic _ c.requires.low_topic)
+topic-marks-requires c = marks_within c.self.inside.desk.now c.self.inside.marks.now c.self.invariant.0.known c.args.topic (topic_within _ _ c.self.view_is c.self.invariant.0.known c.args.topic _ c.requires.low_topic)
 
 pub new-low-requires : goal.new-low-requires
 new-low-requires c =
     let topic = c.requires.low_topic in
     let unjudged : OfTopic (topics_in c.args.self.now) c.args.topic (λ t. AreUnjudged t c.args.low.now.names) = (topic.0, topic.1, topic.2.1) in
-    let book = there c.self.inside.desk.now.topics c.args.topic (topic_within _ _ c.self.view_is c.self.invariant.known c.args.topic _ topic) in
+    let book = there c.self.inside.desk.now.topics c.args.topic (topic_within _ _ c.self.view_is c.self.invariant.0.known c.args.topic _ topic) in
     let same = topic_of_book _ _ c.self.view_is c.args.topic c.topic-marks.result book.0 c.topic-marks.ensures book.1 (λ _ n. c.args.low.now.docs ≡ n.docs) (topic.0, topic.1, topic.2.0) in
     subst (λ docs. AreListed (record { docs = docs; marks = c.topic-marks.result; names = c.args.low.now.names })) (sym same)
-    (names_met _ _ c.self.view_is c.self.invariant c.args.topic c.topic-marks.result book.0 c.args.low.now.names c.topic-marks.ensures book.1 c.requires.low_ascends unjudged)
+    (names_met _ _ c.self.view_is c.self.invariant.0 c.args.topic c.topic-marks.result book.0 c.args.low.now.names c.topic-marks.ensures book.1 c.requires.low_ascends unjudged)
 
 pub new-high-requires : goal.new-high-requires
 new-high-requires c =
     let topic = c.requires.high_topic in
     let unjudged : OfTopic (topics_in c.args.self.now) c.args.topic (λ t. AreUnjudged t c.args.high.now.names) = (topic.0, topic.1, topic.2.1) in
-    let book = there c.self.inside.desk.now.topics c.args.topic (topic_within _ _ c.self.view_is c.self.invariant.known c.args.topic _ topic) in
+    let book = there c.self.inside.desk.now.topics c.args.topic (topic_within _ _ c.self.view_is c.self.invariant.0.known c.args.topic _ topic) in
     let same = topic_of_book _ _ c.self.view_is c.args.topic c.topic-marks.result book.0 c.topic-marks.ensures book.1 (λ _ n. c.args.high.now.docs ≡ n.docs) (topic.0, topic.1, topic.2.0) in
     subst (λ docs. AreListed (record { docs = docs; marks = c.topic-marks.result; names = c.args.high.now.names })) (sym same)
-    (names_met _ _ c.self.view_is c.self.invariant c.args.topic c.topic-marks.result book.0 c.args.high.now.names c.topic-marks.ensures book.1 c.requires.high_ascends unjudged)
+    (names_met _ _ c.self.view_is c.self.invariant.0 c.args.topic c.topic-marks.result book.0 c.args.high.now.names c.topic-marks.ensures book.1 c.requires.high_ascends unjudged)
 
 pub upper_ends-ends-requires-clause-low : goal.upper_ends-ends-requires-clause-low
 upper_ends-ends-requires-clause-low c =
     subst (λ (l : NamesOnTopic). AreRankings (length l.marks) c.ranking-first.result.now c.ranking-second.result.now) (sym c.new-low.ensures)
-    (rankings_met c.self.inside.desk.now c.self.inside.marks.now c.self.inside.runs.first c.self.inside.runs.second c.self.invariant c.args.topic c.topic-marks.result _ _ c.topic-marks.ensures c.ranking-first.ensures.ranking
+    (rankings_met c.self.inside.desk.now c.self.inside.marks.now c.self.inside.runs.first c.self.inside.runs.second c.self.invariant.0 c.args.topic c.topic-marks.result _ _ c.topic-marks.ensures c.ranking-first.ensures.ranking
     c.ranking-second.ensures.ranking)
 
 pub upper_ends-ends-requires-clause-high : goal.upper_ends-ends-requires-clause-high
 upper_ends-ends-requires-clause-high c =
-    let both = rankings_met c.self.inside.desk.now c.self.inside.marks.now c.self.inside.runs.first c.self.inside.runs.second c.self.invariant c.args.topic c.topic-marks.result _ _ c.topic-marks.ensures c.ranking-first.ensures.ranking c.ranking-second.ensures.ranking in
+    let both = rankings_met c.self.inside.desk.now c.self.inside.marks.now c.self.inside.runs.first c.self.inside.runs.second c.self.invariant.0 c.args.topic c.topic-marks.result _ _ c.topic-marks.ensures c.ranking-first.ensures.ranking c.ranking-second.ensures.ranking in
     subst (λ (l : NamesOnTopic). AreRankings (length l.marks) c.ranking-second.result.now c.ranking-first.result.now) (sym c.new-high.ensures)
     (record { first = both.second; second = both.first; small = both.small })
 
 pub returns-clause-low : goal.returns-clause-low
 returns-clause-low c =
     let topic = c.requires.low_topic in
-    let book = there c.self.inside.desk.now.topics c.args.topic (topic_within _ _ c.self.view_is c.self.invariant.known c.args.topic _ topic) in
+    let book = there c.self.inside.desk.now.topics c.args.topic (topic_within _ _ c.self.view_is c.self.invariant.0.known c.args.topic _ topic) in
     let same = topic_of_book _ _ c.self.view_is c.args.topic c.topic-marks.result book.0 c.topic-marks.ensures book.1 (λ _ n. c.args.low.now.docs ≡ n.docs) (topic.0, topic.1, topic.2.0) in
     let listed : c.new-low.result ≡ record { docs = book.0.docs; marks = c.topic-marks.result; names = c.args.low.now.names } =
     c.new-low.ensures ∙ ap (λ docs. record { docs = docs; marks = c.topic-marks.result; names = c.args.low.now.names }) same in
@@ -67,7 +67,7 @@ returns-clause-low c =
 pub returns-clause-high : goal.returns-clause-high
 returns-clause-high c =
     let topic = c.requires.high_topic in
-    let book = there c.self.inside.desk.now.topics c.args.topic (topic_within _ _ c.self.view_is c.self.invariant.known c.args.topic _ topic) in
+    let book = there c.self.inside.desk.now.topics c.args.topic (topic_within _ _ c.self.view_is c.self.invariant.0.known c.args.topic _ topic) in
     let same = topic_of_book _ _ c.self.view_is c.args.topic c.topic-marks.result book.0 c.topic-marks.ensures book.1 (λ _ n. c.args.high.now.docs ≡ n.docs) (topic.0, topic.1, topic.2.0) in
     let listed : c.new-high.result ≡ record { docs = book.0.docs; marks = c.topic-marks.result; names = c.args.high.now.names } =
     c.new-high.ensures ∙ ap (λ docs. record { docs = docs; marks = c.topic-marks.result; names = c.args.high.now.names }) same in

@@ -13,17 +13,17 @@ pub bounds-marks-doc : goal.bounds-marks-doc
 bounds-marks-doc c =
     let marked : slice_get c.self.inside.marks.now c.args.topic ≡ Some c.args.marks.now = ap (λ (v : Compared). slice_get v.marks c.args.topic) c.self.view_is ∙ c.requires.marks in
     let row = c.in-Some.ensures in
-    let book = there c.self.inside.desk.now.topics c.args.topic (topic_within _ _ c.self.view_is c.self.invariant.known c.args.topic _ c.requires.topic) in
+    let book = there c.self.inside.desk.now.topics c.args.topic (topic_within _ _ c.self.view_is c.self.invariant.0.known c.args.topic _ c.requires.topic) in
     let docs : c.args.documents.now.docs ≡ book.0.docs = topic_of_book _ _ c.self.view_is c.args.topic c.args.marks.now book.0 marked book.1 (λ _ n. c.args.documents.now.docs ≡ n.docs) c.requires.topic in
     let within = place_within _ book.0.docs 0 c.in-Some.doc (ap (λ (ds : List (List ℕ)). number_of ds row.0) (sym docs) ∙ sym row.2) in
-    let met = book_met c.self.inside.desk.now c.self.inside.marks.now c.self.inside.runs.first c.self.inside.runs.second c.self.invariant c.args.topic c.args.marks.now book.0 marked book.1 in
+    let met = book_met c.self.inside.desk.now c.self.inside.marks.now c.self.inside.runs.first c.self.inside.runs.second c.self.invariant.0 c.args.topic c.args.marks.now book.0 marked book.1 in
     omega (arith, within, met.0)
 
 pub returns-in-Some : goal.returns-in-Some
 returns-in-Some c =
     let marked : slice_get c.self.inside.marks.now c.args.topic ≡ Some c.args.marks.now = ap (λ (v : Compared). slice_get v.marks c.args.topic) c.self.view_is ∙ c.requires.marks in
     let row = c.in-Some.ensures in
-    let book = there c.self.inside.desk.now.topics c.args.topic (topic_within _ _ c.self.view_is c.self.invariant.known c.args.topic _ c.requires.topic) in
+    let book = there c.self.inside.desk.now.topics c.args.topic (topic_within _ _ c.self.view_is c.self.invariant.0.known c.args.topic _ c.requires.topic) in
     let docs : c.args.documents.now.docs ≡ book.0.docs = topic_of_book _ _ c.self.view_is c.args.topic c.args.marks.now book.0 marked book.1 (λ _ n. c.args.documents.now.docs ≡ n.docs) c.requires.topic in (
       row.0,
       row.1,
@@ -35,7 +35,7 @@ pub returns-in-None : goal.returns-in-None
 returns-in-None c =
     let marked : slice_get c.self.inside.marks.now c.args.topic ≡ Some c.args.marks.now = ap (λ (v : Compared). slice_get v.marks c.args.topic) c.self.view_is ∙ c.requires.marks in
     let row = c.in-None.ensures in
-    let inside = topic_within _ _ c.self.view_is c.self.invariant.known c.args.topic _ c.requires.topic in
+    let inside = topic_within _ _ c.self.view_is c.self.invariant.0.known c.args.topic _ c.requires.topic in
     let book = there c.self.inside.desk.now.topics c.args.topic inside in
     let docs : c.args.documents.now.docs ≡ book.0.docs = topic_of_book _ _ c.self.view_is c.args.topic c.args.marks.now book.0 marked book.1 (λ _ n. c.args.documents.now.docs ≡ n.docs) c.requires.topic in (
       row.0,

@@ -6,13 +6,13 @@ use Rattle.order_verifier.proofs.Topics.{marks_within, topic_inside, topic_on}
 use Rattle.order_verifier.proofs.comparison.Comparison.topic_book.Goals as goal
 
 pub topic-requires : goal.topic-requires
-topic-requires c = topic_inside _ _ c.self.view_is c.self.invariant.known c.args.topic c.requires
+topic-requires c = topic_inside _ _ c.self.view_is c.self.invariant.0.known c.args.topic c.requires
 
 pub returns-clause-book : goal.returns-clause-book
 returns-clause-book c = subst (λ (w : Compared). slice_get w.desk.topics c.args.topic ≡ Some c.topic.result.now) c.self.view_is c.topic.ensures
 
 pub returns-clause-docs : goal.returns-clause-docs
 returns-clause-docs c =
-    let marks = there c.self.inside.marks.now c.args.topic (marks_within c.self.inside.desk.now c.self.inside.marks.now c.self.invariant.known c.args.topic
-    (topic_inside _ _ c.self.view_is c.self.invariant.known c.args.topic c.requires)) in
+    let marks = there c.self.inside.marks.now c.args.topic (marks_within c.self.inside.desk.now c.self.inside.marks.now c.self.invariant.0.known c.args.topic
+    (topic_inside _ _ c.self.view_is c.self.invariant.0.known c.args.topic c.requires)) in
     topic_on _ _ c.self.view_is c.args.topic marks.0 c.topic.result.now marks.1 c.topic.ensures (λ _ n. c.topic.result.now.docs ≡ n.docs) refl

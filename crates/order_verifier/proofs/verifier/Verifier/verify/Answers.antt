@@ -3,13 +3,14 @@ use Rattle.std.proofs.lemmas.List.{length-map}
 use Rattle.desk_model.specs.Book.{Book}
 use Rattle.desk_model.specs.Desk.{AreMarksOf}
 use Rattle.order_verifier.specs.Refusal.{Compared, topic_names, topics_in}
+use Rattle.order_verifier.proofs.KnownBounds.{none_known}
 use Rattle.order_verifier.proofs.Told.{failure_placed, topic_placed}
 use Rattle.order_verifier.proofs.Topics.{length-named}
 use Rattle.order_certificate.proofs.Holds.{place_within}
 use Rattle.order_verifier.proofs.verifier.Verifier.verify.Goals as goal
 
-pub new-requires : goal.new-requires
-new-requires c =
+pub new-requires-clause-runs : goal.new-requires-clause-runs
+new-requires-clause-runs c =
     let runs = c.in-Ok.ensures.0 in
     record {
       whole = c.wrong_topic.ensures.desk;
@@ -28,3 +29,6 @@ wrong_names-requires-in-Some-clause-place c = topic_placed c.args.certificate.no
 
 pub rejection-requires-clause-place : goal.rejection-requires-clause-place
 rejection-requires-clause-place c = failure_placed c.new.result c.args.certificate.now.evidence c.in-Err-check.failure c.in-Err-check.ensures
+
+pub new-requires-clause-bounds : goal.new-requires-clause-bounds
+new-requires-clause-bounds c = none_known c.args.desk.now c.anew-marks.result

@@ -1,0 +1,13 @@
+use Rattle.std.proofs.Common.{◌≡◌, ◌+◌, ◌*◌, ◌≤◌, drop}
+use Rattle.desk_model.specs.Limits.{PARTS_OF_ONE}
+use Rattle.desk_model.specs.Precisions.{true_ranks}
+use Rattle.order_verifier.specs.Candidates.{along, gains_by}
+use Rattle.order_verifier.specs.Estimates.{inverse_sum}
+use Rattle.order_verifier.proofs.estimate.inverses_of.Given as goal
+
+abbrev pub invariant-loop-doc : goal.invariant-loop-doc
+invariant-loop-doc l = record {
+  rank : l.rank ≡ l.doc-index + 1;
+  rest : l.sum + inverse_sum (true_ranks l.rank (gains_by l.high (along l.marks (drop l.doc-index l.docs)) 0)) ≡ inverse_sum (true_ranks 1 (gains_by l.high (along l.marks l.docs) 0));
+  small : l.sum ≤ l.doc-index * PARTS_OF_ONE;
+}
