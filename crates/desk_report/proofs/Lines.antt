@@ -17,7 +17,7 @@ use Rattle.desk_model.specs.Pairs.{pairs_of}
 use Rattle.desk_model.specs.Verdict.{verdict, IsExactVerdict}
 use Rattle.desk_model.specs.declared.types.Mark.{Mark}
 use Rattle.desk_model.specs.declared.types.MeasureName.{MeasureName}
-use Rattle.desk_model.specs.declared.types.MeasureName.TheVariants.{Precision, Recall, RPrecision, Reciprocal, Biased}
+use Rattle.desk_model.specs.declared.types.MeasureName.TheVariants.{Precision, Recall, RPrecision, Reciprocal, Biased, AveragePrecision}
 use Rattle.desk_model.specs.declared.types.Totals.{Totals}
 use Rattle.desk_model.specs.declared.types.Verdict.{Verdict}
 use Rattle.desk_model.specs.declared.types.Verdict.TheVariants.{Above, Below, Equal, Open, Close}
@@ -286,6 +286,7 @@ unit_positive (Precision k) h = omega (arith, h.0)
 unit_positive (Recall k) h = omega arith
 unit_positive RPrecision h = omega arith
 unit_positive Reciprocal h = omega arith
+unit_positive AveragePrecision h = omega arith
 unit_positive (Biased top bottom) h = omega arith
 
 parts_under : (name : MeasureName) (desk : Desk) (marks : List (List Mark)) → AreMarksOf desk marks → unit_of name * length desk.topics ≡ unit_of name * length (topics_under desk marks)

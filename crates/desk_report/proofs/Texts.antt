@@ -5,7 +5,7 @@ use Rattle.std.specs.List.{AllByRecursion}
 use Rattle.std.specs.Fmt.{digits, digits_onto, digit_glyph, signed_decimal}
 use Rattle.desk_model.specs.MeasureText.{measure_text}
 use Rattle.desk_model.specs.declared.types.MeasureName.{MeasureName}
-use Rattle.desk_model.specs.declared.types.MeasureName.TheVariants.{Precision, Recall, RPrecision, Reciprocal, Biased}
+use Rattle.desk_model.specs.declared.types.MeasureName.TheVariants.{Precision, Recall, RPrecision, Reciprocal, Biased, AveragePrecision}
 use Rattle.desk_model.specs.declared.types.Verdict.{Verdict}
 use Rattle.desk_model.specs.declared.types.Verdict.TheVariants.{Above, Below, Equal, Open, Close}
 use Rattle.desk_report.specs.Means.{six_digits, millionths, decimal_text}
@@ -108,6 +108,7 @@ measure_ink (Precision k) = ink-append (codes "P_") (decimal k) (search rules) (
 measure_ink (Recall k) = ink-append (codes "recall_") (decimal k) (search rules) (decimal_ink k)
 measure_ink RPrecision = search rules
 measure_ink Reciprocal = search rules
+measure_ink AveragePrecision = search rules
 measure_ink (Biased top bottom) = ink-append (codes "rbp_0.") (drop 1 (decimal (bottom + top))) (search rules) (rest_ink (decimal (bottom + top)) (decimal_ink (bottom + top)))
 
 pub verdict_word : (v : Verdict) → IsWord (word_of v)

@@ -9,7 +9,7 @@ use Rattle.desk_model.specs.Pairs.{pairs_of}
 use Rattle.desk_model.specs.Verdict.{totals_of}
 use Rattle.desk_model.specs.declared.types.Mark.{Mark}
 use Rattle.desk_model.specs.declared.types.MeasureName.{MeasureName}
-use Rattle.desk_model.specs.declared.types.MeasureName.TheVariants.{Precision, Recall, RPrecision, Reciprocal, Biased}
+use Rattle.desk_model.specs.declared.types.MeasureName.TheVariants.{Precision, Recall, RPrecision, Reciprocal, Biased, AveragePrecision}
 use Rattle.desk_model.specs.declared.types.Totals.{Totals}
 use Rattle.measure_laws.proofs.Unique.{named_ends_unique}
 use Rattle.topic_counts.specs.declared.span.Span.{Span}
@@ -69,6 +69,7 @@ bounds_unique (Recall k) marks a s r h g = exact_bounds_unique (Recall k) (10 ^ 
 bounds_unique RPrecision marks a s r h g = exact_bounds_unique RPrecision (10 ^ 18) marks a s r h g
 bounds_unique Reciprocal marks a s r h g = exact_bounds_unique Reciprocal (10 ^ 18) marks a s r h g
 bounds_unique (Biased top bottom) marks a s r h g = h ∙ sym g
+bounds_unique AveragePrecision marks a s r h g = h ∙ sym g
 
 pub ends_one : (name : MeasureName) (topics : List Topic) (a b : ℕ) (ends others : List Ends) → AreEndsOf name topics a b ends → AreEndsOf name topics a b others → ends ≡ others
 ends_one name topics a b ends others h g =

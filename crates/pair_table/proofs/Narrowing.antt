@@ -12,5 +12,5 @@ pairs_within fact law name desk marks deep depth a b under_deep under is valid o
     law name desk (closed_under desk deep marks) (closed_under desk depth marks) a b under_deep under is valid (marks-closed desk desk deep marks over) lt_a lt_b (refines desk marks deep depth le)
 
 pub runs_within : (fact : Span → Span → Type 0) → ForRefinedRuns fact → ForRunsWithin fact
-runs_within fact law name desk marks deep depth run under_deep under le =
-    law name desk (closed_under desk deep marks) (closed_under desk depth marks) run under_deep under (refines desk marks deep depth le)
+runs_within fact law name desk marks deep depth run under_deep under valid over lt le =
+    law name desk (closed_under desk deep marks) (closed_under desk depth marks) run under_deep under valid (marks-closed desk desk deep marks over) lt (refines desk marks deep depth le)

@@ -13,19 +13,22 @@ use Rattle.desk_model.specs.Pairs.{pairs_of}
 use Rattle.desk_model.specs.Verdict.{verdict, whole_sum, totals_of, IsExactVerdict}
 use Rattle.desk_model.specs.declared.types.Mark.{Mark}
 use Rattle.desk_model.specs.declared.types.MeasureName.{MeasureName}
-use Rattle.desk_model.specs.declared.types.MeasureName.TheVariants.{Precision, Recall, RPrecision, Reciprocal, Biased}
+use Rattle.desk_model.specs.declared.types.MeasureName.TheVariants.{Precision, Recall, RPrecision, Reciprocal, Biased, AveragePrecision}
 use Rattle.desk_model.specs.declared.types.Totals.{Totals}
 use Rattle.desk_model.specs.declared.types.Verdict.TheVariants.{Close}
 use Rattle.desk_model.proofs.Topics.{always_above, always_below, always_equal, difference_low, difference_high, mean_low, mean_high}
 use Rattle.desk_model.proofs.Exact.{exact_verdict}
 use Rattle.desk_model.specs.MeasureText.{IsMeasure}
 use Rattle.measure_laws.specs.Measures.{IsExactMeasure, unit_of}
+use Rattle.measure_laws.specs.Candidates.{average_bound_lo, average_bound_hi}
 use Rattle.measure_laws.specs.Shares.{biased_ends}
+use Rattle.measure_laws.proofs.NamedEnds.{low_encloses, high_encloses}
+use Rattle.measure_laws.proofs.AverageBounds.{average_at_most, average_at_least, bound_lo_least, bound_hi_greatest}
 use Rattle.measure_laws.proofs.Persistence.{least_encloses, most_encloses, run_low_encloses, run_high_encloses}
 use Rattle.measure_laws.proofs.Weights.{unit-size}
 use Rattle.topic_counts.specs.declared.span.Span.{Span}
 use Rattle.measure_core.specs.Laws.{AreMet, IsMet, MeetsLaws}
-use Rattle.measure_core.specs.Made.{ends_of, HasEnds, HasBounds, AreNarrow, width_of}
+use Rattle.measure_core.specs.Made.{ends_of, HasEnds, HasBounds, HasWidth, AreNarrow, width_of}
 use Rattle.measure_core.specs.declared.cell.Cell.{Cell}
 use Rattle.measure_core.proofs.Narrow.{ends_narrow, precision_whole}
 use Rattle.pair_table.specs.Sums.{run_numbers, cell_ends, pair_sums, span_sum, run_spans, run_sums}
@@ -53,6 +56,11 @@ ends_enclose (Biased top bottom) marks a b e valid met h =
       high = most_encloses top bottom marks a b valid met.first met.second;
       cases = named_cases (Biased top bottom) marks a b (biased_ends top bottom marks a b) valid met refl;
     })
+ends_enclose AveragePrecision marks a b e valid met h = record {
+  low = low_encloses AveragePrecision marks a b e valid met.first met.second h;
+  high = high_encloses AveragePrecision marks a b e valid met.first met.second h;
+  cases = named_cases AveragePrecision marks a b e valid met h;
+}
 
 record EncloseOne (name : MeasureName) (marks : List Mark) (a : List ℕ) (s : Span) : Type 0 where
   low : InEveryScore name marks a (IsAtMostScore s.lo (unit_of name))
@@ -67,6 +75,11 @@ bounds_enclose (Biased top bottom) marks a s valid met h =
     subst (EncloseOne (Biased top bottom) marks a) (sym h) (record {
       low = run_low_encloses top bottom marks a valid met.ranking;
       high = run_high_encloses top bottom marks a valid met.ranking;
+    })
+bounds_enclose AveragePrecision marks a s valid met h =
+    subst (EncloseOne AveragePrecision marks a) (sym h) (record {
+      low = λ truth tail c. average_at_most (length marks) truth a (average_bound_lo marks a) (bound_lo_least marks a truth met.ranking c);
+      high = λ truth tail c. average_at_least (length marks) truth a (average_bound_hi marks a) (bound_hi_greatest marks a truth met.ranking c);
     })
 
 always : {A : Type 0} (xs : List A) → AllByRecursion (λ (x : A). Unit {0}) xs
@@ -120,10 +133,10 @@ module _ (name : MeasureName) (valid : IsMeasure name) (topics : List Topic) (a 
       (zip_then (λ (e : Ends) (topic : Topic). HasEnds name topic.marks (topic.ranking a) (topic.ranking b) e) (EncloseBy name a b) (MetBy a b)
       (λ e topic m h. ends_enclose name topic.marks (topic.ranking a) (topic.ranking b) e valid m h) ends topics met named)
 
-  narrow : AllZip (λ (e : Ends) (topic : Topic). AreNarrow name (topic.ranking a) (topic.ranking b) e) ends topics
-  narrow = zip_then (λ (e : Ends) (topic : Topic). HasEnds name topic.marks (topic.ranking a) (topic.ranking b) e)
+  narrow : HasWidth name → AllZip (λ (e : Ends) (topic : Topic). AreNarrow name (topic.ranking a) (topic.ranking b) e) ends topics
+  narrow wide = zip_then (λ (e : Ends) (topic : Topic). HasEnds name topic.marks (topic.ranking a) (topic.ranking b) e)
       (λ (e : Ends) (topic : Topic). AreNarrow name (topic.ranking a) (topic.ranking b) e) (MetBy a b)
-      (λ e topic m h. ends_narrow name topic.marks (topic.ranking a) (topic.ranking b) e valid m h) ends topics met named
+      (λ e topic m h. ends_narrow name topic.marks (topic.ranking a) (topic.ranking b) e valid wide m h) ends topics met named
 
 width_adds : (n m : ℕ) (lo hi los his : ℤ) → hi ≤ℤ (lo +ℤ pos n) → his ≤ℤ (los +ℤ pos m) → (hi +ℤ his) ≤ℤ ((lo +ℤ los) +ℤ pos (n + m))
 width_adds n m lo hi los his h k = omega (arith, ints)
@@ -139,10 +152,10 @@ sums_narrow name a b low high (e ∷ es) (t ∷ ts) h =
     subst (λ (n : ℕ). (high e +ℤ whole_sum (map high es)) ≤ℤ ((low e +ℤ whole_sum (map low es)) +ℤ pos n)) (sym (sum_by-cons width t ts))
     (width_adds (width t) (total_width name ts a b) (low e) (high e) (whole_sum (map low es)) (whole_sum (map high es)) h.0 (sums_narrow name a b low high es ts h.1))
 
-ends_close : (name : MeasureName) → IsMeasure name → (topics : List Topic) (a b : ℕ) → AllByRecursion (MetBy a b) topics → (ends : List Ends) → AreEndsOf name topics a b ends →
+ends_close : (name : MeasureName) → IsMeasure name → HasWidth name → (topics : List Topic) (a b : ℕ) → AllByRecursion (MetBy a b) topics → (ends : List Ends) → AreEndsOf name topics a b ends →
     verdict (totals_of ends) ≡ Close → IsNearZero (total_width name topics a b) (totals_of ends)
-ends_close name valid topics a b met ends named =
-    let close = narrow name valid topics a b met ends named in
+ends_close name valid wide topics a b met ends named =
+    let close = narrow name valid topics a b met ends named wide in
     let N = λ (e : Ends) (topic : Topic). AreNarrow name (topic.ranking a) (topic.ranking b) e in
     close_says (totals_of ends) (total_width name topics a b)
     (sums_narrow name a b (λ (e : Ends). e.least_lo) (λ (e : Ends). e.least_hi) ends topics
@@ -157,6 +170,15 @@ width_one (Recall k) exact a b = refl
 width_one RPrecision exact a b = refl
 width_one Reciprocal exact a b = refl
 width_one (Biased top bottom) exact a b = absurd exact
+width_one AveragePrecision exact a b = absurd exact
+
+exact_wide : (name : MeasureName) → IsExactMeasure name → HasWidth name
+exact_wide (Precision k) exact = tt
+exact_wide (Recall k) exact = tt
+exact_wide RPrecision exact = tt
+exact_wide Reciprocal exact = tt
+exact_wide (Biased top bottom) exact = absurd exact
+exact_wide AveragePrecision exact = absurd exact
 
 one_each : (name : MeasureName) → IsExactMeasure name → (topics : List Topic) (a b : ℕ) → total_width name topics a b ≡ length topics
 one_each name exact [] a b = refl
@@ -281,11 +303,11 @@ runs_hold name desk marks bounds totals valid is_desk known h =
     (λ run s lt k. bounds_hold name valid topics run (topics_met_one desk marks is_desk known run lt) s k)
     (run_numbers n) bounds (all_in_range (λ run. run < n) 0 n (λ t _ lt. omega (arith, lt))) h.runs
 
-pub pairs_close : ForEachPair (λ name topics a b sums. verdict sums ≡ Close → IsNearZero (total_width name topics a b) sums)
-pairs_close = for_each_pair (λ name topics a b sums. verdict sums ≡ Close → IsNearZero (total_width name topics a b) sums)
-    (λ name topics a b ends valid apart met named. ends_close name valid topics a b met ends named)
+pub pairs_close : ForEachPair (λ name topics a b sums. HasWidth name → verdict sums ≡ Close → IsNearZero (total_width name topics a b) sums)
+pairs_close = for_each_pair (λ name topics a b sums. HasWidth name → verdict sums ≡ Close → IsNearZero (total_width name topics a b) sums)
+    (λ name topics a b ends valid apart met named wide. ends_close name valid wide topics a b met ends named)
 
 pub pairs_close_exact : ForEachPair (λ name topics a b sums. IsExactMeasure name → verdict sums ≡ Close → IsNearZero (length topics) sums)
 pairs_close_exact = for_each_pair (λ name topics a b sums. IsExactMeasure name → verdict sums ≡ Close → IsNearZero (length topics) sums)
     (λ name topics a b ends valid apart met named exact v.
-    subst (λ (n : ℕ). IsNearZero n (totals_of ends)) (one_each name exact topics a b) (ends_close name valid topics a b met ends named v))
+    subst (λ (n : ℕ). IsNearZero n (totals_of ends)) (one_each name exact topics a b) (ends_close name valid (exact_wide name exact) topics a b met ends named v))

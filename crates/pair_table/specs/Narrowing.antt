@@ -25,5 +25,5 @@ ForPairsWithin fact =
 abbrev pub ForRunsWithin : (Span → Span → Type 0) → Type 0
 ForRunsWithin fact =
     (name : MeasureName) (desk : Desk) (marks : List (List Mark)) (deep depth : Option ℕ) (run : ℕ) (under_deep under : Span) →
-    IsNoDeeper depth deep →
+    IsDesk desk → AreMarksOf desk marks → run < length desk.runs → IsNoDeeper depth deep →
     AreRunNumbers name (topics_within desk marks deep) run under_deep → AreRunNumbers name (topics_within desk marks depth) run under → fact under_deep under

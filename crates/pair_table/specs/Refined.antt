@@ -25,4 +25,4 @@ ForRefinedPairs fact =
 abbrev pub ForRefinedRuns : (Span → Span → Type 0) → Type 0
 ForRefinedRuns fact =
     (name : MeasureName) (desk : Desk) (marks later : List (List Mark)) (run : ℕ) (before after : Span) →
-    AreAllRefinedBy marks later → AreRunNumbers name (topics_under desk marks) run before → AreRunNumbers name (topics_under desk later) run after → fact before after
+    IsDesk desk → AreMarksOf desk marks → run < length desk.runs → AreAllRefinedBy marks later → AreRunNumbers name (topics_under desk marks) run before → AreRunNumbers name (topics_under desk later) run after → fact before after

@@ -13,7 +13,7 @@ ghost use Rattle.topic_counts.specs.declared.span.Span.{Span};
 ghost use Rattle.desk_model.specs.MeasureText.{IsMeasure};
 ghost use Rattle.measure_laws.specs.Measures.{IsExactMeasure};
 ghost use Rattle.measure_core.specs.Laws.{MeetsLaws};
-ghost use Rattle.measure_core.specs.Made.{AreNumbersOfName};
+ghost use Rattle.measure_core.specs.Made.{AreNumbersOfName, HasWidth};
 ghost use Rattle.measure_core.specs.declared.cell.Cell.{Cell};
 ghost use Rattle.pair_table.specs.Sums.{cell_ends, pair_sums, run_sums, all_pair_sums, all_run_sums};
 ghost use Rattle.pair_table.specs.Kept.{Kept, AreSumsOf, StandsFor, StandsElsewhere};
@@ -84,7 +84,7 @@ pub fn precision_is_exact()
 /// rank by the number of topics at most, and for rank-biased precision by `8 * (n_a + n_b + 1)^2` for
 /// each topic, where the rankings have n_a and n_b documents.
 pub fn close_is_near_zero()
-    ensures near { ForEachPair (λ name topics a b sums. verdict sums ≡ Close → IsNearZero (total_width name topics a b) sums) }
+    ensures near { ForEachPair (λ name topics a b sums. HasWidth name → verdict sums ≡ Close → IsNearZero (total_width name topics a b) sums) }
     ensures exact { ForEachPair (λ name topics a b sums. IsExactMeasure name → verdict sums ≡ Close → IsNearZero (length topics) sums) }
 {}
 

@@ -1,7 +1,8 @@
 //! What is settled between the runs of a desk stays settled while more documents are judged: where
 //! unjudged documents get a judgement and nothing else changes. It holds under each of the five
 //! measures. Each law is the contract of a function that does nothing.
-ghost use Rattle.std.specs.Prelude.{◌≡◌, ℕ, ◌≤ℤ◌, List};
+ghost use Rattle.std.specs.Prelude.{◌≡◌, ℕ, ◌≤ℤ◌, List, length};
+ghost use Rattle.desk_model.specs.Ranking.{IsRanking};
 ghost use Rattle.desk_model.specs.Desk.{Desk, topics_under};
 ghost use Rattle.desk_model.specs.Order.{IsAlwaysAbove, AreAlwaysEqual};
 ghost use Rattle.desk_model.specs.Verdict.{verdict};
@@ -29,7 +30,7 @@ pub fn settled_orders_stay()
 pub fn numbers_close_in()
     ensures least { ForRefinedPairs (λ before after. before.least_lo ≤ℤ after.least_lo) }
     ensures most { ForRefinedPairs (λ before after. after.most_hi ≤ℤ before.most_hi) }
-    ensures topic { (name : MeasureName) (marks later : List Mark) (docs : List ℕ) (before after : Span) →
+    ensures topic { (name : MeasureName) (marks later : List Mark) (docs : List ℕ) (before after : Span) → IsRanking (length marks) docs →
         AreRefinedBy marks later → HasBounds name marks docs before → HasBounds name later docs after →
         (before.lo ≤ℤ after.lo) × (after.hi ≤ℤ before.hi) }
     ensures low { ForRefinedRuns (λ before after. before.lo ≤ℤ after.lo) }

@@ -1,5 +1,5 @@
 //! What a smaller depth changes at the same judgements: it closes more documents, so what is settled under a depth is
-//! settled under each smaller one. It holds under each of the five measures. Each law is the contract of a function that
+//! settled under each smaller one. It holds under each measure. Each law is the contract of a function that
 //! does nothing.
 ghost use Rattle.std.specs.Prelude.{◌≡◌, ℕ, ◌≤ℤ◌, List, [], slice_get, slice_set, slice_index_or, Option, Some};
 ghost use Rattle.desk_model.specs.Closing.{closed_under, IsNoDeeper};

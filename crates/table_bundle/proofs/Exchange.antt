@@ -1,13 +1,13 @@
 -- Sums over lists of documents are sums over documents of how often the lists have them.
-use Rattle.std.proofs.Common.{◌≡◌, ℕ, zero, suc, ◌+◌, ◌*◌, ◌<◌, ◌≤◌, nat_eq, Bool, true, false, cond, List, [], ◌∷◌, ◌++◌, length, get_or, take, refl, ap, sym, ◌∙◌, arith}
-use Rattle.std.specs.Prelude.{◌&&◌, ◌||◌, nat_lt, filter}
+use Rattle.std.proofs.Common.{◌≡◌, ℕ, zero, suc, ◌+◌, ◌*◌, ◌<◌, ◌≤◌, nat_eq, Bool, true, false, cond, List, [], ◌∷◌, ◌++◌, length, map, refl, ap, sym, ◌∙◌, arith}
+use Rattle.std.specs.Prelude.{All, ◌&&◌, ◌||◌, nat_lt, filter}
 use Rattle.std.specs.List.{AllByRecursion, range_with_len, sum_by}
 use Rattle.std.proofs.lemmas.Bool.Decides.{nat_tests}
-use Rattle.std.proofs.lemmas.Grind.{flat_map-append}
-use Rattle.std.proofs.lemmas.List.{append-nil, map-append, take_more}
+use Rattle.std.proofs.lemmas.List.Elements.{All-map}
 use Rattle.std.proofs.lemmas.List.Folds.{list_any-append}
-use Rattle.std.proofs.lemmas.List.Sums.{sum_by-cons, sum_by_push}
+use Rattle.std.proofs.lemmas.List.Sums.{sum_by-cons}
 use Rattle.small_lemmas.proofs.Lists.{all-append}
+use Rattle.desk_model.specs.Desk.{Desk}
 use Rattle.desk_model.specs.Mark.{is_unjudged, mark_at}
 use Rattle.desk_model.specs.Order.{Topic}
 use Rattle.desk_model.specs.Ranking.{is_in}
@@ -15,10 +15,11 @@ use Rattle.desk_model.specs.declared.types.Mark.{Mark}
 use Rattle.desk_model.specs.declared.types.MeasureName.{MeasureName}
 use Rattle.measure_laws.specs.Cases.{least_truth}
 use Rattle.measure_core.specs.Lists.{times}
+use Rattle.measure_core.specs.PairLists.{pair_documents, sizes_on, IsOfRuns}
 use Rattle.measure_core.proofs.Tallying.{added_below, times-append, times-cons}
 use Rattle.order_bundle.specs.declared.bundle.Picks.{Picks}
-use Rattle.table_bundle.specs.Drafts.{case_picks, has_picked, picks_on}
-use Rattle.table_bundle.specs.Lengths.{all_picks, both_lists, heads_length, is_on, lists_on}
+use Rattle.table_bundle.specs.Drafts.{case_picks, has_picked, picks_on, runs_of, IsRunPair}
+use Rattle.table_bundle.specs.Lengths.{all_picks, both_lists, heads_length, is_on, lists_on, sizes_length, topic_with}
 use Rattle.table_bundle.specs.declared.pairs.NamedPair.{NamedPair}
 
 -- ---- sums
@@ -149,20 +150,22 @@ picks_below measure topic (p ∷ pairs) =
     (all-append below picks.low picks.high (added_below topic.marks (least_truth measure topic.marks (topic.ranking p.first) (topic.ranking p.second))) (added_below topic.marks (least_truth measure topic.marks (topic.ranking p.second) (topic.ranking p.first))))
     (picks_below measure topic pairs)
 
--- ---- one more pair
-lists_more : (measure : MeasureName) (topic : Topic) (pairs : List NamedPair) (i : ℕ) (p : NamedPair) → i < length pairs →
-    lists_on measure (take (i + 1) pairs) topic ≡ lists_on measure (take i pairs) topic ++ picks_on measure (get_or pairs i p).first (get_or pairs i p).second topic ∷ []
-lists_more measure topic pairs i p lt = ap (λ ps. lists_on measure ps topic) (take_more pairs i p lt) ∙ map-append (λ (x : NamedPair). picks_on measure x.first x.second topic) (take i pairs) (get_or pairs i p ∷ [])
+-- ---- pairs by their runs alone
+pub runs_within : (runs : ℕ) (pairs : List NamedPair) → All (IsRunPair runs) pairs → All (IsOfRuns runs) (map runs_of pairs)
+runs_within runs pairs within = All-map (IsOfRuns runs) runs_of pairs (λ k d lt. let both = within k d lt in record { first = both.first; second = both.second })
 
-pub heads_more : (measure : MeasureName) (topic : Topic) (pairs : List NamedPair) (i : ℕ) (p : NamedPair) → i < length pairs →
-    sum_by heads_length (lists_on measure (take (i + 1) pairs) topic) ≡ sum_by heads_length (lists_on measure (take i pairs) topic) + heads_length (picks_on measure (get_or pairs i p).first (get_or pairs i p).second topic)
-heads_more measure topic pairs i p lt =
-    ap (sum_by heads_length) (lists_more measure topic pairs i p lt) ∙ sum_by_push heads_length (lists_on measure (take i pairs) topic) (picks_on measure (get_or pairs i p).first (get_or pairs i p).second topic)
+module _ (measure : MeasureName) (desk : Desk) (t : ℕ) (marks : List Mark) where
+  pub picks_are : (pairs : List NamedPair) → pair_documents measure marks (record { desk = desk; topic = t }) (map runs_of pairs) ≡ all_picks (lists_on measure pairs (topic_with desk t marks))
+  picks_are [] = refl
+  picks_are (p ∷ pairs) = ap (λ l. both_lists (picks_on measure p.first p.second (topic_with desk t marks)) ++ l) (picks_are pairs)
 
-pub times_more : (measure : MeasureName) (topic : Topic) (pairs : List NamedPair) (i : ℕ) (p : NamedPair) (d : ℕ) → i < length pairs →
-    times (all_picks (lists_on measure (take (i + 1) pairs) topic)) d ≡ times (all_picks (lists_on measure (take i pairs) topic)) d + times (both_lists (picks_on measure (get_or pairs i p).first (get_or pairs i p).second topic)) d
-times_more measure topic pairs i p d lt =
-    let before = lists_on measure (take i pairs) topic in
-    let next = picks_on measure (get_or pairs i p).first (get_or pairs i p).second topic in
-    ap (λ ls. times (all_picks ls) d) (lists_more measure topic pairs i p lt) ∙ ap (λ l. times l d) (flat_map-append both_lists before (next ∷ [])) ∙ times-append (all_picks before) (both_lists next ++ []) d
-    ∙ ap (λ l. times (all_picks before) d + times l d) (append-nil (both_lists next))
+  pub heads_are : (pairs : List NamedPair) → sum_by sizes_length (map (sizes_on measure marks (record { desk = desk; topic = t })) (map runs_of pairs)) ≡ sum_by heads_length (lists_on measure pairs (topic_with desk t marks))
+  heads_are [] = refl
+  heads_are (p ∷ pairs) =
+      let made = sizes_on measure marks (record { desk = desk; topic = t }) in
+      omega (
+        arith,
+        sum_by-cons sizes_length (made (runs_of p)) (map made (map runs_of pairs)),
+        sum_by-cons heads_length (picks_on measure p.first p.second (topic_with desk t marks)) (lists_on measure pairs (topic_with desk t marks)),
+        heads_are pairs,
+      )

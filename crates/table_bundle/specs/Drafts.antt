@@ -17,6 +17,7 @@ use Rattle.measure_laws.specs.Cases.{least_truth}
 use Rattle.measure_core.specs.Lists.{added_documents}
 use Rattle.measure_core.specs.Pairs.{run_numbers}
 use Rattle.measure_core.specs.declared.cell.Cell.{Cell}
+use Rattle.measure_core.specs.declared.run_pair.RunPair.{RunPair}
 use Rattle.order_bundle.specs.Bundle.{Bundle}
 use Rattle.order_bundle.specs.Evidence.{name_at}
 use Rattle.order_bundle.specs.declared.bundle.Bound.{Bound}
@@ -48,6 +49,9 @@ pub record IsRunPair (runs : ℕ) (p : NamedPair) : Type 0 where
   pub different : p.first ≢ p.second
   pub first : p.first < runs
   pub second : p.second < runs
+
+abbrev pub runs_of : NamedPair → RunPair
+runs_of p = record { first = p.first; second = p.second }
 
 -- ---- claims that pick documents by their numbers in the topic
 -- the unjudged documents that the least and the most case of two rankings make relevant, ascending

@@ -10,6 +10,7 @@ use Rattle.desk_model.specs.declared.types.MeasureName.{MeasureName}
 use Rattle.desk_model.specs.declared.types.Verdict.{Verdict}
 use Rattle.desk_model.specs.declared.types.Verdict.TheVariants as of_pair
 use Rattle.measure_core.specs.declared.cell.Cell.{Cell}
+use Rattle.measure_core.specs.declared.counting.ListSizes.{ListSizes}
 use Rattle.order_bundle.specs.Bundle.{Bundle, bundle_text, claim_lines, picks_lines, runs_text, topic_lines}
 use Rattle.order_bundle.specs.Lengths.{text_length}
 use Rattle.order_bundle.specs.declared.bundle.PairClaim.{PairClaim}
@@ -78,6 +79,10 @@ all_picks lists = flat_map both_lists lists
 -- the digits of two counts, with the words before them and the ends of their lines
 abbrev pub heads_length : Picks → ℕ
 heads_length p = length (decimal (length p.low)) + length (decimal (length p.high)) + 11
+
+-- the same by how many documents each list has
+abbrev pub sizes_length : ListSizes → ℕ
+sizes_length sizes = length (decimal sizes.least) + length (decimal sizes.most) + 11
 
 -- whether a document has a count
 abbrev pub is_counted : List ℕ → ℕ → Bool

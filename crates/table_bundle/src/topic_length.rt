@@ -1,62 +1,46 @@
 // How long the lines of a topic are: its documents that lists of open pairs pick, and these lists. No list is kept.
-ghost use Rattle.std.specs.Prelude.{◌≡◌, ℕ, ◌*◌, ◌<◌, ◌≤◌, All, List, length, decimal, slice_get, slice_index, Some, IfOk, OnOk};
+ghost use Rattle.std.specs.Prelude.{◌≡◌, ℕ, ◌*◌, ◌<◌, ◌≤◌, All, length, map, slice_get, slice_index, Some, IfOk};
 ghost use Rattle.std.specs.List.{sum, sum_by};
-ghost use Rattle.desk_model.specs.Desk.{AreMarksOf, ranking_of};
+ghost use Rattle.desk_model.specs.Desk.{AreMarksOf};
 ghost use Rattle.desk_model.specs.Limits.{DOCUMENT_LIMIT, TOPIC_LIMIT};
-ghost use Rattle.desk_model.specs.Ranking.{IsRanking};
-ghost use Rattle.desk_model.specs.declared.types.Mark.{Mark as M};
-ghost use Rattle.measure_core.specs.Laws.{AreMet};
-ghost use Rattle.measure_core.specs.Lists.{times, AreCounted, HaveRoomFor};
-ghost use Rattle.measure_core.specs.Ranks.{AreRanksIn};
-ghost use Rattle.measure_core.specs.Rooms.{IsRoomFor, IsTopicRoom};
+ghost use Rattle.measure_core.specs.Lists.{times};
+ghost use Rattle.measure_core.specs.Pairs.{AreAllMet};
 ghost use Rattle.order_bundle.specs.Bundle.{CLAIM_LIMIT, topic_lines};
 ghost use Rattle.order_bundle.specs.Lengths.{text_length};
-ghost use Rattle.table_bundle.specs.Drafts.{case_picks, names_where, IsRunPair};
-ghost use Rattle.table_bundle.specs.Lengths.{all_picks, both_lists, heads_length, is_counted, lists_on, picks_length_by, topic_lengths, topic_with, LIST_LIMIT};
+ghost use Rattle.table_bundle.specs.Drafts.{names_where, runs_of, IsRunPair};
+ghost use Rattle.table_bundle.specs.Lengths.{all_picks, heads_length, is_counted, lists_on, picks_length_by, sizes_length, topic_lengths, topic_with, LIST_LIMIT};
 
 use crate::pairs::NamedPair;
-use desk_model::{Desk, Mark, Memory, Ranking, Rows, TopicBook};
-use measure_core::{ListRoom, Measure};
+use desk_model::{Desk, Mark, Memory, Rows, TopicBook};
+use measure_core::{ListSizes, Measure, RunPair, TopicRankings};
 use order_bundle::length::digits;
 use std::alloc::Global;
 
-// Counts the documents of both lists of a pair on a topic, and answers how long the lines are that begin them. The room has
-// a as the first run.
-fn count_lists<M: Measure>(
-    alloc: Global,
-    measure: &M,
-    a: &Ranking,
-    b: &Ranking,
-    marks: &[Mark],
-    room: &mut ListRoom,
-    counts: &mut [u32],
-) -> Result<u64, Memory>
-    requires met { AreMet marks.now a.now b.now }
-    requires kept { IsRoomFor marks.now a.now room.old }
-    requires size { length counts.old ≡ length marks.now }
-    requires room { HaveRoomFor counts.old (both_lists (case_picks (M.measured measure.now) marks.now a.now b.now)) }
-    ensures kept { OnOk result (IsRoomFor marks.now a.now room.new) }
-    ensures bytes { IfOk result (λ bytes. bytes ≡ heads_length (case_picks (M.measured measure.now) marks.now a.now b.now)) }
-    ensures few { IfOk result (λ bytes. bytes ≤ 100) }
-    ensures counts { OnOk result (AreCounted counts.old (both_lists (case_picks (M.measured measure.now) marks.now a.now b.now)) counts.new) }
+// The runs of pairs.
+fn runs_of_pairs(alloc: Global, pairs: &[NamedPair]) -> Result<Vec<RunPair>, Memory>
+    ensures { IfOk result (λ made. made.items ≡ map runs_of pairs.now) }
 {
-    let sizes = measure.count_lists(alloc, a, b, marks, room, counts)?;
-    Ok(digits(sizes.least as u64) + digits(sizes.most as u64) + 11)
+    let mut made = Vec::with_capacity(alloc, pairs.len())?;
+    for pair in pairs {
+        made.push(RunPair {
+            first: pair.first,
+            second: pair.second,
+        })?;
+    }
+    Ok(made)
 }
 
-// Makes a run the first one of the room, unless it is so already. `first` is its number.
-fn set_first(room: &mut ListRoom, first: &mut Option<u32>, run: u32, ranking: &Ranking)
-    requires { IsRanking (length room.old.first.items) ranking.now }
-    ensures first { first.new ≡ Some run }
-    ensures room { (marks : List M) → IsTopicRoom marks room.old → (first.old ≡ Some run → AreRanksIn marks ranking.now room.old.first.items) → IsRoomFor marks ranking.now room.new }
+// How long the lines are that begin the two lists of pairs.
+fn heads_of(sizes: &[ListSizes]) -> u64
+    requires { length sizes.now ≤ CLAIM_LIMIT }
+    ensures bytes { result ≡ sum_by sizes_length sizes.now }
+    ensures few { result ≤ 100 * length sizes.now }
 {
-    match *first {
-        Some(kept) if kept == run => {}
-        _ => {
-            room.set_first(ranking);
-            *first = Some(run);
-        }
+    let mut bytes = 0;
+    for both in sizes {
+        bytes += digits(both.least as u64) + digits(both.most as u64) + 11;
     }
+    bytes
 }
 
 // Counts how often the lists of pairs on a topic pick each document, and how long the lines are that begin these lists.
@@ -71,24 +55,17 @@ fn count_topic<M: Measure>(
     requires topic { topic < length desk.now.topics }
     requires pairs { All (IsRunPair (length desk.now.runs)) pairs.now }
     requires few { length pairs.now ≤ CLAIM_LIMIT }
-    requires small { length marks.now ≤ DOCUMENT_LIMIT }
-    requires met { All (λ pair. AreMet marks.now (ranking_of desk.now pair.first topic) (ranking_of desk.now pair.second topic)) pairs.now }
+    requires met { AreAllMet marks.now (record { desk = desk.now; topic = topic }) }
     ensures bytes { IfOk result (λ made. made.0 ≡ sum_by heads_length (lists_on (M.measured measure.now) pairs.now (topic_with desk.now topic marks.now))) }
     ensures few { IfOk result (λ made. made.0 ≤ 100 * length pairs.now) }
     ensures size { IfOk result (λ made. length made.1.items ≡ length marks.now) }
     ensures counts { IfOk result (λ made. (doc : ℕ) → doc < length marks.now → slice_index made.1.items doc ≡ times (all_picks (lists_on (M.measured measure.now) pairs.now (topic_with desk.now topic marks.now))) doc) }
 {
-    let mut room = ListRoom::new(alloc, marks)?;
-    let mut first = None;
+    let rankings = TopicRankings::new(desk, topic);
+    let runs = runs_of_pairs(alloc, pairs)?;
     let mut counts = vec![in alloc; 0; marks.len()]?;
-    let mut bytes = 0;
-    for pair in pairs {
-        let a = desk.ranking(pair.first, topic);
-        let b = desk.ranking(pair.second, topic);
-        set_first(&mut room, &mut first, pair.first, a);
-        bytes += count_lists(alloc, measure, a, b, marks, &mut room, &mut counts)?;
-    }
-    Ok((bytes, counts))
+    let sizes = measure.count_pairs(alloc, &rankings, marks, &runs, &mut counts)?;
+    Ok((heads_of(&sizes), counts))
 }
 
 // The lines of a topic with the documents that are counted.

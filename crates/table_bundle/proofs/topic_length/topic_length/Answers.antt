@@ -10,7 +10,7 @@ use Rattle.desk_model.proofs.DeskTopics.{length-marks, small_at, topic_of, topic
 use Rattle.order_bundle.specs.Bundle.{topic_lines}
 use Rattle.order_bundle.specs.Lengths.{text_length}
 use Rattle.order_bundle.specs.declared.bundle.Picks.{Picks}
-use Rattle.pair_table.proofs.DeskTopics.{met_at}
+use Rattle.pair_table.proofs.DeskTopics.{all_met_at}
 use Rattle.pair_table.proofs.Listing.{universe_there}
 use Rattle.table_bundle.specs.Drafts.{names_where}
 use Rattle.table_bundle.specs.Lengths.{all_picks, is_counted, lists_on, picks_length_by, topic_length, topic_with}
@@ -21,14 +21,8 @@ use Rattle.table_bundle.proofs.topic_length.topic_length.Goals as goal
 pub topic-topic_marks-requires : goal.topic-topic_marks-requires
 topic-topic_marks-requires g c = omega (arith, c.requires.topic, length-marks c.args.desk.now c.args.marks.now c.requires.marks)
 
-pub count_topic-requires-clause-small : goal.count_topic-requires-clause-small
-count_topic-requires-clause-small g c = small_at c.args.desk.now c.args.marks.now c.valid.ensures c.requires.marks c.args.topic c.topic-topic_marks.result.now c.topic-topic_marks.ensures
-
 pub count_topic-requires-clause-met : goal.count_topic-requires-clause-met
-count_topic-requires-clause-met g c = λ k d lt.
-    let p = c.requires.pairs k d lt in
-    let pair = get_or c.args.pairs.now k d in
-    met_at c.args.desk.now c.args.marks.now c.valid.ensures c.requires.marks pair.first pair.second c.args.topic c.topic-topic_marks.result.now p.first p.second c.topic-topic_marks.ensures
+count_topic-requires-clause-met g c = all_met_at c.args.desk.now c.args.marks.now c.valid.ensures c.requires.marks c.args.topic c.topic-topic_marks.result.now c.topic-topic_marks.ensures
 
 pub documents_length-requires : goal.documents_length-requires
 documents_length-requires g c =
