@@ -20,6 +20,7 @@ pub mod Scores
 pub mod Extremes
 pub mod Differences
 pub mod LeastCases
+pub mod Averages
 pub mod Shares
 pub mod Lines
 pub mod ScoreTexts

@@ -13,12 +13,13 @@ ghost use Rattle.desk_model.specs.Order.{run_mean};
 ghost use Rattle.desk_model.specs.Score.{score};
 ghost use Rattle.desk_model.specs.Verdict.{verdict};
 ghost use Rattle.desk_model.specs.declared.types.Mark.TheVariants.{Unjudged, Relevant, Other};
-ghost use Rattle.desk_model.specs.declared.types.MeasureName.TheVariants.{Precision, Recall, RPrecision, Reciprocal, Biased};
+ghost use Rattle.desk_model.specs.declared.types.MeasureName.TheVariants.{Precision, Recall, RPrecision, Reciprocal, Biased, AveragePrecision};
 ghost use Rattle.desk_model.specs.declared.types.Verdict.TheVariants.{Above, Open, Close};
+ghost use Rattle.measure_laws.specs.AverageEnds.{average_ends};
 ghost use Rattle.measure_laws.specs.Cases.{least_truth};
 ghost use Rattle.measure_laws.specs.Weights.{weight_of};
 ghost use Rattle.pair_table.specs.Sums.{swapped_totals};
-ghost use Rattle.desk_laws.specs.Example.{two_runs, two_topics, marks_401, a, b, d3_false, d3_true, no_document, without_tails, parts, sums};
+ghost use Rattle.desk_laws.specs.Example.{two_runs, two_topics, marks_401, a, b, d3_false, d3_true, no_document, without_tails, parts, sums, ends};
 
 /// At level 2 a grade of 2 is relevant, a grade of 1 is not, and a document without a grade is unjudged.
 pub fn marks_at_level_two()
@@ -48,7 +49,8 @@ pub fn names_by_their_bytes()
 
 /// Precision divides by k also where the ranking is shorter. Recall and R-precision are 0 where no document
 /// is relevant, and reciprocal rank where none that is was retrieved. Rank-biased precision at 0.5 gives
-/// 1/2, 1/4 and 1/8 to the first three ranks, the tail among them.
+/// 1/2, 1/4 and 1/8 to the first three ranks, the tail among them. Average precision divides the sum of the precisions at
+/// the ranks of relevant documents by the number of all relevant ones.
 pub fn scores_in_a_completion()
     ensures precision { score (Precision 2) 3 d3_true a [] ≡ parts 2 2 }
     ensures precision_beyond_the_ranking { score (Precision 5) 3 d3_true a [] ≡ parts 2 5 }
@@ -60,6 +62,9 @@ pub fn scores_in_a_completion()
     ensures reciprocal_rank_of_an_empty_ranking { score Reciprocal 3 d3_true [] [] ≡ parts 0 1 }
     ensures biased { score (Biased 5 10) 3 d3_true a [] ≡ parts 75 100 }
     ensures biased_with_a_tail { score (Biased 5 10) 3 d3_false a (true ∷ []) ≡ parts 625 1000 }
+    ensures average { score AveragePrecision 3 d3_true b [] ≡ parts 1 4 }
+    ensures average_of_all { score AveragePrecision 3 d3_true a [] ≡ parts 4 4 }
+    ensures average_with_no_relevant_document { score AveragePrecision 3 no_document a [] ≡ parts 0 1 }
 {}
 
 /// Run A lacks the second of two topics, and scores 0 there: (1/2 + 0) / 2.
@@ -75,6 +80,15 @@ pub fn verdicts_of_sums()
     ensures open { verdict (sums (negsuc 0) (negsuc 0) (pos 0) (pos 0)) ≡ Open }
     ensures close { verdict (sums (negsuc 0) (pos 1) (negsuc 0) (pos 1)) ≡ Close }
     ensures swapped_totals { swapped_totals (sums (pos 1) (pos 1) (pos 2) (pos 2)) ≡ sums (negsuc 1) (negsuc 1) (negsuc 0) (negsuc 0) }
+{}
+
+/// Of two runs of the relevant r and the unjudged u the first has r before u and the second u before r. The first scores 1 in
+/// both completions under average precision, the second 1 where u is relevant and else 1/2. The least case makes u relevant,
+/// and the most case does not.
+pub fn averages_of_a_pair()
+    ensures ends { average_ends (Relevant ∷ Unjudged ∷ []) (0 ∷ 1 ∷ []) (1 ∷ 0 ∷ []) ≡ ends (pos 0) (pos 0) (pos 500000000000000000) (pos 500000000000000000) }
+    ensures least { least_truth AveragePrecision (Relevant ∷ Unjudged ∷ []) (0 ∷ 1 ∷ []) (1 ∷ 0 ∷ []) 1 ≡ true }
+    ensures most { least_truth AveragePrecision (Relevant ∷ Unjudged ∷ []) (1 ∷ 0 ∷ []) (0 ∷ 1 ∷ []) 1 ≡ false }
 {}
 
 /// The judged d1 tells A from B under precision at 2, and the unjudged d3, which both have, does not. In

@@ -88,13 +88,13 @@ impl<'t> Call<'t> {
 
 // Transcripts, the number of their calls, and how many bytes a read of an input gives at most.
 const TRANSCRIPTS: [(&str, usize, usize); 10] = [
-    (TABLES, 18, 4096),
-    (CLOSE, 4, 4096),
+    (TABLES, 21, 4096),
+    (CLOSE, 6, 4096),
     (FAULTS, 13, 4096),
     (STOPPED, 14, 4096),
     (USAGE, 16, 4096),
-    (CERTIFIED, 17, 4096),
-    (MEASURED, 5, 4096),
+    (CERTIFIED, 20, 4096),
+    (MEASURED, 6, 4096),
     (REPLIES, 12, 1),
     (REPLIES, 12, 19),
     (REPLIES, 12, 4096),

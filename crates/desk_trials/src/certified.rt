@@ -2,7 +2,7 @@
 
 /// Those that `certify` prints, each of which `verify` accepts.
 
-// In the first, A has one of three relevant documents where z1 and z2 are. In the others, where z1 is relevant A scores 1/2 under recall_1 and Rprec. Under rbp_0.4 the least difference of A and B is 0.6 less B's tail. With
+// In the first, A has one of three relevant documents where z1 and z2 are. In the others, where z1 is relevant A scores 1/2 under recall_1, Rprec and map. Under rbp_0.4 the least difference of A and B is 0.6 less B's tail. With
 // z1 relevant A is not above C, else it is.
 pub const CERTIFIED: &str = "
 $ 0 certify --all --qrels q --measure recall_1 a b d
@@ -125,6 +125,38 @@ end
 $ 0 certify --qrels q --measure Rprec a c b D=a
 desk-certificate 1
 measure Rprec
+level 1
+first A
+second C
+claim open
+topics 1
+low 401 1
+doc z1
+high 401 0
+end
+$ 0 certify --qrels q --measure map a b c D=a
+desk-certificate 1
+measure map
+level 1
+first A
+second B
+claim above
+topics 1
+topic 401 500000000000000000
+end
+$ 0 certify --qrels q --measure map a D=a b c
+desk-certificate 1
+measure map
+level 1
+first A
+second D
+claim equal
+topics 1
+topic 401 0 0
+end
+$ 0 certify --qrels q --measure map a c b D=a
+desk-certificate 1
+measure map
 level 1
 first A
 second C

@@ -53,6 +53,13 @@ const FILES: &str = "
 = h
 401 Q0 u 1 2 B
 401 Q0 d1 2 1 B
+= s
+401 Q0 u 1 2 A
+401 Q0 d1 2 1 A
+= t
+401 Q0 u 1 3 B
+401 Q0 d2 2 2 B
+401 Q0 d1 3 1 B
 = -q
 401 0 d1 1
 401 0 d2 0

@@ -110,6 +110,41 @@ end
 next none
 > pool 401 10000
 pool 3 3 1 0
+$ 0 session --qrels q --measure map a b c D=a
+> pair A C
+pair A open C 0.000000 1.000000
+> certify A C
+desk-certificate 1
+measure map
+level 1
+first A
+second C
+claim open
+topics 1
+low 401 1
+doc z1
+high 401 0
+end
+> next
+next 401 z1 3000000000000000000
+> judge ann 401 z1 0
+judged 401 z1 0
+> pair A C
+pair A above C 1.000000 1.000000
+> certify C A
+desk-certificate 1
+measure map
+level 1
+first A
+second C
+claim above
+topics 1
+topic 401 1000000000000000000
+end
+> next
+next none
+> pool 401 10000
+pool 3 3 1 0
 $ 0 session --qrels q --measure recip_rank a b c D=a
 > pair A C
 pair A open C 0.000000 1.000000

@@ -50,6 +50,21 @@ pair A equal D 0.000000 0.000000
 pair B open C -0.500000 0.000000
 pair B below D -1.000000 -0.500000
 pair C open D -1.000000 0.000000
+$ 0 table --qrels q --measure map a b c D=a
+measure map
+level 1
+topics 1
+runs 4
+run A 0.500000 1.000000
+run B 0.000000 0.000000
+run C 0.000000 0.500000
+run D 0.500000 1.000000
+pair A above B 0.500000 1.000000
+pair A open C 0.000000 1.000000
+pair A equal D 0.000000 0.000000
+pair B open C -0.500000 0.000000
+pair B below D -1.000000 -0.500000
+pair C open D -1.000000 0.000000
 $ 0 table --qrels q --measure recip_rank a b c D=a
 measure recip_rank
 level 1
@@ -160,6 +175,22 @@ runs 2
 run A 1.000000 1.000000
 run B 0.500000 1.000000
 pair A open B 0.000000 0.500000
+$ 0 table --qrels qo --measure map g h
+measure map
+level 1
+topics 1
+runs 2
+run A 1.000000 1.000000
+run B 0.500000 1.000000
+pair A open B 0.000000 0.500000
+$ 0 table --qrels qo --measure map X=h Y=h
+measure map
+level 1
+topics 1
+runs 2
+run X 0.500000 1.000000
+run Y 0.500000 1.000000
+pair X equal Y 0.000000 0.000000
 $ 0 table --qrels qo --measure rbp_0.5 X=a Y=a
 measure rbp_0.5
 level 1
@@ -187,7 +218,9 @@ pair X open Y -0.000001 0.000001
 ";
 
 /// Answers to `certify` where a pair is close.
-// Under rbp_0.000001 the tail after three ranks holds up to 10^-18: one unit, and at least one unit less one.
+// Under rbp_0.000001 the tail after three ranks holds up to 10^-18: one unit, and at least one unit less one. Of s and t the first
+// scores 1/6 more in both completions: 1/2 and 1/3 where u is not relevant, else 1 and 5/6; but its least score is below the
+// other's greatest.
 pub const CLOSE: &str = "
 $ 6 certify --qrels qt --measure recall_3 k l
 close A B -1 1 -1 1
@@ -197,4 +230,8 @@ $ 6 certify --qrels qt --measure recip_rank k l
 close A B -1 1 -1 1
 $ 6 certify --qrels q --measure rbp_0.000001 X=three Y=three
 close X Y -1 0 0 1
+$ 6 certify --qrels qt --measure map k l
+close A B -1 1 -1 1
+$ 6 certify --qrels q --measure map s t
+close A B -333333333333333334 166666666666666667 166666666666666666 666666666666666667
 ";

@@ -1,9 +1,11 @@
 //! The measures beside a walk through every completion of small topics, and beside the plain sums of
-//! rank-biased precision, and what they stand on, by examples: tests alone.
+//! rank-biased precision and of average precision, and what they stand on, by examples: tests alone.
 #![tactic(auto)]
 
 #[cfg(test)]
 mod answers;
+#[cfg(test)]
+mod average_tests;
 #[cfg(test)]
 mod list_tests;
 #[cfg(test)]

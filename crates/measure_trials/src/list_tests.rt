@@ -71,5 +71,6 @@ fn lists_the_documents_of_the_least_case(rt: HostRuntime) -> Result<(), Fail> {
     }
     compare_lists(&rt, alloc, MeasureName::Reciprocal)?;
     compare_lists(&rt, alloc, MeasureName::RPrecision)?;
-    compare_lists(&rt, alloc, MeasureName::Biased { top: 8, bottom: 10 })
+    compare_lists(&rt, alloc, MeasureName::Biased { top: 8, bottom: 10 })?;
+    compare_lists(&rt, alloc, MeasureName::AveragePrecision)
 }

@@ -50,6 +50,8 @@ fn texts_of_measures(rt: HostRuntime) {
         (b"Rprec".as_slice(), Ok(MeasureName::RPrecision)),
         (b"Rprec ".as_slice(), Err(UnknownMeasure)),
         (b"recip_rank".as_slice(), Ok(MeasureName::Reciprocal)),
+        (b"map".as_slice(), Ok(MeasureName::AveragePrecision)),
+        (b"map_5".as_slice(), Err(UnknownMeasure)),
         (
             b"rbp_0.8".as_slice(),
             Ok(MeasureName::Biased { top: 8, bottom: 10 }),

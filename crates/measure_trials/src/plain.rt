@@ -30,3 +30,21 @@ pub fn is_in(lo: i128, number: i128, hi: i128) -> bool
 {
     lo <= number && number <= hi
 }
+
+/// Whether a set of documents, by its bits, has this one.
+pub fn has(set: u32, doc: u32) -> bool {
+    set.wrapping_shr(doc) & 1 == 1
+}
+
+/// Whether the relevant documents are those of a completion of the marks.
+pub fn completes(relevant: u32, marks: &[Mark]) -> bool {
+    let mut doc: u32 = 0;
+    for mark in marks {
+        let held = has(relevant, doc);
+        if (*mark == Mark::Relevant && !held) || (*mark == Mark::Other && held) {
+            return false;
+        }
+        doc = doc.wrapping_add(1);
+    }
+    true
+}

@@ -91,6 +91,19 @@ const BIASED: Row = Row {
     most_case: &[true, false],
 };
 
+const AVERAGE: Row = Row {
+    first: [0, 1],
+    second: [1, 0],
+    marks: &[R, U],
+    unit: WHOLE,
+    least: (0, 0),
+    most: (HALF, HALF),
+    bounds: (WHOLE, WHOLE),
+    weight: HALF as u128,
+    least_case: &[true, true],
+    most_case: &[true, false],
+};
+
 fn is_span(span: Span, ends: (i128, i128)) -> bool {
     span.lo == ends.0 && span.hi == ends.1
 }
@@ -125,5 +138,6 @@ fn measures_by_hand(rt: HostRuntime) -> Result<(), Fail> {
     expect(&rt, alloc, MeasureName::RPrecision, &R_PRECISION)?;
     expect(&rt, alloc, MeasureName::Reciprocal, &RECIPROCAL)?;
     let biased = MeasureName::Biased { top: 5, bottom: 10 };
-    expect(&rt, alloc, biased, &BIASED)
+    expect(&rt, alloc, biased, &BIASED)?;
+    expect(&rt, alloc, MeasureName::AveragePrecision, &AVERAGE)
 }

@@ -3,7 +3,7 @@
 ghost use Rattle.desk_model.specs.MeasureText.{IsMeasure};
 
 use crate::answers::ask;
-use crate::plain::{difference, is_in};
+use crate::plain::{completes, difference, has, is_in};
 use crate::tests::{MARKS, O, R, RANKINGS, U};
 use desk_model::{Mark, MeasureName};
 use measure_core::Cell;
@@ -52,24 +52,6 @@ impl Sum {
             total: self.total.wrapping_add(gain),
         }
     }
-}
-
-/// Whether a set of documents, by its bits, has this one.
-fn has(set: u32, doc: u32) -> bool {
-    set.wrapping_shr(doc) & 1 == 1
-}
-
-/// Whether the relevant documents are those of a completion of the marks.
-fn completes(relevant: u32, marks: &[Mark]) -> bool {
-    let mut doc: u32 = 0;
-    for mark in marks {
-        let held = has(relevant, doc);
-        if (*mark == R && !held) || (*mark == O && held) {
-            return false;
-        }
-        doc = doc.wrapping_add(1);
-    }
-    true
 }
 
 fn ranked(persistence: u64, relevant: u32, docs: &[u32]) -> Sum {
