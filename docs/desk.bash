@@ -11,7 +11,7 @@ _desk() {
     if [ "$COMP_CWORD" -eq "$at" ]; then
         mapfile -t COMPREPLY < <(compgen -W "table certify verify session demo help --help --version --unproved" -- "$word")
     elif [ "$before" = --measure ]; then
-        mapfile -t COMPREPLY < <(compgen -W "P_5 P_10 P_20 recall_100 recall_1000 Rprec recip_rank rbp_0.8 rbp_0.95" -- "$word")
+        mapfile -t COMPREPLY < <(compgen -W "P_5 P_10 P_20 recall_100 recall_1000 Rprec recip_rank map rbp_0.8 rbp_0.95" -- "$word")
     elif [[ $word == -* ]]; then
         mapfile -t COMPREPLY < <(compgen -W "$options" -- "$word")
     else
