@@ -198,7 +198,7 @@ end
 ";
 
 // The first lines of certificates, what follows them in each, and how many these are.
-const CERTIFICATES: [(&str, &str, usize); 6] = [
+const CERTIFICATES: [(&str, &str, usize); 7] = [
     ("", BAD, 7),
     ("desk-certificate 1\nmeasure P_1\nlevel 1\n", FORGED, 13),
     (
@@ -213,6 +213,7 @@ const CERTIFICATES: [(&str, &str, usize); 6] = [
         13,
     ),
     ("desk-certificate 1\nmeasure rbp_0.4\nlevel 1\n", FORGED, 13),
+    ("desk-certificate 1\nmeasure map\nlevel 1\n", FORGED, 13),
 ];
 
 // Whether a certificate with these first lines is refused or rejected as its part says.

@@ -7,6 +7,7 @@ pub mod extremes;
 pub mod greedy;
 mod lists;
 pub mod pair;
+mod pair_lists;
 pub mod prefixes;
 pub mod rprec;
 pub mod search;

@@ -2,28 +2,28 @@ ghost use Rattle.std.specs.Prelude.{◌≡◌, ℕ, ◌+◌, ◌≤◌, ◌++◌
 ghost use Rattle.desk_model.specs.Limits.{DOCUMENT_LIMIT};
 ghost use Rattle.desk_model.specs.declared.types.Mark.{Mark as M};
 ghost use Rattle.desk_model.specs.declared.types.MeasureName.TheVariants.{RPrecision as R};
-ghost use Rattle.measure_laws.specs.RprecCase.{rprec_count, rprec_truth};
+ghost use Rattle.measure_laws.specs.RprecCase.{rprec_truth};
 ghost use Rattle.measure_core.specs.Laws.{AreMet, AreValues};
-ghost use Rattle.measure_core.specs.Lists.{added_documents, AreCounted, HaveRoomFor};
+ghost use Rattle.measure_core.specs.Lists.{added_documents};
 ghost use Rattle.measure_core.specs.Made.{IsMadeFor};
 ghost use Rattle.measure_core.specs.Numbers.{exact_least, exact_cell};
-ghost use Rattle.measure_core.specs.Ranks.{AreRanksIn};
-ghost use Rattle.measure_core.specs.Rooms.{IsRoomFor};
 ghost use Rattle.rprec.specs.Greedy.{AreTopic, IsLeast, IsSmallCandidate};
 ghost use Rattle.rprec.specs.Picks.{IsLeastCase};
 ghost use Rattle.rprec.specs.Shared.{AreShared};
 ghost use Rattle.rprec.specs.Sums.{AreBlockSums};
 
-use crate::extremes::{Cases, Extremes, find_cases, find_extremes, find_least};
+use crate::extremes::{Cases, find_cases, find_extremes, find_least};
 use crate::greedy::DepthCandidate;
-use crate::lists::{count_chosen, push_chosen};
+use crate::lists::push_chosen;
+use crate::pair_lists::{count_by_sums, count_cases};
 use crate::shared::Shared;
 use crate::sums::sums_of_run;
 use crate::values::{LeastCase, values};
 use desk_model::{Mark, MeasureName, Memory, Ranking};
 use measure_core::{
-    Cell, CellRoom, FirstRun, KeptCell, KeptPair, ListRoom, ListSizes, Measure, RankTables,
-    RankedMeasure, RunSums, RunWeights, Shift, Steps, TopicRankings, ranked_cells, shift_one_side,
+    Cell, CellRoom, FirstRun, KeptCell, KeptPair, KeptSums, ListRoom, ListSizes, Measure,
+    RankedMeasure, RunPair, RunSums, RunWeights, Shift, Steps, TopicRankings, ranked_cells,
+    shift_one_side,
 };
 use std::alloc::Global;
 use std::sync::ledger::Ledger;
@@ -167,57 +167,6 @@ fn push_cases(
     push_chosen(alloc, high.count, high.wanted, b, a, marks, most)
 }
 
-/// The least candidates of two runs and of the swapped runs, from the rank of each document in the first.
-fn extremes_of(a: &Ranking, b: &Ranking, ranks: &[u32], all: Counts, marks: &[Mark]) -> Extremes
-    requires met { AreMet marks.now a.now b.now }
-    requires ranks { AreRanksIn marks.now a.now ranks.now }
-    requires topic { AreTopic marks.now all }
-    requires few { all.relevant + all.unjudged ≤ DOCUMENT_LIMIT }
-    ensures least { result.least.count ≡ rprec_count marks.now a.now b.now }
-    ensures most { result.most.count ≡ rprec_count marks.now b.now a.now }
-    ensures least_low { all.relevant ≤ result.least.count }
-    ensures most_low { all.relevant ≤ result.most.count }
-{
-    let shared = Shared::by_ranks(a, b, ranks, marks);
-    let first = sums_of_run(a.docs(), marks);
-    let second = sums_of_run(b.docs(), marks);
-    find_extremes(a.docs(), b.docs(), &first, &second, &shared, all, marks)
-}
-
-/// Counts the unjudged documents that the least cases of two runs and of the swapped runs make relevant, and answers how
-/// many these are.
-fn count_cases(
-    a: &Ranking,
-    b: &Ranking,
-    marks: &[Mark],
-    room: &mut ListRoom,
-    counts: &mut [u32],
-) -> ListSizes
-    requires met { AreMet marks.now a.now b.now }
-    requires kept { IsRoomFor marks.now a.now room.old }
-    requires size { length counts.old ≡ length marks.now }
-    requires room { HaveRoomFor counts.old (added_documents marks.now (rprec_truth marks.now a.now b.now) ++ added_documents marks.now (rprec_truth marks.now b.now a.now)) }
-    ensures kept { IsRoomFor marks.now a.now room.new }
-    ensures least { result.least ≡ length (added_documents marks.now (rprec_truth marks.now a.now b.now)) }
-    ensures most { result.most ≡ length (added_documents marks.now (rprec_truth marks.now b.now a.now)) }
-    ensures counts { AreCounted counts.old (added_documents marks.now (rprec_truth marks.now a.now b.now) ++ added_documents marks.now (rprec_truth marks.now b.now a.now)) counts.new }
-{
-    let all = room.all;
-    let extremes = extremes_of(a, b, &room.first, all, marks);
-    room.set_second(b);
-    let ranks = RankTables {
-        first: &room.first,
-        second: &room.second,
-    };
-    let least = count_chosen(extremes.least.count, a, b, ranks, all, marks, counts);
-    let swapped = RankTables {
-        first: &room.second,
-        second: &room.first,
-    };
-    let most = count_chosen(extremes.most.count, b, a, swapped, all, marks, counts);
-    ListSizes { least, most }
-}
-
 impl RankedMeasure for Rprec {
     ghost use Rattle.desk_model.specs.declared.types.MeasureName.TheVariants.{RPrecision as R};
     ghost use Rattle.measure_core.specs.Numbers.{exact_cell};
@@ -347,7 +296,24 @@ impl Measure for Rprec {
         room: &mut ListRoom,
         counts: &mut [u32],
     ) -> Result<ListSizes, Memory> {
-        Ok(count_cases(a, b, marks, room, counts))
+        let first = sums_of_run(a.docs(), marks);
+        let second = sums_of_run(b.docs(), marks);
+        let sums = KeptSums {
+            first: &first,
+            second: &second,
+        };
+        Ok(count_cases(a, b, sums, marks, room, counts))
+    }
+
+    fn count_pairs(
+        &self,
+        alloc: Global,
+        rankings: &TopicRankings<'_>,
+        marks: &[Mark],
+        pairs: &[RunPair],
+        counts: &mut [u32],
+    ) -> Result<Vec<ListSizes>, Memory> {
+        count_by_sums(alloc, rankings, marks, pairs, counts)
     }
 
     fn weight(&self, a: &Ranking, b: &Ranking, marks: &[Mark], doc: u32) -> u128 {

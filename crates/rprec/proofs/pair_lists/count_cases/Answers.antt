@@ -4,7 +4,7 @@ use Rattle.measure_core.specs.Lists.{added_documents, AreCounted, HaveRoomFor}
 use Rattle.measure_core.specs.Ranks.{AreRanksIn}
 use Rattle.measure_core.proofs.Tallying.{counted_after, room_of_first, room_of_second}
 use Rattle.rprec.proofs.Ends.{topic_is}
-use Rattle.rprec.proofs.rprec.count_cases.Goals as goal
+use Rattle.rprec.proofs.pair_lists.count_cases.Goals as goal
 
 pub extremes_of-extremes-requires-clause-ranks : goal.extremes_of-extremes-requires-clause-ranks
 extremes_of-extremes-requires-clause-ranks c = subst (AreRanksIn c.args.marks.now c.args.a.now) (sym c.deref.ensures.value) c.requires.kept.ranks
