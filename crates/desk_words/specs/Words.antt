@@ -9,13 +9,14 @@ use Rattle.desk_model.specs.Limits.{RUN_LIMIT}
 use Rattle.desk_model.specs.Name.{is_name}
 use Rattle.desk_model.specs.MeasureText.{IsMeasure, IsTextOf}
 use Rattle.desk_model.specs.declared.types.MeasureName.{MeasureName}
+use Rattle.desk_model.specs.declared.types.MeasureName.TheVariants.{Biased}
 use Rattle.desk_words.specs.declared.read.Verb.{Verb}
 use Rattle.desk_words.specs.declared.read.Verb.TheVariants as verb
 use Rattle.desk_words.specs.declared.command.RunWord.{RunWord}
 use Rattle.desk_words.specs.declared.command.Job.{Job}
 use Rattle.desk_words.specs.declared.command.Check.{Check}
 use Rattle.desk_words.specs.declared.command.Command.{Command}
-use Rattle.desk_words.specs.declared.command.Command.TheVariants.{Table, Certify, CertifyAll, Session, Verify, Demo}
+use Rattle.desk_words.specs.declared.command.Command.TheVariants.{Table, Certify, CertifyAll, Session, Verify, Demo, Graded}
 
 -- the word of each verb
 abbrev pub word_of : Verb → Text
@@ -24,9 +25,10 @@ word_of verb.Certify = codes "certify"
 word_of verb.Session = codes "session"
 word_of verb.Verify = codes "verify"
 word_of verb.Demo = codes "demo"
+word_of verb.Graded = codes "graded"
 
 abbrev pub all_verbs : List Verb
-all_verbs = verb.Table ∷ verb.Certify ∷ verb.Session ∷ verb.Verify ∷ verb.Demo ∷ []
+all_verbs = verb.Table ∷ verb.Certify ∷ verb.Session ∷ verb.Verify ∷ verb.Demo ∷ verb.Graded ∷ []
 
 -- the verb of a word
 abbrev pub verb_of : Text → Option Verb
@@ -45,6 +47,10 @@ takes_pairs least = record (takes_runs least) { flags = codes "all" ∷ [] }
 abbrev pub takes_certificate : Takes
 takes_certificate = record { needed = codes "qrels" ∷ codes "cert" ∷ []; optional = []; flags = []; other = codes "RUN"; least = 2; most = RUN_LIMIT }
 
+-- runs under a measure by grades
+abbrev pub takes_grades : Takes
+takes_grades = record { needed = codes "qrels" ∷ codes "measure" ∷ codes "greatest" ∷ []; optional = []; flags = []; other = codes "RUN"; least = 1; most = RUN_LIMIT }
+
 abbrev pub takes_seed : Takes
 takes_seed = record { needed = []; optional = []; flags = []; other = codes "SEED"; least = 1; most = 1 }
 
@@ -55,6 +61,7 @@ takes verb.Certify = takes_pairs 2
 takes verb.Session = takes_runs 1
 takes verb.Verify = takes_certificate
 takes verb.Demo = takes_seed
+takes verb.Graded = takes_grades
 
 -- an equals sign
 abbrev pub is_equals : ℕ → Bool
@@ -89,6 +96,10 @@ abbrev pub IsDepthOf : List Text → Option ℕ → Type 0
 IsDepthOf values None = values ≡ []
 IsDepthOf values (Some depth) = (values ≡ decimal depth ∷ []) × (1 ≤ depth) × (depth ≤ 10000)
 
+-- one value, a number in digits from 1 to 10
+abbrev pub IsGreatestOf : List Text → ℕ → Type 0
+IsGreatestOf values greatest = (values ≡ decimal greatest ∷ []) × (1 ≤ greatest) × (greatest ≤ 10)
+
 -- one value, a number of 32 bits in digits
 abbrev pub IsSeedOf : List Text → ℕ → Type 0
 IsSeedOf values seed = (values ≡ decimal seed ∷ []) × (seed < 2 ^ 32)
@@ -106,6 +117,10 @@ pub record SaysJob (values : Values) (job : Job) : Type 0 where
   pub level : IsLevelOf (values (codes "level")) job.level
   pub depth : IsDepthOf (values (codes "depth")) job.depth
   pub runs : AreRunsOf (values (codes "RUN")) job.runs
+
+-- the measure is rank-biased precision
+abbrev pub IsBiased : MeasureName → Type 0
+IsBiased measure = (top : ℕ) × (bottom : ℕ) × (measure ≡ Biased top bottom)
 
 -- the values say this check
 pub record SaysCheck (values : Values) (check : Check) : Type 0 where
@@ -128,6 +143,7 @@ verb_for (CertifyAll job) = verb.Certify
 verb_for (Session job) = verb.Session
 verb_for (Verify check) = verb.Verify
 verb_for (Demo seed) = verb.Demo
+verb_for (Graded job greatest) = verb.Graded
 
 -- the values say what the command has beside its verb
 abbrev pub Says : Values → Command → Type 0
@@ -137,6 +153,7 @@ Says values (CertifyAll job) = SaysJob values job × AsksForAll values
 Says values (Session job) = SaysJob values job
 Says values (Verify check) = SaysCheck values check
 Says values (Demo seed) = IsSeedOf (values (codes "SEED")) seed
+Says values (Graded job greatest) = SaysJob values job × IsBiased job.measure × IsGreatestOf (values (codes "greatest")) greatest
 
 -- a command of the verb that the values say
 pub record IsSaid (v : Verb) (values : Values) (command : Command) : Type 0 where

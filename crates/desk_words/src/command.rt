@@ -19,7 +19,16 @@ pub enum Command {
     /// Check a certificate.
     Verify(Check),
     /// Show a worked example that is made from the seed.
-    Demo { seed: u32 },
+    Demo {
+        seed: u32,
+    },
+    /// Print the table of all pairs under rank-biased precision by grades.
+    Graded {
+        /// At level 1 without a depth, under rank-biased precision.
+        job: Job,
+        /// The grade that counts as 1, and to which greater grades are cut, from 1 to 10.
+        greatest: u32,
+    },
 }
 
 /// Runs that are to be compared.

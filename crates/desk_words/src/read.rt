@@ -1,15 +1,15 @@
 //! The command of the words: its verb, what it takes, and what the values say.
-ghost use Rattle.std.specs.Prelude.{◌≡◌, ℕ, IfOk, Err, map, codes, string_bytes};
+ghost use Rattle.std.specs.Prelude.{◌≡◌, ℕ, true, false, IfOk, Err, map, codes, string_bytes};
 ghost use Rattle.command_line.specs.Given.{values_held};
-ghost use Rattle.desk_words.specs.Words.{IsCommandOf, IsSaid, IsSeedOf, SaysJob, SaysCheck, verb_of, takes, takes_pairs, takes_runs};
+ghost use Rattle.desk_words.specs.Words.{IsBiased, IsCommandOf, IsSaid, IsSeedOf, SaysJob, SaysCheck, verb_of, takes, takes_pairs, takes_runs};
 ghost use Rattle.desk_words.specs.declared.command.Command.{Command};
 ghost use Rattle.desk_words.specs.declared.command.Job.{Job};
 ghost use Rattle.desk_words.specs.declared.command.Check.{Check};
 
 use crate::command::{Check, Command, Job};
-use crate::value::{depth, level, measure, path, runs, seed};
+use crate::value::{depth, greatest, level, measure, path, runs, seed};
 use command_line::{Given, Row, WordsFault};
-use desk_model::MOST_RUNS;
+use desk_model::{MOST_RUNS, MeasureName};
 use std::alloc::Global;
 
 /// What the first word asks for.
@@ -20,6 +20,7 @@ pub enum Verb {
     Session,
     Verify,
     Demo,
+    Graded,
 }
 
 // The verb of a word, and none where it is no command's.
@@ -32,6 +33,7 @@ fn verb_of(word: &str) -> Option<Verb>
         "session" => Some(Verb::Session),
         "verify" => Some(Verb::Verify),
         "demo" => Some(Verb::Demo),
+        "graded" => Some(Verb::Graded),
         _ => None,
     }
 }
@@ -58,6 +60,14 @@ fn row_of(verb: Verb) -> Row
             other: "SEED",
             least: 1,
             most: 1,
+        },
+        Verb::Graded => Row {
+            needed: &["qrels", "measure", "greatest"],
+            optional: &[],
+            flags: &[],
+            other: "RUN",
+            least: 1,
+            most: MOST_RUNS,
         },
     }
 }
@@ -116,6 +126,31 @@ fn said(alloc: Global, verb: Verb, given: &Given) -> Result<Command, WordsFault>
         Verb::Demo => Ok(Command::Demo {
             seed: demo_seed(given)?,
         }),
+        Verb::Graded => graded(alloc, given),
+    }
+}
+
+// The table by grades. The measure is rank-biased precision.
+fn graded(alloc: Global, given: &Given) -> Result<Command, WordsFault>
+    ensures ok { IfOk result (λ command. IsSaid Verb.Graded (values_held given.now) command) }
+    ensures usage { result ≡ Err WordsFault.Usage → (command : Command) → IsSaid Verb.Graded (values_held given.now) command → ⊥ }
+{
+    let job = job(alloc, given)?;
+    if !is_biased(&job.measure) {
+        return Err(WordsFault::Usage);
+    }
+    let greatest = greatest(given.values("greatest")).ok_or(WordsFault::Usage)?;
+    Ok(Command::Graded { job, greatest })
+}
+
+// Whether a measure is rank-biased precision.
+fn is_biased(measure: &MeasureName) -> bool
+    ensures yes { result ≡ true → IsBiased measure.now }
+    ensures no { result ≡ false → IsBiased measure.now → ⊥ }
+{
+    match measure {
+        MeasureName::Biased { .. } => true,
+        _ => false,
     }
 }
 

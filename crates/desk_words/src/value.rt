@@ -2,7 +2,7 @@
 ghost use Rattle.std.specs.Prelude.{◌≡◌, ◌≢◌, ℕ, IfErr, IfOk, Err, Option, Some, None, map, List, decimal, [], ◌∷◌, ◌<◌, ◌≤◌, ◌^◌, length, IfSome, IfNone};
 ghost use Rattle.clap.specs.Words.{Text};
 ghost use Rattle.desk_model.specs.declared.types.MeasureName.{MeasureName};
-ghost use Rattle.desk_words.specs.Words.{IsPathOf, IsMeasureOf, IsDepthOf, IsLevelOf, IsSeedOf, AreRunsOf, named, run_word_of};
+ghost use Rattle.desk_words.specs.Words.{IsPathOf, IsMeasureOf, IsDepthOf, IsGreatestOf, IsLevelOf, IsSeedOf, AreRunsOf, named, run_word_of};
 ghost use Rattle.desk_words.specs.declared.command.RunWord.{RunWord};
 
 use crate::command::{Path, RunWord, RunWords};
@@ -41,6 +41,17 @@ pub fn level(values: &[&str]) -> Option<u32>
     match *values {
         [] => Some(1),
         [text] => number_from_1(text, 1_000),
+        _ => None,
+    }
+}
+
+/// The greatest grade that the one value says, and none where the values say none.
+pub fn greatest(values: &[&str]) -> Option<u32>
+    ensures some { IfSome result (λ n. IsGreatestOf (map (λ v. v.now) values.now) n) }
+    ensures none { IfNone result ((n : ℕ) → IsGreatestOf (map (λ v. v.now) values.now) n → ⊥) }
+{
+    match *values {
+        [text] => number_from_1(text, 10),
         _ => None,
     }
 }
