@@ -1,0 +1,12 @@
+pub mod Fractions
+pub mod LevelScores
+pub mod Levels
+pub mod OverLevels
+pub mod Holding
+pub mod Undecided
+pub mod Swapped
+pub mod Desks
+pub mod Sizes
+pub mod Adding
+pub mod Tables
+pub mod Example
