@@ -9,7 +9,7 @@ use Rattle.run_reader.specs.Run.{Run, run_of}
 use Rattle.run_reader.specs.declared.used.Used.{Used}
 use Rattle.topics_pool.specs.Rows.{first_repeated, run_names}
 use Rattle.desk_files.specs.Files.{Stop, ◌>>=◌, file_as}
-use Rattle.desk_files.specs.Load.{Sources, Loaded, loaded, loaded_from, runs_of, within, paths_to_open, used_by, if_read, runs_to_open, paths_of, MayOpen, DeskMayOpen, Opens}
+use Rattle.desk_files.specs.Load.{Sources, Loaded, loaded, runs_of, within, paths_to_open, used_by, if_read, runs_to_open, paths_of, MayOpen, DeskMayOpen, Opens}
 
 -- the names that RUN words may open are these, and then those of the words that are left
 pub record Continues (told : Option Files) (qrels : List TopicRows) (first : Used) (all : List RunWord) (used : Used) (names : List (List ℕ)) (words : List RunWord) : Type 0 where
@@ -96,15 +96,15 @@ all_readable held qrels used (word ∷ words) runs e = at (file_as (run_of word.
 
 -- where the files make a desk, all their paths are opened
 pub loaded_opens_all : (held : Files) (sources : Sources) (rows : Loaded) → loaded held sources ≡ Ok rows → paths_to_open held sources.qrels sources.runs ≡ sources.qrels ∷ paths_of sources.runs
-unfolding loaded_from
+unfolding loaded
 loaded_opens_all held sources rows e = at (file_as qrels_of held sources.qrels) e
   where
-    next : (qrels : List TopicRows) (r : Result (List Run) Stop) → runs_of held qrels (used_by qrels) sources.runs ≡ r → (r >>= (λ runs. within qrels runs (first_repeated (run_names runs)))) ≡ Ok rows →
+    next : (qrels : List TopicRows) (r : Result (List Run) Stop) → runs_of held qrels (used_by qrels) sources.runs ≡ r → (r >>= (λ runs. within sources.tables qrels runs (first_repeated (run_names runs)))) ≡ Ok rows →
         runs_to_open held qrels (used_by qrels) sources.runs ≡ paths_of sources.runs
     next qrels (Err why) is e = absurd (cc)
     next qrels (Ok runs) is e = all_readable held qrels (used_by qrels) sources.runs runs is
 
-    at : (q : Result (List TopicRows) Stop) → (q >>= (λ qrels. runs_of held qrels (used_by qrels) sources.runs >>= (λ runs. within qrels runs (first_repeated (run_names runs))))) ≡ Ok rows →
+    at : (q : Result (List TopicRows) Stop) → (q >>= (λ qrels. runs_of held qrels (used_by qrels) sources.runs >>= (λ runs. within sources.tables qrels runs (first_repeated (run_names runs))))) ≡ Ok rows →
         (sources.qrels ∷ if_read q (λ qrels. runs_to_open held qrels (used_by qrels) sources.runs)) ≡ sources.qrels ∷ paths_of sources.runs
     at (Err why) e = absurd (cc)
     at (Ok qrels) e = ap (λ xs. sources.qrels ∷ xs) (next qrels (runs_of held qrels (used_by qrels) sources.runs) refl e)

@@ -20,7 +20,7 @@ pub data Refusal : Type 0 where
   BadLine : (path : List ℕ) → (line : ℕ) → Refusal
   -- a run has this name, and an earlier one too
   SameName : (name : List ℕ) → Refusal
-  -- pairs times topics are this many, and too many
+  -- pairs times topics times tables are this many, and too many
   TooManyCells : (cells : ℕ) → Refusal
 
 -- why nothing is printed

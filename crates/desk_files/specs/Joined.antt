@@ -12,16 +12,16 @@ use Rattle.desk_files.specs.Load.{Sources, Loaded, within, loaded, Reads}
 use Rattle.desk_files.specs.Outcome.{Stops}
 use Rattle.desk_files.specs.Views.{refusal_of}
 
--- what the rows come to where they stand together
-abbrev pub joined : List TopicRows → List Run → Result Loaded Stop
-joined qrels runs = within qrels runs (first_repeated (run_names runs))
+-- what the rows come to where they stand together, for so many tables
+abbrev pub joined : ℕ → List TopicRows → List Run → Result Loaded Stop
+joined tables qrels runs = within tables qrels runs (first_repeated (run_names runs))
 
 -- a desk is that of the rows, and a refusal is the rows'; memory may run out in the place of either
-abbrev pub Joins : List TopicRows → List Run → Result Desk KeptStop → Type 0
-Joins qrels runs (Ok desk) = (joined qrels runs ≡ Ok (record { qrels = qrels; runs = runs })) × IsDeskOf qrels runs desk
-Joins qrels runs (Err (kept.Refused refusal)) = joined qrels runs ≡ Err (Refused (refusal_of refusal))
-Joins qrels runs (Err kept.Outside) = ⊥
-Joins qrels runs (Err kept.Memory) = Unit {0}
+abbrev pub Joins : ℕ → List TopicRows → List Run → Result Desk KeptStop → Type 0
+Joins tables qrels runs (Ok desk) = (joined tables qrels runs ≡ Ok (record { qrels = qrels; runs = runs })) × IsDeskOf qrels runs desk
+Joins tables qrels runs (Err (kept.Refused refusal)) = joined tables qrels runs ≡ Err (Refused (refusal_of refusal))
+Joins tables qrels runs (Err kept.Outside) = ⊥
+Joins tables qrels runs (Err kept.Memory) = Unit {0}
 
 -- a desk is that of the files
 abbrev pub Makes : Option Files → ℕ → ℕ → Sources → Result Desk KeptStop → Type 0

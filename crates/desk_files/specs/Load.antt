@@ -1,5 +1,5 @@
 -- What the files of a desk say.
-use Rattle.std.specs.Prelude.{◌≡◌, ℕ, nat_lt, List, [], ◌∷◌, ◌++◌, map, if◌then◌else◌, Option, Some, None, slice_index_or, Result, Ok, Err, IfSome}
+use Rattle.std.specs.Prelude.{◌≡◌, ℕ, ◌*◌, nat_lt, List, [], ◌∷◌, ◌++◌, map, if◌then◌else◌, Option, Some, None, slice_index_or, Result, Ok, Err, IfSome}
 use Rattle.desk_outside.specs.Outside.{Files}
 use Rattle.desk_words.specs.declared.command.RunWord.{RunWord}
 use Rattle.file_rows.specs.Grouped.{TopicRows, name_bytes_in}
@@ -11,13 +11,18 @@ use Rattle.topics_pool.specs.Rows.{IsDeskOf, first_repeated, run_names, cells_of
 use Rattle.topics_pool.specs.declared.limits.TheConstants.{MOST_CELLS}
 use Rattle.desk_files.specs.Files.{Stop, Refused, SameName, TooManyCells, ◌>>=◌, file_as}
 
--- what a desk is read from: the path of the judgements, and RUN words
+-- what a desk is read from: the path of the judgements, and RUN words; and how many tables of the desk are to be made, which have a cell each for each pair and topic
 pub record Sources : Type 0 where
   pub qrels : List ℕ
   pub runs : List RunWord
+  pub tables : ℕ
+
+-- for so many tables, and for one
+abbrev pub sources_for : ℕ → List ℕ → List RunWord → Sources
+sources_for tables qrels runs = record { qrels = qrels; runs = runs; tables = tables }
 
 abbrev pub sources : List ℕ → List RunWord → Sources
-sources qrels runs = record { qrels = qrels; runs = runs }
+sources qrels runs = sources_for 1 qrels runs
 
 -- what the files of a desk say
 pub record Loaded : Type 0 where
@@ -34,16 +39,20 @@ runs_of files qrels used (word ∷ words) =
 abbrev pub used_by : List TopicRows → Used
 used_by qrels = record { rows = 0; name_bytes = name_bytes_in qrels }
 
--- the rows, unless a name comes twice, or there are too many pairs and topics
-abbrev pub within : List TopicRows → List Run → Option ℕ → Result Loaded Stop
-within qrels runs (Some r) = Err (Refused (SameName (slice_index_or (run_names runs) r [])))
-within qrels runs None =
-    if nat_lt MOST_CELLS (cells_of qrels runs) then Err (Refused (TooManyCells (cells_of qrels runs))) else Ok (record { qrels = qrels; runs = runs })
+-- pairs times topics times tables
+abbrev pub cells_in_all : ℕ → List TopicRows → List Run → ℕ
+cells_in_all tables qrels runs = cells_of qrels runs * tables
 
--- what these files say, or the first refusal: the qrels first, then the runs in order, then all together
-unfoldable pub loaded_from : Files → List ℕ → List RunWord → Result Loaded Stop
-loaded_from files path words =
-    file_as qrels_of files path >>= (λ qrels. runs_of files qrels (used_by qrels) words >>= (λ runs. within qrels runs (first_repeated (run_names runs))))
+-- the rows, unless a name comes twice, or so many tables have too many cells
+abbrev pub within : ℕ → List TopicRows → List Run → Option ℕ → Result Loaded Stop
+within tables qrels runs (Some r) = Err (Refused (SameName (slice_index_or (run_names runs) r [])))
+within tables qrels runs None =
+    if nat_lt MOST_CELLS (cells_in_all tables qrels runs) then Err (Refused (TooManyCells (cells_in_all tables qrels runs))) else Ok (record { qrels = qrels; runs = runs })
+
+-- what the files of a desk say, or the first refusal: the qrels first, then the runs in order, then all together
+unfoldable pub loaded : Files → Sources → Result Loaded Stop
+loaded files sources =
+    file_as qrels_of files sources.qrels >>= (λ qrels. runs_of files qrels (used_by qrels) sources.runs >>= (λ runs. within sources.tables qrels runs (first_repeated (run_names runs))))
 
 -- one list begins with another
 abbrev pub StartsWith : List (List ℕ) → List (List ℕ) → Type 0
@@ -83,10 +92,6 @@ pub record Opens (may : List (List ℕ) → Type 0) (had has : List (List ℕ)) 
   pub names : List (List ℕ)
   pub allowed : may names
   pub added : has ≡ had ++ names
-
--- what the files of a desk say, or the first refusal
-abbrev pub loaded : Files → Sources → Result Loaded Stop
-loaded files sources = loaded_from files sources.qrels sources.runs
 
 -- where the files of a desk are known, they say these rows
 abbrev pub Reads : Option Files → Sources → Loaded → Type 0

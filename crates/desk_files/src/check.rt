@@ -29,7 +29,7 @@ pub fn load_check<'a, F: Shelf>(
     ensures reads { ReadsFiles (extent_of (answer_of result)) (F.state files.old).calls (F.state files.new).calls }
     ensures later { (F.state files.old).faults ≤ (F.state files.new).faults }
 {
-    let desk = load_desk(alloc, files, &check.qrels, &check.runs)?;
+    let desk = load_desk(alloc, files, &check.qrels, &check.runs, 1)?;
     let certificate = load_certificate(alloc, files, &check.cert)?;
     Ok((desk, certificate))
 }

@@ -21,7 +21,7 @@ pub enum Refusal<'a> {
     BadLine(&'a str, u64),
     /// A run has this name, and an earlier one too.
     SameName(Vec<u8>),
-    /// Pairs times topics are this many, and too many.
+    /// Pairs times topics times tables are this many, and too many.
     TooManyCells(u64),
 }
 

@@ -25,14 +25,14 @@ use Rattle.file_rows.proofs.Grouping.{names-grouped}
 use Rattle.run_reader.specs.Run.{Run, run_of}
 use Rattle.run_reader.specs.declared.used.Used.{Used}
 use Rattle.topic_universe.specs.Names.{HaveSameNames}
-use Rattle.topics_pool.specs.Rows.{run_names, first_repeated, cells_of}
+use Rattle.topics_pool.specs.Rows.{run_names, first_repeated}
 use Rattle.topics_pool.specs.declared.limits.TheConstants.{MOST_CELLS}
 use Rattle.qrels_round_trip.specs.RoundTrip.{IsJudged, HasJudgements, said_by, IsSameRun}
 use Rattle.qrels_round_trip.proofs.Again.{limits_refuse, are_kept}
 use Rattle.qrels_round_trip.proofs.Listed.{read_grouped}
 use Rattle.qrels_round_trip.proofs.Runs.{runs_kept}
 use Rattle.desk_files.specs.Files.{Stop, ◌>>=◌, stop_at, or_faulty, file_as, whole_file}
-use Rattle.desk_files.specs.Load.{Sources, sources, Loaded, loaded_from, runs_of, used_by, within}
+use Rattle.desk_files.specs.Load.{Sources, Loaded, loaded, runs_of, used_by, cells_in_all, within}
 use Rattle.desk_files.specs.declared.limits.TheConstants.{LONGEST_FILE}
 use Rattle.topics_pool.proofs.AddedUp.{added_up}
 use Rattle.session_replies.proofs.Marks.{mark_counted}
@@ -82,16 +82,16 @@ distinct_names bytes qrels e =
     subst (λ topics. IsDistinct bytes_eq (names_of topics)) (sym g.are)
     (subst (IsDistinct bytes_eq) (sym (names-grouped g.rows)) (all_differ (topics_of g.rows) (IsDistinct-first_seen (map (λ row. row.topic) g.rows))))
 
-within_kept : (bytes text : List ℕ) (qrels said : List TopicRows) (runs others : List Run) → qrels_of bytes ≡ Ok qrels → qrels_of text ≡ Ok said → HaveSameNames (names_of said) (names_of qrels) → map said_by others ≡ map said_by runs →
-    AreWithin qrels runs → AreWithin said others
-within_kept bytes text qrels said runs others read read_text same kept h =
+within_kept : (tables : ℕ) (bytes text : List ℕ) (qrels said : List TopicRows) (runs others : List Run) → qrels_of bytes ≡ Ok qrels → qrels_of text ≡ Ok said → HaveSameNames (names_of said) (names_of qrels) → map said_by others ≡ map said_by runs →
+    AreWithin tables qrels runs → AreWithin tables said others
+within_kept tables bytes text qrels said runs others read read_text same kept h =
     let name : List ℕ × List TopicRows → List ℕ = λ p. p.0 in
     let names : run_names others ≡ run_names runs =
     sym (map-map name said_by (λ (run : Run). run.name) (λ run. refl) others) ∙ ap (map name) kept ∙ map-map name said_by (λ (run : Run). run.name) (λ run. refl) runs in
     let many : length others ≡ length runs = sym (length-map others said_by) ∙ ap length kept ∙ length-map runs said_by in
     let topics : length said ≡ length qrels =
     sym (length-map said (λ topic. topic.name)) ∙ length-from_same_keys laws (names_of said) (names_of qrels) (distinct_names text said read_text) (distinct_names bytes qrels read) same ∙ length-map qrels (λ topic. topic.name) in
-    let cells : cells_of said others ≡ cells_of qrels runs = ap₂ (λ r t. pair_count r * t) many topics in
+    let cells : cells_in_all tables said others ≡ cells_in_all tables qrels runs = ap₂ (λ r t. pair_count r * t * tables) many topics in
     record { names = ap first_repeated names ∙ h.names; cells = ap (nat_lt MOST_CELLS) cells ∙ h.cells }
 
 -- ---- the marks
@@ -111,16 +111,16 @@ module _ (files again : Files) (from : Sources) (path : List ℕ) (rows : Loaded
     (at : AllByRecursion (λ (word : RunWord). again word.path ≡ files word.path) from.runs)
   where
     abbrev Comes : Result Loaded Stop → Type 0
-    Comes = ComesAgain (sources path from.runs) (qrels_text desk grades) desk grades
+    Comes = ComesAgain (record from { qrels = path }) (qrels_text desk grades) desk grades
 
     abbrev with_judgements : List TopicRows → Result Loaded Stop
-    with_judgements said = runs_of again said (used_by said) from.runs >>= (λ runs. within said runs (first_repeated (run_names runs)))
+    with_judgements said = runs_of again said (used_by said) from.runs >>= (λ runs. within from.tables said runs (first_repeated (run_names runs)))
 
-    by_runs : (said : List TopicRows) → qrels_of (qrels_text desk grades) ≡ Ok said → (q : Result (List Run) Stop) → ComeAgain from.runs rows.runs q → Comes (q >>= (λ runs. within said runs (first_repeated (run_names runs))))
+    by_runs : (said : List TopicRows) → qrels_of (qrels_text desk grades) ≡ Ok said → (q : Result (List Run) Stop) → ComeAgain from.runs rows.runs q → Comes (q >>= (λ runs. within from.tables said runs (first_repeated (run_names runs))))
     by_runs said e (Err why) h = inr h
     by_runs said e (Ok others) h =
         let kept = are_kept apart.judgements.bytes rows.qrels said rows.runs desk grades judged e in
-        subst Comes (sym (within_again said others (within_kept apart.judgements.bytes (qrels_text desk grades) rows.qrels said rows.runs others apart.judgements.says e kept.0 h apart.together)))
+        subst Comes (sym (within_again from.tables said others (within_kept from.tables apart.judgements.bytes (qrels_text desk grades) rows.qrels said rows.runs others apart.judgements.says e kept.0 h apart.together)))
         (λ later is. desk_again desk later grades (kept.1 others later h is))
 
     by_text : (r : Result (List TopicRows) FileFault) → qrels_of (qrels_text desk grades) ≡ r → Comes (or_faulty path r >>= with_judgements)
@@ -134,9 +134,9 @@ module _ (files again : Files) (from : Sources) (path : List ℕ) (rows : Loaded
     by_size false is = inl (inl (refl, leb-false (length (qrels_text desk grades)) LONGEST_FILE is))
 
 pub come_again : FilesComeAgain
-unfolding loaded_from
+unfolding loaded
 come_again files again from path rows desk grades judged with_text =
     let apart = taken_apart files from rows judged.loads in
     let own : IsJudged apart.judgements.bytes rows.qrels rows.runs desk grades = record { read = apart.judgements.says; of_rows = judged.of_rows; in_force = judged.in_force } in
-    subst (λ o. ComesAgain (sources path from.runs) (qrels_text desk grades) desk grades ((whole_file path o >>= (λ bytes. or_faulty path (qrels_of bytes))) >>= (λ said. runs_of again said (used_by said) from.runs >>= (λ runs. within said runs (first_repeated (run_names runs))))))
+    subst (λ o. ComesAgain (record from { qrels = path }) (qrels_text desk grades) desk grades ((whole_file path o >>= (λ bytes. or_faulty path (qrels_of bytes))) >>= (λ said. runs_of again said (used_by said) from.runs >>= (λ runs. within from.tables said runs (first_repeated (run_names runs))))))
     (sym with_text.judgements) (by_size files again from path rows desk grades apart own with_text.others (nat_le (length (qrels_text desk grades)) LONGEST_FILE) refl)

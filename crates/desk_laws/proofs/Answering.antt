@@ -7,6 +7,7 @@ use Rattle.desk_words.specs.declared.command.Job.{Job}
 use Rattle.desk_model.specs.Desk.{Desk, IsDesk, topics_under}
 use Rattle.desk_model.specs.Pairs.{pairs_of}
 use Rattle.desk_model.specs.Verdict.{verdict}
+use Rattle.desk_model.specs.declared.types.MeasureName.TheVariants.{Biased}
 use Rattle.desk_model.specs.declared.types.Totals.{Totals}
 use Rattle.file_rows.specs.Grouped.{TopicRows}
 use Rattle.run_reader.specs.Run.{Run}
@@ -40,17 +41,18 @@ use Rattle.session_stream.specs.Text.{AreReplies}
 use Rattle.desk_files.specs.Load.{Loaded}
 use Rattle.desk_top.specs.declared.status.Status.{Status}
 use Rattle.desk_top.specs.declared.status.Status.TheVariants as statuses
-use Rattle.desk_top.specs.Answer.{About, OfRuns, Saying, Answer, marks_for}
+use Rattle.graded_rbp.specs.Score.{GradedMeasure}
+use Rattle.desk_top.specs.Answer.{About, OfRuns, OfGrades, Saying, Answer, marks_for}
 use Rattle.desk_top.specs.Outcome.{Outcome, Prints, Refuses, answer_of, IsOutcome, PrintsText}
-use Rattle.desk_top.specs.Report.{subject_of, HasDeskOf}
+use Rattle.desk_top.specs.Report.{subject_of, HasDeskOf, IsMeasureByGrades, IsGradedText}
 use Rattle.desk_top.specs.Verification.{PrintsCheck, verification}
 use Rattle.desk_top.specs.Conversation.{setting_on, IsSession, sayings, status_at, told_at}
 use Rattle.desk_top.specs.Showing.{demo_subject, AreDemoTexts, PrintsDemo, demo_sayings}
-use Rattle.desk_top.specs.Meaning.{Meaning, desk_meaning, PrintsCertificate, PrintsAllPairs}
+use Rattle.desk_top.specs.Meaning.{Meaning, desk_meaning, graded_meaning, PrintsCertificate, PrintsAllPairs, PrintsGraded}
 use Rattle.desk_top.proofs.Marking.{marks_known}
 use Rattle.desk_laws.specs.Answered.{EndsLastLine}
 use Rattle.desk_laws.specs.Fixed.{BundleIsOne, DeskIsOne, VerifierIsOne}
-use Rattle.desk_laws.proofs.LineEnds.{replies_end, told_ends}
+use Rattle.desk_laws.proofs.LineEnds.{graded_text_ends, replies_end, told_ends}
 
 -- an answer's texts and its line end with their last line
 pub record EndsLines (answer : Answer) : Type 0 where
@@ -109,6 +111,37 @@ module _ (job : Job) (least : ℕ) (ends : List Status) (makes : Subject → Out
   on_desk_one desk_one rows input first second is other =
       outcome_one (on_rows rows)
       (λ o p h k. lawful.one (subject_of job h.desk) o p h.holds (subst (λ d. makes (subject_of job d) p) (desk_one rows.qrels rows.runs k.desk h.desk k.ranked h.ranked) k.holds)) first second is other
+
+-- the table by grades
+module _ (job : Job) (greatest : ℕ) where
+  -- a measure and a greatest grade are one
+  measure_one : (m n : GradedMeasure) → IsMeasureByGrades job.measure greatest m → IsMeasureByGrades job.measure greatest n → m ≡ n
+  measure_one m n h k =
+      let named : Biased m.top m.bottom ≡ Biased n.top n.bottom = sym h.biased ∙ k.biased in
+      let top : m.top ≡ n.top = cc in
+      let bottom : m.bottom ≡ n.bottom = cc in
+      λ i. record { top = top i; bottom = bottom i; greatest = (h.cut ∙ sym k.cut) i }
+
+  graded_one : (desk : Desk) (first second : Outcome) → PrintsGraded job greatest desk first → PrintsGraded job greatest desk second → first ≡ second
+  graded_one desk first second (m, h, printed) (n, k, other) =
+      text_one statuses.Done (OfGrades m desk) (IsGradedText m desk) (λ t u x y. x ∙ sym y) first second printed (subst (λ n. PrintsText statuses.Done (OfGrades n desk) (IsGradedText n desk) second) (measure_one n m k h) other)
+
+  abbrev graded_on : Loaded → Outcome → Type 0
+  graded_on rows outcome = HasDeskOf rows (λ desk. PrintsGraded job greatest desk outcome)
+
+  pub graded_status : (rows : Loaded) (input : Input) (answer : Answer) → (graded_meaning job greatest).answers rows input answer → Contains (statuses.Done ∷ []) answer.status
+  graded_status rows input answer is =
+      outcome_ends (statuses.Done ∷ []) (graded_on rows)
+      (λ outcome has. text_status (statuses.Done ∷ []) statuses.Done (OfGrades has.holds.0 has.desk) (IsGradedText has.holds.0 has.desk) (0, omega arith, refl) outcome has.holds.2) answer is
+
+  pub graded_whole : HasLines (graded_meaning job greatest)
+  graded_whole rows input answer is =
+      outcome_lines (graded_on rows) (λ outcome has. text_lines statuses.Done (OfGrades has.holds.0 has.desk) (IsGradedText has.holds.0 has.desk) (graded_text_ends has.holds.0 has.desk) outcome has.holds.2) answer is
+
+  pub graded_answer_one : DeskIsOne → HasOneAnswer (graded_meaning job greatest)
+  graded_answer_one desk_one rows input first second is other =
+      outcome_one (graded_on rows)
+      (λ o p h k. graded_one h.desk o p h.holds (subst (λ d. PrintsGraded job greatest d p) (desk_one rows.qrels rows.runs k.desk h.desk k.ranked h.ranked) k.holds)) first second is other
 
 -- the certificate of two runs, or their close line
 module _ (s : Subject) where

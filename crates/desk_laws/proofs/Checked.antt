@@ -31,7 +31,6 @@ use Rattle.desk_top.specs.Truths.{BundlesAreEvidence}
 use Rattle.desk_top.proofs.Marking.{marks_known}
 use Rattle.session_replies.specs.Replies.{Setting, all_in_force, marks_after}
 use Rattle.session_replies.proofs.Marks.{marks_of_desk}
-use Rattle.desk_files.specs.Load.{sources}
 use Rattle.desk_laws.specs.Replaced.{IsJudgedDesk, IsDeskAgain, AreFilesWith, ComesAgain, marks_by}
 use Rattle.desk_laws.specs.Accepted.{CertificatesAreAccepted}
 use Rattle.desk_laws.specs.AllPairs.{AllPairsAreAccepted}
@@ -103,7 +102,7 @@ module _ (one : (bytes : List ℕ) (c d : Scoped) → IsScopedText bytes c → I
       let d = h.certificate in
       let judged : IsJudgedDesk files from taken.rows s.desk grades = record { loads = taken.loads; of_rows = taken.of_rows; in_force = grades_of_session files from taken.rows s.desk lines taken.loads taken.of_rows } in
       let comes = come_again files again from path taken.rows s.desk grades judged (subst (λ t. AreFilesWith files again path t from.runs) taken.replied taken.with_text) in
-      let is : IsDeskAgain s.desk grades desk = subst (ComesAgain (sources path from.runs) _ s.desk grades) taken.loads_again comes desk taken.of_later in
+      let is : IsDeskAgain s.desk grades desk = subst (ComesAgain (record from { qrels = path }) _ s.desk grades) taken.loads_again comes desk taken.of_later in
       let evidence = answered_evidence s.measure s.desk marks s.level a b d setting.measure h.valid (marks_of_desk s changes h.valid) h.runs.different h.runs.first h.runs.second h.of_pair in
       let level : d.level ≡ s.level = level_said s changes a b d _ h.of_pair.says in
       let own : Scoped = record { depth = s.depth; body = One d } in

@@ -6,7 +6,7 @@ use Rattle.desk_outside.specs.Inputs.{Input, Whole, Cut, bytes_in}
 use Rattle.desk_words.specs.declared.command.Check.{Check}
 use Rattle.desk_words.specs.declared.command.Job.{Job}
 use Rattle.desk_words.specs.declared.command.Command.{Command}
-use Rattle.desk_words.specs.declared.command.Command.TheVariants.{Table, Certify, CertifyAll, Session, Verify, Demo}
+use Rattle.desk_words.specs.declared.command.Command.TheVariants.{Table, Certify, CertifyAll, Session, Verify, Demo, Graded}
 use Rattle.bundle_verifier.specs.declared.rejected.BundleRejected.{BundleRejected}
 use Rattle.bundle_report.specs.Bundled.{IsAllPairsText}
 use Rattle.desk_report.specs.Reports.{Subject, IsTableText, IsCertificateText, IsCloseText}
@@ -14,22 +14,23 @@ use Rattle.desk_report.specs.Table.{ended}
 use Rattle.session_replies.proofs.Unique.{one_table}
 use Rattle.session_stream.specs.Hearing.{End, Done, InputTooLong, has_quit, before_quit, ended_lines, heard_to_end, hearing_of}
 use Rattle.session_stream.specs.declared.stream.TheConstants.{LONGEST_INPUT}
+use Rattle.desk_files.specs.Load.{Sources}
 use Rattle.desk_files.proofs.Opening.{may_open_qrels}
 use Rattle.desk_files.proofs.Checking.{check_opens_qrels}
 use Rattle.desk_top.specs.declared.status.Status.{Status}
 use Rattle.desk_top.specs.declared.status.Status.TheVariants as statuses
 use Rattle.desk_top.specs.Answer.{OfRuns, OfNothing, Answer}
 use Rattle.desk_top.specs.Outcome.{Outcome, answer_of}
-use Rattle.desk_top.specs.Report.{sources_of}
+use Rattle.desk_top.specs.Report.{sources_of, graded_sources}
 use Rattle.desk_top.specs.Verification.{PrintsCheck, verification_status}
 use Rattle.desk_top.specs.Conversation.{status_at}
 use Rattle.desk_top.specs.Showing.{PrintsDemo}
-use Rattle.desk_top.specs.Loading.{desk_loading, check_loading, no_loading}
-use Rattle.desk_top.specs.Meaning.{Meaning, check_meaning, session_meaning, demo_meaning, desk_meaning, meaning_of, PrintsTable, PrintsCertificate, PrintsAllPairs}
+use Rattle.desk_top.specs.Loading.{loading_from, check_loading, no_loading}
+use Rattle.desk_top.specs.Meaning.{Meaning, check_meaning, session_meaning, demo_meaning, desk_meaning, graded_meaning, meaning_of, PrintsTable, PrintsCertificate, PrintsAllPairs}
 use Rattle.desk_laws.specs.Fixed.{BundleIsOne, CheckIsOne, AnswersAreFixed}
 use Rattle.desk_laws.proofs.LineEnds.{all_pairs_text_ends, too_long_ends, table_text_ends, certificate_text_ends, close_text_ends, next_text_ends, verification_ends, summary_ends, line_ends}
 use Rattle.desk_laws.proofs.Statuses.{IsLawfulLoading, HasEnds, EndsIn}
-use Rattle.desk_laws.proofs.Answering.{EndsLines, HasLines, HasOneAnswer, IsMadeLawfully, outcome_ends, outcome_lines, outcome_one, text_status, text_lines, text_one, on_desk_ends, on_desk_lines, on_desk_one, all_pairs_one, certificate_one, check_one, session_lines, session_one, demo_one}
+use Rattle.desk_laws.proofs.Answering.{EndsLines, HasLines, HasOneAnswer, IsMadeLawfully, outcome_ends, outcome_lines, outcome_one, text_status, text_lines, text_one, on_desk_ends, on_desk_lines, on_desk_one, graded_status, graded_whole, graded_answer_one, all_pairs_one, certificate_one, check_one, session_lines, session_one, demo_one}
 
 -- what holds of a command: of what it reads, of its statuses, of its lines, and that it has one answer
 pub record IsLawful (meaning : Meaning) : Type 0 where
@@ -39,8 +40,8 @@ pub record IsLawful (meaning : Meaning) : Type 0 where
   pub one : HasOneAnswer meaning
 
 -- ---- files
-desk_lawful : (job : Job) → IsLawfulLoading (desk_loading job)
-desk_lawful job = record { one = λ files x y a b. sym a ∙ b; opens = λ known refusal comes. (job.qrels, may_open_qrels known (sources_of job)) }
+desk_lawful : (from : Sources) → IsLawfulLoading (loading_from from)
+desk_lawful from = record { one = λ files x y a b. sym a ∙ b; opens = λ known refusal comes. (from.qrels, may_open_qrels known from) }
 
 pub check_lawful : CheckIsOne → (check : Check) → IsLawfulLoading (check_loading check)
 check_lawful one check = record { one = λ files x y a b. one check files x y a b; opens = λ known refusal comes. (check.qrels, check_opens_qrels known check) }
@@ -129,7 +130,7 @@ demo_lines seed found input answer is =
 -- one that makes an outcome of the desk of a job
 on_desk : AnswersAreFixed → (job : Job) (least : ℕ) (ends : List Status) (makes : Subject → Outcome → Type 0) → IsMadeLawfully ends makes → IsLawful (desk_meaning job least ends makes)
 on_desk fixed job least ends makes made = record {
-  loading = desk_lawful job;
+  loading = desk_lawful (sources_of job);
   ends = λ rows input answer is. inl (on_desk_ends job least ends makes made rows input answer is);
   lines = on_desk_lines job least ends makes made;
   one = on_desk_one job least ends makes made fixed.desk;
@@ -137,7 +138,7 @@ on_desk fixed job least ends makes made = record {
 
 session : AnswersAreFixed → (job : Job) → IsLawful (session_meaning job)
 session fixed job = record {
-  loading = desk_lawful job;
+  loading = desk_lawful (sources_of job);
   ends = session_ends job;
   lines = λ rows input answer is. session_lines _ input answer is.holds;
   one = λ rows input first second is other. session_one fixed.replies fixed.desk job rows input first second is other;
@@ -159,6 +160,14 @@ demo fixed seed = record {
   one = λ found input first second is other. outcome_one (PrintsDemo seed) (demo_one fixed.desk fixed.next seed) first second is other;
 }
 
+graded : AnswersAreFixed → (job : Job) (greatest : ℕ) → IsLawful (graded_meaning job greatest)
+graded fixed job greatest = record {
+  loading = desk_lawful (graded_sources job greatest);
+  ends = λ rows input answer is. inl (graded_status job greatest rows input answer is);
+  lines = graded_whole job greatest;
+  one = graded_answer_one job greatest fixed.desk;
+}
+
 pub command_is_lawful : AnswersAreFixed → (command : Command) → IsLawful (meaning_of command)
 command_is_lawful fixed (Table job) = on_desk fixed job 1 (statuses.Done ∷ []) PrintsTable prints_table
 command_is_lawful fixed (Certify job) = on_desk fixed job 2 (statuses.Done ∷ statuses.Close ∷ []) PrintsCertificate prints_certificate
@@ -166,3 +175,4 @@ command_is_lawful fixed (CertifyAll job) = on_desk fixed job 2 (statuses.Done �
 command_is_lawful fixed (Session job) = session fixed job
 command_is_lawful fixed (Verify check) = check_of fixed check
 command_is_lawful fixed (Demo seed) = demo fixed seed
+command_is_lawful fixed (Graded job greatest) = graded fixed job greatest

@@ -16,6 +16,9 @@ use Rattle.judge_session.specs.declared.change.Change.{Change}
 use Rattle.judge_session.specs.declared.answers.JudgeFault.{JudgeFault}
 use Rattle.measure_laws.specs.Measures.{unit_of}
 use Rattle.desk_model.specs.Named.{book_at}
+use Rattle.graded_rbp.specs.Kept.{all_graded_totals, all_graded_bounds}
+use Rattle.graded_rbp.specs.Score.{GradedMeasure, binary}
+use Rattle.desk_report.specs.ByGrades.{graded_text, graded_lines}
 use Rattle.desk_report.specs.Close.{close_line}
 use Rattle.desk_report.specs.Table.{table_text, table_lines, pair_line, ended}
 use Rattle.desk_report.specs.Judging.{topic_qrels_lines, changed_line, pool_line, next_line}
@@ -27,6 +30,7 @@ use Rattle.desk_files.specs.Files.{Stop, Outside, Memory, Refused}
 use Rattle.desk_top.specs.Answer.{Saying, text_of, stop_line}
 use Rattle.desk_top.specs.Conversation.{sayings, told_at}
 use Rattle.desk_top.specs.Verification.{rejection_text, verification_text}
+use Rattle.desk_top.specs.Report.{IsGradedText}
 use Rattle.desk_top.specs.Told.{refusal_text, too_long_line}
 use Rattle.desk_laws.specs.Answered.{EndsLastLine}
 
@@ -63,6 +67,13 @@ all_pairs_text_ends s text is = subst EndsLastLine (sym is.is) (certificate_ends
 
 pub table_text_ends : (s : Subject) (text : List ℕ) → IsTableText s text → EndsLastLine text
 table_text_ends s text is = subst EndsLastLine (sym is.is) (table_ends _ _ _ _ _ _ _)
+
+graded_ends : (desk : Desk) (measure : _) (greatest : ℕ) (bounds : _) (totals : _) → EndsLastLine (graded_text desk measure greatest bounds totals)
+unfolding graded_text
+graded_ends desk measure greatest bounds totals = lines_end (graded_lines desk measure greatest bounds totals)
+
+pub graded_text_ends : (m : GradedMeasure) (desk : Desk) (text : List ℕ) → IsGradedText m desk text → EndsLastLine text
+graded_text_ends m desk text is = subst EndsLastLine (sym is) (graded_ends desk (binary m) m.greatest (all_graded_bounds m desk) (all_graded_totals m desk))
 
 pub certificate_text_ends : (s : Subject) (a b : ℕ) (text : List ℕ) → IsCertificateText s a b text → EndsLastLine text
 certificate_text_ends s a b text is = subst EndsLastLine (sym is.is) (certificate_ends (record { depth = s.depth; body = One is.certificate }))

@@ -6,10 +6,10 @@ use Rattle.file_rows.specs.Grouped.{TopicRows}
 use Rattle.qrels_reader.specs.Grouped.{qrels_of}
 use Rattle.file_rows.specs.declared.fault.FileFault.{FileFault}
 use Rattle.run_reader.specs.Run.{Run}
-use Rattle.topics_pool.specs.Rows.{run_names, first_repeated, cells_of}
+use Rattle.topics_pool.specs.Rows.{run_names, first_repeated}
 use Rattle.topics_pool.specs.declared.limits.TheConstants.{MOST_CELLS}
 use Rattle.desk_files.specs.Files.{Stop, Refused, FileTooLong, TooManyCells, ◌>>=◌, whole_file, or_faulty, file_as}
-use Rattle.desk_files.specs.Load.{Sources, Loaded, loaded, loaded_from, runs_of, used_by, within}
+use Rattle.desk_files.specs.Load.{Sources, Loaded, loaded, runs_of, used_by, cells_in_all, within}
 use Rattle.desk_files.specs.declared.limits.TheConstants.{LONGEST_FILE}
 
 -- ---- two steps
@@ -56,39 +56,39 @@ file_again read other files again path x is same =
     ∙ ap (λ b. if_short path is.bytes b >>= (λ bytes. or_faulty path (other bytes))) is.short
 
 -- ---- all rows together
-pub record AreWithin (qrels : List TopicRows) (runs : List Run) : Type 0 where
+pub record AreWithin (tables : ℕ) (qrels : List TopicRows) (runs : List Run) : Type 0 where
   pub names : first_repeated (run_names runs) ≡ None
-  pub cells : nat_lt MOST_CELLS (cells_of qrels runs) ≡ false
+  pub cells : nat_lt MOST_CELLS (cells_in_all tables qrels runs) ≡ false
 
-pub rows_within : (qrels : List TopicRows) (runs : List Run) (rows : Loaded) → within qrels runs (first_repeated (run_names runs)) ≡ Ok rows → AreWithin qrels runs × (record { qrels = qrels; runs = runs } ≡ rows)
-rows_within qrels runs rows e = by (first_repeated (run_names runs)) refl e
+pub rows_within : (tables : ℕ) (qrels : List TopicRows) (runs : List Run) (rows : Loaded) → within tables qrels runs (first_repeated (run_names runs)) ≡ Ok rows → AreWithin tables qrels runs × (record { qrels = qrels; runs = runs } ≡ rows)
+rows_within tables qrels runs rows e = by (first_repeated (run_names runs)) refl e
   where
     own : Loaded
     own = record { qrels = qrels; runs = runs }
 
-    small : (b : Bool) → nat_lt MOST_CELLS (cells_of qrels runs) ≡ b → first_repeated (run_names runs) ≡ None → cond b (Err (Refused (TooManyCells (cells_of qrels runs)))) (Ok own) ≡ Ok rows → AreWithin qrels runs × (own ≡ rows)
+    small : (b : Bool) → nat_lt MOST_CELLS (cells_in_all tables qrels runs) ≡ b → first_repeated (run_names runs) ≡ None → cond b (Err (Refused (TooManyCells (cells_in_all tables qrels runs)))) (Ok own) ≡ Ok rows → AreWithin tables qrels runs × (own ≡ rows)
     small true cells names e = absurd (cc)
     small false cells names e = (record { names = names; cells = cells }, cc)
 
-    by : (o : Option ℕ) → first_repeated (run_names runs) ≡ o → within qrels runs o ≡ Ok rows → AreWithin qrels runs × (own ≡ rows)
+    by : (o : Option ℕ) → first_repeated (run_names runs) ≡ o → within tables qrels runs o ≡ Ok rows → AreWithin tables qrels runs × (own ≡ rows)
     by (Some r) names e = absurd (cc)
-    by None names e = small (nat_lt MOST_CELLS (cells_of qrels runs)) refl names e
+    by None names e = small (nat_lt MOST_CELLS (cells_in_all tables qrels runs)) refl names e
 
-pub within_again : (qrels : List TopicRows) (runs : List Run) → AreWithin qrels runs → within qrels runs (first_repeated (run_names runs)) ≡ Ok (record { qrels = qrels; runs = runs })
-within_again qrels runs h =
+pub within_again : (tables : ℕ) (qrels : List TopicRows) (runs : List Run) → AreWithin tables qrels runs → within tables qrels runs (first_repeated (run_names runs)) ≡ Ok (record { qrels = qrels; runs = runs })
+within_again tables qrels runs h =
     let own : Loaded = record { qrels = qrels; runs = runs } in
-    ap (within qrels runs) h.names ∙ ap (λ b. cond b (Err (Refused (TooManyCells (cells_of qrels runs)))) (Ok own)) h.cells
+    ap (within tables qrels runs) h.names ∙ ap (λ b. cond b (Err (Refused (TooManyCells (cells_in_all tables qrels runs)))) (Ok own)) h.cells
 
 -- the files of a desk, taken apart
 pub record AreLoaded (files : Files) (from : Sources) (rows : Loaded) : Type 0 where
   pub judgements : IsRead qrels_of files from.qrels rows.qrels
   pub runs : runs_of files rows.qrels (used_by rows.qrels) from.runs ≡ Ok rows.runs
-  pub together : AreWithin rows.qrels rows.runs
+  pub together : AreWithin from.tables rows.qrels rows.runs
 
 pub taken_apart : (files : Files) (from : Sources) (rows : Loaded) → loaded files from ≡ Ok rows → AreLoaded files from rows
-unfolding loaded_from
+unfolding loaded
 taken_apart files from rows e =
-    let first = steps (file_as qrels_of files from.qrels) (λ qrels. runs_of files qrels (used_by qrels) from.runs >>= (λ runs. within qrels runs (first_repeated (run_names runs)))) rows e in
-    let second = steps (runs_of files first.value (used_by first.value) from.runs) (λ runs. within first.value runs (first_repeated (run_names runs))) rows first.made in
-    let both = rows_within first.value second.value rows second.made in
+    let first = steps (file_as qrels_of files from.qrels) (λ qrels. runs_of files qrels (used_by qrels) from.runs >>= (λ runs. within from.tables qrels runs (first_repeated (run_names runs)))) rows e in
+    let second = steps (runs_of files first.value (used_by first.value) from.runs) (λ runs. within from.tables first.value runs (first_repeated (run_names runs))) rows first.made in
+    let both = rows_within from.tables first.value second.value rows second.made in
     subst (AreLoaded files from) both.1 (record { judgements = file_read qrels_of files from.qrels first.value first.found; runs = second.found; together = both.0 })

@@ -95,7 +95,7 @@ module _ (one : CheckIsOne) (texts : (c : Scoped) → IsScoped c → IsScopedTex
             replied = h.replied;
             with_text = h.with_judgements;
             later = h.later;
-            loads_again = subst (λ runs. loaded again (sources check.qrels runs) ≡ Ok h.later) h.same_runs h.loads_again;
+            loads_again = subst (λ beside. loaded again beside ≡ Ok h.later) h.same_beside h.loads_again;
             of_later = ranked;
           }) h.shown is_text verified;
     }

@@ -15,7 +15,7 @@ use Rattle.session_replies.specs.State.{IsSetting}
 use Rattle.session_stream.specs.Text.{changes_over}
 use Rattle.bundle_verifier.specs.Either.{IsAnyVerified}
 use Rattle.bundle_verifier.specs.declared.rejected.BundleRejected.{BundleRejected}
-use Rattle.desk_files.specs.Load.{Sources, sources, Loaded, loaded}
+use Rattle.desk_files.specs.Load.{Sources, Loaded, loaded}
 use Rattle.desk_files.specs.Checks.{sources_of}
 use Rattle.desk_files.specs.declared.limits.TheConstants.{LONGEST_FILE}
 use Rattle.desk_top.specs.declared.status.Status.{Status}
@@ -34,7 +34,7 @@ pub record IsTakenUp (s : Setting) (lines : List (List ℕ)) (files again : File
   pub replied : IsReply s (changes_over s.desk lines []) (Asked Qrels) text
   pub with_text : AreFilesWith files again path text from.runs
   pub later : Loaded
-  pub loads_again : loaded again (sources path from.runs) ≡ Ok later
+  pub loads_again : loaded again (record from { qrels = path }) ≡ Ok later
   pub of_later : IsDeskOf later.qrels later.runs desk
 
 -- the certificate of two runs that the session replies at the same moment is accepted over that desk
@@ -44,8 +44,8 @@ CertificatesAreAccepted =
     IsSetting s → IsTakenUp s lines files again from path desk → IsCertificateText (subject_after s (changes_over s.desk lines [])) a b text → IsScopedText text c →
     IsAnyVerified c.body desk (marks_for c desk) answer → answer ≡ Ok tt
 
--- a call of `verify` over such files: the judgements file is the session's reply to `qrels`, the runs are the same, and the certificate's file is a certificate
--- of the session of the same moment; all are within the limits, and nothing failed
+-- a call of `verify` over such files: the judgements file is the session's reply to `qrels`, the desk is read from the same beside it, and the certificate's file is a
+-- certificate of the session of the same moment; all are within the limits, and nothing failed
 pub record IsCheckOfSession (s : Setting) (lines : List (List ℕ)) (files again : Files) (from : Sources) (check : Check) (words : List (List ℕ)) (call : Call) (status : Status) : Type 0 where
   pub rows : Loaded
   pub loads : loaded files from ≡ Ok rows
@@ -53,7 +53,7 @@ pub record IsCheckOfSession (s : Setting) (lines : List (List ℕ)) (files again
   pub judgements : List ℕ
   pub replied : IsReply s (changes_over s.desk lines []) (Asked Qrels) judgements
   pub with_judgements : AreFilesWith files again check.qrels judgements from.runs
-  pub same_runs : check.runs ≡ from.runs
+  pub same_beside : sources_of check ≡ record from { qrels = check.qrels }
   pub a : ℕ
   pub b : ℕ
   pub certificate : List ℕ

@@ -16,7 +16,7 @@ use Rattle.qrels_round_trip.specs.RoundTrip.{AreGradesOf, HasJudgements, IsLimit
 use Rattle.session_replies.specs.Replies.{all_in_force}
 use Rattle.session_stream.specs.Text.{changes_over}
 use Rattle.desk_files.specs.Files.{Stop, Refused, FileTooLong, Line, stop_at}
-use Rattle.desk_files.specs.Load.{Sources, sources, Loaded, loaded}
+use Rattle.desk_files.specs.Load.{Sources, Loaded, loaded}
 use Rattle.desk_files.specs.declared.limits.TheConstants.{LONGEST_FILE}
 
 -- files that hold a text at a path, and at the paths of runs what other files hold there
@@ -64,4 +64,4 @@ abbrev pub FilesComeAgain : Type 0
 FilesComeAgain =
     (files again : Files) (from : Sources) (path : List ℕ) (rows : Loaded) (desk : Desk) (grades : List (List (Option ℤ))) →
     IsJudgedDesk files from rows desk grades → AreFilesWith files again path (qrels_text desk grades) from.runs →
-    ComesAgain (sources path from.runs) (qrels_text desk grades) desk grades (loaded again (sources path from.runs))
+    ComesAgain (record from { qrels = path }) (qrels_text desk grades) desk grades (loaded again (record from { qrels = path }))

@@ -12,3 +12,4 @@ pub mod Proposed
 pub mod QrelsTexts
 pub mod Truths
 pub mod Reporting
+pub mod ByGrades

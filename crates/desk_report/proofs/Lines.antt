@@ -60,7 +60,7 @@ read_back Equal = refl
 read_back Open = refl
 read_back Close = refl
 
-word_of_injective : (v w : Verdict) → word_of v ≡ word_of w → v ≡ w
+pub word_of_injective : (v w : Verdict) → word_of v ≡ word_of w → v ≡ w
 word_of_injective v w e = sym (read_back v) ∙ ap read_verdict e ∙ read_back w
 
 above_not_open : Above ≡ Open → ⊥
@@ -94,7 +94,7 @@ module _ (name : MeasureName) (topics : List Topic) (a b : ℕ) where
   }
 
 -- ---- the fields of the lines
-fields_run : (name low high : List ℕ) → IsWord name → IsWord low → IsWord high → fields_of (codes "run " ++ name ++ 32 ∷ (low ++ 32 ∷ high)) ≡ codes "run" ∷ name ∷ low ∷ high ∷ []
+pub fields_run : (name low high : List ℕ) → IsWord name → IsWord low → IsWord high → fields_of (codes "run " ++ name ++ 32 ∷ (low ++ 32 ∷ high)) ≡ codes "run" ∷ name ∷ low ∷ high ∷ []
 fields_run name low high wn wl wh =
     let bounds : List ℕ = low ++ 32 ∷ high in
     ap fields_of (append_assoc (codes "run ") name (32 ∷ bounds))
@@ -103,7 +103,7 @@ fields_run name low high wn wl wh =
     ∙ ap (λ fs. name ∷ fs) (fields_word low high wl
     ∙ ap (λ fs. low ∷ fs) (fields_last high wh)))
 
-fields_pair : (first said second low high : List ℕ) → IsWord first → IsWord said → IsWord second → IsWord low → IsWord high →
+pub fields_pair : (first said second low high : List ℕ) → IsWord first → IsWord said → IsWord second → IsWord low → IsWord high →
     fields_of (codes "pair " ++ first ++ 32 ∷ said ++ 32 ∷ second ++ 32 ∷ (low ++ 32 ∷ high)) ≡ codes "pair" ∷ first ∷ said ∷ second ∷ low ∷ high ∷ []
 fields_pair first said second low high wf ws wg wl wh =
     let bounds : List ℕ = low ++ 32 ∷ high in
@@ -139,7 +139,7 @@ other_line name desk marks line none runs = record {
 }
 
 -- ---- the lines before the runs
-pair_not_run : codes "pair" ≡ codes "run" → ⊥
+pub pair_not_run : codes "pair" ≡ codes "run" → ⊥
 pair_not_run e = eqb-false 112 114 refl (ap (λ w. get_or w 0 0) e)
 
 module _ (name : MeasureName) (desk : Desk) (marks : List (List Mark)) where

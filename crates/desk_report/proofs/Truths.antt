@@ -35,7 +35,7 @@ use Rattle.desk_report.proofs.Others.{in_line_back, certificate_sound, close_sou
 use Rattle.desk_report.proofs.QrelsTexts.{HasFourFields, qrels_lines, text_of_lines, IsQrelsLine, qrels_sound}
 
 -- a text is written as its certificate is
-abbrev AreWritten : Type 0
+abbrev pub AreWritten : Type 0
 AreWritten = (bytes : List ℕ) (c : Scoped) → IsScopedText bytes c → bytes ≡ scoped_text c
 
 begins : (depth : Option ℕ) (body : AnyCertificate) → get_or (scoped_text (record { depth = depth; body = body })) 0 0 ≡ 100
@@ -47,7 +47,7 @@ certificate_begins : (c : Scoped) → get_or (scoped_text c) 0 0 ≡ 100
 certificate_begins c = begins c.depth c.body
 
 -- a text that begins with another byte is no certificate, nor is a prefix of it
-no_certificate : AreWritten → (text : List ℕ) (n : ℕ) (c : Scoped) → (get_or text 0 0 ≡ 100 → ⊥) → IsScopedText (take n text) c → ⊥
+pub no_certificate : AreWritten → (text : List ℕ) (n : ℕ) (c : Scoped) → (get_or text 0 0 ≡ 100 → ⊥) → IsScopedText (take n text) c → ⊥
 no_certificate written [] zero c other t = other (ap (λ xs. get_or xs 0 0) (written [] c t) ∙ certificate_begins c)
 no_certificate written [] (suc n) c other t = other (ap (λ xs. get_or xs 0 0) (written [] c t) ∙ certificate_begins c)
 no_certificate written (b ∷ bs) zero c other t = let e : 0 ≡ 100 = ap (λ xs. get_or xs 0 0) (written [] c t) ∙ certificate_begins c in absurd (omega (arith, e))

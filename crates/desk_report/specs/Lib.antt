@@ -5,3 +5,4 @@ pub mod Close
 pub mod Judging
 pub mod Claims
 pub mod Reports
+pub mod ByGrades

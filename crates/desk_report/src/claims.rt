@@ -5,8 +5,10 @@
 //! only where it is `pair FIRST WORD SECOND LOW HIGH`, or `run NAME LOW HIGH` with LOW and HIGH printed
 //! with a point and six digits. And where what was received is a certificate of either version, with a
 //! depth or without, it is one of that measure, and its claim holds, or all its claims.
+ghost use Rattle.desk_report.specs.ByGrades.{GradedTextsAreTrue};
 ghost use Rattle.desk_report.specs.Claims.{TablesAreTrue, CertificatesAreTrue, PairLinesAreTrue, CloseLinesAreTrue, AnswerLinesAreTrue, OtherLinesAreTrue, NextLinesAreTrue, QrelsTextsAreTrue, NoTextIsTrue};
 
+use graded_rbp::laws::numbers_hold_by_grades;
 use order_bundle::{
     any_evidence_implies_claims, no_scoped_text_begins_another, scoped_certificates_have_texts,
 };
@@ -24,6 +26,15 @@ pub fn printed_tables_are_true()
 {
     numbers_hold_in_every_completion();
     precision_is_exact();
+    scoped_certificates_have_texts();
+}
+
+/// Whatever was received of a printed table by grades claims nothing false. Its lines mean what those of a table do, of
+/// means by grades in every completion by grades.
+pub fn printed_graded_texts_are_true()
+    ensures { GradedTextsAreTrue }
+{
+    numbers_hold_by_grades();
     scoped_certificates_have_texts();
 }
 

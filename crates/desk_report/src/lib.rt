@@ -4,6 +4,7 @@
 
 pub mod claims;
 mod close;
+mod graded;
 mod grading;
 mod judging;
 mod means;
@@ -12,6 +13,7 @@ mod reports;
 mod table;
 
 pub use close::close_line;
+pub use graded::graded_text;
 pub use grading::Grading;
 pub use judging::{changed_line, next_line_text, pool_line};
 pub use qrels::qrels_text;

@@ -21,7 +21,8 @@ fn push_line_feed(out: &mut Vec<u8>) -> Result<(), AllocError>
     out.extend_from_slice(b"\n")
 }
 
-fn push_measure_line(out: &mut Vec<u8>, measure: &MeasureName) -> Result<(), AllocError>
+/// A line with the measure.
+pub fn push_measure_line(out: &mut Vec<u8>, measure: &MeasureName) -> Result<(), AllocError>
     ensures { OnOk result (out.new.items ≡ out.old.items ++ ended (codes "measure " ++ measure_text measure.now)) }
 {
     out.extend_from_slice(b"measure ")?;
@@ -29,7 +30,8 @@ fn push_measure_line(out: &mut Vec<u8>, measure: &MeasureName) -> Result<(), All
     out.extend_from_slice(b"\n")
 }
 
-fn push_number_line(out: &mut Vec<u8>, word: &[u8], number: u32) -> Result<(), AllocError>
+/// A line with a word and a number.
+pub fn push_number_line(out: &mut Vec<u8>, word: &[u8], number: u32) -> Result<(), AllocError>
     ensures { OnOk result (out.new.items ≡ out.old.items ++ ended (word.now ++ decimal number)) }
 {
     out.extend_from_slice(word)?;
@@ -77,7 +79,13 @@ fn push_run(out: &mut Vec<u8>, parts: u128, name: &[u8], bounds: &Span) -> Resul
     out.extend_from_slice(b"\n")
 }
 
-fn push_runs(out: &mut Vec<u8>, desk: &Desk, parts: u128, bounds: &[Span]) -> Result<(), AllocError>
+/// A line for each run.
+pub fn push_runs(
+    out: &mut Vec<u8>,
+    desk: &Desk,
+    parts: u128,
+    bounds: &[Span],
+) -> Result<(), AllocError>
     requires parts { 1 ≤ parts }
     requires parts_small { parts ≤ 10 ^ 23 }
     requires count { length bounds.now ≡ length desk.now.runs }
@@ -135,7 +143,8 @@ fn push_pair(
     push_line_feed(out)
 }
 
-fn push_pairs(
+/// A line for each pair.
+pub fn push_pairs(
     out: &mut Vec<u8>,
     desk: &Desk,
     parts: u128,

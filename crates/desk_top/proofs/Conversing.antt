@@ -58,7 +58,7 @@ session_holds job shelf cells rows desk asked read ranked = (
 )
 
 pub session_stopped : (job : Job) (shelf : Shelf) (cells : ℕ) (stop : KeptStop) → Stops shelf.files shelf.before shelf.after stop (λ held. loaded held (sources_of job)) → Works (session_meaning job) shelf cells cells (Err stop)
-session_stopped job shelf cells stop stops = (desk_stops job shelf stop stops, inl refl)
+session_stopped job shelf cells stop stops = (desk_stops (sources_of job) shelf stop stops, inl refl)
 
 -- ---- a session that is held
 module _ (meaning : Meaning) (call : Call) (found : meaning.loading.Found) (comes : meaning.loading.comes call.files.files (Ok found)) (s : Setting) (holds : HoldsSession meaning found s) where

@@ -7,5 +7,6 @@ pub mod Conversing
 pub mod Truth
 pub mod Replying
 pub mod Showing
+pub mod ByGrades
 pub mod Commands
 pub mod Calling

@@ -13,7 +13,7 @@ use Rattle.topic_counts.specs.declared.span.Span.{Span}
 use Rattle.measure_core.specs.declared.cell.Cell.{Cell}
 use Rattle.topics_pool.specs.Rows.{IsDeskOf}
 use Rattle.desk_files.specs.Files.{Stop, Outside, Refused, Refusal}
-use Rattle.desk_files.specs.Load.{Loaded, loaded, Reads}
+use Rattle.desk_files.specs.Load.{Sources, Loaded, loaded, Reads}
 use Rattle.desk_files.specs.Outcome.{StopsAt, Stops}
 use Rattle.desk_files.specs.Checks.{CheckComes}
 use Rattle.desk_files.specs.Views.{refusal_of}
@@ -36,7 +36,7 @@ use Rattle.desk_top.specs.Answer.{About, OfRuns}
 use Rattle.desk_top.specs.Outcome.{Outcome, Prints, Refuses}
 use Rattle.desk_top.specs.Report.{sources_of, subject_of, shown_as, IsShownAs, IsTabled}
 use Rattle.desk_top.specs.declared.work.DeskTable.{DeskTable}
-use Rattle.desk_top.specs.Loading.{Loading, MayCome, OpensFiles, desk_loading, check_loading}
+use Rattle.desk_top.specs.Loading.{Loading, MayCome, OpensFiles, loading_from, desk_loading, check_loading}
 use Rattle.desk_top.specs.Meaning.{Meaning, desk_meaning, PrintsCertificate, PrintsAllPairs}
 use Rattle.desk_top.specs.Works.{CountsFor, MakesText, MakesOutcome, StopsLoading, Works}
 use Rattle.desk_top.proofs.Marking.{marks_known}
@@ -71,9 +71,8 @@ module _ {X : Type 0} (comes : Files → Result X Stop → Type 0) where
   stops_loading opens shelf kept.Memory one stops = tt
 
 -- why there is no desk
-pub desk_stops : (job : Job) (shelf : Shelf) (stop : KeptStop) → Stops shelf.files shelf.before shelf.after stop (λ held. loaded held (sources_of job)) → StopsLoading (desk_loading job) shelf stop
-desk_stops job shelf stop stops =
-    stops_loading (λ files found. loaded files (sources_of job) ≡ found) (desk_loading job).opens shelf stop (job.qrels, may_open_qrels shelf.files (sources_of job)) stops
+pub desk_stops : (from : Sources) (shelf : Shelf) (stop : KeptStop) → Stops shelf.files shelf.before shelf.after stop (λ held. loaded held from) → StopsLoading (loading_from from) shelf stop
+desk_stops from shelf stop stops = stops_loading (λ files found. loaded files from ≡ found) (loading_from from).opens shelf stop (from.qrels, may_open_qrels shelf.files from) stops
 
 -- why there is no desk or no certificate
 pub check_stops : (check : Check) (shelf : Shelf) (stop : KeptStop) → StopsAt shelf.files shelf.before shelf.after stop (λ files why. CheckComes files check (Err why)) → StopsLoading (check_loading check) shelf stop

@@ -6,6 +6,8 @@ use Rattle.desk_model.specs.declared.types.Mark.{Mark}
 use Rattle.desk_model.specs.declared.types.MeasureName.{MeasureName}
 use Rattle.order_bundle.specs.Either.{AnyClaimHolds, any_level, any_measure}
 use Rattle.order_bundle.specs.declared.scoped.Scoped.{Scoped}
+use Rattle.graded_rbp.specs.Score.{GradedMeasure}
+use Rattle.desk_report.specs.ByGrades.{IsTrueTextByGrades}
 use Rattle.desk_report.specs.Claims.{IsTrueText, IsTrueProposal}
 use Rattle.desk_report.specs.Reports.{Subject}
 use Rattle.desk_files.specs.Files.{Stop, Outside, Memory, Refused}
@@ -18,6 +20,8 @@ use Rattle.desk_top.specs.Told.{refusal_line}
 pub data About : Type 0 where
   -- the runs of a desk, under a measure and the marks that its documents have at that time
   OfRuns : (subject : Subject) → About
+  -- the runs of a desk, under rank-biased precision by grades
+  OfGrades : (measure : GradedMeasure) → (desk : Desk) → About
   -- the document to judge next on such a desk
   OfProposal : (subject : Subject) → About
   -- whether a certificate of either version is accepted over a desk
@@ -78,10 +82,11 @@ IsTrueOfRuns s received = IsTrueText s.measure s.desk s.marks received
 abbrev pub AcceptsTruly : Scoped → Desk → List ℕ → Type 0
 AcceptsTruly c desk received = (more : List ℕ) → received ≡ codes "accepted\n" ++ more → AnyClaimHolds c.body desk (marks_for c desk)
 
--- what was received of a text is true of what it speaks of: it claims nothing false of the runs; it is the line of the proposal; it accepts only a certificate
--- of which all that it claims holds; and where it speaks of nothing, it claims nothing false of any desk
+-- what was received of a text is true of what it speaks of: it claims nothing false of the runs, or of them by grades; it is the line of the proposal; it accepts
+-- only a certificate of which all that it claims holds; and where it speaks of nothing, it claims nothing false of any desk
 abbrev pub IsTrueOf : About → List ℕ → Type 0
 IsTrueOf (OfRuns s) received = IsTrueOfRuns s received
+IsTrueOf (OfGrades m desk) received = IsTrueTextByGrades m desk received
 IsTrueOf (OfProposal s) received = IsTrueOfRuns s received × IsTrueProposal s.measure s.desk s.marks received
 IsTrueOf (OfCheck c desk) received = IsTrueText (any_measure c.body) desk (marks_for c desk) received × AcceptsTruly c desk received
 IsTrueOf OfNothing received = (measure : MeasureName) (desk : Desk) (marks : List (List Mark)) → IsTrueText measure desk marks received

@@ -7,9 +7,9 @@ use Rattle.desk_words.specs.declared.command.Check.{Check}
 use Rattle.desk_words.specs.declared.command.Job.{Job}
 use Rattle.order_bundle.specs.declared.scoped.Scoped.{Scoped}
 use Rattle.desk_files.specs.Files.{Stop, Outside, Memory}
-use Rattle.desk_files.specs.Load.{Loaded, loaded, DeskMayOpen, Opens}
+use Rattle.desk_files.specs.Load.{Sources, Loaded, loaded, DeskMayOpen, Opens}
 use Rattle.desk_files.specs.Checks.{CheckComes, CheckMayOpen}
-use Rattle.desk_top.specs.Report.{sources_of}
+use Rattle.desk_top.specs.Report.{sources_of, graded_sources}
 
 -- what files come to, and how
 pub record Loading : Type 1 where
@@ -27,13 +27,20 @@ MayCome None comes (Err Memory) = ⊥
 MayCome None comes found = Unit {0}
 MayCome (Some files) comes found = comes files found
 
--- the rows of the desk of a job
-abbrev pub desk_loading : Job → Loading
-desk_loading job = record {
+-- the rows of a desk
+abbrev pub loading_from : Sources → Loading
+loading_from from = record {
   Found = Loaded;
-  comes = λ known found. MayCome known (λ files found. loaded files (sources_of job) ≡ found) found;
-  opens = λ known names. DeskMayOpen known (sources_of job) names;
+  comes = λ known found. MayCome known (λ files found. loaded files from ≡ found) found;
+  opens = λ known names. DeskMayOpen known from names;
 }
+
+-- those of the desk of a job, and of a job by grades
+abbrev pub desk_loading : Job → Loading
+desk_loading job = loading_from (sources_of job)
+
+abbrev pub graded_loading : Job → ℕ → Loading
+graded_loading job greatest = loading_from (graded_sources job greatest)
 
 -- the rows of the desk of a check, and a certificate
 abbrev pub check_loading : Check → Loading

@@ -1,25 +1,27 @@
 -- What commands mean. A new command is one more case of `meaning_of`.
-use Rattle.std.specs.Prelude.{◌≡◌, ◌⊎◌, ℕ, List, [], ◌∷◌, Option, Result, Ok, Err}
+use Rattle.std.specs.Prelude.{◌≡◌, ◌⊎◌, ℕ, ◌*◌, List, [], ◌∷◌, Option, Result, Ok, Err}
 use Rattle.desk_outside.specs.Outside.{Files}
 use Rattle.desk_outside.specs.Inputs.{Input}
 use Rattle.desk_words.specs.Words.{IsCommandOf}
 use Rattle.desk_words.specs.declared.command.Check.{Check}
 use Rattle.desk_words.specs.declared.command.Job.{Job}
 use Rattle.desk_words.specs.declared.command.Command.{Command}
-use Rattle.desk_words.specs.declared.command.Command.TheVariants.{Table, Certify, CertifyAll, Verify, Session, Demo}
+use Rattle.desk_words.specs.declared.command.Command.TheVariants.{Table, Certify, CertifyAll, Verify, Session, Demo, Graded}
+use Rattle.desk_model.specs.Desk.{Desk}
+use Rattle.graded_rbp.specs.Score.{GradedMeasure}
 use Rattle.desk_files.specs.Files.{Stop}
 use Rattle.bundle_report.specs.Bundled.{HasTooManyBytes, IsAllPairsText}
 use Rattle.desk_report.specs.Reports.{Subject, IsTableText, IsCertificateText, IsCloseText, cells_of}
 use Rattle.desk_top.specs.declared.status.Status.{Status}
 use Rattle.desk_top.specs.declared.status.Status.TheVariants as statuses
 use Rattle.desk_top.specs.Told.{too_long_line}
-use Rattle.desk_top.specs.Answer.{OfRuns, Answer, usage, stop_answer}
+use Rattle.desk_top.specs.Answer.{OfRuns, OfGrades, Answer, usage, stop_answer}
 use Rattle.desk_top.specs.Outcome.{Outcome, Refuses, IsOutcome, PrintsText}
-use Rattle.desk_top.specs.Report.{IsAsked, HasDeskOf, subject_of}
+use Rattle.desk_top.specs.Report.{IsAsked, IsAskedByGrades, IsMeasureByGrades, IsGradedText, HasDeskOf, subject_of}
 use Rattle.desk_top.specs.Verification.{PrintsCheck}
 use Rattle.desk_top.specs.Conversation.{setting_on, IsSession, session_cells}
 use Rattle.desk_top.specs.Showing.{PrintsDemo, HasDemoDesk}
-use Rattle.desk_top.specs.Loading.{Loading, desk_loading, check_loading, no_loading}
+use Rattle.desk_top.specs.Loading.{Loading, desk_loading, graded_loading, check_loading, no_loading}
 
 -- what a command means
 pub record Meaning : Type 1 where
@@ -80,6 +82,21 @@ demo_meaning seed = record {
   cells = λ found taken most. HasDemoDesk seed (λ desk. most ≡ cells_of desk);
 }
 
+-- the table of a desk by grades
+abbrev pub PrintsGraded : Job → ℕ → Desk → Outcome → Type 0
+PrintsGraded job greatest desk outcome = (m : GradedMeasure) × IsMeasureByGrades job.measure greatest m × PrintsText statuses.Done (OfGrades m desk) (IsGradedText m desk) outcome
+
+-- a table by grades on the desk of a job: pairs times topics times levels are evaluated
+abbrev pub graded_meaning : Job → ℕ → Meaning
+graded_meaning job greatest = record {
+  asked = IsAskedByGrades job greatest;
+  loading = graded_loading job greatest;
+  reads = ⊥;
+  answers = λ rows input answer. IsOutcome (λ outcome. HasDeskOf rows (λ desk. PrintsGraded job greatest desk outcome)) answer;
+  ends = statuses.Done ∷ [];
+  cells = λ rows taken most. HasDeskOf rows (λ desk. most ≡ cells_of desk * greatest);
+}
+
 -- usage: no file is opened, and nothing is read or evaluated
 abbrev pub usage_meaning : Meaning
 usage_meaning = record {
@@ -115,6 +132,7 @@ meaning_of (CertifyAll job) = desk_meaning job 2 (statuses.Done ∷ statuses.Ref
 meaning_of (Verify check) = check_meaning check
 meaning_of (Session job) = session_meaning job
 meaning_of (Demo seed) = demo_meaning seed
+meaning_of (Graded job greatest) = graded_meaning job greatest
 
 -- something holds of what words mean: of the meaning of each command that they are of, and of usage, where they are of none
 pub record Means (words : List (List ℕ)) (fact : Meaning → Type 0) : Type 0 where

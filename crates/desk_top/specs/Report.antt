@@ -7,12 +7,16 @@ use Rattle.desk_model.specs.Desk.{Desk, file_marks}
 use Rattle.desk_model.specs.MeasureText.{IsMeasure}
 use Rattle.desk_model.specs.declared.types.Mark.{Mark}
 use Rattle.desk_model.specs.declared.types.MeasureName.{MeasureName}
+use Rattle.desk_words.specs.Words.{IsBiased}
 use Rattle.topic_counts.specs.declared.span.Span.{Span}
 use Rattle.measure_core.specs.declared.cell.Cell.{Cell}
 use Rattle.topics_pool.specs.Rows.{IsDeskOf}
+use Rattle.graded_rbp.specs.Kept.{all_graded_totals, all_graded_bounds}
+use Rattle.graded_rbp.specs.Score.{GradedMeasure, GREATEST_LIMIT, binary}
+use Rattle.desk_report.specs.ByGrades.{graded_text}
 use Rattle.desk_report.specs.Grading.{Grading, IsGrading}
 use Rattle.desk_report.specs.Reports.{Subject, subject, IsTableOn}
-use Rattle.desk_files.specs.Load.{Sources, sources, Loaded, Reads}
+use Rattle.desk_files.specs.Load.{Sources, sources, sources_for, Loaded, Reads}
 use Rattle.bundle_report.specs.declared.report.Bundled.{Bundled}
 use Rattle.bundle_report.specs.declared.report.Bundled.TheVariants as bundled
 use Rattle.desk_report.specs.declared.reports.Certified.{Certified}
@@ -23,9 +27,12 @@ use Rattle.desk_top.specs.declared.outcome.Outcome.TheVariants as made
 use Rattle.desk_top.specs.declared.work.DeskTable.{DeskTable}
 use Rattle.desk_top.specs.Told.{too_long_line}
 
--- what the desk of a job is read from
+-- what the desk of a job is read from, for one table; and for a table by grades, which has one for each level up to the greatest
 abbrev pub sources_of : Job → Sources
 sources_of job = sources job.qrels job.runs
+
+abbrev pub graded_sources : Job → ℕ → Sources
+graded_sources job greatest = sources_for greatest job.qrels job.runs
 
 -- how the grades of a job are read
 abbrev pub grading_of : Job → Grading
@@ -36,6 +43,22 @@ pub record IsAsked (least : ℕ) (job : Job) : Type 0 where
   pub measure : IsMeasure job.measure
   pub grading : IsGrading (grading_of job)
   pub runs : least ≤ length job.runs
+
+-- a job that can be done by grades, where they are cut to a greatest one
+pub record IsAskedByGrades (job : Job) (greatest : ℕ) : Type 0 where
+  pub on_desk : IsAsked 1 job
+  pub biased : IsBiased job.measure
+  pub some : 1 ≤ greatest
+  pub few : greatest ≤ GREATEST_LIMIT
+
+-- a measure and a greatest grade, as rank-biased precision by grades
+pub record IsMeasureByGrades (measure : MeasureName) (greatest : ℕ) (m : GradedMeasure) : Type 0 where
+  pub biased : measure ≡ binary m
+  pub cut : m.greatest ≡ greatest
+
+-- the text is the table of a desk by grades
+abbrev pub IsGradedText : GradedMeasure → Desk → List ℕ → Type 0
+IsGradedText m desk text = text ≡ graded_text desk (binary m) m.greatest (all_graded_bounds m desk) (all_graded_totals m desk)
 
 -- the marks that the judgements file gives the documents of a desk, under the depth of the job
 abbrev pub marks_in : Job → Desk → List (List Mark)

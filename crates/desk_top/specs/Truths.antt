@@ -12,6 +12,7 @@ use Rattle.order_certificate.specs.Evidence.{IsEvidence}
 use Rattle.order_certificate.specs.declared.certificate.Certificate.{Certificate}
 use Rattle.pair_table.specs.Evidence.{IsCertificateOf}
 use Rattle.table_bundle.specs.Bundles.{IsBundleOf}
+use Rattle.desk_report.specs.ByGrades.{GradedTextsAreTrue}
 use Rattle.desk_report.specs.Claims.{TablesAreTrue, CertificatesAreTrue, CloseLinesAreTrue, AnswerLinesAreTrue, PairLinesAreTrue, OtherLinesAreTrue, NextLinesAreTrue, QrelsTextsAreTrue, NoTextIsTrue}
 
 -- certificates of two runs are evidence
@@ -28,6 +29,7 @@ BundlesAreEvidence =
 -- what is printed is true
 pub record PrintsTruth : Type 0 where
   pub tables : TablesAreTrue
+  pub graded : GradedTextsAreTrue
   pub certificates : CertificatesAreTrue
   pub close_lines : CloseLinesAreTrue
   pub evidence : CertificatesAreEvidence

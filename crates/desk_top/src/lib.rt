@@ -2,6 +2,7 @@
 #![tactic(auto)]
 
 mod demo;
+mod graded;
 mod laws;
 mod outcome;
 mod session;

@@ -38,7 +38,7 @@ pub fn session_outcome<'a, F: Shelf>(
     ensures reads { ReadsFiles (extent_of (answer_of result)) (F.state files.old).calls (F.state files.new).calls }
     ensures files { (F.state files.new).files ≡ (F.state files.old).files }
 {
-    let desk = load_desk(alloc, files, &job.qrels, &job.runs)?;
+    let desk = load_desk(alloc, files, &job.qrels, &job.runs, 1)?;
     Ok(Outcome::Holds {
         desk,
         measure: job.measure,

@@ -12,6 +12,7 @@ ghost use Rattle.desk_top.specs.Report.{IsAsked, IsShownAs, IsTabled, shown_as};
 ghost use Rattle.desk_top.specs.Works.{StopsLoading, Works};
 
 use crate::demo::demo_outcome;
+use crate::graded::graded_outcome;
 use crate::outcome::Outcome;
 use crate::session::session_outcome;
 use crate::status::Status;
@@ -54,7 +55,7 @@ fn tabled<'a, F: Shelf, P: Maker, L: Ledger>(
     ensures reads { ReadsFiles (extent_of (answer_of result)) (F.state files.old).calls (F.state files.new).calls }
     ensures files { (F.state files.new).files ≡ (F.state files.old).files }
 {
-    let desk = load_desk(tools.alloc, files, &job.qrels, &job.runs)?;
+    let desk = load_desk(tools.alloc, files, &job.qrels, &job.runs, 1)?;
     desk.valid();
     let marks = Marks::of_file(tools.alloc, &desk, job.level, job.depth)?;
     let table = table_on(tools.alloc, &desk, &marks, job.measure, tools.maker, steps)?;
@@ -174,5 +175,6 @@ pub fn outcome_of<'a, F: Shelf, P: Maker, L: Ledger>(
         Command::Session(job) => session_outcome(tools.alloc, files, job),
         Command::Verify(check) => check_outcome(tools.alloc, files, check),
         Command::Demo { seed } => demo_outcome(tools, *seed, steps),
+        Command::Graded { job, greatest } => graded_outcome(tools, job, *greatest, files, steps),
     }
 }

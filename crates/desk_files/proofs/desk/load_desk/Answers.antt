@@ -7,7 +7,7 @@ use Rattle.desk_model.specs.Desk.{Desk}
 use Rattle.desk_outside.specs.Calls.{opened_in}
 use Rattle.desk_files.specs.declared.stop.Stop.{Stop as KeptStop}
 use Rattle.desk_files.specs.Files.{file_as}
-use Rattle.desk_files.specs.Load.{runs_of, used_by, sources, paths_of}
+use Rattle.desk_files.specs.Load.{runs_of, used_by, sources_for, paths_of}
 use Rattle.desk_files.proofs.InTurn.{file_opened, reads_one, reads_then, reads_all, files_handed_on}
 use Rattle.desk_files.proofs.Stopping.{if_some_at}
 use Rattle.desk_files.proofs.Joining.{makes_joined, makes_err, stops_at_qrels, stops_at_runs}
@@ -22,14 +22,14 @@ if_loaded (Err stop) P h = tt
 pub returns-in_err-judged-clause-makes : goal.returns-in_err-judged-clause-makes
 returns-in_err-judged-clause-makes g c =
     let p = err_from_is_err_and c.from_residual.result c.from_residual.ensures.1 in
-    let from = sources c.args.qrels.now c.args.runs.now in
+    let from = sources_for c.args.tables c.args.qrels.now c.args.runs.now in
     makes_err (g.F.Shelf.state c.args.files.now).files _ _ _ from c.from_residual.result c.in_err-judged.field-0.0 (λ held. file_as qrels_of held c.args.qrels.now)
     (p.1 ∙ ap Err p.2) (omega arith) (rw c.as_str.ensures at c.in_err-judged.ensures.gives) (λ files why t stop. stops_at_qrels files from why stop)
 
 pub returns-in_err-ranked-clause-makes : goal.returns-in_err-ranked-clause-makes
 returns-in_err-ranked-clause-makes g c =
     let p = err_from_is_err_and c.from_residual-in_err-ranked.result c.from_residual-in_err-ranked.ensures.1 in
-    let from = sources c.args.qrels.now c.args.runs.now in
+    let from = sources_for c.args.tables c.args.qrels.now c.args.runs.now in
     let told = (g.F.Shelf.state c.args.files.now).files in
     let qrels = c.in_ok-judged.judged in
     let read : IfSome told (λ held. file_as qrels_of held c.args.qrels.now ≡ Ok qrels) = rw c.as_str.ensures at c.in_ok-judged.ensures.gives in
@@ -39,7 +39,7 @@ returns-in_err-ranked-clause-makes g c =
 
 pub returns-clause-makes : goal.returns-clause-makes
 returns-clause-makes g c =
-    let from = sources c.args.qrels.now c.args.runs.now in
+    let from = sources_for c.args.tables c.args.qrels.now c.args.runs.now in
     let told = (g.F.Shelf.state c.args.files.now).files in
     let qrels = c.in_ok-judged.judged in
     let runs = c.in_ok-ranked.ranked in
@@ -48,11 +48,11 @@ returns-clause-makes g c =
     makes_joined from qrels runs.items told _ _ c.join.result read loaded c.join.ensures.joins
 
 pub returns-in_err-judged-clause-opened : goal.returns-in_err-judged-clause-opened
-returns-in_err-judged-clause-opened g c = opens_qrels _ (sources c.args.qrels.now c.args.runs.now) _ _ (rw c.as_str.ensures at (file_opened _ _ _ _ c.load_qrels.ensures.reads))
+returns-in_err-judged-clause-opened g c = opens_qrels _ (sources_for c.args.tables c.args.qrels.now c.args.runs.now) _ _ (rw c.as_str.ensures at (file_opened _ _ _ _ c.load_qrels.ensures.reads))
 
 pub returns-in_err-ranked-clause-opened : goal.returns-in_err-ranked-clause-opened
 returns-in_err-ranked-clause-opened g c =
-    let from = sources c.args.qrels.now c.args.runs.now in
+    let from = sources_for c.args.tables c.args.qrels.now c.args.runs.now in
     let told = (g.F.Shelf.state c.args.files.now).files in
     let qrels = c.in_ok-judged.judged in
     let read : IfSome told (λ held. file_as qrels_of held c.args.qrels.now ≡ Ok qrels) = rw c.as_str.ensures at c.in_ok-judged.ensures.gives in
@@ -60,7 +60,7 @@ returns-in_err-ranked-clause-opened g c =
 
 pub returns-clause-opened : goal.returns-clause-opened
 returns-clause-opened g c =
-    let from = sources c.args.qrels.now c.args.runs.now in
+    let from = sources_for c.args.tables c.args.qrels.now c.args.runs.now in
     let told = (g.F.Shelf.state c.args.files.now).files in
     let qrels = c.in_ok-judged.judged in
     let read : IfSome told (λ held. file_as qrels_of held c.args.qrels.now ≡ Ok qrels) = rw c.as_str.ensures at c.in_ok-judged.ensures.gives in
@@ -129,3 +129,15 @@ returns-in_err-ranked-clause-reads g c =
 
 pub returns-clause-reads : goal.returns-clause-reads
 returns-clause-reads g c = reads_all _ _ _ (reads_then _ _ _ _ (reads_one _ _ _ _ c.in_ok-judged.ensures.reads) c.in_ok-ranked.ensures.reads) c.join.ensures.whole
+
+pub returns-in_err-judged-clause-cells : goal.returns-in_err-judged-clause-cells
+returns-in_err-judged-clause-cells g c = IfOk-from_err c.from_residual.result _ c.from_residual.ensures.0
+
+pub returns-in_err-ranked-clause-cells : goal.returns-in_err-ranked-clause-cells
+returns-in_err-ranked-clause-cells g c = IfOk-from_err c.from_residual-in_err-ranked.result _ c.from_residual-in_err-ranked.ensures.0
+
+pub returns-clause-cells : goal.returns-clause-cells
+returns-clause-cells g c = c.join.ensures.cells
+
+pub join-requires-clause-tables : goal.join-requires-clause-tables
+join-requires-clause-tables g c = c.requires

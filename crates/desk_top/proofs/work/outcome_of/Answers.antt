@@ -13,3 +13,6 @@ returns-in-Demo-clause-works g c = rw c.in-Demo.is (c.demo_outcome.ensures.works
 
 pub returns-in-Demo-clause-reads : goal.returns-in-Demo-clause-reads
 returns-in-Demo-clause-reads g c = none_or_memory (g.F.Shelf.state c.args.files.now).calls c.demo_outcome.result c.demo_outcome.ensures.memory
+
+pub returns-in-Graded-clause-works : goal.returns-in-Graded-clause-works
+returns-in-Graded-clause-works g c = rw c.in-Graded.is c.graded_outcome.ensures.works
