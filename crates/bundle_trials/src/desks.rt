@@ -39,7 +39,7 @@ pub fn desk_of(alloc: Global, line: &str) -> Result<Desk, Fail> {
         return Err("no table".into());
     };
     let mut files = shelf(alloc)?;
-    match load_desk(alloc, &mut files, &job.qrels, &job.runs) {
+    match load_desk(alloc, &mut files, &job.qrels, &job.runs, 1) {
         Ok(desk) => Ok(desk),
         Err(_) => Err("no desk".into()),
     }

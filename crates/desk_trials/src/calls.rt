@@ -2,6 +2,7 @@
 use crate::certificates::is_accepted;
 use crate::certified::CERTIFIED;
 use crate::files::shelf;
+use crate::graded::{GRADED, NOT_GRADED};
 use crate::measured::MEASURED;
 use crate::outside::{Answer, Outside, SOUND};
 use crate::refusals::{FAULTS, STOPPED, USAGE};
@@ -87,13 +88,15 @@ impl<'t> Call<'t> {
 }
 
 // Transcripts, the number of their calls, and how many bytes a read of an input gives at most.
-const TRANSCRIPTS: [(&str, usize, usize); 10] = [
+const TRANSCRIPTS: [(&str, usize, usize); 12] = [
     (TABLES, 21, 4096),
     (CLOSE, 6, 4096),
     (FAULTS, 13, 4096),
     (STOPPED, 14, 4096),
     (USAGE, 16, 4096),
     (CERTIFIED, 20, 4096),
+    (GRADED, 6, 4096),
+    (NOT_GRADED, 14, 4096),
     (MEASURED, 6, 4096),
     (REPLIES, 12, 1),
     (REPLIES, 12, 19),

@@ -21,6 +21,8 @@ mod failing;
 #[cfg(test)]
 mod files;
 #[cfg(test)]
+mod graded;
+#[cfg(test)]
 mod limits;
 #[cfg(test)]
 mod measured;

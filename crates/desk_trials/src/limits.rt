@@ -12,6 +12,8 @@ const ONE_RUN: &str = "table --qrels q --measure P_1 a";
 
 const SESSION: &str = "session --qrels q --measure P_1 a";
 
+const GRADED: &str = "graded --qrels q --measure rbp_0.5 --greatest 2";
+
 const QRELS: &str = "401 0 d1 1\n401 0 d2 0\n";
 
 const RUN: &str = "401 Q0 d1 1 9 A\n";
@@ -27,10 +29,10 @@ struct Long {
     told: &'static str,
 }
 
-// A line of a run, of judgements and of a session, and a name, have their limits; then ranks, topics, cells and a history: 1,000,000
+// A line of a run, of judgements and of a session, and a name, have their limits; then ranks, topics, cells, those of two levels and a history: 1,000,000
 // judgements of one assessor are accepted and no more, and one that is undone still counts for the others. The last is a file of
 // several pieces, and 256 runs, two of which have names of 255 bytes.
-const LONG: [Long; 20] = [
+const LONG: [Long; 23] = [
     Long {
         line: &[(ONE_RUN, 1)],
         qrels: &[(QRELS, 1)],
@@ -191,6 +193,33 @@ const LONG: [Long; 20] = [
         input: &[],
         status: 0,
         out: "..pair r254 equal r255 0.000000 0.000000\n",
+        told: "",
+    },
+    Long {
+        line: &[(GRADED, 1), (" r#=a", 256)],
+        qrels: &[("# 0 d 1\n", 307)],
+        run: &[("0 Q0 d 1 9 A\n", 1)],
+        input: &[],
+        status: 1,
+        out: "",
+        told: "refused: desk: TooManyCells 20040960\n",
+    },
+    Long {
+        line: &[(GRADED, 1), (" r#=a", 256)],
+        qrels: &[("# 0 d 1\n", 154)],
+        run: &[("0 Q0 d 1 9 A\n", 1)],
+        input: &[],
+        status: 1,
+        out: "",
+        told: "refused: desk: TooManyCells 10053120\n",
+    },
+    Long {
+        line: &[(GRADED, 1), (" r#=a", 256)],
+        qrels: &[("# 0 d 1\n", 153)],
+        run: &[("0 Q0 d 1 9 A\n", 1)],
+        input: &[],
+        status: 0,
+        out: "..pair r254 open r255 -0.996733 0.996733\n",
         told: "",
     },
     Long {

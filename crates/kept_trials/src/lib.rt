@@ -1,11 +1,13 @@
-//! What a session keeps, by a measure that counts how often it is asked: tests alone. They stand above the top call, so
-//! that it waits for no measure.
+//! What a session keeps, and what a table by grades evaluates, by a measure that counts how often it is asked: tests alone.
+//! They stand above the top call, so that it waits for no measure.
 #![tactic(auto)]
 
 #[cfg(test)]
 mod anew;
 #[cfg(test)]
 mod counting;
+#[cfg(test)]
+mod graded;
 #[cfg(test)]
 mod kept;
 #[cfg(test)]
