@@ -6,6 +6,8 @@ use std::test::Fail;
 
 const SESSION: &str = "session --qrels q --measure P_1 a b";
 
+const BY_RELEVANT: &str = "session --qrels q --measure Rprec a b";
+
 const TIED: [(&str, &[u8]); 3] = [
     ("q", b"401 0 z 0\n402 0 z 0\n"),
     ("a", b"401 Q0 n 1 1 A\n402 Q0 l 1 1 A\n"),
@@ -36,18 +38,20 @@ fn lines_of(alloc: Global, topics: u32, before: &str, after: &str) -> Result<Str
     Ok(text)
 }
 
-// Fifty judgements, each with a proposal after it.
+// Fifty judgements, each with a proposal after it, ask for at most so many weights.
 fn expect_few_calls(
     rt: &impl Abort,
     alloc: Global,
+    session: &str,
     files: &[(&str, &[u8])],
+    most: u64,
 ) -> Result<(), AllocError> {
     let lines = lines_of(alloc, 50, "judge ann ", " a 1\nnext\n")?;
     let expected = lines_of(alloc, 50, "judged ", " a 1\nnext 401 b 1\n")?;
     let (lines, expected) = (lines.as_bytes(), expected.as_bytes());
-    let (cells, weights) = counts(rt, alloc, SESSION, files, lines, expected)?;
+    let (cells, weights) = counts(rt, alloc, session, files, lines, expected)?;
     assert!(rt; cells >= 100 && cells <= 150, "{cells} cells");
-    assert!(rt; weights >= 1 && weights <= 600, "{weights} weights");
+    assert!(rt; weights >= 1 && weights <= most, "{weights} weights");
     Ok(())
 }
 
@@ -62,6 +66,8 @@ fn totals_are_made_once(rt: HostRuntime) -> Result<(), Fail> {
         ("a", a.as_bytes()),
         ("b", b.as_bytes()),
     ];
-    expect_few_calls(&rt, alloc, &files)?;
+    // Three documents on each of 100 topics, and under R-precision again on the topic of each judgement.
+    expect_few_calls(&rt, alloc, SESSION, &files, 300)?;
+    expect_few_calls(&rt, alloc, BY_RELEVANT, &files, 450)?;
     Ok(())
 }

@@ -1,5 +1,5 @@
 -- The weights of one pair of runs in the totals, and what a change of its verdict does to them.
-use Rattle.std.specs.Prelude.{◌≡◌, ◌≢◌, ℕ, ◌+◌, ◌^◌, ◌<◌, ◌≤◌, if◌then◌else◌, List, [], length, slice_index, slice_index_or}
+use Rattle.std.specs.Prelude.{◌≡◌, ℕ, ◌+◌, ◌^◌, ◌<◌, ◌≤◌, if◌then◌else◌, List, [], length, slice_index, slice_index_or}
 use Rattle.desk_model.specs.Desk.{Desk, ranking_of}
 use Rattle.desk_model.specs.declared.pairs.PairPlaces.{PairPlaces}
 use Rattle.desk_model.specs.declared.types.Mark.{Mark}
@@ -32,23 +32,23 @@ pub record AreMoved (before after : Verdict) (weight : ℕ → ℕ) (earlier lat
   pub count : length later ≡ length earlier
   pub each : (doc : ℕ) → doc < length earlier → slice_index later doc + counted before (weight doc) ≡ slice_index earlier doc + counted after (weight doc)
 
--- there is a total for each document, and something holds of the totals of each topic but one
-pub record HoldBut (changed : ℕ) (marks : List (List Mark)) (P : ℕ → List ℕ → Type 0) (totals : List (List ℕ)) : Type 0 where
+-- there is a total for each document, and something holds of the totals of each topic
+pub record HoldOnAll (marks : List (List Mark)) (P : ℕ → List ℕ → Type 0) (totals : List (List ℕ)) : Type 0 where
   pub over : AreOver marks totals
-  pub each : (topic : ℕ) → topic < length marks → topic ≢ changed → P topic (slice_index_or totals topic [])
+  pub each : (topic : ℕ) → topic < length marks → P topic (slice_index_or totals topic [])
 
--- the totals of all topics but one can be made greater or less by the weights of a pair
-abbrev pub HaveRoomBut : ℕ → Shift → Standing → PairPlaces → List (List ℕ) → Type 0
-HaveRoomBut changed shift s pair totals = HoldBut changed s.marks (λ (topic : ℕ) (here : List ℕ). HaveRoom shift (weights_of s pair topic) here) totals
+-- the totals of all topics can be made greater or less by the weights of a pair
+abbrev pub HaveRoomOnAll : Shift → Standing → PairPlaces → List (List ℕ) → Type 0
+HaveRoomOnAll shift s pair totals = HoldOnAll s.marks (λ (topic : ℕ) (here : List ℕ). HaveRoom shift (weights_of s pair topic) here) totals
 
 -- they were made greater or less by them
-abbrev pub AreShiftedBut : ℕ → Shift → Standing → PairPlaces → List (List ℕ) → List (List ℕ) → Type 0
-AreShiftedBut changed shift s pair old now = HoldBut changed s.marks (λ (topic : ℕ) (here : List ℕ). AreShifted shift (weights_of s pair topic) (slice_index_or old topic []) here) now
+abbrev pub AreShiftedOnAll : Shift → Standing → PairPlaces → List (List ℕ) → List (List ℕ) → Type 0
+AreShiftedOnAll shift s pair old now = HoldOnAll s.marks (λ (topic : ℕ) (here : List ℕ). AreShifted shift (weights_of s pair topic) (slice_index_or old topic []) here) now
 
 -- they have what a pair with this verdict adds to them, and room for more
-abbrev pub HaveCountedBut : ℕ → Verdict → Standing → PairPlaces → List (List ℕ) → Type 0
-HaveCountedBut changed verdict s pair totals = HoldBut changed s.marks (λ (topic : ℕ) (here : List ℕ). HaveCounted verdict (weights_of s pair topic) here) totals
+abbrev pub HaveCountedOnAll : Verdict → Standing → PairPlaces → List (List ℕ) → Type 0
+HaveCountedOnAll verdict s pair totals = HoldOnAll s.marks (λ (topic : ℕ) (here : List ℕ). HaveCounted verdict (weights_of s pair topic) here) totals
 
 -- they are those after the verdict of the pair is another
-abbrev pub AreMovedBut : ℕ → Verdict → Verdict → Standing → PairPlaces → List (List ℕ) → List (List ℕ) → Type 0
-AreMovedBut changed before after s pair old now = HoldBut changed s.marks (λ (topic : ℕ) (here : List ℕ). AreMoved before after (weights_of s pair topic) (slice_index_or old topic []) here) now
+abbrev pub AreMovedOnAll : Verdict → Verdict → Standing → PairPlaces → List (List ℕ) → List (List ℕ) → Type 0
+AreMovedOnAll before after s pair old now = HoldOnAll s.marks (λ (topic : ℕ) (here : List ℕ). AreMoved before after (weights_of s pair topic) (slice_index_or old topic []) here) now

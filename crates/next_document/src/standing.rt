@@ -1,5 +1,6 @@
-// How the runs of a desk stand at a time: as a whole, on one topic, and on it for one document or with one pair of
-// runs. Each type carries what is known of its fields, so that a function over it asks no such thing of its callers.
+// How the runs of a desk stand at a time: as a whole or with one pair of them, and on one topic, there also for one
+// document or with one pair of runs. Each type carries what is known of its fields, so that a function over it asks no
+// such thing of its callers.
 ghost use Rattle.std.specs.Prelude.{◌≡◌, ◌<◌, [], length, slice_index_or, ⊤};
 ghost use Rattle.next_document.specs.Marked.{AreMarksOf-prop};
 ghost use Rattle.desk_model.specs.Desk.{AreMarksOf};
@@ -63,6 +64,15 @@ pub struct DocumentStanding<'a, M> {
     pub topic: TopicStanding<'a, M>,
     pub number: u32,
     pub ghost known: { number < length (slice_index_or topic.standing.on.marks.now topic.number []) },
+}
+
+/// How runs stand on all topics with one pair of them, by its places. Its facts: both places are runs of the desk.
+#[derive(Drop)]
+pub struct DeskPairStanding<'a, M> {
+    pub standing: Standing<'a, M>,
+    pub pair: PairPlaces,
+    pub ghost first: { pair.first < length standing.on.desk.now.runs },
+    pub ghost second: { pair.second < length standing.on.desk.now.runs },
 }
 
 /// How runs stand on one topic with one pair of them, by its places. Its facts: both places are runs of the desk.

@@ -5,7 +5,8 @@ ghost use Rattle.desk_model.specs.Pairs.{pairs_of};
 
 use crate::best_kept::TopicTotals;
 use crate::proposal::Proposal;
-use crate::standing::{MarkedDesk, Standing, TopicStanding};
+use crate::renewed::{renew, weighs_by_marks};
+use crate::standing::{MarkedDesk, Standing};
 use desk_model::{Desk, Marks, Memory, Verdict};
 use measure_core::Measure;
 use std::alloc::Global;
@@ -32,7 +33,7 @@ impl Model for Weights {
 }
 
 impl Weights {
-    ghost use Rattle.next_document.specs.Kept.{AreOver, AreKeptFor, AreKeptBut, IsNextWhereKept};
+    ghost use Rattle.next_document.specs.Kept.{AreOver, AreKeptFor, AreKeptBut, WereKept, IsNextWhereKept};
 
     /// The totals under these marks and verdicts. The verdicts are those of the pairs in the order of a table. An error
     /// is out of memory.
@@ -59,6 +60,30 @@ impl Weights {
         Ok(Weights { totals, verdicts })
     }
 
+    // Holds other verdicts, and renews the totals for them, under the same marks.
+    fn hold<'x, M: Measure>(
+        &mut self,
+        measure: &'x M,
+        desk: &'x Desk,
+        marks: &'x Marks,
+        verdicts: &'x [Verdict],
+    )
+        requires marks { AreMarksOf desk.now marks.now.rows }
+        requires verdicts { length verdicts.now ≡ length (pairs_of desk.now.runs) }
+        requires held { length self.old.verdicts ≡ length (pairs_of desk.now.runs) }
+        requires totals { AreKeptFor (M.measured measure.now) desk.now marks.now.rows self.old }
+        ensures totals { AreKeptFor (M.measured measure.now) desk.now marks.now.rows self.new }
+        ensures held { self.new.verdicts ≡ verdicts.now }
+    {
+        let rows = marks.rows();
+        let standing = Standing {
+            measure,
+            on: MarkedDesk { desk, marks: rows },
+            verdicts,
+        };
+        standing.hold_verdicts(&mut self.verdicts, &mut self.totals);
+    }
+
     /// Renews the totals after a change of marks in one topic, and holds other verdicts.
     ///
     /// Before it, the totals of every other topic are those under these marks and the verdicts held, and those of the
@@ -81,16 +106,35 @@ impl Weights {
         ensures held { self.new.verdicts ≡ verdicts.now }
     {
         let rows = marks.rows();
-        let standing = Standing {
-            measure,
-            on: MarkedDesk { desk, marks: rows },
-            verdicts,
-        };
-        let changed = TopicStanding {
-            standing,
-            number: topic,
-        };
-        changed.renew(&mut self.verdicts, &mut self.totals);
+        renew(measure, desk, rows, &self.verdicts, topic, &mut self.totals);
+        self.hold(measure, desk, marks, verdicts);
+    }
+
+    /// The same as `change`, where the totals held are those under marks that differ from these in one topic alone.
+    ///
+    /// Only a measure whose weights depend on marks has the totals of that topic made anew. Otherwise the weights of the
+    /// pairs are added or taken back whose verdict begins or ceases to count.
+    pub fn update<'x, M: Measure>(
+        &mut self,
+        measure: &'x M,
+        desk: &'x Desk,
+        marks: &'x Marks,
+        verdicts: &'x [Verdict],
+        topic: u32,
+    )
+        requires marks { AreMarksOf desk.now marks.now.rows }
+        requires verdicts { length verdicts.now ≡ length (pairs_of desk.now.runs) }
+        requires topic { topic < length desk.now.topics }
+        requires held { length self.old.verdicts ≡ length (pairs_of desk.now.runs) }
+        requires before { WereKept topic (M.measured measure.now) desk.now marks.now.rows self.old }
+        ensures totals { AreKeptFor (M.measured measure.now) desk.now marks.now.rows self.new }
+        ensures held { self.new.verdicts ≡ verdicts.now }
+    {
+        if weighs_by_marks(measure.name()) {
+            self.change(measure, desk, marks, verdicts, topic);
+        } else {
+            self.hold(measure, desk, marks, verdicts);
+        }
     }
 
     /// The document to judge next, by the kept totals: equal to what `next` answers of the same measure, desk, marks and

@@ -14,7 +14,7 @@ use Rattle.topic_counts.specs.declared.span.Span.{Span}
 use Rattle.measure_core.specs.declared.cell.Cell.{Cell}
 use Rattle.measure_laws.specs.Weights.{weight_of}
 use Rattle.next_document.specs.Kept.{HeldTotals as Weights, AreKeptFor}
-use Rattle.next_document.proofs.Elsewhere.{kept_elsewhere}
+use Rattle.next_document.proofs.Elsewhere.{were_kept}
 use Rattle.next_document.specs.Proposal.{total_weight, unsettled_pairs}
 use Rattle.next_document.specs.Total.{standing}
 use Rattle.desk_report.specs.Reports.{Subject, IsSubjectOf, AreWeightsOf}
@@ -22,7 +22,7 @@ use Rattle.desk_report.proofs.Reporting.{table_numbers}
 use Rattle.pair_table.specs.Kept.{Kept, StandsFor}
 use Rattle.pair_table.specs.Sums.{pair_sums, run_numbers}
 use Rattle.pair_table.proofs.PairNumbers.{length-pairs_of}
-use Rattle.session_replies.specs.State.{Numbers, AreWeightsFor, AreWeightsElsewhere}
+use Rattle.session_replies.specs.State.{Numbers, AreWeightsFor, WereWeightsFor}
 
 -- a table has a verdict for each pair
 pub verdict_each : {M : Type 0} (cell : List Mark → List ℕ → List ℕ → Cell) (bound : List Mark → List ℕ → Span) (desk : Desk) (marks : List (List Mark)) (table : Kept M) → StandsFor cell bound desk marks table →
@@ -31,14 +31,14 @@ verdict_each cell bound desk marks table h =
     length-map table.totals verdict ∙ ap length h.totals
     ∙ length-map (pairs_of (run_numbers (length desk.runs))) (λ (pair : ℕ × ℕ). pair_sums cell (topics_under desk marks) pair.0 pair.1) ∙ length-pairs_of desk.runs 0
 
--- totals that are there are those of every other topic for the marks with another mark of one document
-pub weights_elsewhere : {M : Type 0} (n : Numbers M) (desk : Desk) (marks : List (List Mark)) (topic doc : ℕ) (mark : Mark) (weights : Option Weights) (table : Option (Kept M)) → topic < length marks →
+-- totals that are there were those of marks that differ in one topic, for the marks with another mark of one document
+pub weights_were : {M : Type 0} (n : Numbers M) (desk : Desk) (marks : List (List Mark)) (topic doc : ℕ) (mark : Mark) (weights : Option Weights) (table : Option (Kept M)) → topic < length marks →
     IfSome table (λ t. StandsFor (n.cell t.measure) (n.bound t.measure) desk marks t) → AreWeightsFor n desk marks weights table →
-    AreWeightsElsewhere n topic desk (set marks topic (set (get_or marks topic []) doc mark)) weights table
-weights_elsewhere n desk marks topic doc mark None table within stands h = tt
-weights_elsewhere n desk marks topic doc mark (Some weights) None within stands h = absurd h
-weights_elsewhere n desk marks topic doc mark (Some weights) (Some t) within stands h = (
-  kept_elsewhere (n.name t.measure) desk marks topic (set (get_or marks topic []) doc mark) weights within (length-set (get_or marks topic []) doc mark) h.0,
+    WereWeightsFor n topic desk (set marks topic (set (get_or marks topic []) doc mark)) weights table
+weights_were n desk marks topic doc mark None table within stands h = tt
+weights_were n desk marks topic doc mark (Some weights) None within stands h = absurd h
+weights_were n desk marks topic doc mark (Some weights) (Some t) within stands h = (
+  were_kept (n.name t.measure) desk marks topic (set (get_or marks topic []) doc mark) weights within (length-set (get_or marks topic []) doc mark) h.0,
   ap length h.1 ∙ verdict_each (n.cell t.measure) (n.bound t.measure) desk marks t stands,
 )
 

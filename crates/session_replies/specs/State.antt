@@ -10,7 +10,7 @@ use Rattle.desk_model.specs.declared.types.Mark.{Mark}
 use Rattle.desk_model.specs.declared.types.MeasureName.{MeasureName}
 use Rattle.topic_counts.specs.declared.span.Span.{Span}
 use Rattle.measure_core.specs.declared.cell.Cell.{Cell}
-use Rattle.next_document.specs.Kept.{HeldTotals as Weights, AreKeptFor, AreKeptBut}
+use Rattle.next_document.specs.Kept.{HeldTotals as Weights, AreKeptFor, WereKept}
 use Rattle.judge_session.specs.InForce.{IsSessionOf}
 use Rattle.desk_report.specs.Grading.{IsGrading}
 use Rattle.desk_report.specs.Reports.{Subject, AreRuns, IsTableOn, IsTableText, IsPairText}
@@ -70,11 +70,11 @@ AreWeightsFor n desk marks None table = Unit {0}
 AreWeightsFor n desk marks (Some weights) None = ⊥
 AreWeightsFor n desk marks (Some weights) (Some table) = AreKeptFor (n.name table.measure) desk marks weights × (weights.verdicts ≡ map verdict table.totals)
 
--- the totals of all topics but one are those under these marks, by a verdict of each pair
-abbrev pub AreWeightsElsewhere : {M : Type 0} → Numbers M → ℕ → Desk → List (List Mark) → Option Weights → Option (Kept M) → Type 0
-AreWeightsElsewhere n topic desk marks None table = Unit {0}
-AreWeightsElsewhere n topic desk marks (Some weights) None = ⊥
-AreWeightsElsewhere n topic desk marks (Some weights) (Some table) = AreKeptBut topic (n.name table.measure) desk marks weights × (length weights.verdicts ≡ length (pairs_of desk.runs))
+-- totals of documents that are there are those under marks that differ from these in one topic at most, by a verdict of each pair
+abbrev pub WereWeightsFor : {M : Type 0} → Numbers M → ℕ → Desk → List (List Mark) → Option Weights → Option (Kept M) → Type 0
+WereWeightsFor n topic desk marks None table = Unit {0}
+WereWeightsFor n topic desk marks (Some weights) None = ⊥
+WereWeightsFor n topic desk marks (Some weights) (Some table) = WereKept topic (n.name table.measure) desk marks weights × (length weights.verdicts ≡ length (pairs_of desk.runs))
 
 -- the changes are of the desk, the marks are those by the judgements in force, with the pools of the depth, and a table and totals that are there are those of these marks
 pub record IsReadyForLine {M : Type 0} (n : Numbers M) (s : Setting) (kept : Judging M) : Type 0 where

@@ -10,7 +10,7 @@ ghost use Rattle.desk_report.specs.Table.{ended};
 ghost use Rattle.pair_table.specs.Kept.{StandsFor, StandsElsewhere};
 ghost use Rattle.judge_session.specs.Request as lines;
 ghost use Rattle.session_replies.specs.Replies.{refusal, fault_word};
-ghost use Rattle.session_replies.specs.State.{setting_of, IsReadyForLine, Answers, CountsLine, Keeps, TakesOver, AreWeightsFor, AreWeightsElsewhere, owed, pairs_in};
+ghost use Rattle.session_replies.specs.State.{setting_of, IsReadyForLine, Answers, CountsLine, Keeps, TakesOver, AreWeightsFor, WereWeightsFor, owed, pairs_in};
 
 use crate::state::{Given, Judging};
 use crate::telling::refused;
@@ -49,7 +49,7 @@ fn take_over<M: Measure, L: Ledger>(
     requires marks { AreMarksOf desk.now marks.now.rows }
     requires topic { topic < length desk.now.topics }
     requires others { IfSome table.old (λ table. StandsElsewhere (M.cell_of table.measure) (M.bounds_of table.measure) desk.now marks.now.rows topic table) }
-    requires totals { AreWeightsElsewhere (record { name = M.measured; cell = M.cell_of; bound = M.bounds_of }) topic desk.now marks.now.rows weights.old table.old }
+    requires totals { WereWeightsFor (record { name = M.measured; cell = M.cell_of; bound = M.bounds_of }) topic desk.now marks.now.rows weights.old table.old }
     ensures table { TakesOver (record { name = M.measured; cell = M.cell_of; bound = M.bounds_of }) desk.now marks.now.rows table.old table.new }
     ensures totals { AreWeightsFor (record { name = M.measured; cell = M.cell_of; bound = M.bounds_of }) desk.now marks.now.rows weights.new table.new }
     ensures table_kept { IsSome table.old → IsSome table.new }
@@ -59,7 +59,7 @@ fn take_over<M: Measure, L: Ledger>(
     if let Some(table) = table {
         table.change(desk, marks, topic, steps);
         if let Some(weights) = weights {
-            weights.change(table.measure(), desk, marks, table.verdicts(), topic);
+            weights.update(table.measure(), desk, marks, table.verdicts(), topic);
         }
     }
 }

@@ -3,9 +3,9 @@ use Rattle.std.specs.Prelude.{IfSome, slice_index_or, slice_set}
 use Rattle.desk_model.specs.Desk.{AreMarksOf}
 use Rattle.desk_model.specs.Graded.{Marked, mark_within}
 use Rattle.pair_table.specs.Kept.{StandsElsewhere}
-use Rattle.session_replies.specs.State.{Numbers, AreWeightsElsewhere}
+use Rattle.session_replies.specs.State.{Numbers, WereWeightsFor}
 use Rattle.session_replies.proofs.Following.{marks_with, table_elsewhere}
-use Rattle.session_replies.proofs.Weighing.{weights_elsewhere}
+use Rattle.session_replies.proofs.Weighing.{weights_were}
 use Rattle.session_replies.proofs.state.Judging.follow.Goals as goal
 
 pub take_over-requires-clause-marks : goal.take_over-requires-clause-marks
@@ -29,8 +29,8 @@ take_over-requires-clause-totals g c =
     let told = c.args.changed.now in
     let old = c.args.self.now in
     let n : Numbers _ = record { name = g.M.Measure.measured; cell = g.M.Measure.cell_of; bound = g.M.Measure.bounds_of } in
-    subst (λ ms. AreWeightsElsewhere n told.topic desk ms old.weights old.table) (sym (ap (λ (m : Marked). m.rows) c.set.ensures))
-    (weights_elsewhere n desk old.marks.rows told.topic told.doc c.mark-mark.result old.weights old.table c.requires.topic c.requires.table c.requires.totals)
+    subst (λ ms. WereWeightsFor n told.topic desk ms old.weights old.table) (sym (ap (λ (m : Marked). m.rows) c.set.ensures))
+    (weights_were n desk old.marks.rows told.topic told.doc c.mark-mark.result old.weights old.table c.requires.topic c.requires.table c.requires.totals)
 
 pub returns-clause-marks : goal.returns-clause-marks
 returns-clause-marks g c =
