@@ -1,8 +1,6 @@
 -- Where a verdict is open, the least cases of both orders differ.
-use Rattle.std.proofs.Common.{◌≡◌, ◌≢◌, ℕ, ◌+◌, ◌<◌, Bool, true, false, List, [], ◌∷◌, map, length, cond, nat_eq, refl, ap, sym, subst, arith, ◌⊎◌, inl, inr, ℤ, pos, ◌≤ℤ◌, ◌<ℤ◌}
-use Rattle.std.specs.Prelude.{◌||◌, ◌&&◌, int_lt, int_le}
+use Rattle.std.proofs.Common.{◌≡◌, ◌≢◌, ℕ, ◌<◌, Bool, List, [], ◌∷◌, map, length, cond, nat_eq, refl, ap, sym, subst, arith, ℤ}
 use Rattle.std.specs.List.{AllZip}
-use Rattle.std.proofs.lemmas.Int.{ints}
 use Rattle.std.proofs.lemmas.Bool.{eq-eqb, ne_eqb}
 use Rattle.desk_model.specs.Completion.{Completion}
 use Rattle.desk_model.specs.Extremes.{Ends}
@@ -10,12 +8,11 @@ use Rattle.desk_model.specs.Fraction.{Fraction, IsAtMost, IsAtLeast, total}
 use Rattle.desk_model.specs.MeasureText.{IsMeasure}
 use Rattle.desk_model.specs.Order.{Topic, IsCompletion, run_score, run_scores}
 use Rattle.desk_model.specs.Score.{score}
-use Rattle.desk_model.specs.Verdict.{verdict, whole_sum, totals_of, differs}
+use Rattle.desk_model.specs.Verdict.{verdict, whole_sum, totals_of}
 use Rattle.desk_model.specs.declared.types.Mark.{Mark}
 use Rattle.desk_model.specs.declared.types.MeasureName.{MeasureName}
 use Rattle.desk_model.specs.declared.types.Verdict.TheVariants.{Open}
-use Rattle.desk_model.proofs.Fractions.{below_from_at_most, below_from_at_least, not_below_from_at_most, not_below_from_at_least, mean_below, mean_below_out}
-use Rattle.desk_model.proofs.Topics.{Adds, at_most_adds, at_least_adds, total_scores-den, length-run_scores}
+use Rattle.desk_model.proofs.Topics.{Adds, at_most_adds, at_least_adds}
 use Rattle.measure_laws.specs.Cases.{least_truth, HasLeastTails}
 use Rattle.measure_laws.specs.Measures.{unit_of}
 use Rattle.measure_laws.proofs.Biased.{least_tails}
@@ -27,7 +24,6 @@ use Rattle.measure_core.specs.Laws.{AreMet, MeetsLaws}
 use Rattle.measure_core.specs.Made.{ends_of, HasEnds}
 use Rattle.measure_core.specs.declared.cell.Cell.{Cell}
 use Rattle.topic_counts.specs.declared.span.Span.{Span}
-use Rattle.order_certificate.specs.Claim.{Differ}
 use Rattle.pair_table.specs.Orders.{IsLeastCaseOf, AreUndecided}
 use Rattle.order_certificate.proofs.Holds.{means_differ}
 use Rattle.pair_table.proofs.Verdicts.{open_says}

@@ -9,7 +9,7 @@ ghost use Rattle.desk_model.specs.MeasureText.{IsMeasure};
 ghost use Rattle.topic_counts.specs.Ends.{IsShort};
 ghost use Rattle.pair_table.specs.Sums.{run_numbers, all_pair_sums, all_run_sums, swapped_totals};
 ghost use Rattle.measure_core.specs.Laws.{swapped_cell};
-ghost use Rattle.pair_table.specs.Kept.{numbers_on, topic_at, all_numbers, AreTopicNumbers, IsCellOf, no_totals, no_bounds, kept_totals, kept_bounds, StandsFor, StandsElsewhere, AreSumsOf, AreModestTotals};
+ghost use Rattle.pair_table.specs.Kept.{TopicNumbers, numbers_on, topic_at, all_numbers, AreTopicNumbers, IsCellOf, no_totals, no_bounds, kept_totals, kept_bounds, StandsFor, StandsElsewhere, AreSumsOf, AreModestTotals};
 
 use crate::kept::KeptTopic;
 use desk_model::{Desk, Marks, Memory, Rows, Totals, Verdict, verdict_of};
@@ -323,6 +323,19 @@ impl<M: Measure> Table<M> {
             cells.push(cell)?;
         }
         Ok(cells)
+    }
+
+    /// The kept cell of two different runs on a topic, by the topic's number from 0. That of (j, i) is that of (i, j)
+    /// swapped. It takes no memory.
+    pub fn cell(&self, i: u32, j: u32, topic: u32) -> Cell
+        requires different { i ≢ j }
+        requires first { i < self.now.runs }
+        requires second { j < self.now.runs }
+        requires topic { topic < length self.now.topics }
+        ensures { (kept : TopicNumbers) × (slice_get self.now.topics topic ≡ Some kept) ×
+            IsCellOf self.now.runs i j result kept }
+    {
+        cell_of_runs(&self.topics[topic as usize], self.runs, i, j)
     }
 
     /// The verdict of two different runs, of the first on the second.
