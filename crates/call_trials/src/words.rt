@@ -1,4 +1,4 @@
-// A flag, and the greatest seed.
+// A flag, tiers with a level and a depth, and the greatest seed.
 use command_line::{Given, Row};
 use desk_words::{Command, read_words};
 use std::alloc::{AllocError, Global};
@@ -75,6 +75,33 @@ fn are_certified(alloc: Global) -> Result<bool, AllocError> {
     )
 }
 
+// Whether it asks for tiers at this level and under this depth.
+fn asks_for_tiers(
+    alloc: Global,
+    line: &str,
+    level: u32,
+    depth: Option<u32>,
+) -> Result<bool, AllocError> {
+    let words = words_of(alloc, line)?;
+    match read_words(alloc, words.as_slice()) {
+        Ok(Command::Tiers(job)) => Ok(job.level == level && job.depth == depth),
+        _ => Ok(false),
+    }
+}
+
+fn are_tiers(alloc: Global) -> Result<bool, AllocError> {
+    Ok(
+        asks_for_tiers(alloc, "tiers --qrels q --measure map a", 1, None)?
+            && asks_for_tiers(
+                alloc,
+                "tiers --depth=7 a --level 2 b --measure P_1 --qrels q",
+                2,
+                Some(7),
+            )?
+            && !asks_for_tiers(alloc, "table --qrels q --measure map a", 1, None)?,
+    )
+}
+
 fn is_greatest_seed(alloc: Global) -> Result<bool, AllocError> {
     let words = words_of(alloc, "demo 4294967295")?;
     let command = read_words(alloc, words.as_slice());
@@ -82,9 +109,10 @@ fn is_greatest_seed(alloc: Global) -> Result<bool, AllocError> {
 }
 
 #[test]
-fn a_flag_and_a_seed_are_read(rt: HostRuntime) -> Result<(), Fail> {
+fn words_are_read(rt: HostRuntime) -> Result<(), Fail> {
     assert!(rt; are_flagged(rt.alloc())?);
     assert!(rt; are_certified(rt.alloc())?);
+    assert!(rt; are_tiers(rt.alloc())?);
     assert!(rt; is_greatest_seed(rt.alloc())?);
     Ok(())
 }

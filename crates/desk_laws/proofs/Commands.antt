@@ -1,16 +1,17 @@
 -- What holds of each command: a row each.
-use Rattle.std.proofs.Common.{ℕ, List, [], ◌∷◌, sym, subst, ◌∙◌, inl, inr, refl, arith}
+use Rattle.std.proofs.Common.{◌≡◌, ℕ, List, [], ◌∷◌, ap, sym, subst, ◌∙◌, inl, inr, refl, arith}
 use Rattle.std.specs.Prelude.{Result, Ok, Err, Bool, true, false, cond, nat_lt, length}
 use Rattle.std.specs.List.{Contains}
 use Rattle.desk_outside.specs.Inputs.{Input, Whole, Cut, bytes_in}
 use Rattle.desk_words.specs.declared.command.Check.{Check}
 use Rattle.desk_words.specs.declared.command.Job.{Job}
 use Rattle.desk_words.specs.declared.command.Command.{Command}
-use Rattle.desk_words.specs.declared.command.Command.TheVariants.{Table, Certify, CertifyAll, Session, Verify, Demo, Graded}
+use Rattle.desk_words.specs.declared.command.Command.TheVariants.{Table, Certify, CertifyAll, Session, Verify, Demo, Graded, Tiers}
 use Rattle.bundle_verifier.specs.declared.rejected.BundleRejected.{BundleRejected}
 use Rattle.bundle_report.specs.Bundled.{IsAllPairsText}
 use Rattle.desk_report.specs.Reports.{Subject, IsTableText, IsCertificateText, IsCloseText}
 use Rattle.desk_report.specs.Table.{ended}
+use Rattle.desk_report.specs.Tiers.{IsTiersText, tiers_text}
 use Rattle.session_replies.proofs.Unique.{one_table}
 use Rattle.session_stream.specs.Hearing.{End, Done, InputTooLong, has_quit, before_quit, ended_lines, heard_to_end, hearing_of}
 use Rattle.session_stream.specs.declared.stream.TheConstants.{LONGEST_INPUT}
@@ -19,16 +20,16 @@ use Rattle.desk_files.proofs.Opening.{may_open_qrels}
 use Rattle.desk_files.proofs.Checking.{check_opens_qrels}
 use Rattle.desk_top.specs.declared.status.Status.{Status}
 use Rattle.desk_top.specs.declared.status.Status.TheVariants as statuses
-use Rattle.desk_top.specs.Answer.{OfRuns, OfNothing, Answer}
+use Rattle.desk_top.specs.Answer.{OfRuns, OfTiers, OfNothing, Answer}
 use Rattle.desk_top.specs.Outcome.{Outcome, answer_of}
 use Rattle.desk_top.specs.Report.{sources_of, graded_sources}
 use Rattle.desk_top.specs.Verification.{PrintsCheck, verification_status}
 use Rattle.desk_top.specs.Conversation.{status_at}
 use Rattle.desk_top.specs.Showing.{PrintsDemo}
 use Rattle.desk_top.specs.Loading.{loading_from, check_loading, no_loading}
-use Rattle.desk_top.specs.Meaning.{Meaning, check_meaning, session_meaning, demo_meaning, desk_meaning, graded_meaning, meaning_of, PrintsTable, PrintsCertificate, PrintsAllPairs}
-use Rattle.desk_laws.specs.Fixed.{BundleIsOne, CheckIsOne, AnswersAreFixed}
-use Rattle.desk_laws.proofs.LineEnds.{all_pairs_text_ends, too_long_ends, table_text_ends, certificate_text_ends, close_text_ends, next_text_ends, verification_ends, summary_ends, line_ends}
+use Rattle.desk_top.specs.Meaning.{Meaning, check_meaning, session_meaning, demo_meaning, desk_meaning, graded_meaning, meaning_of, PrintsTable, PrintsTiers, PrintsCertificate, PrintsAllPairs}
+use Rattle.desk_laws.specs.Fixed.{BundleIsOne, CheckIsOne, OrderIsOne, AnswersAreFixed}
+use Rattle.desk_laws.proofs.LineEnds.{all_pairs_text_ends, too_long_ends, table_text_ends, tiers_text_ends, certificate_text_ends, close_text_ends, next_text_ends, verification_ends, summary_ends, line_ends}
 use Rattle.desk_laws.proofs.Statuses.{IsLawfulLoading, HasEnds, EndsIn}
 use Rattle.desk_laws.proofs.Answering.{EndsLines, HasLines, HasOneAnswer, IsMadeLawfully, outcome_ends, outcome_lines, outcome_one, text_status, text_lines, text_one, on_desk_ends, on_desk_lines, on_desk_one, graded_status, graded_whole, graded_answer_one, all_pairs_one, certificate_one, check_one, session_lines, session_one, demo_one}
 
@@ -62,6 +63,18 @@ prints_table = record {
   lines = λ s outcome is. text_lines statuses.Done (OfRuns s) (IsTableText s) (table_text_ends s) outcome is;
   one = λ s first second h k. text_one statuses.Done (OfRuns s) (IsTableText s) (one_table s) first second h k;
 }
+
+-- the tiers of the runs
+module _ (order_one : OrderIsOne) where
+  one_tiers : (s : Subject) (text other : List ℕ) → IsTiersText s text → IsTiersText s other → text ≡ other
+  one_tiers s text other h k = h.is ∙ ap (tiers_text s.desk s.measure s.level s.depth) (order_one s.measure s.desk s.marks h.order k.order h.named k.named) ∙ sym k.is
+
+  prints_tiers : IsMadeLawfully (statuses.Done ∷ []) PrintsTiers
+  prints_tiers = record {
+    status = λ s outcome is. text_status (statuses.Done ∷ []) statuses.Done (OfTiers s) (IsTiersText s) (the_first statuses.Done []) outcome is;
+    lines = λ s outcome is. text_lines statuses.Done (OfTiers s) (IsTiersText s) (tiers_text_ends s) outcome is;
+    one = λ s first second h k. text_one statuses.Done (OfTiers s) (IsTiersText s) (one_tiers s) first second h k;
+  }
 
 prints_certificate : IsMadeLawfully (statuses.Done ∷ statuses.Close ∷ []) PrintsCertificate
 prints_certificate = record { status = status; lines = lines; one = certificate_one }
@@ -176,3 +189,4 @@ command_is_lawful fixed (Session job) = session fixed job
 command_is_lawful fixed (Verify check) = check_of fixed check
 command_is_lawful fixed (Demo seed) = demo fixed seed
 command_is_lawful fixed (Graded job greatest) = graded fixed job greatest
+command_is_lawful fixed (Tiers job) = on_desk fixed job 1 (statuses.Done ∷ []) PrintsTiers (prints_tiers fixed.order)

@@ -23,6 +23,7 @@ use Rattle.desk_report.specs.Close.{close_line}
 use Rattle.desk_report.specs.Table.{table_text, table_lines, pair_line, ended}
 use Rattle.desk_report.specs.Judging.{topic_qrels_lines, changed_line, pool_line, next_line}
 use Rattle.desk_report.specs.Reports.{Subject, IsTableText, IsCertificateText, IsCloseText, IsPairText, IsNextText, run_name}
+use Rattle.desk_report.specs.Tiers.{IsTiersText, tiers_lines, tiers_text}
 use Rattle.session_replies.specs.Replies.{Setting, OnNumbers, IsCertified, IsPoolReply, IsReply, judge_reply, undo_reply, redo_reply, subject_after, changes_after, all_in_force, refusal, change_reply, fault_word}
 use Rattle.session_stream.specs.Text.{AreReplies}
 use Rattle.session_stream.specs.Hearing.{End, Done, InputTooLong, Failed}
@@ -67,6 +68,13 @@ all_pairs_text_ends s text is = subst EndsLastLine (sym is.is) (certificate_ends
 
 pub table_text_ends : (s : Subject) (text : List ℕ) → IsTableText s text → EndsLastLine text
 table_text_ends s text is = subst EndsLastLine (sym is.is) (table_ends _ _ _ _ _ _ _)
+
+tiers_end : (desk : Desk) (measure : _) (level : ℕ) (depth : _) (order : _) → EndsLastLine (tiers_text desk measure level depth order)
+unfolding tiers_text
+tiers_end desk measure level depth order = lines_end (tiers_lines desk measure level depth order)
+
+pub tiers_text_ends : (s : Subject) (text : List ℕ) → IsTiersText s text → EndsLastLine text
+tiers_text_ends s text is = subst EndsLastLine (sym is.is) (tiers_end _ _ _ _ _)
 
 graded_ends : (desk : Desk) (measure : _) (greatest : ℕ) (bounds : _) (totals : _) → EndsLastLine (graded_text desk measure greatest bounds totals)
 unfolding graded_text

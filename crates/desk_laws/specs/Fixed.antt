@@ -12,6 +12,7 @@ use Rattle.topics_pool.specs.Rows.{IsDeskOf}
 use Rattle.next_document.specs.Laws.{NextIsOne}
 use Rattle.order_bundle.specs.Bundle.{Bundle}
 use Rattle.table_bundle.specs.Bundles.{IsBundleOf}
+use Rattle.order_tiers.specs.Order.{Ordered, IsOrderIn}
 use Rattle.order_bundle.specs.declared.any_certificate.AnyCertificate.{AnyCertificate}
 use Rattle.order_bundle.specs.declared.scoped.Scoped.{Scoped}
 use Rattle.bundle_verifier.specs.Either.{IsAnyVerified}
@@ -37,11 +38,16 @@ VerifierIsOne = (c : AnyCertificate) (desk : Desk) (marks : List (List Mark)) (r
 abbrev pub BundleIsOne : Type 0
 BundleIsOne = (name : MeasureName) (desk : Desk) (marks : List (List Mark)) (level : ℕ) (a b : Bundle) → IsBundleOf (HasEnds name) name desk marks level a → IsBundleOf (HasEnds name) name desk marks level b → a ≡ b
 
+-- a desk under its marks has one order of its runs by a measure's name
+abbrev pub OrderIsOne : Type 0
+OrderIsOne = (name : MeasureName) (desk : Desk) (marks : List (List Mark)) (order other : Ordered) → IsOrderIn name desk marks order → IsOrderIn name desk marks other → order ≡ other
+
 -- each of them, and a line of a session has one reply, and there is one proposal
 pub record AnswersAreFixed : Type 0 where
   pub check : CheckIsOne
   pub desk : DeskIsOne
   pub verifier : VerifierIsOne
   pub bundle : BundleIsOne
+  pub order : OrderIsOne
   pub replies : RepliesAreOne
   pub next : NextIsOne

@@ -6,6 +6,7 @@ ghost use Rattle.desk_laws.specs.Laws.{OtherWordsAreUsage, GoodFilesAreAnswered,
 use bundle_verifier::any_answers_are_one;
 use next_document::laws::next_is_one;
 use order_bundle::{scoped_first_bad_line_is_unique, scoped_text_and_certificate_are_one};
+use order_tiers::laws::orders_are_one;
 use session_replies::laws::replies_are_one;
 use table_bundle::laws::bundle_is_one;
 use topics_pool::desk_is_one;
@@ -19,6 +20,7 @@ fn answers_are_fixed()
     desk_is_one();
     any_answers_are_one();
     bundle_is_one();
+    orders_are_one();
     replies_are_one();
     next_is_one();
 }

@@ -18,6 +18,7 @@ ghost use Rattle.desk_model.specs.declared.types.Verdict.TheVariants.{Above, Ope
 ghost use Rattle.measure_laws.specs.AverageEnds.{average_ends};
 ghost use Rattle.measure_laws.specs.Cases.{least_truth};
 ghost use Rattle.measure_laws.specs.Weights.{weight_of};
+ghost use Rattle.order_tiers.specs.Order.{wins_in, losses_in};
 ghost use Rattle.pair_table.specs.Sums.{swapped_totals};
 ghost use Rattle.desk_laws.specs.Example.{two_runs, two_topics, marks_401, a, b, d3_false, d3_true, no_document, without_tails, parts, sums, ends};
 
@@ -80,6 +81,13 @@ pub fn verdicts_of_sums()
     ensures open { verdict (sums (negsuc 0) (negsuc 0) (pos 0) (pos 0)) ≡ Open }
     ensures close { verdict (sums (negsuc 0) (pos 1) (negsuc 0) (pos 1)) ≡ Close }
     ensures swapped_totals { swapped_totals (sums (pos 1) (pos 1) (pos 2) (pos 2)) ≡ sums (negsuc 1) (negsuc 1) (negsuc 0) (negsuc 0) }
+{}
+
+/// Of three topics the first is won, as its least difference is above 0, and the second lost, as its greatest is below. The ends of
+/// the third are on both sides of 0, so it is neither.
+pub fn topics_of_a_covering_pair()
+    ensures wins { wins_in (ends (pos 1) (pos 1) (pos 3) (pos 3) ∷ ends (negsuc 2) (negsuc 2) (negsuc 0) (negsuc 0) ∷ ends (negsuc 0) (negsuc 0) (pos 1) (pos 1) ∷ []) ≡ 1 }
+    ensures losses { losses_in (ends (pos 1) (pos 1) (pos 3) (pos 3) ∷ ends (negsuc 2) (negsuc 2) (negsuc 0) (negsuc 0) ∷ ends (negsuc 0) (negsuc 0) (pos 1) (pos 1) ∷ []) ≡ 1 }
 {}
 
 /// Of two runs of the relevant r and the unjudged u the first has r before u and the second u before r. The first scores 1 in

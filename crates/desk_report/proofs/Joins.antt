@@ -27,7 +27,7 @@ get_or-there [] i d h = absurd (omega arith)
 get_or-there (x ∷ xs) zero d h = refl
 get_or-there (x ∷ xs) (suc i) d h = get_or-there xs i d (omega arith)
 
-flat_map-push : (lines : List (List ℕ)) (line : List ℕ) → flat_map ended (lines ++ line ∷ []) ≡ flat_map ended lines ++ ended line
+pub flat_map-push : (lines : List (List ℕ)) (line : List ℕ) → flat_map ended (lines ++ line ∷ []) ≡ flat_map ended lines ++ ended line
 flat_map-push [] line = append-nil (ended line)
 flat_map-push (l ∷ lines) line = ap (λ rest. ended l ++ rest) (flat_map-push lines line) ∙ sym (append_assoc (ended l) (flat_map ended lines) (ended line))
 

@@ -13,3 +13,4 @@ pub mod QrelsTexts
 pub mod Truths
 pub mod Reporting
 pub mod ByGrades
+pub mod Tiered

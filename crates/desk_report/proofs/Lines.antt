@@ -174,7 +174,7 @@ module _ (name : MeasureName) (desk : Desk) (marks : List (List Mark)) where
     ),
   )
 
-  head_sound : (level : ℕ) (depth : Option ℕ) (topics runs : ℕ) → AllByRecursion (IsSound name desk marks) (head_lines name level depth topics runs)
+  pub head_sound : (level : ℕ) (depth : Option ℕ) (topics runs : ℕ) → AllByRecursion (IsSound name desk marks) (head_lines name level depth topics runs)
   head_sound level depth topics runs = (
     worded_line (codes "measure") (measure_text name) (word _ (omega arith) (search rules)) (ink_in_line (measure_text name) (measure_ink name))
         (λ e. eqb-false 109 112 refl (ap (λ w. get_or w 0 0) e)) (λ e. eqb-false 109 114 refl (ap (λ w. get_or w 0 0) e)),
@@ -242,7 +242,7 @@ module _ (name : MeasureName) (desk : Desk) (marks : List (List Mark)) where
   HoldsOnLine a b t = HoldsOfPair name (topics_under desk marks) a b t × ((k : ℕ) → name ≡ Precision k → IsExactVerdict name (topics_under desk marks) a b (verdict t))
 
   -- a fact of the runs that a pair line names
-  named_runs : (a b : ℕ) (x y first second : List ℕ) (fact : ℕ → ℕ → Type 0) → slice_get desk.runs a ≡ Some x → slice_get desk.runs b ≡ Some y → x ≡ first → y ≡ second → fact a b → HoldsByNames desk first second fact
+  pub named_runs : (a b : ℕ) (x y first second : List ℕ) (fact : ℕ → ℕ → Type 0) → slice_get desk.runs a ≡ Some x → slice_get desk.runs b ≡ Some y → x ≡ first → y ≡ second → fact a b → HoldsByNames desk first second fact
   named_runs a b x y first second fact p q e f h = record { a = a; b = b; named_first = p ∙ ap Some e; named_second = q ∙ ap Some f; holds = h }
 
   pub pair_sound : (parts a b : ℕ) (x y : List ℕ) (t : Totals) → 0 < parts → parts ≡ unit_of name * length (topics_under desk marks) → IsNamed a x → IsNamed b y → HoldsOnLine a b t →
@@ -295,7 +295,7 @@ parts_under name desk marks marked = ap (λ n. unit_of name * n) (sym (length-to
 some_parts : (name : MeasureName) (desk : Desk) → IsMeasure name → IsDesk desk → 0 < unit_of name * length desk.topics
 some_parts name desk measure valid = mul-pos (unit_positive name measure) valid.some_topic
 
-named_at : (name : MeasureName) (desk : Desk) (marks : List (List Mark)) (run : ℕ) → IsDesk desk → run < length desk.runs → IsNamed name desk marks run (slice_index_or desk.runs run [])
+pub named_at : (name : MeasureName) (desk : Desk) (marks : List (List Mark)) (run : ℕ) → IsDesk desk → run < length desk.runs → IsNamed name desk marks run (slice_index_or desk.runs run [])
 named_at name desk marks run valid within = (slice_get-get_or desk.runs run [] within, name_word (slice_index_or desk.runs run []) (All-get_or (λ text. is_name text ≡ true) desk.runs run [] within valid.named))
 
 pub two_runs_sound : (name : MeasureName) (desk : Desk) (marks : List (List Mark)) (a b : ℕ) (totals : Totals) → IsMeasure name → IsDesk desk → AreMarksOf desk marks → a < length desk.runs → b < length desk.runs →

@@ -33,7 +33,7 @@ first_kept : (b : ℕ) (ps : List (List ℕ)) → get_or (field 0 (filter is_fil
 first_kept b [] = refl
 first_kept b (p ∷ ps) = ap (λ fs. get_or (field 0 fs) 0 0) (kept (b ∷ p) ps (omega arith))
 
-first_byte : (b : ℕ) (bs : List ℕ) → 32 < b → get_or (field 0 (fields_of (b ∷ bs))) 0 0 ≡ b
+pub first_byte : (b : ℕ) (bs : List ℕ) → 32 < b → get_or (field 0 (fields_of (b ∷ bs))) 0 0 ≡ b
 first_byte b bs h = ap (λ ps. get_or (field 0 (filter is_filled ps)) 0 0) (piece_on b bs h) ∙ first_kept b (pieces bs)
 
 -- bytes that end no line

@@ -6,3 +6,4 @@ pub mod Judging
 pub mod Claims
 pub mod Reports
 pub mod ByGrades
+pub mod Tiers

@@ -7,11 +7,13 @@
 //! depth or without, it is one of that measure, and its claim holds, or all its claims.
 ghost use Rattle.desk_report.specs.ByGrades.{GradedTextsAreTrue};
 ghost use Rattle.desk_report.specs.Claims.{TablesAreTrue, CertificatesAreTrue, PairLinesAreTrue, CloseLinesAreTrue, AnswerLinesAreTrue, OtherLinesAreTrue, NextLinesAreTrue, QrelsTextsAreTrue, NoTextIsTrue};
+ghost use Rattle.desk_report.specs.Tiers.{TiersTextsAreTrue};
 
 use graded_rbp::laws::numbers_hold_by_grades;
 use order_bundle::{
     any_evidence_implies_claims, no_scoped_text_begins_another, scoped_certificates_have_texts,
 };
+use order_tiers::laws::covers_hold;
 use pair_table::laws::{
     numbers_hold_in_every_completion, numbers_of_two_runs_hold, precision_is_exact,
 };
@@ -102,5 +104,14 @@ pub fn qrels_texts_are_true()
 pub fn no_text_is_true()
     ensures { NoTextIsTrue }
 {
+    scoped_certificates_have_texts();
+}
+
+/// Whatever was received of the tiers of runs claims nothing false, and each whole line `cover FIRST SECOND WINS LOSSES` is
+/// true: the first run's mean is greater in every completion, on WINS topics its score is, and on LOSSES topics the second's.
+pub fn printed_tiers_are_true()
+    ensures { TiersTextsAreTrue }
+{
+    covers_hold();
     scoped_certificates_have_texts();
 }

@@ -1,5 +1,5 @@
 //! The printed texts of the desk, those of a table of pairs by the name of a measure among them, and that what is
-//! printed claims nothing false: tables, lines of pairs, certificates, and the other answers and replies.
+//! printed claims nothing false: tables, lines of pairs, certificates, tiers of runs, and the other answers and replies.
 #![tactic(auto)]
 
 pub mod claims;
@@ -11,6 +11,7 @@ mod means;
 mod qrels;
 mod reports;
 mod table;
+mod tiers;
 
 pub use close::close_line;
 pub use graded::graded_text;
@@ -21,3 +22,4 @@ pub use reports::{
     Certified, certified_report, kept_next_report, next_report, pair_report, table_report,
 };
 pub use table::{pair_line, table_text};
+pub use tiers::{tiers_report, tiers_text};

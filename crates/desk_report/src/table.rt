@@ -49,7 +49,7 @@ fn push_depth(out: &mut Vec<u8>, depth: Option<u32>) -> Result<(), AllocError>
     }
 }
 
-fn push_head(
+pub(crate) fn push_head(
     out: &mut Vec<u8>,
     measure: &MeasureName,
     level: u32,

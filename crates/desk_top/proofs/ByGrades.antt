@@ -1,5 +1,5 @@
 -- The command that prints a table by grades.
-use Rattle.std.proofs.Common.{◌≡◌, ℕ, ◌+◌, ◌*◌, ◌≤◌, List, [], ◌∷◌, take, refl, sym, subst, ◌∙◌, inl, inr, Vec, Global}
+use Rattle.std.proofs.Common.{◌≡◌, ℕ, ◌+◌, ◌*◌, ◌≤◌, [], ◌∷◌, take, refl, sym, subst, inr, Vec, Global}
 use Rattle.std.specs.Prelude.{Ok, Err}
 use Rattle.desk_outside.specs.Seen.{Shelf}
 use Rattle.desk_words.specs.declared.command.Job.{Job}
@@ -13,7 +13,7 @@ use Rattle.desk_files.specs.Load.{Loaded, loaded, Reads}
 use Rattle.desk_files.specs.declared.stop.Stop.TheVariants as kept
 use Rattle.desk_top.specs.declared.outcome.Outcome.TheVariants as made
 use Rattle.desk_top.specs.declared.status.Status.TheVariants.{Done}
-use Rattle.desk_top.specs.Answer.{OfGrades, Answer, AreAlwaysTrue}
+use Rattle.desk_top.specs.Answer.{OfGrades}
 use Rattle.desk_top.specs.Outcome.{Outcome, Prints}
 use Rattle.desk_top.specs.Report.{IsAskedByGrades, IsMeasureByGrades, IsGradedText, HasDeskOf, graded_sources}
 use Rattle.desk_top.specs.Loading.{graded_loading}

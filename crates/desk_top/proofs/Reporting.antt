@@ -92,10 +92,10 @@ module _ (job : Job) (least : ℕ) (ends : List Status) (makes : Subject → Out
   pub desk_counts : (before after : ℕ) → after ≡ before + cells_of desk → CountsFor on_desk before after rows
   desk_counts before after is = (cells_of desk, λ taken. record { desk = desk; ranked = ranked; holds = refl }, omega (arith, is))
 
-  -- a text of its runs
-  pub desk_makes : (text : List ℕ) (status : Status) → GoesWithText status → makes (subject_of job desk) (Prints status (record { about = OfRuns (subject_of job desk); text = text } ∷ [])) → MakesText on_desk rows text status
-  desk_makes text status goes holds =
-      makes_one_text on_desk rows (OfRuns (subject_of job desk)) text status goes (λ input. (Prints status (record { about = OfRuns (subject_of job desk); text = text } ∷ []), record { desk = desk; ranked = ranked; holds = holds }, refl))
+  -- a text of it
+  pub desk_makes : (about : About) (text : List ℕ) (status : Status) → GoesWithText status → makes (subject_of job desk) (Prints status (record { about = about; text = text } ∷ [])) → MakesText on_desk rows text status
+  desk_makes about text status goes holds =
+      makes_one_text on_desk rows about text status goes (λ input. (Prints status (record { about = about; text = text } ∷ []), record { desk = desk; ranked = ranked; holds = holds }, refl))
 
   -- it was made, or memory for it ran out
   module _ (shelf : Shelf) (read : Reads shelf.files (sources_of job) rows) (before after : ℕ) (counted : after ≡ before + cells_of desk) where
@@ -112,16 +112,16 @@ module _ (job : Job) (least : ℕ) (ends : List Status) (makes : Subject → Out
 pub shown_makes : (job : Job) (rows : Loaded) (desk : Desk) → IsDeskOf rows.qrels rows.runs desk → (before after : ℕ) → after ≡ before + cells_of desk → (answer : Certified) → IsCertifiedAs (subject_of job desk) 0 1 answer →
     MakesOutcome (desk_meaning job 2 (Done ∷ Close ∷ []) PrintsCertificate) before after rows (shown_as answer)
 shown_makes job rows desk ranked before after counted (certified.Certificate text) is =
-    (desk_makes job 2 (Done ∷ Close ∷ []) PrintsCertificate rows desk ranked text.items Done tt (inl (text.items, is, refl)), desk_counts job 2 (Done ∷ Close ∷ []) PrintsCertificate rows desk ranked before after counted)
+    (desk_makes job 2 (Done ∷ Close ∷ []) PrintsCertificate rows desk ranked (OfRuns (subject_of job desk)) text.items Done tt (inl (text.items, is, refl)), desk_counts job 2 (Done ∷ Close ∷ []) PrintsCertificate rows desk ranked before after counted)
 shown_makes job rows desk ranked before after counted (certified.Close text) is =
-    (desk_makes job 2 (Done ∷ Close ∷ []) PrintsCertificate rows desk ranked text.items Close tt (inr (text.items, is, refl)), desk_counts job 2 (Done ∷ Close ∷ []) PrintsCertificate rows desk ranked before after counted)
+    (desk_makes job 2 (Done ∷ Close ∷ []) PrintsCertificate rows desk ranked (OfRuns (subject_of job desk)) text.items Close tt (inr (text.items, is, refl)), desk_counts job 2 (Done ∷ Close ∷ []) PrintsCertificate rows desk ranked before after counted)
 
 -- the certificate of all pairs, or that its text would be too long
 pub all_shown_makes : (job : Job) (rows : Loaded) (desk : Desk) → IsDeskOf rows.qrels rows.runs desk → (before after : ℕ) → after ≡ before + cells_of desk → (answer : Bundled) → IsBundledAs (subject_of job desk) answer →
     (outcome : Made) → IsShownAs answer outcome → MakesOutcome (desk_meaning job 2 (Done ∷ Refused-status ∷ []) PrintsAllPairs) before after rows outcome
 all_shown_makes job rows desk ranked before after counted (bundled.Bundle text) is outcome shown =
     subst (MakesOutcome (desk_meaning job 2 (Done ∷ Refused-status ∷ []) PrintsAllPairs) before after rows) (sym shown)
-    (desk_makes job 2 (Done ∷ Refused-status ∷ []) PrintsAllPairs rows desk ranked text.items Done tt (inl (text.items, is, refl)), desk_counts job 2 (Done ∷ Refused-status ∷ []) PrintsAllPairs rows desk ranked before after counted)
+    (desk_makes job 2 (Done ∷ Refused-status ∷ []) PrintsAllPairs rows desk ranked (OfRuns (subject_of job desk)) text.items Done tt (inl (text.items, is, refl)), desk_counts job 2 (Done ∷ Refused-status ∷ []) PrintsAllPairs rows desk ranked before after counted)
 all_shown_makes job rows desk ranked before after counted (bundled.TooLong bytes) is (made.Refuses line) shown = (
   λ input. (Refuses line.items, record { desk = desk; ranked = ranked; holds = inr (bytes, is, ap Refuses shown) }, refl),
   desk_counts job 2 (Done ∷ Refused-status ∷ []) PrintsAllPairs rows desk ranked before after counted,

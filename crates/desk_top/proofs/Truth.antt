@@ -33,15 +33,16 @@ use Rattle.order_bundle.specs.declared.scoped.Scoped.{Scoped}
 use Rattle.bundle_report.specs.Bundled.{IsAllPairsText}
 use Rattle.desk_report.specs.Claims.{IsTrueText}
 use Rattle.desk_report.specs.Reports.{Subject, IsTableText, IsCertificateText, IsCloseText, run_name}
+use Rattle.desk_report.specs.Tiers.{IsTiersText}
 use Rattle.desk_files.specs.Files.{Stop}
 use Rattle.desk_files.specs.Load.{Loaded}
 use Rattle.desk_top.specs.declared.status.Status.{Status}
 use Rattle.desk_top.specs.declared.status.Status.TheVariants.{Done, Outside, Memory, Close}
-use Rattle.desk_top.specs.Answer.{Answer, Saying, About, OfRuns, OfCheck, text_of, marks_for, IsTrueOf, AreTrue, AreAlwaysTrue}
+use Rattle.desk_top.specs.Answer.{Answer, Saying, About, OfRuns, OfTiers, OfCheck, text_of, marks_for, IsTrueOf, AreTrue, AreAlwaysTrue}
 use Rattle.desk_top.specs.Outcome.{Outcome, Prints, Refuses, answer_of, IsOutcome, PrintsText}
 use Rattle.desk_top.specs.Report.{subject_of, HasDeskOf}
 use Rattle.desk_top.specs.Verification.{rejection_text, verification_text, PrintsCheck}
-use Rattle.desk_top.specs.Meaning.{Meaning, AnswersOn, IsAnswer, desk_meaning, check_meaning, PrintsTable, PrintsCertificate, PrintsAllPairs}
+use Rattle.desk_top.specs.Meaning.{Meaning, AnswersOn, IsAnswer, desk_meaning, check_meaning, PrintsTable, PrintsTiers, PrintsCertificate, PrintsAllPairs}
 use Rattle.desk_top.specs.Meets.{Call, HasAnswer, IsGiven, GivesAnswer, OutputFailed, FilesFailed, Stopped, Meets, ReceivesPart, SaysTruth, IsTruthful}
 use Rattle.desk_top.specs.Truths.{PrintsTruth}
 use Rattle.desk_top.proofs.Marking.{marks_known}
@@ -161,6 +162,10 @@ module _ (laws : PrintsTruth) where
   table_is_true s text n m known is =
       subst (SubjectIsTrue s n) (sym is.is) (laws.tables s.measure s.desk s.marks s.level s.depth n is.bounds is.totals m is.valid known is.numbers)
 
+  pub tiers_are_true : (s : Subject) (text : List ℕ) (n : ℕ) → IsMeasure s.measure → AreMarksOf s.desk s.marks → IsTiersText s text → IsTrueOf (OfTiers s) (take n text)
+  tiers_are_true s text n m known is =
+      subst (λ t. IsTrueOf (OfTiers s) (take n t)) (sym is.is) (laws.tiers s.measure s.desk s.marks s.level s.depth n is.order m is.valid known is.named)
+
   pub certificate_is_true : (s : Subject) (a b : ℕ) (text : List ℕ) (n : ℕ) → IsMeasure s.measure → AreMarksOf s.desk s.marks → IsCertificateText s a b text → SubjectIsTrue s n text
   certificate_is_true s a b text n m known is =
       let c = is.certificate in
@@ -204,6 +209,9 @@ module _ (laws : PrintsTruth) where
 
   pub printed_table_true : (s : Subject) (outcome : Outcome) → AreMarksOf s.desk s.marks → IsMeasure s.measure → PrintsTable s outcome → IsTrueOutcome outcome
   printed_table_true s outcome known m is = one_text_is_true Done (OfRuns s) (IsTableText s) (λ text n holds. table_is_true s text n m known holds) outcome is
+
+  pub printed_tiers_true : (s : Subject) (outcome : Outcome) → AreMarksOf s.desk s.marks → IsMeasure s.measure → PrintsTiers s outcome → IsTrueOutcome outcome
+  printed_tiers_true s outcome known m is = one_text_is_true Done (OfTiers s) (IsTiersText s) (λ text n holds. tiers_are_true s text n m known holds) outcome is
 
   pub printed_certificate_true : (s : Subject) (outcome : Outcome) → AreMarksOf s.desk s.marks → IsMeasure s.measure → PrintsCertificate s outcome → IsTrueOutcome outcome
   printed_certificate_true s outcome known m (inl is) = one_text_is_true Done (OfRuns s) (IsCertificateText s 0 1) (λ text n holds. certificate_is_true s 0 1 text n m known holds) outcome is

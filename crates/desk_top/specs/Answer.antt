@@ -1,5 +1,6 @@
 -- What a call answers, and what its texts speak of.
-use Rattle.std.specs.Prelude.{◌≡◌, ℕ, List, [], ◌∷◌, ◌++◌, flat_map, length, take, drop, map, codes}
+use Rattle.std.specs.Prelude.{◌≡◌, ℕ, List, [], ◌∷◌, ◌++◌, flat_map, length, take, drop, map, codes, All}
+use Rattle.desk_text.specs.Lines.{whole_lines}
 use Rattle.desk_model.specs.Closing.{closed_under}
 use Rattle.desk_model.specs.Desk.{Desk, file_marks}
 use Rattle.desk_model.specs.declared.types.Mark.{Mark}
@@ -10,6 +11,7 @@ use Rattle.graded_rbp.specs.Score.{GradedMeasure}
 use Rattle.desk_report.specs.ByGrades.{IsTrueTextByGrades}
 use Rattle.desk_report.specs.Claims.{IsTrueText, IsTrueProposal}
 use Rattle.desk_report.specs.Reports.{Subject}
+use Rattle.desk_report.specs.Tiers.{IsTrueCoverLine}
 use Rattle.desk_files.specs.Files.{Stop, Outside, Memory, Refused}
 use Rattle.desk_top.specs.declared.status.Status.{Status}
 use Rattle.desk_top.specs.declared.status.Status.TheVariants as statuses
@@ -22,6 +24,8 @@ pub data About : Type 0 where
   OfRuns : (subject : Subject) → About
   -- the runs of a desk, under rank-biased precision by grades
   OfGrades : (measure : GradedMeasure) → (desk : Desk) → About
+  -- the tiers of such runs
+  OfTiers : (subject : Subject) → About
   -- the document to judge next on such a desk
   OfProposal : (subject : Subject) → About
   -- whether a certificate of either version is accepted over a desk
@@ -78,15 +82,20 @@ marks_for c desk = closed_under desk c.depth (map (file_marks (any_level c.body)
 abbrev pub IsTrueOfRuns : Subject → List ℕ → Type 0
 IsTrueOfRuns s received = IsTrueText s.measure s.desk s.marks received
 
+-- each whole line received that is one of a covering pair is true
+abbrev pub AreTrueCovers : Subject → List ℕ → Type 0
+AreTrueCovers s received = All (IsTrueCoverLine s.measure s.desk s.marks) (whole_lines received)
+
 -- where what was received begins with the line `accepted`, all that the certificate claims holds
 abbrev pub AcceptsTruly : Scoped → Desk → List ℕ → Type 0
 AcceptsTruly c desk received = (more : List ℕ) → received ≡ codes "accepted\n" ++ more → AnyClaimHolds c.body desk (marks_for c desk)
 
--- what was received of a text is true of what it speaks of: it claims nothing false of the runs, or of them by grades; it is the line of the proposal; it accepts
--- only a certificate of which all that it claims holds; and where it speaks of nothing, it claims nothing false of any desk
+-- what was received of a text is true of what it speaks of: it claims nothing false of the runs, or of them by grades; what it says of covering pairs is so; it is
+-- the line of the proposal; it accepts only a certificate of which all that it claims holds; and where it speaks of nothing, it claims nothing false of any desk
 abbrev pub IsTrueOf : About → List ℕ → Type 0
 IsTrueOf (OfRuns s) received = IsTrueOfRuns s received
 IsTrueOf (OfGrades m desk) received = IsTrueTextByGrades m desk received
+IsTrueOf (OfTiers s) received = IsTrueOfRuns s received × AreTrueCovers s received
 IsTrueOf (OfProposal s) received = IsTrueOfRuns s received × IsTrueProposal s.measure s.desk s.marks received
 IsTrueOf (OfCheck c desk) received = IsTrueText (any_measure c.body) desk (marks_for c desk) received × AcceptsTruly c desk received
 IsTrueOf OfNothing received = (measure : MeasureName) (desk : Desk) (marks : List (List Mark)) → IsTrueText measure desk marks received

@@ -6,16 +6,17 @@ use Rattle.desk_words.specs.Words.{IsCommandOf}
 use Rattle.desk_words.specs.declared.command.Check.{Check}
 use Rattle.desk_words.specs.declared.command.Job.{Job}
 use Rattle.desk_words.specs.declared.command.Command.{Command}
-use Rattle.desk_words.specs.declared.command.Command.TheVariants.{Table, Certify, CertifyAll, Verify, Session, Demo, Graded}
+use Rattle.desk_words.specs.declared.command.Command.TheVariants.{Table, Certify, CertifyAll, Verify, Session, Demo, Graded, Tiers}
 use Rattle.desk_model.specs.Desk.{Desk}
 use Rattle.graded_rbp.specs.Score.{GradedMeasure}
 use Rattle.desk_files.specs.Files.{Stop}
 use Rattle.bundle_report.specs.Bundled.{HasTooManyBytes, IsAllPairsText}
 use Rattle.desk_report.specs.Reports.{Subject, IsTableText, IsCertificateText, IsCloseText, cells_of}
+use Rattle.desk_report.specs.Tiers.{IsTiersText}
 use Rattle.desk_top.specs.declared.status.Status.{Status}
 use Rattle.desk_top.specs.declared.status.Status.TheVariants as statuses
 use Rattle.desk_top.specs.Told.{too_long_line}
-use Rattle.desk_top.specs.Answer.{OfRuns, OfGrades, Answer, usage, stop_answer}
+use Rattle.desk_top.specs.Answer.{OfRuns, OfGrades, OfTiers, Answer, usage, stop_answer}
 use Rattle.desk_top.specs.Outcome.{Outcome, Refuses, IsOutcome, PrintsText}
 use Rattle.desk_top.specs.Report.{IsAsked, IsAskedByGrades, IsMeasureByGrades, IsGradedText, HasDeskOf, subject_of}
 use Rattle.desk_top.specs.Verification.{PrintsCheck}
@@ -112,6 +113,10 @@ usage_meaning = record {
 abbrev pub PrintsTable : Subject → Outcome → Type 0
 PrintsTable s outcome = PrintsText statuses.Done (OfRuns s) (IsTableText s) outcome
 
+-- the tiers of the runs
+abbrev pub PrintsTiers : Subject → Outcome → Type 0
+PrintsTiers s outcome = PrintsText statuses.Done (OfTiers s) (IsTiersText s) outcome
+
 -- the certificate of the first two runs, or their close line with its own status
 abbrev pub PrintsCertificate : Subject → Outcome → Type 0
 PrintsCertificate s outcome = PrintsText statuses.Done (OfRuns s) (IsCertificateText s 0 1) outcome ⊎ PrintsText statuses.Close (OfRuns s) (IsCloseText s 0 1) outcome
@@ -133,6 +138,7 @@ meaning_of (Verify check) = check_meaning check
 meaning_of (Session job) = session_meaning job
 meaning_of (Demo seed) = demo_meaning seed
 meaning_of (Graded job greatest) = graded_meaning job greatest
+meaning_of (Tiers job) = desk_meaning job 1 (statuses.Done ∷ []) PrintsTiers
 
 -- something holds of what words mean: of the meaning of each command that they are of, and of usage, where they are of none
 pub record Means (words : List (List ℕ)) (fact : Meaning → Type 0) : Type 0 where

@@ -7,7 +7,7 @@ use Rattle.desk_model.specs.Desk.{Desk, file_marks}
 use Rattle.desk_model.specs.MeasureText.{IsMeasure}
 use Rattle.desk_model.specs.declared.types.Mark.{Mark}
 use Rattle.desk_model.specs.declared.types.MeasureName.{MeasureName}
-use Rattle.desk_words.specs.Words.{IsBiased}
+use Rattle.desk_words.specs.Words.{HasPersistence}
 use Rattle.topic_counts.specs.declared.span.Span.{Span}
 use Rattle.measure_core.specs.declared.cell.Cell.{Cell}
 use Rattle.topics_pool.specs.Rows.{IsDeskOf}
@@ -47,7 +47,7 @@ pub record IsAsked (least : ℕ) (job : Job) : Type 0 where
 -- a job that can be done by grades, where they are cut to a greatest one
 pub record IsAskedByGrades (job : Job) (greatest : ℕ) : Type 0 where
   pub on_desk : IsAsked 1 job
-  pub biased : IsBiased job.measure
+  pub biased : HasPersistence job.measure
   pub some : 1 ≤ greatest
   pub few : greatest ≤ GREATEST_LIMIT
 

@@ -14,6 +14,7 @@ use Rattle.pair_table.specs.Evidence.{IsCertificateOf}
 use Rattle.table_bundle.specs.Bundles.{IsBundleOf}
 use Rattle.desk_report.specs.ByGrades.{GradedTextsAreTrue}
 use Rattle.desk_report.specs.Claims.{TablesAreTrue, CertificatesAreTrue, CloseLinesAreTrue, AnswerLinesAreTrue, PairLinesAreTrue, OtherLinesAreTrue, NextLinesAreTrue, QrelsTextsAreTrue, NoTextIsTrue}
+use Rattle.desk_report.specs.Tiers.{TiersTextsAreTrue}
 
 -- certificates of two runs are evidence
 abbrev pub CertificatesAreEvidence : Type 0
@@ -30,6 +31,7 @@ BundlesAreEvidence =
 pub record PrintsTruth : Type 0 where
   pub tables : TablesAreTrue
   pub graded : GradedTextsAreTrue
+  pub tiers : TiersTextsAreTrue
   pub certificates : CertificatesAreTrue
   pub close_lines : CloseLinesAreTrue
   pub evidence : CertificatesAreEvidence

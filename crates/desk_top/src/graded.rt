@@ -7,7 +7,7 @@ ghost use Rattle.desk_model.specs.Limits.{CELL_LIMIT};
 ghost use Rattle.desk_model.specs.MeasureText.{IsMeasure};
 ghost use Rattle.desk_outside.specs.Seen.{shelf};
 ghost use Rattle.desk_report.specs.Reports.{cells_of};
-ghost use Rattle.desk_words.specs.Words.{IsBiased};
+ghost use Rattle.desk_words.specs.Words.{HasPersistence};
 ghost use Rattle.graded_rbp.specs.Score.{GradedMeasure, GREATEST_LIMIT};
 ghost use Rattle.desk_top.specs.Loading.{graded_loading, OpensWithin};
 ghost use Rattle.desk_top.specs.Meaning.{graded_meaning};
@@ -35,7 +35,7 @@ fn graded_report<P: Maker, L: Ledger>(
     steps: &mut Steps<L>,
 ) -> Result<Vec<u8>, Memory>
     requires measure { IsMeasure measure }
-    requires biased { IsBiased measure }
+    requires biased { HasPersistence measure }
     requires some { 1 ≤ greatest }
     requires few { greatest ≤ GREATEST_LIMIT }
     requires cells { pair_count (length desk.now.runs) * length desk.now.topics * greatest ≤ CELL_LIMIT }

@@ -23,7 +23,7 @@ use bundle_report::{Bundled, bundle_report};
 use desk_files::{Stop, load_desk};
 use desk_model::{Desk, Marks};
 use desk_outside::Shelf;
-use desk_report::{Certified, Grading, certified_report, table_report};
+use desk_report::{Certified, Grading, certified_report, table_report, tiers_report};
 use desk_words::{Command, Job};
 use measure_core::{Maker, Measure, Steps};
 use pair_table::{Table, table_on};
@@ -78,6 +78,28 @@ pub fn table_outcome<'a, F: Shelf, P: Maker, L: Ledger>(
     let on = tabled(tools, job, files, steps)?;
     let grading = Grading::new(job.level, job.depth);
     let text = table_report(tools.alloc, &on.desk, grading, &on.table)?;
+    Ok(Outcome::Prints {
+        text,
+        status: Status::Done,
+    })
+}
+
+/// The tiers of the runs.
+pub fn tiers_outcome<'a, F: Shelf, P: Maker, L: Ledger>(
+    tools: &Tools<'_, P>,
+    job: &'a Job,
+    files: &mut F,
+    steps: &mut Steps<L>,
+) -> Result<Outcome, Stop<'a>>
+    requires { IsAsked 1 job.now }
+    ensures works { Works (meaning_of (commands.Tiers job.now)) (shelf (F.state files.old) (F.state files.new)) steps.old steps.new result }
+    ensures opened { OpensWithin (desk_loading job.now) (shelf (F.state files.old) (F.state files.new)) }
+    ensures reads { ReadsFiles (extent_of (answer_of result)) (F.state files.old).calls (F.state files.new).calls }
+    ensures files { (F.state files.new).files ≡ (F.state files.old).files }
+{
+    let on = tabled(tools, job, files, steps)?;
+    let grading = Grading::new(job.level, job.depth);
+    let text = tiers_report(tools.alloc, &on.desk, &on.marks, grading, &on.table)?;
     Ok(Outcome::Prints {
         text,
         status: Status::Done,
@@ -176,5 +198,6 @@ pub fn outcome_of<'a, F: Shelf, P: Maker, L: Ledger>(
         Command::Verify(check) => check_outcome(tools.alloc, files, check),
         Command::Demo { seed } => demo_outcome(tools, *seed, steps),
         Command::Graded { job, greatest } => graded_outcome(tools, job, *greatest, files, steps),
+        Command::Tiers(job) => tiers_outcome(tools, job, files, steps),
     }
 }

@@ -9,6 +9,7 @@ use crate::refusals::{FAULTS, STOPPED, USAGE};
 use crate::run::run_over;
 use crate::sessions::REPLIES;
 use crate::tables::{CLOSE, TABLES};
+use crate::tiers::{NO_TIERS, TIERS};
 use std::alloc::{AllocError, Global};
 use std::test::Fail;
 
@@ -88,7 +89,7 @@ impl<'t> Call<'t> {
 }
 
 // Transcripts, the number of their calls, and how many bytes a read of an input gives at most.
-const TRANSCRIPTS: [(&str, usize, usize); 12] = [
+const TRANSCRIPTS: [(&str, usize, usize); 14] = [
     (TABLES, 21, 4096),
     (CLOSE, 6, 4096),
     (FAULTS, 13, 4096),
@@ -97,6 +98,8 @@ const TRANSCRIPTS: [(&str, usize, usize); 12] = [
     (CERTIFIED, 20, 4096),
     (GRADED, 6, 4096),
     (NOT_GRADED, 14, 4096),
+    (TIERS, 11, 4096),
+    (NO_TIERS, 20, 4096),
     (MEASURED, 6, 4096),
     (REPLIES, 12, 1),
     (REPLIES, 12, 19),

@@ -1,4 +1,4 @@
-// A pool depth in tables, certificates of both versions and a session. The texts and answers are worked out by hand.
+// A pool depth in tables, tiers, certificates of both versions and a session. The texts and answers are worked out by hand.
 use crate::outside::{Answer, SOUND};
 use crate::run::run_line;
 use std::alloc::{AllocError, Global};
@@ -36,7 +36,7 @@ struct Printed {
     out: &'static str,
 }
 
-const PRINTED: [Printed; 5] = [
+const PRINTED: [Printed; 7] = [
     Printed {
         line: "table --qrels q --measure P_2 --depth 1 a b",
         out: "measure P_2\nlevel 1\ndepth 1\ntopics 1\nruns 2\nrun A 0.500000 0.500000\nrun B 0.000000 0.000000\npair A above B 0.500000 0.500000\n",
@@ -44,6 +44,14 @@ const PRINTED: [Printed; 5] = [
     Printed {
         line: "table --depth=2 a --qrels q b --measure P_2",
         out: "measure P_2\nlevel 1\ndepth 2\ntopics 1\nruns 2\nrun A 0.500000 1.000000\nrun B 0.000000 0.500000\npair A open B 0.000000 1.000000\n",
+    },
+    Printed {
+        line: "tiers --qrels q --measure P_2 --depth 1 a b",
+        out: "measure P_2\nlevel 1\ndepth 1\ntopics 1\nruns 2\ntiers 2\nsystem A 1\nsystem B 2\ncover A B 1 0\n",
+    },
+    Printed {
+        line: "tiers --depth 2 --qrels q --measure P_2 a b",
+        out: "measure P_2\nlevel 1\ndepth 2\ntopics 1\nruns 2\ntiers 1\nsystem A 1\nsystem B 1\n",
     },
     Printed {
         line: "certify --qrels q --measure P_2 --depth 1 a b",

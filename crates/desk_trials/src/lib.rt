@@ -36,3 +36,5 @@ mod run;
 mod sessions;
 #[cfg(test)]
 mod tables;
+#[cfg(test)]
+mod tiers;

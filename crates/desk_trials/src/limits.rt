@@ -32,7 +32,7 @@ struct Long {
 // A line of a run, of judgements and of a session, and a name, have their limits; then ranks, topics, cells, those of two levels and a history: 1,000,000
 // judgements of one assessor are accepted and no more, and one that is undone still counts for the others. The last is a file of
 // several pieces, and 256 runs, two of which have names of 255 bytes.
-const LONG: [Long; 23] = [
+const LONG: [Long; 24] = [
     Long {
         line: &[(ONE_RUN, 1)],
         qrels: &[(QRELS, 1)],
@@ -179,6 +179,15 @@ const LONG: [Long; 23] = [
     },
     Long {
         line: &[("table --qrels q --measure P_1", 1), (" r#=a", 256)],
+        qrels: &[("# 0 d 1\n", 307)],
+        run: &[("0 Q0 d 1 9 A\n", 1)],
+        input: &[],
+        status: 1,
+        out: "",
+        told: "refused: desk: TooManyCells 10020480\n",
+    },
+    Long {
+        line: &[("tiers --qrels q --measure P_1", 1), (" r#=a", 256)],
         qrels: &[("# 0 d 1\n", 307)],
         run: &[("0 Q0 d 1 9 A\n", 1)],
         input: &[],

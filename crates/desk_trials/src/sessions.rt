@@ -189,6 +189,17 @@ next 401 d2 1
 judged 401 d2 1
 > next
 next none
+$ 0 session --qrels qr --measure Rprec r1 r2
+> next
+next none
+> judge ann 401 d1 1
+judged 401 d1 1
+> next
+next 401 d2 1
+> undo ann
+undone 401 d1 -
+> next
+next none
 $ 0 session --qrels q --measure rbp_0.50 A=x=y
 > next
 next none

@@ -17,7 +17,7 @@ use Rattle.desk_words.specs.declared.command.RunWord.{RunWord}
 use Rattle.desk_words.specs.declared.command.Job.{Job}
 use Rattle.desk_words.specs.declared.command.Check.{Check}
 use Rattle.desk_words.specs.declared.command.Command.{Command}
-use Rattle.desk_words.specs.declared.command.Command.TheVariants.{Table, Certify, CertifyAll, Session, Verify, Demo, Graded}
+use Rattle.desk_words.specs.declared.command.Command.TheVariants.{Table, Certify, CertifyAll, Session, Verify, Demo, Graded, Tiers}
 
 one_value : (values : List Text) (a b : Text) → values ≡ a ∷ [] → values ≡ b ∷ [] → a ≡ b
 one_value values a b e f = let both : a ∷ [] ≡ b ∷ [] = sym e ∙ f in cc
@@ -80,6 +80,7 @@ one_said values (Graded a m) (Graded b n) e h k =
     let job = one_job values a b h.0 k.0 in
     let greatest = decimal_injective m n (omega (arith, h.2.2)) (omega (arith, k.2.2)) (one_value _ (decimal m) (decimal n) h.2.0 k.2.0) in
     λ i. Graded (job i) (greatest i)
+one_said values (Tiers a) (Tiers b) e h k = ap Tiers (one_job values a b h k)
 one_said values a b e h k = absurd (cc)
 
 -- a word that is that of no verb has none

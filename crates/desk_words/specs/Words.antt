@@ -16,7 +16,7 @@ use Rattle.desk_words.specs.declared.command.RunWord.{RunWord}
 use Rattle.desk_words.specs.declared.command.Job.{Job}
 use Rattle.desk_words.specs.declared.command.Check.{Check}
 use Rattle.desk_words.specs.declared.command.Command.{Command}
-use Rattle.desk_words.specs.declared.command.Command.TheVariants.{Table, Certify, CertifyAll, Session, Verify, Demo, Graded}
+use Rattle.desk_words.specs.declared.command.Command.TheVariants.{Table, Certify, CertifyAll, Session, Verify, Demo, Graded, Tiers}
 
 -- the word of each verb
 abbrev pub word_of : Verb → Text
@@ -26,9 +26,10 @@ word_of verb.Session = codes "session"
 word_of verb.Verify = codes "verify"
 word_of verb.Demo = codes "demo"
 word_of verb.Graded = codes "graded"
+word_of verb.Tiers = codes "tiers"
 
 abbrev pub all_verbs : List Verb
-all_verbs = verb.Table ∷ verb.Certify ∷ verb.Session ∷ verb.Verify ∷ verb.Demo ∷ verb.Graded ∷ []
+all_verbs = verb.Table ∷ verb.Certify ∷ verb.Session ∷ verb.Verify ∷ verb.Demo ∷ verb.Graded ∷ verb.Tiers ∷ []
 
 -- the verb of a word
 abbrev pub verb_of : Text → Option Verb
@@ -62,6 +63,7 @@ takes verb.Session = takes_runs 1
 takes verb.Verify = takes_certificate
 takes verb.Demo = takes_seed
 takes verb.Graded = takes_grades
+takes verb.Tiers = takes_runs 1
 
 -- an equals sign
 abbrev pub is_equals : ℕ → Bool
@@ -118,9 +120,9 @@ pub record SaysJob (values : Values) (job : Job) : Type 0 where
   pub depth : IsDepthOf (values (codes "depth")) job.depth
   pub runs : AreRunsOf (values (codes "RUN")) job.runs
 
--- the measure is rank-biased precision
-abbrev pub IsBiased : MeasureName → Type 0
-IsBiased measure = (top : ℕ) × (bottom : ℕ) × (measure ≡ Biased top bottom)
+-- a measure has a persistence: it is rank-biased precision
+abbrev pub HasPersistence : MeasureName → Type 0
+HasPersistence measure = (top : ℕ) × (bottom : ℕ) × (measure ≡ Biased top bottom)
 
 -- the values say this check
 pub record SaysCheck (values : Values) (check : Check) : Type 0 where
@@ -144,6 +146,7 @@ verb_for (Session job) = verb.Session
 verb_for (Verify check) = verb.Verify
 verb_for (Demo seed) = verb.Demo
 verb_for (Graded job greatest) = verb.Graded
+verb_for (Tiers job) = verb.Tiers
 
 -- the values say what the command has beside its verb
 abbrev pub Says : Values → Command → Type 0
@@ -153,7 +156,8 @@ Says values (CertifyAll job) = SaysJob values job × AsksForAll values
 Says values (Session job) = SaysJob values job
 Says values (Verify check) = SaysCheck values check
 Says values (Demo seed) = IsSeedOf (values (codes "SEED")) seed
-Says values (Graded job greatest) = SaysJob values job × IsBiased job.measure × IsGreatestOf (values (codes "greatest")) greatest
+Says values (Graded job greatest) = SaysJob values job × HasPersistence job.measure × IsGreatestOf (values (codes "greatest")) greatest
+Says values (Tiers job) = SaysJob values job
 
 -- a command of the verb that the values say
 pub record IsSaid (v : Verb) (values : Values) (command : Command) : Type 0 where

@@ -29,6 +29,8 @@ pub enum Command {
         /// The grade that counts as 1, and to which greater grades are cut, from 1 to 10.
         greatest: u32,
     },
+    /// Print the tiers of the runs.
+    Tiers(Job),
 }
 
 /// Runs that are to be compared.

@@ -1,7 +1,7 @@
 //! The command of the words: its verb, what it takes, and what the values say.
 ghost use Rattle.std.specs.Prelude.{◌≡◌, ℕ, true, false, IfOk, Err, map, codes, string_bytes};
 ghost use Rattle.command_line.specs.Given.{values_held};
-ghost use Rattle.desk_words.specs.Words.{IsBiased, IsCommandOf, IsSaid, IsSeedOf, SaysJob, SaysCheck, verb_of, takes, takes_pairs, takes_runs};
+ghost use Rattle.desk_words.specs.Words.{HasPersistence, IsCommandOf, IsSaid, IsSeedOf, SaysJob, SaysCheck, verb_of, takes, takes_pairs, takes_runs};
 ghost use Rattle.desk_words.specs.declared.command.Command.{Command};
 ghost use Rattle.desk_words.specs.declared.command.Job.{Job};
 ghost use Rattle.desk_words.specs.declared.command.Check.{Check};
@@ -21,6 +21,7 @@ pub enum Verb {
     Verify,
     Demo,
     Graded,
+    Tiers,
 }
 
 // The verb of a word, and none where it is no command's.
@@ -34,6 +35,7 @@ fn verb_of(word: &str) -> Option<Verb>
         "verify" => Some(Verb::Verify),
         "demo" => Some(Verb::Demo),
         "graded" => Some(Verb::Graded),
+        "tiers" => Some(Verb::Tiers),
         _ => None,
     }
 }
@@ -43,7 +45,7 @@ fn row_of(verb: Verb) -> Row
     ensures { result ≡ takes verb }
 {
     match verb {
-        Verb::Table | Verb::Session => runs_from(1),
+        Verb::Table | Verb::Session | Verb::Tiers => runs_from(1),
         Verb::Certify => pairs_from(2),
         Verb::Verify => Row {
             needed: &["qrels", "cert"],
@@ -127,6 +129,7 @@ fn said(alloc: Global, verb: Verb, given: &Given) -> Result<Command, WordsFault>
             seed: demo_seed(given)?,
         }),
         Verb::Graded => graded(alloc, given),
+        Verb::Tiers => Ok(Command::Tiers(job(alloc, given)?)),
     }
 }
 
@@ -136,7 +139,7 @@ fn graded(alloc: Global, given: &Given) -> Result<Command, WordsFault>
     ensures usage { result ≡ Err WordsFault.Usage → (command : Command) → IsSaid Verb.Graded (values_held given.now) command → ⊥ }
 {
     let job = job(alloc, given)?;
-    if !is_biased(&job.measure) {
+    if !has_persistence(&job.measure) {
         return Err(WordsFault::Usage);
     }
     let greatest = greatest(given.values("greatest")).ok_or(WordsFault::Usage)?;
@@ -144,9 +147,9 @@ fn graded(alloc: Global, given: &Given) -> Result<Command, WordsFault>
 }
 
 // Whether a measure is rank-biased precision.
-fn is_biased(measure: &MeasureName) -> bool
-    ensures yes { result ≡ true → IsBiased measure.now }
-    ensures no { result ≡ false → IsBiased measure.now → ⊥ }
+fn has_persistence(measure: &MeasureName) -> bool
+    ensures yes { result ≡ true → HasPersistence measure.now }
+    ensures no { result ≡ false → HasPersistence measure.now → ⊥ }
 {
     match measure {
         MeasureName::Biased { .. } => true,

@@ -1,4 +1,5 @@
-//! What a session keeps, and what a table by grades evaluates, by a measure that counts how often it is asked: tests alone.
+//! What a session keeps, and what a table by grades and tiers evaluate, by a measure that counts how often it is asked:
+//! tests alone.
 //! They stand above the top call, so that it waits for no measure.
 #![tactic(auto)]
 
@@ -12,3 +13,5 @@ mod graded;
 mod kept;
 #[cfg(test)]
 mod session;
+#[cfg(test)]
+mod tiers;

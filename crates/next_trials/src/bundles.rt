@@ -16,13 +16,13 @@ use std::sync::ledger::{Blank, Ledger};
 use std::test::Fail;
 use table_bundle::{bundle_of, table_bundle_length};
 
-const QRELS: &[u8] = b"401 0 d1 1\n401 0 d2 0\n";
+pub const QRELS: &[u8] = b"401 0 d1 1\n401 0 d2 0\n";
 
-const A: &[u8] = b"401 Q0 d1 1 1 A\n";
+pub const A: &[u8] = b"401 Q0 d1 1 1 A\n";
 
-const B: &[u8] = b"401 Q0 d2 1 1 B\n";
+pub const B: &[u8] = b"401 Q0 d2 1 1 B\n";
 
-const C: &[u8] = b"401 Q0 z1 1 2 C\n401 Q0 z2 2 1 C\n";
+pub const C: &[u8] = b"401 Q0 z1 1 2 C\n401 Q0 z2 2 1 C\n";
 
 const TEXT: &[u8] =
     b"desk-certificate 2\nmeasure recall_1\nlevel 1\nruns 3\nrun A\nrun B\nrun C\ntopics 1\ntopic 401 1\ndoc z1\nclaims 3\nclaim above 0 1\nbound 333333333333333333\nclaim open 0 2\nlow 1\npick 0\nhigh 0\nclaim open 1 2\nlow 1\npick 0\nhigh 0\nend\n";

@@ -1,5 +1,5 @@
-//! Desks of small files, whole or in pieces, and on them the pool of a depth, the next document to judge and the bundle
-//! of all pairs: tests alone.
+//! Desks of small files, whole or in pieces, and on them the pool of a depth, the next document to judge, the bundle of
+//! all pairs and the tiers of the runs: tests alone.
 #![tactic(auto)]
 
 #[cfg(test)]
@@ -12,3 +12,5 @@ mod desks;
 mod pools;
 #[cfg(test)]
 mod proposals;
+#[cfg(test)]
+mod tiers;

@@ -7,6 +7,7 @@ returns c = record {
   desk = c.desk_is_one.ensures;
   verifier = c.any_answers_are_one.ensures;
   bundle = c.bundle_is_one.ensures.names;
+  order = c.orders_are_one.ensures;
   replies = c.replies_are_one.ensures;
   next = c.next_is_one.ensures;
 }

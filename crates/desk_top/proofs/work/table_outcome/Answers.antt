@@ -4,6 +4,7 @@ use Rattle.desk_outside.specs.Seen.{shelf}
 use Rattle.desk_files.specs.declared.stop.Stop.TheVariants as kept
 use Rattle.desk_top.specs.declared.outcome.Outcome.TheVariants as made
 use Rattle.desk_top.specs.declared.status.Status.TheVariants.{Done}
+use Rattle.desk_top.specs.Answer.{OfRuns}
 use Rattle.desk_top.specs.Meaning.{meaning_of, PrintsTable}
 use Rattle.desk_top.specs.Report.{subject_of}
 use Rattle.desk_top.specs.Works.{Works}
@@ -29,7 +30,7 @@ returns-clause-works g c =
     let files = shelf (g.F.Shelf.state c.args.files.now) (g.F.Shelf.state c.tabled.new.files) in
     let table = c.in_ok-text.ensures (subject_of job on.desk) (sym c.new-grading.ensures.level) (sym c.new-grading.ensures.depth) (tabled_subject _ _ _ job _ on is) in
     desk_works job 1 (Done ∷ []) PrintsTable is.rows on.desk is.ranked files is.read _ _ c.in_ok-on.ensures.steps (made.Prints text Done)
-    (desk_makes job 1 (Done ∷ []) PrintsTable is.rows on.desk is.ranked text.items Done tt (text.items, table, refl), desk_counts job 1 (Done ∷ []) PrintsTable is.rows on.desk is.ranked _ _ c.in_ok-on.ensures.steps)
+    (desk_makes job 1 (Done ∷ []) PrintsTable is.rows on.desk is.ranked (OfRuns (subject_of job on.desk)) text.items Done tt (text.items, table, refl), desk_counts job 1 (Done ∷ []) PrintsTable is.rows on.desk is.ranked _ _ c.in_ok-on.ensures.steps)
 
 pub returns-in_err-on-clause-reads : goal.returns-in_err-on-clause-reads
 returns-in_err-on-clause-reads g c = files_handed_on _ _ c.from_residual.result c.in_err-on.field-0.0 c.from_residual.ensures.1 c.in_err-on.ensures.reads
