@@ -101,9 +101,9 @@ const TRANSCRIPTS: [(&str, usize, usize); 14] = [
     (TIERS, 11, 4096),
     (NO_TIERS, 20, 4096),
     (MEASURED, 6, 4096),
-    (REPLIES, 12, 1),
-    (REPLIES, 12, 19),
-    (REPLIES, 12, 4096),
+    (REPLIES, 13, 1),
+    (REPLIES, 13, 19),
+    (REPLIES, 13, 4096),
 ];
 
 // Whether a transcript has so many calls, each of which is right.
