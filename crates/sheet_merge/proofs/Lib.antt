@@ -1,0 +1,16 @@
+pub mod Entries
+pub mod Greatest
+pub mod Maps
+pub mod Raising
+pub mod Merging
+pub mod Walking
+pub mod Places
+pub mod Gathering
+pub mod Forms
+pub mod ReadOn
+pub mod Progress
+pub mod Unpacking
+pub mod Finding
+pub mod RowLines
+pub mod Again
+pub mod Standing

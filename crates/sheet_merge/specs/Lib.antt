@@ -1,0 +1,11 @@
+pub mod Sheet
+pub mod Merging
+pub mod Walking
+pub mod Packed
+pub mod Table
+pub mod Lines
+pub mod Reader
+pub mod Stopped
+pub mod Fed
+pub mod Text
+pub mod Placed
