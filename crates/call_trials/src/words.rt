@@ -1,4 +1,4 @@
-// A flag, tiers with a level and a depth, and the greatest seed.
+// A flag, tiers with a level and a depth, sheets, and the greatest seed.
 use command_line::{Given, Row};
 use desk_words::{Command, read_words};
 use std::alloc::{AllocError, Global};
@@ -102,6 +102,37 @@ fn are_tiers(alloc: Global) -> Result<bool, AllocError> {
     )
 }
 
+// What a line asks for, of sheets alone.
+fn asked_of_sheets(alloc: Global, line: &str) -> Result<&'static str, AllocError> {
+    let words = words_of(alloc, line)?;
+    Ok(match read_words(alloc, words.as_slice()) {
+        Ok(Command::Merge(_)) => "merge",
+        Ok(Command::Apply(_)) => "apply",
+        Ok(_) => "other",
+        Err(_) => "usage",
+    })
+}
+
+// What is asked for, and the line. The last one has an empty word.
+const SHEETS: &str = "merge: merge s - a=b -- --t
+apply: apply --qrels q --sheet s a
+usage: merge
+usage: merge --qrels q s
+usage: apply --qrels q a
+usage: apply --qrels q --sheet s
+usage: apply --qrels q --sheet s --measure P_1 a
+usage: merge ";
+
+fn are_of_sheets(alloc: Global) -> Result<bool, AllocError> {
+    for case in SHEETS.lines() {
+        let (asked, line) = case.split_once(": ").unwrap_or((case, ""));
+        if asked_of_sheets(alloc, line)? != asked {
+            return Ok(false);
+        }
+    }
+    Ok(true)
+}
+
 fn is_greatest_seed(alloc: Global) -> Result<bool, AllocError> {
     let words = words_of(alloc, "demo 4294967295")?;
     let command = read_words(alloc, words.as_slice());
@@ -113,6 +144,7 @@ fn words_are_read(rt: HostRuntime) -> Result<(), Fail> {
     assert!(rt; are_flagged(rt.alloc())?);
     assert!(rt; are_certified(rt.alloc())?);
     assert!(rt; are_tiers(rt.alloc())?);
+    assert!(rt; are_of_sheets(rt.alloc())?);
     assert!(rt; is_greatest_seed(rt.alloc())?);
     Ok(())
 }

@@ -10,7 +10,9 @@ use Rattle.file_rows.specs.declared.fault.FileFault.{FileFault}
 use Rattle.file_rows.specs.declared.fault.FileFault.TheVariants as faults
 use Rattle.desk_files.specs.declared.stop.Stop.{Stop as KeptStop}
 use Rattle.desk_files.specs.declared.stop.Stop.TheVariants as kept
-use Rattle.desk_files.specs.Files.{stop_at}
+use Rattle.sheet_merge.specs.declared.fault.SheetFault.{SheetFault}
+use Rattle.sheet_merge.specs.declared.fault.SheetFault.TheVariants as sheet_faults
+use Rattle.desk_files.specs.Files.{Stop, stop_at, sheet_stop_at}
 use Rattle.desk_files.specs.Views.{stop_of, answer_of}
 use Rattle.desk_files.specs.Stopped.{IsStopOf}
 use Rattle.desk_files.specs.Reads.{Extent, ToEnd, PastLimit, ToFailure, Somewhere, GoTo, FileReads, file_reads, calls_of, GoThrough, ReadsFile, ReadsFiles, extent_at, extent_of}
@@ -43,14 +45,32 @@ module _ (name : List ℕ) (had between has : List ShelfCall) (opening : between
   pub not_read : ReadsFile name Somewhere had between
   not_read = record { reads = []; added = opening; goes = inr (0, give_nothing) }
 
+-- a file that is read to its end, after which memory may run out
+pub to_end : (extent : Extent) (reads : List ReadCall) → (extent ≡ ToEnd) ⊎ (extent ≡ Somewhere) → GoTo ToEnd reads → GoTo extent reads
+to_end extent reads (inl is) goes = subst (λ e. GoTo e reads) (sym is) goes
+to_end extent reads (inr is) goes = subst (λ e. GoTo e reads) (sym is) (inl goes)
+
+pub file_to_end : (name : List ℕ) (extent : Extent) (had has : List ShelfCall) → (extent ≡ ToEnd) ⊎ (extent ≡ Somewhere) → ReadsFile name ToEnd had has → ReadsFile name extent had has
+file_to_end name extent had has far file = record { reads = file.reads; added = file.added; goes = to_end extent file.reads far file.goes }
+
 -- a file with a fault is read to its end
-pub goes_to_end : (path : List ℕ) (fault : FileFault) (stop : KeptStop) (reads : List ReadCall) → IsStopOf (stop_at path fault) stop → GoTo ToEnd reads → GoTo (extent_at (stop_of stop)) reads
-goes_to_end path fault kept.Memory reads is goes = inl goes
-goes_to_end path fault kept.Outside reads is goes = absurd is
-goes_to_end path (faults.Line line why) (kept.Refused refusal) reads is goes = subst (λ why. GoTo (extent_at why) reads) is goes
-goes_to_end path faults.NoTopics (kept.Refused refusal) reads is goes = subst (λ why. GoTo (extent_at why) reads) is goes
-goes_to_end path faults.NoTag (kept.Refused refusal) reads is goes = subst (λ why. GoTo (extent_at why) reads) is goes
-goes_to_end path faults.Memory (kept.Refused refusal) reads is goes = absurd (cc)
+is_stop : (why : Stop) (stop : KeptStop) → IsStopOf why stop → why ≡ stop_of stop
+is_stop why (kept.Refused refusal) is = is
+is_stop why kept.Outside is = absurd is
+is_stop why kept.Memory is = is
+
+pub goes_to_end : (why : Stop) (stop : KeptStop) (reads : List ReadCall) → (extent_at why ≡ ToEnd) ⊎ (extent_at why ≡ Somewhere) → IsStopOf why stop → GoTo ToEnd reads → GoTo (extent_at (stop_of stop)) reads
+goes_to_end why stop reads far is goes = subst (λ why. GoTo (extent_at why) reads) (is_stop why stop is) (to_end (extent_at why) reads far goes)
+
+pub fault_extent : (path : List ℕ) (fault : FileFault) → (extent_at (stop_at path fault) ≡ ToEnd) ⊎ (extent_at (stop_at path fault) ≡ Somewhere)
+fault_extent path (faults.Line line why) = inl refl
+fault_extent path faults.NoTopics = inl refl
+fault_extent path faults.NoTag = inl refl
+fault_extent path faults.Memory = inr refl
+
+pub sheet_fault_extent : (path : List ℕ) (fault : SheetFault) → (extent_at (sheet_stop_at path fault) ≡ ToEnd) ⊎ (extent_at (sheet_stop_at path fault) ≡ Somewhere)
+sheet_fault_extent path (sheet_faults.Line line why) = inl refl
+sheet_fault_extent path sheet_faults.Memory = inr refl
 
 -- a stop is handed on
 pub file_handed_on : {X : Type 0} (name : List ℕ) (had has : List ShelfCall) (result : Result X KeptStop) (stop : KeptStop) → IsErrAnd result (λ e. e ≡ stop) → ReadsFile name (extent_at (stop_of stop)) had has → ReadsFile name (extent_of (answer_of result)) had has

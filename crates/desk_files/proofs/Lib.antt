@@ -5,4 +5,8 @@ pub mod InTurn
 pub mod Runs
 pub mod Opening
 pub mod Joining
+pub mod Then
 pub mod Checking
+pub mod Merging
+pub mod Said
+pub mod Lacking

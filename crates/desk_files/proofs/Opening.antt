@@ -1,5 +1,5 @@
 -- The names that are opened, one after the other.
-use Rattle.std.proofs.Common.{◌≡◌, ℕ, List, [], ◌∷◌, ◌++◌, refl, ap, sym, ◌∙◌, append_assoc, append-nil}
+use Rattle.std.proofs.Common.{◌≡◌, ℕ, List, [], ◌∷◌, ◌++◌, map, refl, ap, sym, ◌∙◌, append_assoc, append-nil}
 use Rattle.std.specs.Prelude.{Option, Some, None, Result, Ok, Err, IfSome}
 use Rattle.desk_outside.specs.Outside.{Files}
 use Rattle.desk_words.specs.declared.command.RunWord.{RunWord}
@@ -9,74 +9,79 @@ use Rattle.run_reader.specs.Run.{Run, run_of}
 use Rattle.run_reader.specs.declared.used.Used.{Used}
 use Rattle.topics_pool.specs.Rows.{first_repeated, run_names}
 use Rattle.desk_files.specs.Files.{Stop, ◌>>=◌, file_as}
-use Rattle.desk_files.specs.Load.{Sources, Loaded, loaded, runs_of, within, paths_to_open, used_by, if_read, runs_to_open, paths_of, MayOpen, DeskMayOpen, Opens}
+use Rattle.desk_files.specs.Load.{Sources, Loaded, loaded, runs_of, within, Turns, to_open, paths_to_open, used_by, if_read, runs_to_open, paths_of, MayOpen, DeskMayOpen, Opens}
 
--- the names that RUN words may open are these, and then those of the words that are left
-pub record Continues (told : Option Files) (qrels : List TopicRows) (first : Used) (all : List RunWord) (used : Used) (names : List (List ℕ)) (words : List RunWord) : Type 0 where
-  pub paths : paths_of all ≡ names ++ paths_of words
-  pub readable : IfSome told (λ held. runs_to_open held qrels first all ≡ names ++ runs_to_open held qrels used words)
+-- the names that words may open are these, and then those of the words that are left
+pub record Continues {Word State Found : Type 0} (turns : Turns Word State Found) (told : Option Files) (first : State) (all : List Word) (had : State) (names : List (List ℕ)) (words : List Word) : Type 0 where
+  pub paths : map turns.path all ≡ names ++ map turns.path words
+  pub readable : IfSome told (λ held. to_open turns held first all ≡ names ++ to_open turns held had words)
 
 -- the names that were opened so far
-pub record OpensSoFar (told : Option Files) (qrels : List TopicRows) (first : Used) (all : List RunWord) (used : Used) (words : List RunWord) (had has : List (List ℕ)) : Type 0 where
+pub record OpensSoFar {Word State Found : Type 0} (turns : Turns Word State Found) (told : Option Files) (first : State) (all : List Word) (left : State) (words : List Word) (had has : List (List ℕ)) : Type 0 where
   pub names : List (List ℕ)
-  pub continues : Continues told qrels first all used names words
+  pub continues : Continues turns told first all left names words
   pub added : has ≡ had ++ names
 
-if_any : (told : Option Files) (qrels : List TopicRows) (used : Used) (words : List RunWord) → IfSome told (λ held. runs_to_open held qrels used words ≡ [] ++ runs_to_open held qrels used words)
-if_any None qrels used words = tt
-if_any (Some held) qrels used words = refl
+module _ {Word State Found : Type 0} (turns : Turns Word State Found) (first : State) (all : List Word) where
+  if_any : (told : Option Files) → IfSome told (λ held. to_open turns held first all ≡ [] ++ to_open turns held first all)
+  if_any None = tt
+  if_any (Some held) = refl
 
-pub opens_none : (told : Option Files) (qrels : List TopicRows) (used : Used) (words : List RunWord) (had : List (List ℕ)) → OpensSoFar told qrels used words used words had had
-opens_none told qrels used words had = record { names = []; continues = record { paths = refl; readable = if_any told qrels used words }; added = sym (append-nil had) }
+  pub opens_none : (told : Option Files) (had : List (List ℕ)) → OpensSoFar turns told first all first all had had
+  opens_none told had = record { names = []; continues = record { paths = refl; readable = if_any told }; added = sym (append-nil had) }
 
-module _ (qrels : List TopicRows) (first : Used) (all : List RunWord) (used : Used) (word : RunWord) (words : List RunWord) (had before now : List (List ℕ)) where
-  one_more : (names : List (List ℕ)) → before ≡ had ++ names → now ≡ before ++ word.path ∷ [] → now ≡ had ++ (names ++ word.path ∷ [])
-  one_more names e f = f ∙ ap (λ xs. xs ++ word.path ∷ []) e ∙ append_assoc had names (word.path ∷ [])
+  -- those that may be opened
+  abbrev pub Opened : Option Files → List (List ℕ) → List (List ℕ) → Type 0
+  Opened told had has = Opens (MayOpen told (λ held. to_open turns held first all) (map turns.path all)) had has
 
-  readable_more : (told : Option Files) (run : Run) (names : List (List ℕ)) → IfSome told (λ held. runs_to_open held qrels first all ≡ names ++ runs_to_open held qrels used (word ∷ words)) →
-      IfSome told (λ held. file_as (run_of word.name qrels used) held word.path ≡ Ok run) → IfSome told (λ held. runs_to_open held qrels first all ≡ (names ++ word.path ∷ []) ++ runs_to_open held qrels run.used words)
-  readable_more None run names h k = tt
-  readable_more (Some held) run names h k =
-      h ∙ ap (λ r. names ++ word.path ∷ if_read r (λ run. runs_to_open held qrels run.used words)) k ∙ sym (append_assoc names (word.path ∷ []) (runs_to_open held qrels run.used words))
+  module _ (left : State) (word : Word) (words : List Word) (had before now : List (List ℕ)) where
+    one_more : (names : List (List ℕ)) → before ≡ had ++ names → now ≡ before ++ turns.path word ∷ [] → now ≡ had ++ (names ++ turns.path word ∷ [])
+    one_more names e f = f ∙ ap (λ xs. xs ++ turns.path word ∷ []) e ∙ append_assoc had names (turns.path word ∷ [])
 
-  -- one more file was read
-  pub opens_more : (told : Option Files) (run : Run) → OpensSoFar told qrels first all used (word ∷ words) had before → now ≡ before ++ word.path ∷ [] → IfSome told (λ held. file_as (run_of word.name qrels used) held word.path ≡ Ok run) →
-      OpensSoFar told qrels first all run.used words had now
-  opens_more told run so_far e k = record {
-    names = so_far.names ++ word.path ∷ [];
-    continues = record {
-      paths = so_far.continues.paths ∙ sym (append_assoc so_far.names (word.path ∷ []) (paths_of words));
-      readable = readable_more told run so_far.names so_far.continues.readable k;
-    };
-    added = one_more so_far.names so_far.added e;
-  }
+    readable_more : (told : Option Files) (found : Found) (names : List (List ℕ)) → IfSome told (λ held. to_open turns held first all ≡ names ++ to_open turns held left (word ∷ words)) →
+        IfSome told (λ held. turns.read held left word ≡ Ok found) → IfSome told (λ held. to_open turns held first all ≡ (names ++ turns.path word ∷ []) ++ to_open turns held (turns.left found) words)
+    readable_more None found names h k = tt
+    readable_more (Some held) found names h k =
+        h ∙ ap (λ r. names ++ turns.path word ∷ if_read r (λ found. to_open turns held (turns.left found) words)) k ∙ sym (append_assoc names (turns.path word ∷ []) (to_open turns held (turns.left found) words))
 
-  may_open : (told : Option Files) (names : List (List ℕ)) → Continues told qrels first all used names (word ∷ words) → MayOpen told (λ held. runs_to_open held qrels first all) (paths_of all) (names ++ word.path ∷ [])
-  may_open None names h = (paths_of words, h.paths ∙ sym (append_assoc names (word.path ∷ []) (paths_of words)))
-  may_open (Some held) names h =
-      let rest = if_read (file_as (run_of word.name qrels used) held word.path) (λ run. runs_to_open held qrels run.used words) in
-      (rest, h.readable ∙ sym (append_assoc names (word.path ∷ []) rest))
+    -- one more file was read
+    pub opens_more : (told : Option Files) (found : Found) → OpensSoFar turns told first all left (word ∷ words) had before → now ≡ before ++ turns.path word ∷ [] → IfSome told (λ held. turns.read held left word ≡ Ok found) →
+        OpensSoFar turns told first all (turns.left found) words had now
+    opens_more told found so_far e k = record {
+      names = so_far.names ++ turns.path word ∷ [];
+      continues = record {
+        paths = so_far.continues.paths ∙ sym (append_assoc so_far.names (turns.path word ∷ []) (map turns.path words));
+        readable = readable_more told found so_far.names so_far.continues.readable k;
+      };
+      added = one_more so_far.names so_far.added e;
+    }
 
-  -- the reading stopped at a file
-  pub opens_last : (told : Option Files) → OpensSoFar told qrels first all used (word ∷ words) had before → now ≡ before ++ word.path ∷ [] → Opens (MayOpen told (λ held. runs_to_open held qrels first all) (paths_of all)) had now
-  opens_last told so_far e = record { names = so_far.names ++ word.path ∷ []; allowed = may_open told so_far.names so_far.continues; added = one_more so_far.names so_far.added e }
+    may_open : (told : Option Files) (names : List (List ℕ)) → Continues turns told first all left names (word ∷ words) → MayOpen told (λ held. to_open turns held first all) (map turns.path all) (names ++ turns.path word ∷ [])
+    may_open None names h = (map turns.path words, h.paths ∙ sym (append_assoc names (turns.path word ∷ []) (map turns.path words)))
+    may_open (Some held) names h =
+        let rest = if_read (turns.read held left word) (λ found. to_open turns held (turns.left found) words) in
+        (rest, h.readable ∙ sym (append_assoc names (turns.path word ∷ []) rest))
 
-may_open_all : (told : Option Files) (qrels : List TopicRows) (first : Used) (all : List RunWord) (used : Used) (names : List (List ℕ)) → Continues told qrels first all used names [] → MayOpen told (λ held. runs_to_open held qrels first all) (paths_of all) names
-may_open_all None qrels first all used names h = ([], h.paths)
-may_open_all (Some held) qrels first all used names h = ([], h.readable)
+    -- the reading stopped at a file
+    pub opens_last : (told : Option Files) → OpensSoFar turns told first all left (word ∷ words) had before → now ≡ before ++ turns.path word ∷ [] → Opened told had now
+    opens_last told so_far e = record { names = so_far.names ++ turns.path word ∷ []; allowed = may_open told so_far.names so_far.continues; added = one_more so_far.names so_far.added e }
 
--- all files were read
-pub opens_all : (told : Option Files) (qrels : List TopicRows) (first : Used) (all : List RunWord) (used : Used) (had now : List (List ℕ)) → OpensSoFar told qrels first all used [] had now → Opens (MayOpen told (λ held. runs_to_open held qrels first all) (paths_of all)) had now
-opens_all told qrels first all used had now so_far = record { names = so_far.names; allowed = may_open_all told qrels first all used so_far.names so_far.continues; added = so_far.added }
+  may_open_all : (told : Option Files) (left : State) (names : List (List ℕ)) → Continues turns told first all left names [] → MayOpen told (λ held. to_open turns held first all) (map turns.path all) names
+  may_open_all None left names h = ([], h.paths)
+  may_open_all (Some held) left names h = ([], h.readable)
+
+  -- all files were read
+  pub opens_all : (told : Option Files) (left : State) (had now : List (List ℕ)) → OpensSoFar turns told first all left [] had now → Opened told had now
+  opens_all told left had now so_far = record { names = so_far.names; allowed = may_open_all told left so_far.names so_far.continues; added = so_far.added }
+
+  -- each of the words' paths was opened
+  pub opened_all : (told : Option Files) (left : State) (had now : List (List ℕ)) → OpensSoFar turns told first all left [] had now → now ≡ had ++ map turns.path all
+  opened_all told left had now so_far = so_far.added ∙ ap (λ xs. had ++ xs) (sym (append-nil so_far.names) ∙ sym so_far.continues.paths)
 
 -- the qrels may be opened
 pub may_open_qrels : (told : Option Files) (sources : Sources) → DeskMayOpen told sources (sources.qrels ∷ [])
 may_open_qrels None sources = (paths_of sources.runs, refl)
 may_open_qrels (Some held) sources = (if_read (file_as qrels_of held sources.qrels) (λ qrels. runs_to_open held qrels (used_by qrels) sources.runs), refl)
-
--- each of the RUN words' paths was opened
-pub opened_all : (told : Option Files) (qrels : List TopicRows) (first : Used) (all : List RunWord) (used : Used) (had now : List (List ℕ)) → OpensSoFar told qrels first all used [] had now → now ≡ had ++ paths_of all
-opened_all told qrels first all used had now so_far = so_far.added ∙ ap (λ xs. had ++ xs) (sym (append-nil so_far.names) ∙ sym so_far.continues.paths)
 
 -- where all runs are read, none of their paths is left out
 all_readable : (held : Files) (qrels : List TopicRows) (used : Used) (words : List RunWord) (runs : List Run) → runs_of held qrels used words ≡ Ok runs → runs_to_open held qrels used words ≡ paths_of words

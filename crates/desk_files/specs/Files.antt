@@ -4,6 +4,9 @@ use Rattle.desk_outside.specs.Outside.{Files}
 use Rattle.file_rows.specs.declared.fault.FileFault.{FileFault}
 use Rattle.file_rows.specs.declared.fault.FileFault.TheVariants as faults
 use Rattle.file_rows.specs.declared.fault.LineFault.{LineFault}
+use Rattle.sheet_merge.specs.declared.fault.SheetLineFault.{SheetLineFault}
+use Rattle.sheet_merge.specs.declared.fault.SheetFault.{SheetFault}
+use Rattle.sheet_merge.specs.declared.fault.SheetFault.TheVariants as sheet_faults
 use Rattle.desk_files.specs.declared.limits.TheConstants.{LONGEST_FILE}
 
 -- why files are refused
@@ -22,6 +25,14 @@ pub data Refusal : Type 0 where
   SameName : (name : List ℕ) → Refusal
   -- pairs times topics times tables are this many, and too many
   TooManyCells : (cells : ℕ) → Refusal
+  -- this line of this sheet, from 1, has a fault
+  SheetLine : (path : List ℕ) → (line : ℕ) → (fault : SheetLineFault) → Refusal
+  -- this sheet and those before it have entries of too many documents together
+  TooManyEntries : (path : List ℕ) → Refusal
+  -- an entry of this sheet is of this topic, which is not in the desk, and each entry before it has its place
+  UnknownTopic : (path : List ℕ) → (topic : List ℕ) → Refusal
+  -- an entry of this sheet is of this topic, which is in the desk, and of this document, which is not in the topic's universe; each entry before it has its place
+  UnknownDocument : (path : List ℕ) → (topic : List ℕ) → (document : List ℕ) → Refusal
 
 -- why nothing is printed
 pub data Stop : Type 0 where
@@ -49,11 +60,21 @@ stop_at path faults.NoTopics = Refused (NoTopics path)
 stop_at path faults.NoTag = Refused (NoTag path)
 stop_at path faults.Memory = Memory
 
--- what was read, or the refusal of its file
-abbrev pub or_faulty : {X : Type 0} → List ℕ → Result X FileFault → Result X Stop
-or_faulty path (Ok x) = Ok x
-or_faulty path (Err fault) = Err (stop_at path fault)
+abbrev pub sheet_stop_at : List ℕ → SheetFault → Stop
+sheet_stop_at path (sheet_faults.Line line fault) = Refused (SheetLine path line fault)
+sheet_stop_at path sheet_faults.Memory = Memory
 
--- what a file says to a reader
+-- what was read, or why a command stops at its fault
+abbrev pub or_stop : {X F : Type 0} → (F → Stop) → Result X F → Result X Stop
+or_stop stop (Ok x) = Ok x
+or_stop stop (Err fault) = Err (stop fault)
+
+abbrev pub or_faulty : {X : Type 0} → List ℕ → Result X FileFault → Result X Stop
+or_faulty path read = or_stop (stop_at path) read
+
+-- what a file says to a reader whose faults stop a command so
+abbrev pub file_by : {X F : Type 0} → (List ℕ → F → Stop) → (List ℕ → Result X F) → Files → List ℕ → Result X Stop
+file_by stop read files path = whole_file path (files path) >>= (λ bytes. or_stop (stop path) (read bytes))
+
 abbrev pub file_as : {X : Type 0} → (List ℕ → Result X FileFault) → Files → List ℕ → Result X Stop
-file_as read files path = whole_file path (files path) >>= (λ bytes. or_faulty path (read bytes))
+file_as read files path = file_by stop_at read files path

@@ -6,4 +6,8 @@ pub mod Outcome
 pub mod Stopped
 pub mod Joined
 pub mod Certificates
+pub mod Then
 pub mod Checks
+pub mod Sheets
+pub mod Placings
+pub mod Lacks

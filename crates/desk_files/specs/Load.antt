@@ -63,11 +63,27 @@ abbrev pub if_read : {X : Type 0} → Result X Stop → (X → List (List ℕ)) 
 if_read (Ok x) next = next x
 if_read (Err why) next = []
 
--- the paths of RUN words, up to the first whose file is missing or refused
+-- files that are read one after the other: the path of a word, what its file comes to beside what the files before it left, and what it leaves
+pub record Turns (Word State Found : Type 0) : Type 0 where
+  pub path : Word → List ℕ
+  pub read : Files → State → Word → Result Found Stop
+  pub left : Found → State
+
+-- the paths of words, up to the first whose file is missing or refused
+abbrev pub to_open : {Word State Found : Type 0} → Turns Word State Found → Files → State → List Word → List (List ℕ)
+to_open turns files had [] = []
+to_open turns files had (word ∷ words) = turns.path word ∷ if_read (turns.read files had word) (λ found. to_open turns files (turns.left found) words)
+
+-- those of RUN words, where each run is read beside the qrels and what the files before it used
+abbrev pub runs_in_turn : List TopicRows → Turns RunWord Used Run
+runs_in_turn qrels = record {
+  path = λ word. word.path;
+  read = λ files used word. file_as (run_of word.name qrels used) files word.path;
+  left = λ run. run.used;
+}
+
 abbrev pub runs_to_open : Files → List TopicRows → Used → List RunWord → List (List ℕ)
-runs_to_open files qrels used [] = []
-runs_to_open files qrels used (word ∷ words) =
-    word.path ∷ if_read (file_as (run_of word.name qrels used) files word.path) (λ run. runs_to_open files qrels run.used words)
+runs_to_open files qrels used words = to_open (runs_in_turn qrels) files used words
 
 -- the path of the qrels and those of the runs, up to the first whose file is missing or refused
 abbrev pub paths_to_open : Files → List ℕ → List RunWord → List (List ℕ)

@@ -7,6 +7,7 @@ ghost use Rattle.qrels_reader.specs.declared.limits.TheConstants.{MOST_TOPICS, M
 ghost use Rattle.file_rows.specs.declared.limits.TheConstants.{MOST_NAME_BYTES};
 ghost use Rattle.run_reader.specs.declared.limits.TheConstants.{MOST_RANKS, MOST_RUN_ROWS};
 ghost use Rattle.topics_pool.specs.declared.limits.TheConstants.{MOST_CELLS};
+ghost use Rattle.sheet_merge.specs.declared.limits.TheConstants.{ENTRY_LIMIT, GREATEST_STAMP};
 ghost use Rattle.desk_files.specs.declared.limits.TheConstants.{LONGEST_FILE};
 
 /// The most bytes of a file.
@@ -26,4 +27,6 @@ pub fn limits_in_numbers()
     ensures run_rows { MOST_RUN_ROWS ≡ 20000000 }
     ensures cells { MOST_CELLS ≡ 10000000 }
     ensures runs { MOST_RUNS ≡ 256 }
+    ensures entries { ENTRY_LIMIT ≡ 1000000 }
+    ensures stamps { GREATEST_STAMP ≡ 1000000000000000000 }
 {}

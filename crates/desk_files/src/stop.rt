@@ -4,6 +4,7 @@ ghost use Rattle.desk_files.specs.declared.stop.Stop.TheVariants.{Memory};
 
 use desk_model::Memory as NoMemory;
 use file_rows::LineFault;
+use sheet_merge::SheetLineFault;
 use std::alloc::AllocError;
 
 /// Why files are refused.
@@ -23,6 +24,14 @@ pub enum Refusal<'a> {
     SameName(Vec<u8>),
     /// Pairs times topics times tables are this many, and too many.
     TooManyCells(u64),
+    /// This line of the sheet of this path, from 1, has a fault.
+    SheetLine(&'a str, u64, SheetLineFault),
+    /// The sheet of this path and those before it have entries of too many documents together.
+    TooManyEntries(&'a str),
+    /// An entry of the sheet of this path is of this topic, which is not in the desk.
+    UnknownTopic(&'a str, Vec<u8>),
+    /// An entry of the sheet of this path is of this topic of the desk, and of this document, which is not in its universe.
+    UnknownDocument(&'a str, Vec<u8>, Vec<u8>),
 }
 
 /// Why a command stops before it prints.

@@ -3,6 +3,7 @@
 use desk_model::Memory;
 use qrels_reader::QrelsReader;
 use run_reader::RunReader;
+use sheet_merge::SheetReader;
 
 /// What takes the bytes of a file in pieces.
 pub trait Taker {
@@ -46,6 +47,18 @@ impl Taker for RunReader<'_> {
     ghost Beside = { FedRun };
 
     ghost beside = { λ reader. record reader { fed = [] } };
+
+    fn take(&mut self, piece: &[u8]) -> Result<(), Memory> {
+        self.feed(piece)
+    }
+}
+
+impl Taker for SheetReader {
+    ghost taken = { λ reader. reader };
+
+    ghost Beside = { Unit {0} };
+
+    ghost beside = { λ _. tt };
 
     fn take(&mut self, piece: &[u8]) -> Result<(), Memory> {
         self.feed(piece)

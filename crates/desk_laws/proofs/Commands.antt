@@ -5,8 +5,9 @@ use Rattle.std.specs.List.{Contains}
 use Rattle.desk_outside.specs.Inputs.{Input, Whole, Cut, bytes_in}
 use Rattle.desk_words.specs.declared.command.Check.{Check}
 use Rattle.desk_words.specs.declared.command.Job.{Job}
+use Rattle.desk_words.specs.declared.command.Placing.{Placing}
 use Rattle.desk_words.specs.declared.command.Command.{Command}
-use Rattle.desk_words.specs.declared.command.Command.TheVariants.{Table, Certify, CertifyAll, Session, Verify, Demo, Graded, Tiers}
+use Rattle.desk_words.specs.declared.command.Command.TheVariants.{Table, Certify, CertifyAll, Session, Verify, Demo, Graded, Tiers, Merge, Apply}
 use Rattle.bundle_verifier.specs.declared.rejected.BundleRejected.{BundleRejected}
 use Rattle.bundle_report.specs.Bundled.{IsAllPairsText}
 use Rattle.desk_report.specs.Reports.{Subject, IsTableText, IsCertificateText, IsCloseText}
@@ -27,9 +28,10 @@ use Rattle.desk_top.specs.Verification.{PrintsCheck, verification_status}
 use Rattle.desk_top.specs.Conversation.{status_at}
 use Rattle.desk_top.specs.Showing.{PrintsDemo}
 use Rattle.desk_top.specs.Loading.{loading_from, check_loading, no_loading}
-use Rattle.desk_top.specs.Meaning.{Meaning, check_meaning, session_meaning, demo_meaning, desk_meaning, graded_meaning, meaning_of, PrintsTable, PrintsTiers, PrintsCertificate, PrintsAllPairs}
+use Rattle.desk_top.specs.Meaning.{Meaning, check_meaning, session_meaning, demo_meaning, desk_meaning, graded_meaning, merge_meaning, apply_meaning, meaning_of, PrintsTable, PrintsTiers, PrintsCertificate, PrintsAllPairs}
 use Rattle.desk_laws.specs.Fixed.{BundleIsOne, CheckIsOne, OrderIsOne, AnswersAreFixed}
 use Rattle.desk_laws.proofs.LineEnds.{all_pairs_text_ends, too_long_ends, table_text_ends, tiers_text_ends, certificate_text_ends, close_text_ends, next_text_ends, verification_ends, summary_ends, line_ends}
+use Rattle.desk_laws.proofs.Sheets.{merge_lawful, merge_ends, merge_lines, merge_one, placing_lawful, apply_ends, apply_lines, apply_one}
 use Rattle.desk_laws.proofs.Statuses.{IsLawfulLoading, HasEnds, EndsIn}
 use Rattle.desk_laws.proofs.Answering.{EndsLines, HasLines, HasOneAnswer, IsMadeLawfully, outcome_ends, outcome_lines, outcome_one, text_status, text_lines, text_one, on_desk_ends, on_desk_lines, on_desk_one, graded_status, graded_whole, graded_answer_one, all_pairs_one, certificate_one, check_one, session_lines, session_one, demo_one}
 
@@ -181,6 +183,17 @@ graded fixed job greatest = record {
   one = graded_answer_one job greatest fixed.desk;
 }
 
+merge : (paths : List (List ℕ)) → IsLawful (merge_meaning paths)
+merge paths = record { loading = merge_lawful paths; ends = merge_ends paths; lines = merge_lines paths; one = merge_one paths }
+
+apply : AnswersAreFixed → (placing : Placing) → IsLawful (apply_meaning placing)
+apply fixed placing = record {
+  loading = placing_lawful fixed.desk placing;
+  ends = apply_ends fixed.desk placing;
+  lines = apply_lines fixed.desk placing;
+  one = apply_one fixed.desk placing;
+}
+
 pub command_is_lawful : AnswersAreFixed → (command : Command) → IsLawful (meaning_of command)
 command_is_lawful fixed (Table job) = on_desk fixed job 1 (statuses.Done ∷ []) PrintsTable prints_table
 command_is_lawful fixed (Certify job) = on_desk fixed job 2 (statuses.Done ∷ statuses.Close ∷ []) PrintsCertificate prints_certificate
@@ -190,3 +203,5 @@ command_is_lawful fixed (Verify check) = check_of fixed check
 command_is_lawful fixed (Demo seed) = demo fixed seed
 command_is_lawful fixed (Graded job greatest) = graded fixed job greatest
 command_is_lawful fixed (Tiers job) = on_desk fixed job 1 (statuses.Done ∷ []) PrintsTiers (prints_tiers fixed.order)
+command_is_lawful fixed (Merge sheets) = merge sheets
+command_is_lawful fixed (Apply placing) = apply fixed placing

@@ -1,6 +1,8 @@
 pub mod LineEnds
 pub mod Statuses
 pub mod Answering
+pub mod Sheets
+pub mod Applying
 pub mod Commands
 pub mod Answered
 pub mod Beside

@@ -1,6 +1,6 @@
 -- Texts whose last line is ended.
 use Rattle.std.proofs.Common.{◌≡◌, ℕ, List, [], ◌∷◌, ◌++◌, flat_map, map, refl, ap, sym, subst, ◌∙◌, inl, inr, append-nil, append_assoc}
-use Rattle.std.specs.Prelude.{codes, decimal, length, slice_index_or, ◌*◌, Option, Some, None, Result, Ok, Err, Bool, true, false, MatchBool, nat_eq}
+use Rattle.std.specs.Prelude.{codes, decimal, length, slice_index_or, ◌*◌, Option, Some, None, Result, Ok, Err, Bool, true, false, MatchBool, nat_eq, ℤ}
 use Rattle.std.specs.List.{AllByRecursion, zip}
 use Rattle.desk_model.specs.Book.{Book}
 use Rattle.desk_model.specs.Desk.{Desk}
@@ -21,7 +21,9 @@ use Rattle.graded_rbp.specs.Score.{GradedMeasure, binary}
 use Rattle.desk_report.specs.ByGrades.{graded_text, graded_lines}
 use Rattle.desk_report.specs.Close.{close_line}
 use Rattle.desk_report.specs.Table.{table_text, table_lines, pair_line, ended}
-use Rattle.desk_report.specs.Judging.{topic_qrels_lines, changed_line, pool_line, next_line}
+use Rattle.sheet_merge.specs.Sheet.{SheetRow}
+use Rattle.sheet_merge.specs.Text.{entry_text, sheet_text}
+use Rattle.desk_report.specs.Judging.{topic_qrels_lines, qrels_text, changed_line, pool_line, next_line}
 use Rattle.desk_report.specs.Reports.{Subject, IsTableText, IsCertificateText, IsCloseText, IsPairText, IsNextText, run_name}
 use Rattle.desk_report.specs.Tiers.{IsTiersText, tiers_lines, tiers_text}
 use Rattle.session_replies.specs.Replies.{Setting, OnNumbers, IsCertified, IsPoolReply, IsReply, judge_reply, undo_reply, redo_reply, subject_after, changes_after, all_in_force, refusal, change_reply, fault_word}
@@ -96,6 +98,12 @@ pub verification_ends : (desk : Desk) (depth : Option ℕ) (answer : Result (Uni
 verification_ends desk depth (Ok _) = inr (codes "accepted", refl)
 verification_ends desk depth (Err rejected) = inr (codes "rejected " ++ rejection_text desk depth rejected, refl)
 
+pub sheet_text_ends : (rows : List SheetRow) (text : List ℕ) → text ≡ sheet_text rows → EndsLastLine text
+sheet_text_ends rows text is = subst EndsLastLine (sym is) (one_after_the_other _ (λ row. inr (entry_text row, refl)) rows)
+
+pub qrels_text_ends : (desk : Desk) (grades : List (List (Option ℤ))) (text : List ℕ) → text ≡ qrels_text desk grades → EndsLastLine text
+qrels_text_ends desk grades text is = subst EndsLastLine (sym is) (one_after_the_other _ (λ p. lines_end (topic_qrels_lines p.0 p.1)) (zip desk.topics grades))
+
 pub summary_ends : (f : List ℕ → Saying) → ((line : List ℕ) → EndsLastLine (f line).text) → (lines : List (List ℕ)) (last : Saying) → EndsLastLine last.text → AllByRecursion (λ (one : Saying). EndsLastLine one.text) (map f lines ++ last ∷ [])
 summary_ends f each [] last h = (h, tt)
 summary_ends f each (line ∷ lines) last h = (each line, summary_ends f each lines last h)
@@ -165,7 +173,7 @@ reply_ends s changes (Asked (Pair first second)) text is = runs_end (number_of s
 reply_ends s changes (Asked (Certify first second)) text is = runs_end (number_of s.desk.runs first) (number_of s.desk.runs second) (IsCertified (subject_after s changes)) text (λ a b shown. certified_ends (subject_after s changes) a b text shown) is
 reply_ends s changes (Asked (Pool topic depth)) text is = pool_ends s changes depth (number_of (map (λ (book : Book). book.name) s.desk.topics) topic) text is
 reply_ends s changes (Asked Next) text is = next_text_ends (subject_after s changes) text is
-reply_ends s changes (Asked Qrels) text is = subst EndsLastLine (sym is) (one_after_the_other _ (λ p. lines_end (topic_qrels_lines p.0 p.1)) (zip s.desk.topics (all_in_force s.desk changes)))
+reply_ends s changes (Asked Qrels) text is = qrels_text_ends s.desk (all_in_force s.desk changes) text is
 reply_ends s changes (Asked Quit) text is = inl is
 
 pub replies_end : (s : Setting) (changes : List Change) (lines texts : List (List ℕ)) → AreReplies s changes lines texts → AllByRecursion (λ (one : Saying). EndsLastLine one.text) (sayings s changes lines texts)

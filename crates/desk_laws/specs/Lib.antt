@@ -6,3 +6,4 @@ pub mod Replaced
 pub mod Accepted
 pub mod AllPairs
 pub mod Example
+pub mod Applied

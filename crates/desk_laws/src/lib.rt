@@ -5,6 +5,7 @@
 #![tactic(auto)]
 
 pub mod answers;
+pub mod applied;
 pub mod cases;
 pub mod checks;
 pub mod sessions;
@@ -13,6 +14,7 @@ pub use answers::{
     answer_is_one, good_files_are_answered, missing_file_is_outside, other_words_are_usage,
     refusal_is_told, statuses_are_few, texts_end_their_lines,
 };
+pub use applied::{applied_files_come_again, applying_twice_changes_nothing};
 pub use checks::{all_pairs_are_accepted, all_pairs_pass};
 pub use sessions::{
     certificates_are_accepted, checks_accept, files_come_again, grades_are_in_force,

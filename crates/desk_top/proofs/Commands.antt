@@ -4,7 +4,7 @@ use Rattle.std.specs.Prelude.{codes, Option, Some, None}
 use Rattle.command_line.specs.Given.{Values}
 use Rattle.desk_words.specs.Words.{IsCommandOf, IsDepthOf, IsLevelOf, SaysJob}
 use Rattle.desk_words.specs.declared.command.Command.{Command}
-use Rattle.desk_words.specs.declared.command.Command.TheVariants.{Table, Certify, CertifyAll, Session, Verify, Demo, Graded, Tiers}
+use Rattle.desk_words.specs.declared.command.Command.TheVariants.{Table, Certify, CertifyAll, Session, Verify, Demo, Graded, Tiers, Merge, Apply}
 use Rattle.desk_words.specs.declared.command.Job.{Job}
 use Rattle.desk_words.proofs.Values.{run_count}
 use Rattle.desk_model.specs.MeasureText.{IsMeasure}
@@ -21,6 +21,7 @@ use Rattle.desk_top.specs.Truths.{PrintsTruth}
 use Rattle.desk_top.proofs.Truth.{on_desk_true, printed_table_true, printed_tiers_true, printed_certificate_true, printed_all_pairs_true, check_is_truthful}
 use Rattle.desk_top.proofs.Showing.{demo_is_truthful}
 use Rattle.desk_top.proofs.ByGrades.{graded_is_truthful}
+use Rattle.desk_top.proofs.OnSheets.{merge_is_truthful, apply_is_truthful}
 use Rattle.desk_top.proofs.Replying.{replies_are_true}
 
 level_said : (values : List (List ℕ)) (level : ℕ) → IsLevelOf values level → IsLevel level
@@ -47,6 +48,8 @@ asked (word ∷ rest) (Demo seed) h = tt
 asked (word ∷ rest) (Graded job greatest) h =
     let says = h.1.said.says in record { on_desk = job_asked h.1.values 1 job says.0 h.1.given.allowed.enough; biased = says.1; some = says.2.1; few = says.2.2 }
 asked (word ∷ rest) (Tiers job) h = job_asked h.1.values 1 job h.1.said.says h.1.given.allowed.enough
+asked (word ∷ rest) (Merge sheets) h = tt
+asked (word ∷ rest) (Apply placing) h = tt
 
 session_is_truthful : PrintsTruth → (job : Job) → IsMeasure job.measure → IsTruthful (session_meaning job)
 session_is_truthful laws job m rows input answer is =
@@ -65,3 +68,5 @@ command_is_truthful laws (Verify check) asked = check_is_truthful laws check
 command_is_truthful laws (Demo seed) asked = demo_is_truthful laws seed
 command_is_truthful laws (Graded job greatest) asked = graded_is_truthful laws job greatest asked
 command_is_truthful laws (Tiers job) asked = on_desk_true laws job 1 (statuses.Done ∷ []) PrintsTiers (printed_tiers_true laws) asked.measure
+command_is_truthful laws (Merge sheets) asked = merge_is_truthful laws sheets
+command_is_truthful laws (Apply placing) asked = apply_is_truthful laws placing

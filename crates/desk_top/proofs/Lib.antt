@@ -8,5 +8,6 @@ pub mod Truth
 pub mod Replying
 pub mod Showing
 pub mod ByGrades
+pub mod OnSheets
 pub mod Commands
 pub mod Calling

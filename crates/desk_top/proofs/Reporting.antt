@@ -52,11 +52,11 @@ module _ {X : Type 0} (comes : Files → Result X Stop → Type 0) where
   found_may_come None found read = tt
   found_may_come (Some files) found read = read
 
-  refusal_may_come : (known : Option Files) (refusal : Refusal) → IfSome known (λ files. comes files (Err (Refused refusal))) → MayCome known comes (Err (Refused refusal))
+  pub refusal_may_come : (known : Option Files) (refusal : Refusal) → IfSome known (λ files. comes files (Err (Refused refusal))) → MayCome known comes (Err (Refused refusal))
   refusal_may_come None refusal read = tt
   refusal_may_come (Some files) refusal read = read
 
-  missing_may_come : (known : Option Files) → IsSomeAnd known (λ files. comes files (Err Outside)) → MayCome known comes (Err Outside)
+  pub missing_may_come : (known : Option Files) → IsSomeAnd known (λ files. comes files (Err Outside)) → MayCome known comes (Err Outside)
   missing_may_come None is = is
   missing_may_come (Some files) is = is
 
@@ -64,7 +64,7 @@ module _ {X : Type 0} (comes : Files → Result X Stop → Type 0) where
   abbrev loading_by : (Option Files → List (List ℕ) → Type 0) → Loading
   loading_by opens = record { Found = X; comes = λ known found. MayCome known comes found; opens = opens }
 
-  stops_loading : (opens : Option Files → List (List ℕ) → Type 0) (shelf : Shelf) (stop : KeptStop) → OpensFiles (loading_by opens) shelf.files → StopsAt shelf.files shelf.before shelf.after stop (λ files why. comes files (Err why)) → StopsLoading (loading_by opens) shelf stop
+  pub stops_loading : (opens : Option Files → List (List ℕ) → Type 0) (shelf : Shelf) (stop : KeptStop) → OpensFiles (loading_by opens) shelf.files → StopsAt shelf.files shelf.before shelf.after stop (λ files why. comes files (Err why)) → StopsLoading (loading_by opens) shelf stop
   stops_loading opens shelf (kept.Refused refusal) one stops = refusal_may_come shelf.files (refusal_of refusal) stops
   stops_loading opens shelf kept.Outside one (inl rose) = inl (one, rose)
   stops_loading opens shelf kept.Outside one (inr missing) = inr (missing_may_come shelf.files missing)

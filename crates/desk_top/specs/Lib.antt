@@ -7,6 +7,7 @@ pub mod Verification
 pub mod Conversation
 pub mod Showing
 pub mod Loading
+pub mod Sheets
 pub mod Meaning
 pub mod Works
 pub mod Meets

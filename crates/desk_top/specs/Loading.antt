@@ -1,14 +1,18 @@
 -- What commands read of their files.
-use Rattle.std.specs.Prelude.{◌≡◌, ◌⊎◌, List, [], ◌∷◌, ℕ, Option, Some, None, Result, Ok, Err}
+use Rattle.std.specs.Prelude.{◌≡◌, ◌⊎◌, ◌<◌, List, [], ◌∷◌, length, ℕ, Option, Some, None, Result, Ok, Err}
 use Rattle.desk_outside.specs.Calls.{opened_in}
 use Rattle.desk_outside.specs.Outside.{Files}
 use Rattle.desk_outside.specs.Seen.{Shelf}
 use Rattle.desk_words.specs.declared.command.Check.{Check}
 use Rattle.desk_words.specs.declared.command.Job.{Job}
+use Rattle.desk_words.specs.declared.command.Placing.{Placing}
 use Rattle.order_bundle.specs.declared.scoped.Scoped.{Scoped}
 use Rattle.desk_files.specs.Files.{Stop, Outside, Memory}
 use Rattle.desk_files.specs.Load.{Sources, Loaded, loaded, DeskMayOpen, Opens}
 use Rattle.desk_files.specs.Checks.{CheckComes, CheckMayOpen}
+use Rattle.desk_files.specs.Placings.{PlacingComes, PlacingMayOpen}
+use Rattle.desk_files.specs.Sheets.{merge_of, SheetsMayOpen}
+use Rattle.sheet_merge.specs.Sheet.{SheetRow}
 use Rattle.desk_top.specs.Report.{sources_of, graded_sources}
 
 -- what files come to, and how
@@ -48,6 +52,22 @@ check_loading check = record {
   Found = Loaded × Scoped;
   comes = λ known found. MayCome known (λ files found. CheckComes files check found) found;
   opens = λ known names. CheckMayOpen known check names;
+}
+
+-- the merge of sheets, of one at least
+abbrev pub sheets_loading : List (List ℕ) → Loading
+sheets_loading paths = record {
+  Found = List SheetRow;
+  comes = λ known found. (0 < length paths) × MayCome known (λ files found. merge_of files [] paths ≡ found) found;
+  opens = λ known names. SheetsMayOpen known paths names;
+}
+
+-- the rows of the desk of a placing, and those of its sheet
+abbrev pub placing_loading : Placing → Loading
+placing_loading placing = record {
+  Found = Loaded × List SheetRow;
+  comes = λ known found. MayCome known (λ files found. PlacingComes files placing found) found;
+  opens = λ known names. PlacingMayOpen known placing names;
 }
 
 -- no file

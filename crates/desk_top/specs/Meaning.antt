@@ -5,8 +5,9 @@ use Rattle.desk_outside.specs.Inputs.{Input}
 use Rattle.desk_words.specs.Words.{IsCommandOf}
 use Rattle.desk_words.specs.declared.command.Check.{Check}
 use Rattle.desk_words.specs.declared.command.Job.{Job}
+use Rattle.desk_words.specs.declared.command.Placing.{Placing}
 use Rattle.desk_words.specs.declared.command.Command.{Command}
-use Rattle.desk_words.specs.declared.command.Command.TheVariants.{Table, Certify, CertifyAll, Verify, Session, Demo, Graded, Tiers}
+use Rattle.desk_words.specs.declared.command.Command.TheVariants.{Table, Certify, CertifyAll, Verify, Session, Demo, Graded, Tiers, Merge, Apply}
 use Rattle.desk_model.specs.Desk.{Desk}
 use Rattle.graded_rbp.specs.Score.{GradedMeasure}
 use Rattle.desk_files.specs.Files.{Stop}
@@ -22,7 +23,8 @@ use Rattle.desk_top.specs.Report.{IsAsked, IsAskedByGrades, IsMeasureByGrades, I
 use Rattle.desk_top.specs.Verification.{PrintsCheck}
 use Rattle.desk_top.specs.Conversation.{setting_on, IsSession, session_cells}
 use Rattle.desk_top.specs.Showing.{PrintsDemo, HasDemoDesk}
-use Rattle.desk_top.specs.Loading.{Loading, desk_loading, graded_loading, check_loading, no_loading}
+use Rattle.desk_top.specs.Loading.{Loading, desk_loading, graded_loading, check_loading, sheets_loading, placing_loading, no_loading}
+use Rattle.desk_top.specs.Sheets.{PrintsMerge, PrintsApplied}
 
 -- what a command means
 pub record Meaning : Type 1 where
@@ -98,6 +100,28 @@ graded_meaning job greatest = record {
   cells = λ rows taken most. HasDeskOf rows (λ desk. most ≡ cells_of desk * greatest);
 }
 
+-- the merge of sheets: nothing is evaluated
+abbrev pub merge_meaning : List (List ℕ) → Meaning
+merge_meaning paths = record {
+  asked = Unit {0};
+  loading = sheets_loading paths;
+  reads = ⊥;
+  answers = λ rows input answer. IsOutcome (PrintsMerge rows) answer;
+  ends = statuses.Done ∷ [];
+  cells = λ rows taken most. most ≡ 0;
+}
+
+-- a sheet applied to the judgements of a desk: nothing is evaluated
+abbrev pub apply_meaning : Placing → Meaning
+apply_meaning placing = record {
+  asked = Unit {0};
+  loading = placing_loading placing;
+  reads = ⊥;
+  answers = λ found input answer. IsOutcome (PrintsApplied found) answer;
+  ends = statuses.Done ∷ [];
+  cells = λ found taken most. most ≡ 0;
+}
+
 -- usage: no file is opened, and nothing is read or evaluated
 abbrev pub usage_meaning : Meaning
 usage_meaning = record {
@@ -139,6 +163,8 @@ meaning_of (Session job) = session_meaning job
 meaning_of (Demo seed) = demo_meaning seed
 meaning_of (Graded job greatest) = graded_meaning job greatest
 meaning_of (Tiers job) = desk_meaning job 1 (statuses.Done ∷ []) PrintsTiers
+meaning_of (Merge sheets) = merge_meaning sheets
+meaning_of (Apply placing) = apply_meaning placing
 
 -- something holds of what words mean: of the meaning of each command that they are of, and of usage, where they are of none
 pub record Means (words : List (List ℕ)) (fact : Meaning → Type 0) : Type 0 where

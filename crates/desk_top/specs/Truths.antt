@@ -15,6 +15,7 @@ use Rattle.table_bundle.specs.Bundles.{IsBundleOf}
 use Rattle.desk_report.specs.ByGrades.{GradedTextsAreTrue}
 use Rattle.desk_report.specs.Claims.{TablesAreTrue, CertificatesAreTrue, CloseLinesAreTrue, AnswerLinesAreTrue, PairLinesAreTrue, OtherLinesAreTrue, NextLinesAreTrue, QrelsTextsAreTrue, NoTextIsTrue}
 use Rattle.desk_report.specs.Tiers.{TiersTextsAreTrue}
+use Rattle.sheet_report.specs.Claims.{SheetTextsAreTrue, JudgementsClaimNothing}
 
 -- certificates of two runs are evidence
 abbrev pub CertificatesAreEvidence : Type 0
@@ -43,3 +44,5 @@ pub record PrintsTruth : Type 0 where
   pub next : NextLinesAreTrue
   pub qrels : QrelsTextsAreTrue
   pub no_text : NoTextIsTrue
+  pub sheets : SheetTextsAreTrue
+  pub judgements : JudgementsClaimNothing

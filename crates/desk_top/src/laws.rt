@@ -9,6 +9,7 @@ use desk_report::claims::{
 };
 use order_bundle::any_evidence_implies_claims;
 use pair_table::evidence_laws::certificates_are_evidence;
+use sheet_report::{judgements_claim_nothing, sheet_texts_are_true};
 use table_bundle::laws::bundles_are_evidence;
 
 /// Whatever was received of a printed text claims nothing false.
@@ -29,4 +30,6 @@ pub fn printed_texts_are_true()
     certificates_are_evidence();
     bundles_are_evidence();
     any_evidence_implies_claims();
+    sheet_texts_are_true();
+    judgements_claim_nothing();
 }

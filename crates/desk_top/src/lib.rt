@@ -6,6 +6,7 @@ mod graded;
 mod laws;
 mod outcome;
 mod session;
+mod sheets;
 mod status;
 mod tell;
 mod tools;

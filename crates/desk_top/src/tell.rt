@@ -1,15 +1,16 @@
 // What is told on the error output. A failure there changes nothing.
-ghost use Rattle.std.specs.Prelude.{◌≡◌, ◌++◌, OnOk, IfOk, decimal};
+ghost use Rattle.std.specs.Prelude.{◌≡◌, ◌++◌, ◌∷◌, [], OnOk, IfOk, codes, decimal};
 ghost use Rattle.desk_files.specs.Views.{refusal_of};
 ghost use Rattle.desk_outside.specs.Seen.{sink};
 ghost use Rattle.desk_top.specs.Status.{status_line};
-ghost use Rattle.desk_top.specs.Told.{TellsRefusal, TellsStop, WritesLine, fault_word, fault_text, refusal_text, refusal_line, long_input_line, too_long_line};
+ghost use Rattle.desk_top.specs.Told.{TellsRefusal, TellsStop, WritesLine, at_line, fault_word, sheet_fault_word, refusal_text, refusal_line, long_input_line, too_long_line};
 
 use crate::status::Status;
 use desk_files::{Refusal, Stop};
 use desk_outside::{Sink, put_all};
 use itoa::Buffer;
 use qrels_reader::LineFault;
+use sheet_merge::SheetLineFault;
 use std::alloc::{AllocError, Global};
 
 fn tell<E: Sink>(err: &mut E, line: &[u8])
@@ -85,6 +86,20 @@ fn word_of(fault: LineFault) -> &'static str
     }
 }
 
+fn sheet_word_of(fault: SheetLineFault) -> &'static str
+    ensures { result.now ≡ sheet_fault_word fault }
+{
+    match fault {
+        SheetLineFault::LineTooLong => "LineTooLong",
+        SheetLineFault::BadByte => "BadByte",
+        SheetLineFault::BadFieldCount => "BadFieldCount",
+        SheetLineFault::BadStamp => "BadStamp",
+        SheetLineFault::NameTooLong => "NameTooLong",
+        SheetLineFault::BadGrade => "BadGrade",
+        SheetLineFault::TooManyEntries => "TooManyEntries",
+    }
+}
+
 /// A number in digits.
 pub fn push_number(line: &mut Vec<u8>, number: u64) -> Result<(), AllocError>
     ensures { OnOk result (line.new.items ≡ line.old.items ++ decimal number) }
@@ -102,49 +117,57 @@ pub fn too_long_line(alloc: Global, bytes: u64) -> Result<Vec<u8>, AllocError>
     Ok(line)
 }
 
-fn push_fault(line: &mut Vec<u8>, number: u64, fault: LineFault) -> Result<(), AllocError>
-    ensures { OnOk result (line.new.items ≡ line.old.items ++ fault_text number fault) }
+// What is wrong with a line of a file.
+fn push_at_line(line: &mut Vec<u8>, path: &str, number: u64, word: &str) -> Result<(), AllocError>
+    ensures { OnOk result (line.new.items ≡ line.old.items ++ (path.now ++ at_line number word.now)) }
 {
+    line.extend_from_slice(path.as_bytes())?;
     line.extend_from_slice(b" line ")?;
     push_number(line, number)?;
     line.extend_from_slice(b": ")?;
-    line.extend_from_slice(word_of(fault).as_bytes())
+    line.extend_from_slice(word.as_bytes())
+}
+
+// What is wrong with a whole file, or with a name.
+fn push_of(line: &mut Vec<u8>, of: &[u8], text: &[u8]) -> Result<(), AllocError>
+    ensures { OnOk result (line.new.items ≡ line.old.items ++ (of.now ++ text.now)) }
+{
+    line.extend_from_slice(of)?;
+    line.extend_from_slice(text)
+}
+
+// A document without a place in a desk.
+fn push_document(line: &mut Vec<u8>, path: &str, topic: &[u8], doc: &[u8]) -> Result<(), AllocError>
+    ensures { OnOk result (line.new.items ≡ line.old.items ++ (path.now ++ codes ": UnknownDocument " ++ topic.now ++ 32 ∷ doc.now)) }
+{
+    push_of(line, path.as_bytes(), b": UnknownDocument ")?;
+    push_of(line, topic, b" ")?;
+    line.extend_from_slice(doc)
 }
 
 fn push_refusal(line: &mut Vec<u8>, refusal: &Refusal) -> Result<(), AllocError>
     ensures { OnOk result (line.new.items ≡ line.old.items ++ refusal_text (refusal_of refusal.now)) }
 {
     match refusal {
-        Refusal::FileTooLong(path) => {
-            line.extend_from_slice(path.as_bytes())?;
-            line.extend_from_slice(b": FileTooLong")
-        }
-        Refusal::Line(path, number, fault) => {
-            line.extend_from_slice(path.as_bytes())?;
-            push_fault(line, *number, *fault)
-        }
-        Refusal::NoTopics(path) => {
-            line.extend_from_slice(path.as_bytes())?;
-            line.extend_from_slice(b": NoTopics")
-        }
-        Refusal::NoTag(path) => {
-            line.extend_from_slice(path.as_bytes())?;
-            line.extend_from_slice(b": NoTag")
-        }
-        Refusal::BadLine(path, number) => {
-            line.extend_from_slice(path.as_bytes())?;
-            line.extend_from_slice(b" line ")?;
-            push_number(line, *number)?;
-            line.extend_from_slice(b": BadLine")
-        }
-        Refusal::SameName(name) => {
-            line.extend_from_slice(name)?;
-            line.extend_from_slice(b": SameName")
-        }
+        Refusal::FileTooLong(path) => push_of(line, path.as_bytes(), b": FileTooLong"),
+        Refusal::Line(path, number, fault) => push_at_line(line, path, *number, word_of(*fault)),
+        Refusal::NoTopics(path) => push_of(line, path.as_bytes(), b": NoTopics"),
+        Refusal::NoTag(path) => push_of(line, path.as_bytes(), b": NoTag"),
+        Refusal::BadLine(path, number) => push_at_line(line, path, *number, "BadLine"),
+        Refusal::SameName(name) => push_of(line, name, b": SameName"),
         Refusal::TooManyCells(cells) => {
             line.extend_from_slice(b"desk: TooManyCells ")?;
             push_number(line, *cells)
         }
+        Refusal::SheetLine(path, number, fault) => {
+            push_at_line(line, path, *number, sheet_word_of(*fault))
+        }
+        Refusal::TooManyEntries(path) => push_of(line, path.as_bytes(), b": TooManyEntries"),
+        Refusal::UnknownTopic(path, topic) => {
+            push_of(line, path.as_bytes(), b": UnknownTopic ")?;
+            line.extend_from_slice(topic)
+        }
+        Refusal::UnknownDocument(path, topic, doc) => push_document(line, path, topic, doc),
     }
 }
 

@@ -67,11 +67,12 @@ fn run_command<F: Shelf, S: Source, K: Sink, E: Sink, P: Maker, L: Ledger>(
 /// close line, `certify` with `--all` with 0 and the certificate of all pairs, or with 1 where its text has more than
 /// 1,073,741,824 bytes, `verify` over a certificate of either version with 0 and `accepted` or with 5 and the reason,
 /// `session` with 0 and a reply to each line that is heard, or with 1 where its input is too long, `graded` and `tiers`
-/// with 0 and their texts. These end with 1 where their files are refused, and with 3 where a path is not held. `demo`
-/// has no files, and ends with 0, its summary and the document to judge next. No file is opened but those of the words,
-/// in their order; where the files are known, none after the first that is missing or refused. Each is read to its end
-/// and no further, also after its first fault; the last one, if it is too long, to the first byte above the limit.
-/// `session` alone reads the input, once its files make a desk, and nothing after the line `quit` or the end.
+/// with 0 and their texts, `merge` with 0 and the text of its sheets together, `apply` with 0 and the judgements under
+/// its sheet. These end with 1 where their files are refused, and with 3 where a path is not held. `demo` has no files,
+/// and ends with 0, its summary and the document to judge next. No file is opened but those of the words, in their
+/// order; where the files are known, none after the first that is missing or refused. Each is read to its end and no
+/// further, also after its first fault; the last one, if it is too long, to the first byte above the limit. `session`
+/// alone reads the input, once its files make a desk, and nothing after the line `quit` or the end.
 pub fn run_desk<F: Shelf, S: Source, K: Sink, E: Sink, P: Maker, L: Ledger>(
     alloc: Global,
     words: &[String],

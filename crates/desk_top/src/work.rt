@@ -15,6 +15,7 @@ use crate::demo::demo_outcome;
 use crate::graded::graded_outcome;
 use crate::outcome::Outcome;
 use crate::session::session_outcome;
+use crate::sheets::{apply_outcome, merge_outcome};
 use crate::status::Status;
 use crate::tell::too_long_line;
 use crate::tools::Tools;
@@ -199,5 +200,7 @@ pub fn outcome_of<'a, F: Shelf, P: Maker, L: Ledger>(
         Command::Demo { seed } => demo_outcome(tools, *seed, steps),
         Command::Graded { job, greatest } => graded_outcome(tools, job, *greatest, files, steps),
         Command::Tiers(job) => tiers_outcome(tools, job, files, steps),
+        Command::Merge(sheets) => merge_outcome(tools.alloc, files, sheets),
+        Command::Apply(placing) => apply_outcome(tools.alloc, files, placing),
     }
 }

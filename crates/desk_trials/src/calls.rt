@@ -8,6 +8,7 @@ use crate::outside::{Answer, Outside, SOUND};
 use crate::refusals::{FAULTS, STOPPED, USAGE};
 use crate::run::run_over;
 use crate::sessions::REPLIES;
+use crate::sheets::{NO_SHEETS, SHEETS};
 use crate::tables::{CLOSE, TABLES};
 use crate::tiers::{NO_TIERS, TIERS};
 use std::alloc::{AllocError, Global};
@@ -89,7 +90,7 @@ impl<'t> Call<'t> {
 }
 
 // Transcripts, the number of their calls, and how many bytes a read of an input gives at most.
-const TRANSCRIPTS: [(&str, usize, usize); 14] = [
+const TRANSCRIPTS: [(&str, usize, usize); 16] = [
     (TABLES, 21, 4096),
     (CLOSE, 6, 4096),
     (FAULTS, 13, 4096),
@@ -100,6 +101,8 @@ const TRANSCRIPTS: [(&str, usize, usize); 14] = [
     (NOT_GRADED, 14, 4096),
     (TIERS, 11, 4096),
     (NO_TIERS, 20, 4096),
+    (SHEETS, 10, 4096),
+    (NO_SHEETS, 20, 4096),
     (MEASURED, 6, 4096),
     (REPLIES, 13, 1),
     (REPLIES, 13, 19),

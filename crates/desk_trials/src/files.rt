@@ -5,7 +5,7 @@ use crate::run::calls;
 use desk_outside::MemShelf;
 use std::alloc::{AllocError, Global};
 
-/// Files, each a line `= NAME` and then its bytes. Judgements that are refused have names in q, runs in a, certificates in v.
+/// Files, each a line `= NAME` and then its bytes. Judgements that are refused have names in q, runs in a, certificates in v. Sheets have names in w.
 const FILES: &str = "
 = q
 401 0 d1 1
@@ -161,6 +161,38 @@ const FILES: &str = "
 401 Q0 d1 1 9 A
 401 Q0 d1 2 8 A
 = a7
+= ws
+5 ann 401 d3 1
+7 bob 401 d1 0
+= wt
+5 bob 401 d3 0
+7 bob 401 d1 2
+= wu
+7 bob 401 d1 2
+5 bob 401 d3 0
+= wn
+9 ann 401 d2 +007
+9 ann 401 d1 -5
+= wm
+9 ann 401 d3 -1
+= wx
+7 bob 401 d1 2
+5 bob 401 d8 0
+1 ann 499 d1 0
+= wy
+7 bob 401 d1 2
+5 bob 499 d3 0
+= w0
+
+= w1
+5 ann 401 d1 1
+5 ann 401 d\x01 1
+= w2
+5 ann 401 d1
+= w3
+0 ann 401 d3 1
+= w4
+5 ann 401 d1 1001
 = v
 desk-certificate 1
 measure recall_1

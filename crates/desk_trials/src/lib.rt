@@ -35,6 +35,8 @@ mod run;
 #[cfg(test)]
 mod sessions;
 #[cfg(test)]
+mod sheets;
+#[cfg(test)]
 mod tables;
 #[cfg(test)]
 mod tiers;

@@ -18,7 +18,7 @@ const QRELS: &str = "401 0 d1 1\n401 0 d2 0\n";
 
 const RUN: &str = "401 Q0 d1 1 9 A\n";
 
-/// A call over the judgements q and the run a with this input: its status, its output, or how this ends after `..`, and what is told.
+/// A call over the judgements q and the run a, which is the sheet w too, with this input: its status, its output, or how this ends after `..`, and what is told.
 struct Long {
     line: Pieces,
     qrels: Pieces,
@@ -29,10 +29,10 @@ struct Long {
     told: &'static str,
 }
 
-// A line of a run, of judgements and of a session, and a name, have their limits; then ranks, topics, cells, those of two levels and a history: 1,000,000
+// A line of a run, of judgements, of a sheet and of a session, and a name, have their limits; then ranks, topics, cells, those of two levels and a history: 1,000,000
 // judgements of one assessor are accepted and no more, and one that is undone still counts for the others. The last is a file of
 // several pieces, and 256 runs, two of which have names of 255 bytes.
-const LONG: [Long; 24] = [
+const LONG: [Long; 26] = [
     Long {
         line: &[(ONE_RUN, 1)],
         qrels: &[(QRELS, 1)],
@@ -104,6 +104,24 @@ const LONG: [Long; 24] = [
         status: 1,
         out: "",
         told: "refused: q line 1: NameTooLong\n",
+    },
+    Long {
+        line: &[("merge w", 1)],
+        qrels: &[],
+        run: &[("5 ann 401 d1 1", 1), (" ", 4083), ("\n", 1)],
+        input: &[],
+        status: 1,
+        out: "",
+        told: "refused: w line 1: LineTooLong\n",
+    },
+    Long {
+        line: &[("merge w", 1)],
+        qrels: &[],
+        run: &[("5 ann 401 ", 1), ("d", 256), (" 1\n", 1)],
+        input: &[],
+        status: 1,
+        out: "",
+        told: "refused: w line 1: NameTooLong\n",
     },
     Long {
         line: &[(SESSION, 1)],
@@ -299,7 +317,8 @@ fn answer_of(
         room: 20_000_000,
         ..SOUND
     };
-    run_line(alloc, line, &[("q", qrels), ("a", run)], input, large)
+    let files = [("q", qrels), ("a", run), ("w", run)];
+    run_line(alloc, line, &files, input, large)
 }
 
 fn is_answered(alloc: Global, case: &Long) -> Result<bool, AllocError> {

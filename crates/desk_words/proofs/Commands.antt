@@ -10,14 +10,15 @@ use Rattle.command_line.specs.Given.{Values}
 use Rattle.desk_model.specs.declared.types.MeasureName.{MeasureName}
 use Rattle.desk_model.specs.MeasureText.{IsTextOf}
 use Rattle.desk_model.proofs.Decimals.{unique}
-use Rattle.desk_words.specs.Words.{AsksForAll, AsksForTwo, IsCommandAfter, IsDepthOf, IsLevelOf, IsMeasureOf, Says, SaysCheck, SaysJob, verb_for, verb_of, word_of}
+use Rattle.desk_words.specs.Words.{AsksForAll, AsksForTwo, IsCommandAfter, IsDepthOf, IsLevelOf, IsMeasureOf, Says, SaysCheck, SaysJob, SaysPlacing, verb_for, verb_of, word_of}
 use Rattle.desk_words.specs.Laws.{CommandIsUnique}
 use Rattle.desk_words.specs.declared.read.Verb.{Verb}
 use Rattle.desk_words.specs.declared.command.RunWord.{RunWord}
 use Rattle.desk_words.specs.declared.command.Job.{Job}
 use Rattle.desk_words.specs.declared.command.Check.{Check}
+use Rattle.desk_words.specs.declared.command.Placing.{Placing}
 use Rattle.desk_words.specs.declared.command.Command.{Command}
-use Rattle.desk_words.specs.declared.command.Command.TheVariants.{Table, Certify, CertifyAll, Session, Verify, Demo, Graded, Tiers}
+use Rattle.desk_words.specs.declared.command.Command.TheVariants.{Table, Certify, CertifyAll, Session, Verify, Demo, Graded, Tiers, Merge, Apply}
 
 one_value : (values : List Text) (a b : Text) → values ≡ a ∷ [] → values ≡ b ∷ [] → a ≡ b
 one_value values a b e f = let both : a ∷ [] ≡ b ∷ [] = sym e ∙ f in cc
@@ -63,6 +64,13 @@ one_check values a b h k =
     let runs = all_same a.runs b.runs (sym h.runs.each ∙ k.runs.each) in
     λ i. record { qrels = qrels i; cert = cert i; runs = runs i }
 
+one_placing : (values : Values) (a b : Placing) → SaysPlacing values a → SaysPlacing values b → a ≡ b
+one_placing values a b h k =
+    let qrels = one_value _ a.qrels b.qrels h.qrels.0 k.qrels.0 in
+    let sheet = one_value _ a.sheet b.sheet h.sheet.0 k.sheet.0 in
+    let runs = all_same a.runs b.runs (sym h.runs.each ∙ k.runs.each) in
+    λ i. record { qrels = qrels i; sheet = sheet i; runs = runs i }
+
 not_both : (values : Values) → AsksForTwo values → AsksForAll values → ⊥
 not_both values two all = let none : length (values (codes "all")) ≡ 0 = ap length two in omega (arith, none, all)
 
@@ -81,6 +89,8 @@ one_said values (Graded a m) (Graded b n) e h k =
     let greatest = decimal_injective m n (omega (arith, h.2.2)) (omega (arith, k.2.2)) (one_value _ (decimal m) (decimal n) h.2.0 k.2.0) in
     λ i. Graded (job i) (greatest i)
 one_said values (Tiers a) (Tiers b) e h k = ap Tiers (one_job values a b h k)
+one_said values (Merge a) (Merge b) e h k = ap Merge (sym h.each ∙ k.each)
+one_said values (Apply a) (Apply b) e h k = ap Apply (one_placing values a b h k)
 one_said values a b e h k = absurd (cc)
 
 -- a word that is that of no verb has none

@@ -3,9 +3,10 @@ use Rattle.std.proofs.Common.{◌≡◌, ℕ, zero, suc, ◌+◌, ◌<◌, true,
 use Rattle.std.specs.Prelude.{Option, Some, None, not, Result, Ok, Err, IfSome, IfNone, IsErrAnd}
 use Rattle.std.specs.Borrow.{Bor}
 use Rattle.std.specs.List.{list_any, position_or_len}
-use Rattle.std.proofs.lemmas.List.{length-map}
+use Rattle.std.proofs.lemmas.List.{get_or-map, length-map}
+use Rattle.std.proofs.lemmas.List.Elements.{All-get_or}
 use Rattle.clap.specs.Words.{Text}
-use Rattle.desk_words.specs.Words.{run_word_of, is_equals}
+use Rattle.desk_words.specs.Words.{HaveBytes, run_word_of, is_equals}
 use Rattle.desk_words.specs.declared.command.RunWord.{RunWord}
 use Rattle.command_line.specs.declared.fault.WordsFault.{WordsFault}
 use Rattle.command_line.specs.declared.fault.WordsFault.TheVariants.{Usage, Memory}
@@ -31,6 +32,13 @@ no_run (x ∷ xs) zero d [] lt e is = cc
 no_run (x ∷ xs) zero d (r ∷ rs) lt e is = cc
 no_run (x ∷ xs) (suc i) d [] lt e is = cc
 no_run (x ∷ xs) (suc i) d (r ∷ rs) lt e is = no_run xs i d rs (omega arith) e (cc)
+
+-- a value of no bytes
+pub no_path : (vs : List (Bor Text)) (i : ℕ) (d : Bor Text) → i < length vs → length (get_or vs i d).now ≡ 0 → HaveBytes (map (λ v. v.now) vs) → ⊥
+no_path vs i d lt none have =
+    let some : 0 < length (get_or (map (λ (v : Bor Text). v.now) vs) i d.now) = All-get_or (λ text. 0 < length text) (map (λ (v : Bor Text). v.now) vs) i d.now (omega (arith, length-map vs (λ (v : Bor Text). v.now))) have in
+    let same = ap length (get_or-map (λ (v : Bor Text). v.now) vs i d d.now lt) in
+    omega (arith, some, same, none)
 
 -- what holds of a value, and what holds where there is none
 pub of_some : {A : Type 0} (r : Option A) (x : A) (P : A → Type 0) → r ≡ Some x → IfSome r P → P x

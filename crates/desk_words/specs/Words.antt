@@ -1,7 +1,7 @@
 -- The verbs of commands, what each takes, and the command of the words.
 use Rattle.std.specs.Prelude.{◌≡◌, ℕ, ◌<◌, ◌≤◌, ◌^◌, ◌==◌, ◌&&◌, Bool, nat_lt, List, [], ◌∷◌, Option, Some, None, find, if◌then◌else◌, ◌⊎◌, codes, decimal, length, map}
 use Rattle.std.specs.Str.{bytes_eq}
-use Rattle.std.specs.List.{before_first, after_first, list_any}
+use Rattle.std.specs.List.{All, before_first, after_first, list_any}
 use Rattle.clap.specs.Words.{Text}
 use Rattle.command_line.specs.Given.{Values, AreGiven}
 use Rattle.command_line.specs.Takes.{Takes}
@@ -15,8 +15,9 @@ use Rattle.desk_words.specs.declared.read.Verb.TheVariants as verb
 use Rattle.desk_words.specs.declared.command.RunWord.{RunWord}
 use Rattle.desk_words.specs.declared.command.Job.{Job}
 use Rattle.desk_words.specs.declared.command.Check.{Check}
+use Rattle.desk_words.specs.declared.command.Placing.{Placing}
 use Rattle.desk_words.specs.declared.command.Command.{Command}
-use Rattle.desk_words.specs.declared.command.Command.TheVariants.{Table, Certify, CertifyAll, Session, Verify, Demo, Graded, Tiers}
+use Rattle.desk_words.specs.declared.command.Command.TheVariants.{Table, Certify, CertifyAll, Session, Verify, Demo, Graded, Tiers, Merge, Apply}
 
 -- the word of each verb
 abbrev pub word_of : Verb → Text
@@ -27,9 +28,11 @@ word_of verb.Verify = codes "verify"
 word_of verb.Demo = codes "demo"
 word_of verb.Graded = codes "graded"
 word_of verb.Tiers = codes "tiers"
+word_of verb.Merge = codes "merge"
+word_of verb.Apply = codes "apply"
 
 abbrev pub all_verbs : List Verb
-all_verbs = verb.Table ∷ verb.Certify ∷ verb.Session ∷ verb.Verify ∷ verb.Demo ∷ verb.Graded ∷ verb.Tiers ∷ []
+all_verbs = verb.Table ∷ verb.Certify ∷ verb.Session ∷ verb.Verify ∷ verb.Demo ∷ verb.Graded ∷ verb.Tiers ∷ verb.Merge ∷ verb.Apply ∷ []
 
 -- the verb of a word
 abbrev pub verb_of : Text → Option Verb
@@ -52,8 +55,19 @@ takes_certificate = record { needed = codes "qrels" ∷ codes "cert" ∷ []; opt
 abbrev pub takes_grades : Takes
 takes_grades = record { needed = codes "qrels" ∷ codes "measure" ∷ codes "greatest" ∷ []; optional = []; flags = []; other = codes "RUN"; least = 1; most = RUN_LIMIT }
 
+-- other words alone, one at least
+abbrev pub takes_alone : Text → ℕ → Takes
+takes_alone other most = record { needed = []; optional = []; flags = []; other = other; least = 1; most = most }
+
 abbrev pub takes_seed : Takes
-takes_seed = record { needed = []; optional = []; flags = []; other = codes "SEED"; least = 1; most = 1 }
+takes_seed = takes_alone (codes "SEED") 1
+
+abbrev pub takes_sheets : Takes
+takes_sheets = takes_alone (codes "SHEET") RUN_LIMIT
+
+-- a sheet and the runs of the desk in which its entries have their places
+abbrev pub takes_placing : Takes
+takes_placing = record { needed = codes "qrels" ∷ codes "sheet" ∷ []; optional = []; flags = []; other = codes "RUN"; least = 1; most = RUN_LIMIT }
 
 -- what the command of each verb takes
 abbrev pub takes : Verb → Takes
@@ -64,6 +78,8 @@ takes verb.Verify = takes_certificate
 takes verb.Demo = takes_seed
 takes verb.Graded = takes_grades
 takes verb.Tiers = takes_runs 1
+takes verb.Merge = takes_sheets
+takes verb.Apply = takes_placing
 
 -- an equals sign
 abbrev pub is_equals : ℕ → Bool
@@ -112,6 +128,17 @@ pub record AreRunsOf (values : List Text) (runs : List RunWord) : Type 0 where
   pub some : 0 < length runs
   pub few : length runs ≤ RUN_LIMIT
 
+-- each text has a byte at least
+abbrev pub HaveBytes : List Text → Type 0
+HaveBytes texts = All (λ text. 0 < length text) texts
+
+-- the values are the paths of sheets, from 1 to 256, none of them empty
+pub record AreSheetsOf (values sheets : List Text) : Type 0 where
+  pub each : values ≡ sheets
+  pub filled : HaveBytes sheets
+  pub some : 0 < length sheets
+  pub few : length sheets ≤ RUN_LIMIT
+
 -- the values say this job
 pub record SaysJob (values : Values) (job : Job) : Type 0 where
   pub qrels : IsPathOf (values (codes "qrels")) job.qrels
@@ -130,6 +157,12 @@ pub record SaysCheck (values : Values) (check : Check) : Type 0 where
   pub cert : IsPathOf (values (codes "cert")) check.cert
   pub runs : AreRunsOf (values (codes "RUN")) check.runs
 
+-- the values say this placing
+pub record SaysPlacing (values : Values) (placing : Placing) : Type 0 where
+  pub qrels : IsPathOf (values (codes "qrels")) placing.qrels
+  pub sheet : IsPathOf (values (codes "sheet")) placing.sheet
+  pub runs : AreRunsOf (values (codes "RUN")) placing.runs
+
 -- the flag for all pairs is given, or not: then the first two runs are the pair
 abbrev pub AsksForAll : Values → Type 0
 AsksForAll values = 0 < length (values (codes "all"))
@@ -147,6 +180,8 @@ verb_for (Verify check) = verb.Verify
 verb_for (Demo seed) = verb.Demo
 verb_for (Graded job greatest) = verb.Graded
 verb_for (Tiers job) = verb.Tiers
+verb_for (Merge sheets) = verb.Merge
+verb_for (Apply placing) = verb.Apply
 
 -- the values say what the command has beside its verb
 abbrev pub Says : Values → Command → Type 0
@@ -158,6 +193,8 @@ Says values (Verify check) = SaysCheck values check
 Says values (Demo seed) = IsSeedOf (values (codes "SEED")) seed
 Says values (Graded job greatest) = SaysJob values job × HasPersistence job.measure × IsGreatestOf (values (codes "greatest")) greatest
 Says values (Tiers job) = SaysJob values job
+Says values (Merge sheets) = AreSheetsOf (values (codes "SHEET")) sheets
+Says values (Apply placing) = SaysPlacing values placing
 
 -- a command of the verb that the values say
 pub record IsSaid (v : Verb) (values : Values) (command : Command) : Type 0 where

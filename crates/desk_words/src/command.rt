@@ -31,6 +31,10 @@ pub enum Command {
     },
     /// Print the tiers of the runs.
     Tiers(Job),
+    /// Print the merge of the sheets.
+    Merge(Sheets),
+    /// Print the judgements with the grades of a sheet.
+    Apply(Placing),
 }
 
 /// Runs that are to be compared.
@@ -57,6 +61,17 @@ pub struct Check {
     /// The file of the certificate.
     pub cert: Path,
     /// The runs in the order of the words, two at least.
+    pub runs: RunWords,
+}
+
+/// A sheet that is to be applied to a file of judgements.
+#[derive(Drop)]
+pub struct Placing {
+    /// The file of judgements.
+    pub qrels: Path,
+    /// The file of the sheet.
+    pub sheet: Path,
+    /// The runs in the order of the words, one at least. The desk in which each entry has its place is theirs.
     pub runs: RunWords,
 }
 
@@ -132,5 +147,42 @@ impl RunWords {
         ensures few { length self.now ≤ RUN_LIMIT }
     {
         self.words.as_slice()
+    }
+}
+
+/// The paths of sheets, from 1 to 256 of them, in their order.
+#[derive(Drop)]
+pub struct Sheets {
+    paths: Vec<Path>,
+}
+
+impl Model for Sheets {
+    ghost use Rattle.std.specs.Prelude.{List, ℕ, ◌<◌, ◌≤◌, length};
+    ghost use Rattle.desk_model.specs.Limits.{RUN_LIMIT};
+
+    ghost Value = { List (List ℕ) };
+
+    ghost view = { λ s. s.paths.items };
+
+    ghost invariant = { λ s. (0 < length s.paths.items) × (length s.paths.items ≤ RUN_LIMIT) };
+}
+
+impl Sheets {
+    /// The sheets of these paths.
+    pub fn new(paths: Vec<Path>) -> Sheets
+        requires some { 0 < vec_len paths }
+        requires few { vec_len paths ≤ RUN_LIMIT }
+        ensures { result ≡ paths.items }
+    {
+        Sheets { paths }
+    }
+
+    /// The paths, the first at place 0.
+    pub fn as_slice(&self) -> &[Path]
+        ensures paths { result.now ≡ self.now }
+        ensures some { 0 < length self.now }
+        ensures few { length self.now ≤ RUN_LIMIT }
+    {
+        self.paths.as_slice()
     }
 }

@@ -6,7 +6,7 @@ pub mod laws;
 mod read;
 mod value;
 
-pub use command::{Check, Command, Job, Path, RunWord, RunWords};
+pub use command::{Check, Command, Job, Path, Placing, RunWord, RunWords, Sheets};
 pub use command_line::WordsFault;
 pub use laws::{
     command_is_unique, each_line_is_of_parts, empty_value_is_usage, flag_with_value_is_usage,

@@ -1,13 +1,14 @@
 //! The command of the words: its verb, what it takes, and what the values say.
 ghost use Rattle.std.specs.Prelude.{◌≡◌, ℕ, true, false, IfOk, Err, map, codes, string_bytes};
 ghost use Rattle.command_line.specs.Given.{values_held};
-ghost use Rattle.desk_words.specs.Words.{HasPersistence, IsCommandOf, IsSaid, IsSeedOf, SaysJob, SaysCheck, verb_of, takes, takes_pairs, takes_runs};
+ghost use Rattle.desk_words.specs.Words.{HasPersistence, IsCommandOf, IsSaid, IsSeedOf, SaysJob, SaysCheck, SaysPlacing, verb_of, takes, takes_alone, takes_pairs, takes_runs};
 ghost use Rattle.desk_words.specs.declared.command.Command.{Command};
 ghost use Rattle.desk_words.specs.declared.command.Job.{Job};
 ghost use Rattle.desk_words.specs.declared.command.Check.{Check};
+ghost use Rattle.desk_words.specs.declared.command.Placing.{Placing};
 
-use crate::command::{Check, Command, Job};
-use crate::value::{depth, greatest, level, measure, path, runs, seed};
+use crate::command::{Check, Command, Job, Placing};
+use crate::value::{depth, greatest, level, measure, path, runs, seed, sheets};
 use command_line::{Given, Row, WordsFault};
 use desk_model::{MOST_RUNS, MeasureName};
 use std::alloc::Global;
@@ -22,6 +23,8 @@ pub enum Verb {
     Demo,
     Graded,
     Tiers,
+    Merge,
+    Apply,
 }
 
 // The verb of a word, and none where it is no command's.
@@ -36,6 +39,8 @@ fn verb_of(word: &str) -> Option<Verb>
         "demo" => Some(Verb::Demo),
         "graded" => Some(Verb::Graded),
         "tiers" => Some(Verb::Tiers),
+        "merge" => Some(Verb::Merge),
+        "apply" => Some(Verb::Apply),
         _ => None,
     }
 }
@@ -49,28 +54,33 @@ fn row_of(verb: Verb) -> Row
         Verb::Certify => pairs_from(2),
         Verb::Verify => Row {
             needed: &["qrels", "cert"],
-            optional: &[],
-            flags: &[],
-            other: "RUN",
             least: 2,
-            most: MOST_RUNS,
+            ..alone("RUN", MOST_RUNS)
         },
-        Verb::Demo => Row {
-            needed: &[],
-            optional: &[],
-            flags: &[],
-            other: "SEED",
-            least: 1,
-            most: 1,
-        },
+        Verb::Demo => alone("SEED", 1),
         Verb::Graded => Row {
             needed: &["qrels", "measure", "greatest"],
-            optional: &[],
-            flags: &[],
-            other: "RUN",
-            least: 1,
-            most: MOST_RUNS,
+            ..alone("RUN", MOST_RUNS)
         },
+        Verb::Merge => alone("SHEET", MOST_RUNS),
+        Verb::Apply => Row {
+            needed: &["qrels", "sheet"],
+            ..alone("RUN", MOST_RUNS)
+        },
+    }
+}
+
+// Other words alone, one at least.
+fn alone(other: &'static str, most: usize) -> Row
+    ensures { result ≡ takes_alone other.now most }
+{
+    Row {
+        needed: &[],
+        optional: &[],
+        flags: &[],
+        other,
+        least: 1,
+        most,
     }
 }
 
@@ -130,6 +140,8 @@ fn said(alloc: Global, verb: Verb, given: &Given) -> Result<Command, WordsFault>
         }),
         Verb::Graded => graded(alloc, given),
         Verb::Tiers => Ok(Command::Tiers(job(alloc, given)?)),
+        Verb::Merge => Ok(Command::Merge(sheets(alloc, given.values("SHEET"))?)),
+        Verb::Apply => Ok(Command::Apply(placing(alloc, given)?)),
     }
 }
 
@@ -190,6 +202,17 @@ fn check(alloc: Global, given: &Given) -> Result<Check, WordsFault>
     Ok(Check {
         qrels: path(alloc, given.values("qrels"))?,
         cert: path(alloc, given.values("cert"))?,
+        runs: runs(alloc, given.values("RUN"))?,
+    })
+}
+
+fn placing(alloc: Global, given: &Given) -> Result<Placing, WordsFault>
+    ensures ok { IfOk result (λ placing. SaysPlacing (values_held given.now) placing) }
+    ensures usage { result ≡ Err WordsFault.Usage → (placing : Placing) → SaysPlacing (values_held given.now) placing → ⊥ }
+{
+    Ok(Placing {
+        qrels: path(alloc, given.values("qrels"))?,
+        sheet: path(alloc, given.values("sheet"))?,
         runs: runs(alloc, given.values("RUN"))?,
     })
 }

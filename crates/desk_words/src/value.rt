@@ -1,11 +1,12 @@
 //! The values of one entry.
-ghost use Rattle.std.specs.Prelude.{◌≡◌, ◌≢◌, ℕ, IfErr, IfOk, Err, Option, Some, None, map, List, decimal, [], ◌∷◌, ◌<◌, ◌≤◌, ◌^◌, length, IfSome, IfNone};
+ghost use Rattle.std.specs.Prelude.{◌≡◌, ◌≢◌, ℕ, IfErr, IfOk, Err, Option, Some, None, map, List, decimal, [], ◌∷◌, ◌<◌, ◌≤◌, ◌^◌, length, IfSome, IfNone, true, false};
 ghost use Rattle.clap.specs.Words.{Text};
+ghost use Rattle.desk_model.specs.Limits.{RUN_LIMIT};
 ghost use Rattle.desk_model.specs.declared.types.MeasureName.{MeasureName};
-ghost use Rattle.desk_words.specs.Words.{IsPathOf, IsMeasureOf, IsDepthOf, IsGreatestOf, IsLevelOf, IsSeedOf, AreRunsOf, named, run_word_of};
+ghost use Rattle.desk_words.specs.Words.{IsPathOf, IsMeasureOf, IsDepthOf, IsGreatestOf, IsLevelOf, IsSeedOf, AreRunsOf, AreSheetsOf, HaveBytes, named, run_word_of};
 ghost use Rattle.desk_words.specs.declared.command.RunWord.{RunWord};
 
-use crate::command::{Path, RunWord, RunWords};
+use crate::command::{Path, RunWord, RunWords, Sheets};
 use command_line::WordsFault;
 use desk_model::{MOST_RUNS, MeasureName, Name, NameFault, read_measure};
 use desk_text::plain;
@@ -112,11 +113,19 @@ pub fn runs(alloc: Global, values: &[&str]) -> Result<RunWords, WordsFault>
     ensures ok { IfOk result (λ runs. AreRunsOf (map (λ v. v.now) values.now) runs) }
     ensures usage { result ≡ Err WordsFault.Usage → (runs : List RunWord) → AreRunsOf (map (λ v. v.now) values.now) runs → ⊥ }
 {
-    if values.is_empty() || values.len() > MOST_RUNS {
+    if !are_some_and_few(values) {
         return Err(WordsFault::Usage);
     }
     let words = run_words(alloc, values)?;
     Ok(RunWords::new(words))
+}
+
+// Whether there are from 1 to 256 values.
+fn are_some_and_few(values: &[&str]) -> bool
+    ensures yes { result ≡ true → (0 < length values.now) × (length values.now ≤ RUN_LIMIT) }
+    ensures no { result ≡ false → 0 < length values.now → length values.now ≤ RUN_LIMIT → ⊥ }
+{
+    !values.is_empty() && values.len() <= MOST_RUNS
 }
 
 // Each RUN word, in order.
@@ -160,6 +169,32 @@ fn named(alloc: Global, name: &str, path: &str) -> Result<RunWord, WordsFault>
         Err(NameFault::BadName) => Err(WordsFault::Usage),
         Err(NameFault::Memory) => Err(WordsFault::Memory),
     }
+}
+
+/// The sheets of these paths, from 1 to 256 that are not empty.
+pub fn sheets(alloc: Global, values: &[&str]) -> Result<Sheets, WordsFault>
+    ensures ok { IfOk result (λ sheets. AreSheetsOf (map (λ v. v.now) values.now) sheets) }
+    ensures usage { result ≡ Err WordsFault.Usage → (sheets : List Text) → AreSheetsOf (map (λ v. v.now) values.now) sheets → ⊥ }
+{
+    if !are_some_and_few(values) {
+        return Err(WordsFault::Usage);
+    }
+    let paths = paths(alloc, values)?;
+    Ok(Sheets::new(paths))
+}
+
+// The paths with these texts, none of which is empty, in order.
+fn paths(alloc: Global, values: &[&str]) -> Result<Vec<Path>, WordsFault>
+    ensures ok { IfOk result (λ paths. map (λ v. v.now) values.now ≡ paths.items) }
+    ensures filled { IfOk result (λ paths. HaveBytes paths.items) }
+    ensures usage { result ≡ Err WordsFault.Usage → HaveBytes (map (λ v. v.now) values.now) → ⊥ }
+{
+    let mut paths = Vec::new(alloc);
+    for value in values {
+        let path = filled(alloc, value)?;
+        paths.push(path)?;
+    }
+    Ok(paths)
 }
 
 // The path with this text, which is not empty.

@@ -1,4 +1,4 @@
-use Rattle.std.proofs.Common.{◌≡◌, ℕ, List, ap, inl, inr}
+use Rattle.std.proofs.Common.{◌≡◌, ℕ, List, refl, ap, inl, inr}
 use Rattle.std.specs.Prelude.{Option, Some, None, Result, Ok, Err, IfSome, IsErrAnd}
 use Rattle.std.proofs.lemmas.Result.{IfOk-from_err}
 use Rattle.std.proofs.Math.Nat.{le_refl}
@@ -10,8 +10,8 @@ use Rattle.desk_files.specs.declared.stop.Stop.{Stop as KeptStop}
 use Rattle.desk_files.specs.Files.{Refused, BadLine, whole_file}
 use Rattle.desk_files.specs.Outcome.{Stops}
 use Rattle.desk_files.specs.Certificates.{CertificateComes, ReadsCertificate}
-use Rattle.desk_files.specs.Reads.{ToEnd, ReadsFile}
-use Rattle.desk_files.proofs.InTurn.{file_handed_on}
+use Rattle.desk_files.specs.Reads.{Somewhere}
+use Rattle.desk_files.proofs.InTurn.{file_handed_on, file_to_end}
 use Rattle.desk_files.proofs.Stopping.{stops_at_too, handed_on}
 use Rattle.desk_files.proofs.Loading.{IsFedWhole}
 use Rattle.desk_files.proofs.certificate.load_certificate.Goals as goal
@@ -96,5 +96,4 @@ returns-in-Err-BadLine-clause-reads g c = rw c.as_str-path.ensures at c.in_ok-by
 
 pub returns-clause-reads : goal.returns-clause-reads
 returns-clause-reads g c =
-    let read : ReadsFile c.args.path.now ToEnd (g.F.Shelf.state c.args.files.now).calls (g.F.Shelf.state c.read_file.new.files).calls = rw c.as_str-path.ensures at c.in_ok-bytes.ensures.reads in
-    record { reads = read.reads; added = read.added; goes = inl read.goes }
+    file_to_end c.args.path.now Somewhere _ _ (inr refl) (rw c.as_str-path.ensures at c.in_ok-bytes.ensures.reads)

@@ -1,47 +1,29 @@
-use Rattle.std.proofs.Common.{◌≡◌, ◌∙◌, inl, inr, subst}
-use Rattle.std.specs.Prelude.{Option, Some, None, Ok, Err, IfSome}
+use Rattle.std.proofs.Common.{◌∙◌, subst}
+use Rattle.std.specs.Prelude.{Ok, Err, IfSome}
 use Rattle.std.proofs.lemmas.Result.{IfOk-from_err}
-use Rattle.std.proofs.Math.Nat.{le_refl, le_trans}
-use Rattle.desk_outside.specs.Outside.{Files}
-use Rattle.desk_words.specs.declared.command.Check.{Check}
-use Rattle.order_bundle.specs.declared.scoped.Scoped.{Scoped}
+use Rattle.std.proofs.Math.Nat.{le_trans}
 use Rattle.desk_files.specs.Outcome.{StopsAt}
-use Rattle.desk_files.specs.Load.{Loaded, Reads, loaded}
 use Rattle.desk_files.specs.Certificates.{CertificateComes}
-use Rattle.desk_files.specs.Checks.{sources_of, CheckComes, MakesCheck}
+use Rattle.desk_files.specs.Checks.{sources_of, certificate_file}
 use Rattle.desk_files.proofs.InTurn.{file_opened, reads_one, reads_then, files_handed_on}
-use Rattle.desk_files.proofs.Stopping.{if_some_at, stops_at_too, handed_on}
-use Rattle.desk_files.proofs.Checking.{opens_for_desk, opens_all_and_certificate}
+use Rattle.desk_files.proofs.Then.{opens_for_desk, opens_all_and_last, desk_makes_none, last_makes_none, comes_to_both}
 use Rattle.desk_files.proofs.check.load_check.Goals as goal
-
--- the files come to the rows and the certificate
-comes_to_both : (known : Option Files) (check : Check) (rows : Loaded) (c : Scoped) → Reads known (sources_of check) rows → IfSome known (λ files. CertificateComes files check.cert (Ok c)) → IfSome known (λ files. CheckComes files check (Ok (rows, c)))
-comes_to_both None check rows c read text = tt
-comes_to_both (Some files) check rows c read text = (read, text)
 
 pub returns-in_err-desk-clause-makes : goal.returns-in_err-desk-clause-makes
 returns-in_err-desk-clause-makes g c =
-    let known = (g.F.Shelf.state c.args.files.now).files in
-    let before = (g.F.Shelf.state c.args.files.now).faults in
-    let now = (g.F.Shelf.state c.load_desk.new.files).faults in
     let check = c.args.check.now in
-    let stop = c.in_err-desk.field-0.0 in
-    handed_on (λ r. MakesCheck known before now check r) c.from_residual.result stop c.from_residual.ensures.1
-    (stops_at_too known before before now stop (λ files why. loaded files (sources_of check) ≡ Err why) (λ files why. CheckComes files check (Err why)) (le_refl before) c.in_err-desk.ensures.makes (λ files why told stops. inl stops))
+    desk_makes_none (sources_of check) (certificate_file check) (g.F.Shelf.state c.args.files.now).files (g.F.Shelf.state c.args.files.now).faults (g.F.Shelf.state c.load_desk.new.files).faults c.from_residual.result c.in_err-desk.field-0.0 c.from_residual.ensures.1 c.in_err-desk.ensures.makes
 
 pub returns-in_err-certificate-clause-makes : goal.returns-in_err-certificate-clause-makes
 returns-in_err-certificate-clause-makes g c =
     let known = (g.F.Shelf.state c.args.files.now).files in
-    let before = (g.F.Shelf.state c.args.files.now).faults in
     let between = (g.F.Shelf.state c.load_desk.new.files).faults in
     let now = (g.F.Shelf.state c.load_certificate.new.files).faults in
     let check = c.args.check.now in
     let stop = c.in_err-certificate.field-0.0 in
     let made = c.in_ok-desk.ensures.makes in
     let stopped : StopsAt known between now stop (λ files why. CertificateComes files check.cert (Err why)) = subst (λ k. StopsAt k between now stop (λ files why. CertificateComes files check.cert (Err why))) c.load_desk.ensures.files c.in_err-certificate.ensures.comes in
-    handed_on (λ r. MakesCheck known before now check r) c.from_residual-in_err-certificate.result stop c.from_residual-in_err-certificate.ensures.1
-    (stops_at_too known before between now stop (λ files why. CertificateComes files check.cert (Err why)) (λ files why. CheckComes files check (Err why)) c.load_desk.ensures.later stopped
-    (λ files why told stops. inr (made.0, if_some_at known (λ files. loaded files (sources_of check) ≡ Ok made.0) files made.1 told, stops)))
+    last_makes_none (sources_of check) (certificate_file check) known (g.F.Shelf.state c.args.files.now).faults between now made.0 c.from_residual-in_err-certificate.result stop c.from_residual-in_err-certificate.ensures.1 c.load_desk.ensures.later made.1 stopped
 
 pub returns-clause-makes : goal.returns-clause-makes
 returns-clause-makes g c =
@@ -50,7 +32,7 @@ returns-clause-makes g c =
     let made = c.in_ok-desk.ensures.makes in
     let certificate = c.in_ok-certificate.certificate in
     let text : IfSome known (λ files. CertificateComes files check.cert (Ok certificate)) = subst (λ k. IfSome k (λ files. CertificateComes files check.cert (Ok certificate))) c.load_desk.ensures.files c.in_ok-certificate.ensures.comes in
-    (made.0, comes_to_both known check made.0 certificate made.1 text, made.2)
+    (made.0, comes_to_both (sources_of check) (certificate_file check) known made.0 certificate made.1 text, made.2)
 
 pub returns-in_err-desk-clause-certificate : goal.returns-in_err-desk-clause-certificate
 returns-in_err-desk-clause-certificate g c = IfOk-from_err c.from_residual.result _ c.from_residual.ensures.0
@@ -71,17 +53,17 @@ pub returns-clause-later : goal.returns-clause-later
 returns-clause-later g c = le_trans c.load_desk.ensures.later c.load_certificate.ensures.later
 
 pub returns-in_err-desk-clause-opened : goal.returns-in_err-desk-clause-opened
-returns-in_err-desk-clause-opened g c = opens_for_desk (g.F.Shelf.state c.args.files.now).files c.args.check.now _ _ c.load_desk.ensures.opened
+returns-in_err-desk-clause-opened g c = opens_for_desk (sources_of c.args.check.now) c.args.check.now.cert (g.F.Shelf.state c.args.files.now).files _ _ c.load_desk.ensures.opened
 
 pub returns-in_err-certificate-clause-opened : goal.returns-in_err-certificate-clause-opened
 returns-in_err-certificate-clause-opened g c =
     let made = c.in_ok-desk.ensures.makes in
-    opens_all_and_certificate (g.F.Shelf.state c.args.files.now).files c.args.check.now made.0 _ _ _ made.1 c.in_ok-desk.ensures.all (file_opened _ _ _ _ c.load_certificate.ensures.reads)
+    opens_all_and_last (sources_of c.args.check.now) c.args.check.now.cert (g.F.Shelf.state c.args.files.now).files made.0 _ _ _ made.1 c.in_ok-desk.ensures.all (file_opened _ _ _ _ c.load_certificate.ensures.reads)
 
 pub returns-clause-opened : goal.returns-clause-opened
 returns-clause-opened g c =
     let made = c.in_ok-desk.ensures.makes in
-    opens_all_and_certificate (g.F.Shelf.state c.args.files.now).files c.args.check.now made.0 _ _ _ made.1 c.in_ok-desk.ensures.all (file_opened _ _ _ _ c.load_certificate.ensures.reads)
+    opens_all_and_last (sources_of c.args.check.now) c.args.check.now.cert (g.F.Shelf.state c.args.files.now).files made.0 _ _ _ made.1 c.in_ok-desk.ensures.all (file_opened _ _ _ _ c.load_certificate.ensures.reads)
 
 pub returns-in_err-desk-clause-files : goal.returns-in_err-desk-clause-files
 returns-in_err-desk-clause-files g c = c.load_desk.ensures.files

@@ -9,10 +9,11 @@ use Rattle.run_reader.specs.Fed.{FedRun}
 use Rattle.run_reader.specs.Run.{run_of}
 use Rattle.run_reader.specs.declared.used.Used.{Used}
 use Rattle.topics_pool.proofs.AddedUp.{added_up, answered}
-use Rattle.desk_files.specs.Files.{file_as}
+use Rattle.file_rows.specs.declared.fault.FileFault.TheVariants as faults
+use Rattle.desk_files.specs.Files.{file_as, stop_at}
 use Rattle.desk_files.specs.Reads.{ToEnd, extent_at}
 use Rattle.desk_files.specs.Views.{stop_of}
-use Rattle.desk_files.proofs.InTurn.{opened_and_read, file_handed_on, opening_failed, reading_failed, goes_to_end}
+use Rattle.desk_files.proofs.InTurn.{opened_and_read, file_handed_on, opening_failed, reading_failed, goes_to_end, fault_extent}
 use Rattle.desk_files.proofs.Stopping.{gives_memory}
 use Rattle.desk_files.proofs.Loading.{IsFedWhole, stops_file, reads_file, file_is_faulty}
 use Rattle.desk_files.proofs.load.load_run.Goals as goal
@@ -35,7 +36,7 @@ returns-in_err-open_file-clause-gives g c =
     let told = (g.F.Shelf.state c.args.files.now).files in
     let faults = (g.F.Shelf.state c.args.files.now).faults in
     let word = c.args.word.now in
-    stops_file (run_of word.name c.args.qrels.now c.args.used) word.path told told faults faults (g.F.Shelf.state c.open_file.new.files).faults (λ run. run) c.from_residual.result c.in_err-open_file.field-0.0
+    stops_file stop_at (run_of word.name c.args.qrels.now c.args.used) word.path told told faults faults (g.F.Shelf.state c.open_file.new.files).faults (λ run. run) c.from_residual.result c.in_err-open_file.field-0.0
     refl c.from_residual.ensures.1 (omega arith) (rw c.as_str-path.ensures at c.in_err-open_file.ensures.stops)
 
 pub returns-in_err-reader-clause-gives : goal.returns-in_err-reader-clause-gives
@@ -50,7 +51,7 @@ returns-in_err-feed_file-clause-gives g c =
     let faults = (g.F.Shelf.state c.args.files.now).faults in
     let opened = c.open_file.new.files in
     let word = c.args.word.now in
-    stops_file (run_of word.name c.args.qrels.now c.args.used) word.path told (g.F.Shelf.state opened).files faults (g.F.Shelf.state opened).faults (g.F.Shelf.state c.feed_file.new.files).faults (λ run. run) c.from_residual-in_err-feed_file.result c.in_err-feed_file.field-0.0
+    stops_file stop_at (run_of word.name c.args.qrels.now c.args.used) word.path told (g.F.Shelf.state opened).files faults (g.F.Shelf.state opened).faults (g.F.Shelf.state c.feed_file.new.files).faults (λ run. run) c.from_residual-in_err-feed_file.result c.in_err-feed_file.field-0.0
     c.open_file.ensures.files c.from_residual-in_err-feed_file.ensures.1 c.open_file.ensures.later (rw c.as_str-path.ensures at c.in_err-feed_file.ensures.gives)
 
 pub returns-in-Ok-clause-gives : goal.returns-in-Ok-clause-gives
@@ -60,7 +61,7 @@ returns-in-Ok-clause-gives g c =
     let opened = (g.F.Shelf.state c.open_file.new.files).files in
     let whole : IsFedWhole opened word.path fed.fed = rw c.as_str-path.ensures at c.in_ok-feed_file.ensures.gives in
     let same = reads_as_given fed c.in_ok-reader.reader _ word.name c.args.used c.args.qrels.now c.feed_file.ensures.beside c.in_ok-reader.ensures c.given_name.ensures.name in
-    reads_file (run_of word.name c.args.qrels.now c.args.used) word.path (g.F.Shelf.state c.args.files.now).files opened fed.fed c.in-Ok.run' c.open_file.ensures.files whole
+    reads_file stop_at (run_of word.name c.args.qrels.now c.args.used) word.path (g.F.Shelf.state c.args.files.now).files opened faults.Memory fed.fed c.in-Ok.run' c.open_file.ensures.files whole
     (subst (λ read. IsUnlessMemory (Ok c.in-Ok.run') (read fed.fed)) same c.in-Ok.ensures.run)
 
 pub returns-in-Err-clause-gives : goal.returns-in-Err-clause-gives
@@ -70,7 +71,7 @@ returns-in-Err-clause-gives g c =
     let opened = (g.F.Shelf.state c.open_file.new.files).files in
     let whole : IsFedWhole opened word.path fed.fed = rw c.as_str-path.ensures at c.in_ok-feed_file.ensures.gives in
     let same = reads_as_given fed c.in_ok-reader.reader _ word.name c.args.used c.args.qrels.now c.feed_file.ensures.beside c.in_ok-reader.ensures c.given_name.ensures.name in
-    file_is_faulty (run_of word.name c.args.qrels.now c.args.used) word.path (g.F.Shelf.state c.args.files.now).files opened (g.F.Shelf.state c.args.files.now).faults (g.F.Shelf.state c.feed_file.new.files).faults fed.fed c.in-Err.fault c.stop_of.result
+    file_is_faulty stop_at (run_of word.name c.args.qrels.now c.args.used) word.path faults.Memory refl (g.F.Shelf.state c.args.files.now).files opened (g.F.Shelf.state c.args.files.now).faults (g.F.Shelf.state c.feed_file.new.files).faults fed.fed c.in-Err.fault c.stop_of.result
     c.open_file.ensures.files whole (subst (λ read. IsUnlessMemory (Err c.in-Err.fault) (read fed.fed)) same c.in-Err.ensures.run) (rw c.as_str-path.ensures at c.stop_of.ensures)
 
 pub feed_file-requires-clause-content : goal.feed_file-requires-clause-content
@@ -148,4 +149,4 @@ returns-in-Ok-clause-reads g c = let fed = c.in_ok-feed_file.ensures.reads in op
 pub returns-in-Err-clause-reads : goal.returns-in-Err-clause-reads
 returns-in-Err-clause-reads g c =
     let fed = c.in_ok-feed_file.ensures.reads in
-    opened_and_read c.args.word.now.path _ _ _ (rw c.as_str-path.ensures at c.open_file.ensures.calls) (extent_at (stop_of c.stop_of.result)) fed.0 fed.1 (goes_to_end _ c.in-Err.fault c.stop_of.result fed.0 c.stop_of.ensures fed.2)
+    opened_and_read c.args.word.now.path _ _ _ (rw c.as_str-path.ensures at c.open_file.ensures.calls) (extent_at (stop_of c.stop_of.result)) fed.0 fed.1 (goes_to_end (stop_at c.as_str-path.result.now c.in-Err.fault) c.stop_of.result fed.0 (fault_extent c.as_str-path.result.now c.in-Err.fault) c.stop_of.ensures fed.2)

@@ -9,7 +9,7 @@ use Rattle.run_reader.specs.Run.{run_of}
 use Rattle.topics_pool.specs.Rows.{total_rows}
 use Rattle.desk_outside.specs.Calls.{opened_in}
 use Rattle.desk_files.specs.Files.{file_as}
-use Rattle.desk_files.specs.Load.{used_by, runs_of}
+use Rattle.desk_files.specs.Load.{used_by, runs_of, runs_in_turn}
 use Rattle.desk_files.proofs.InTurn.{file_opened, reads_none, reads_one, reads_then, reads_all, files_handed_on}
 use Rattle.desk_files.proofs.Stopping.{gives_handed_on, gives_memory, if_some_at}
 use Rattle.desk_files.proofs.Runs.{Reaches, with_rest, reaches_first, reaches_more, reaches_all, stops_all, total_rows-push}
@@ -34,7 +34,7 @@ loop-word-preserved g c =
       within = c.used-used.ensures.within;
       count = omega (arith, ap length pushed, length-append c.loop-word.runs.items (c.in_ok-run.run' ∷ []), kept.count);
       rows = rw pushed (ap (λ (u : Used). u.rows) c.used-used.ensures.value ∙ c.in_ok-run.ensures.rows ∙ ap (λ n. n + row_count c.in_ok-run.run'.topics) kept.rows ∙ sym (total_rows-push c.loop-word.runs.items c.in_ok-run.run'));
-      opened = rw c.used-used.ensures.value (opens_more c.args.qrels.now (used_by c.args.qrels.now) words c.loop-word.used word (drop (i + 1) words) _ _ _ told c.in_ok-run.run' (rw split at kept.opened) (file_opened _ _ _ _ c.in_ok-run.ensures.reads) gives);
+      opened = rw c.used-used.ensures.value (opens_more (runs_in_turn c.args.qrels.now) (used_by c.args.qrels.now) words c.loop-word.used word (drop (i + 1) words) _ _ _ told c.in_ok-run.run' (rw split at kept.opened) (file_opened _ _ _ _ c.in_ok-run.ensures.reads) gives);
       left = rw (c.used-used.ensures.value, pushed) more;
       reads = reads_then _ _ _ _ kept.reads (reads_one _ _ _ _ c.in_ok-run.ensures.reads);
     }
@@ -45,7 +45,7 @@ returns-in_err-run-clause-opened g c =
     let i = c.loop-word.word-index in
     let word = c.word-item.result in
     let split : drop i words ≡ word ∷ drop (i + 1) words = drop_more words i word (omega arith) ∙ ap (λ w. w ∷ drop (i + 1) words) (sym c.word-item.is) in
-    opens_last c.args.qrels.now (used_by c.args.qrels.now) words c.loop-word.used word (drop (i + 1) words) _ _ _ (g.F.Shelf.state c.args.files.now).files (rw split at c.loop-word.invariant.opened) (file_opened _ _ _ _ c.load_run.ensures.reads)
+    opens_last (runs_in_turn c.args.qrels.now) (used_by c.args.qrels.now) words c.loop-word.used word (drop (i + 1) words) _ _ _ (g.F.Shelf.state c.args.files.now).files (rw split at c.loop-word.invariant.opened) (file_opened _ _ _ _ c.load_run.ensures.reads)
 
 pub returns-in_err-push_run-clause-opened : goal.returns-in_err-push_run-clause-opened
 returns-in_err-push_run-clause-opened g c =
@@ -53,17 +53,17 @@ returns-in_err-push_run-clause-opened g c =
     let i = c.loop-word.word-index in
     let word = c.word-item.result in
     let split : drop i words ≡ word ∷ drop (i + 1) words = drop_more words i word (omega arith) ∙ ap (λ w. w ∷ drop (i + 1) words) (sym c.word-item.is) in
-    opens_last c.args.qrels.now (used_by c.args.qrels.now) words c.loop-word.used word (drop (i + 1) words) _ _ _ (g.F.Shelf.state c.args.files.now).files (rw split at c.loop-word.invariant.opened) (file_opened _ _ _ _ c.load_run.ensures.reads)
+    opens_last (runs_in_turn c.args.qrels.now) (used_by c.args.qrels.now) words c.loop-word.used word (drop (i + 1) words) _ _ _ (g.F.Shelf.state c.args.files.now).files (rw split at c.loop-word.invariant.opened) (file_opened _ _ _ _ c.load_run.ensures.reads)
 
 pub returns-clause-opened : goal.returns-clause-opened
 returns-clause-opened g c =
     let words = c.args.words.now in
-    opens_all (g.F.Shelf.state c.args.files.now).files c.args.qrels.now (used_by c.args.qrels.now) words c.loop-word.used _ _ (rw (drop_all c.loop-word.word-index words (omega arith)) at c.loop-word.invariant.opened)
+    opens_all (runs_in_turn c.args.qrels.now) (used_by c.args.qrels.now) words (g.F.Shelf.state c.args.files.now).files c.loop-word.used _ _ (rw (drop_all c.loop-word.word-index words (omega arith)) at c.loop-word.invariant.opened)
 
 pub returns-clause-all : goal.returns-clause-all
 returns-clause-all g c =
     let words = c.args.words.now in
-    opened_all (g.F.Shelf.state c.args.files.now).files c.args.qrels.now (used_by c.args.qrels.now) words c.loop-word.used _ _ (rw (drop_all c.loop-word.word-index words (omega arith)) at c.loop-word.invariant.opened)
+    opened_all (runs_in_turn c.args.qrels.now) (used_by c.args.qrels.now) words (g.F.Shelf.state c.args.files.now).files c.loop-word.used _ _ (rw (drop_all c.loop-word.word-index words (omega arith)) at c.loop-word.invariant.opened)
 
 pub returns-in_err-run-clause-gives : goal.returns-in_err-run-clause-gives
 returns-in_err-run-clause-gives g c =
@@ -154,7 +154,7 @@ loop-word-init g c =
       within = record { rows = omega arith; name_bytes = c.name_bytes.ensures.most };
       count = c.new-runs.ensures.len;
       rows = sym (ap total_rows c.new-runs.ensures.items);
-      opened = subst (λ u. OpensSoFar told qrels (used_by qrels) words u words had had) (sym same) (opens_none told qrels (used_by qrels) words had);
+      opened = subst (λ u. OpensSoFar (runs_in_turn qrels) told (used_by qrels) words u words had had) (sym same) (opens_none (runs_in_turn qrels) (used_by qrels) words told had);
       left = subst (λ runs. Reaches told qrels (used_by qrels) words used runs words) (sym c.new-runs.ensures.items) left;
       reads = reads_none (g.F.Shelf.state c.args.files.now).calls;
     }

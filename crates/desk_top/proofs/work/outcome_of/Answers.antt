@@ -16,3 +16,9 @@ returns-in-Demo-clause-reads g c = none_or_memory (g.F.Shelf.state c.args.files.
 
 pub returns-in-Graded-clause-works : goal.returns-in-Graded-clause-works
 returns-in-Graded-clause-works g c = rw c.in-Graded.is c.graded_outcome.ensures.works
+
+pub returns-in-Merge-clause-works : goal.returns-in-Merge-clause-works
+returns-in-Merge-clause-works g c = rw c.in-Merge.is (c.merge_outcome.ensures.works c.args.steps.now)
+
+pub returns-in-Apply-clause-works : goal.returns-in-Apply-clause-works
+returns-in-Apply-clause-works g c = rw c.in-Apply.is (c.apply_outcome.ensures.works c.args.steps.now)
