@@ -9,30 +9,42 @@ use Rattle.desk_model.specs.Name.{number_of}
 use Rattle.desk_model.specs.Named.{book_at}
 use Rattle.desk_report.specs.Judging.{qrels_text}
 use Rattle.topics_pool.specs.Rows.{IsDeskOf}
-use Rattle.qrels_round_trip.specs.RoundTrip.{HasJudgements}
+use Rattle.qrels_reader.specs.Grouped.{qrels_of}
+use Rattle.qrels_round_trip.specs.RoundTrip.{HasJudgements, IsJudged}
 use Rattle.sheet_merge.specs.Sheet.{SheetPlace, SheetRow}
 use Rattle.sheet_merge.specs.Placed.{topic_number, is_document_of, is_placed}
 use Rattle.sheet_report.specs.Applied.{all_under, GradesUnderAreGrades, ApplyingAgainChangesNothing}
 use Rattle.desk_files.specs.Files.{Stop}
 use Rattle.desk_files.specs.Load.{Loaded, loaded}
-use Rattle.desk_files.specs.Placings.{placing_sources}
-use Rattle.desk_laws.specs.Applied.{sources_again, IsApplied, IsAsBefore, AppliedFilesComeAgain, ApplyingTwiceChangesNothing}
+use Rattle.desk_files.specs.Placings.{placing_sources, PlacingComes}
+use Rattle.desk_top.specs.Outcome.{Outcome}
+use Rattle.desk_top.specs.Sheets.{PrintsApplied}
+use Rattle.desk_laws.specs.Applied.{sources_again, IsAsBefore, AppliedFilesComeAgain, ApplyingTwiceChangesNothing}
 use Rattle.desk_laws.specs.Replaced.{AreFilesWith, ComesAgain}
 use Rattle.desk_laws.proofs.Again.{come_again}
-use Rattle.desk_laws.proofs.Loading.{taken_apart}
+use Rattle.desk_laws.proofs.Loading.{AreLoaded, taken_apart}
+use Rattle.desk_laws.proofs.SameText.{text_again}
+
+-- what `apply` printed is of a desk with grades in force
+module _ (files : Files) (placing : Placing) (found : Loaded × List SheetRow) (outcome : Outcome) (comes : PlacingComes files placing (Ok found)) (printed : PrintsApplied found outcome) where
+  apart : AreLoaded files (placing_sources placing) found.0
+  apart = taken_apart files (placing_sources placing) found.0 comes.0
+
+  in_force : GradesUnderAreGrades → IsJudged apart.judgements.bytes found.0.qrels found.0.runs printed.desk (all_under printed.desk found.1)
+  in_force grades = record {
+    read = apart.judgements.says;
+    of_rows = printed.ranked;
+    in_force = grades apart.judgements.bytes found.0.qrels found.0.runs printed.desk found.1 apart.judgements.says printed.ranked printed.sheet;
+  }
 
 pub applied_again : GradesUnderAreGrades → AppliedFilesComeAgain
 applied_again grades files again placing path found applied =
     let printed = applied.printed in
     let desk = printed.desk in
     let under = all_under desk found.1 in
-    let apart = taken_apart files (placing_sources placing) found.0 applied.comes.0 in
+    let judged = in_force files placing found applied.outcome applied.comes printed grades in
     subst (λ text. ComesAgain (sources_again placing path) text desk under (loaded again (sources_again placing path))) (sym printed.prints.1)
-    (come_again files again (placing_sources placing) path found.0 desk under (record {
-      loads = applied.comes.0;
-      of_rows = printed.ranked;
-      in_force = grades apart.judgements.bytes found.0.qrels found.0.runs desk found.1 apart.judgements.says printed.ranked printed.sheet;
-    })
+    (come_again files again (placing_sources placing) path found.0 desk under (record { loads = applied.comes.0; of_rows = printed.ranked; in_force = judged.in_force })
     (subst (λ text. AreFilesWith files again path text placing.runs) printed.prints.1 applied.with_text))
 
 -- ---- the same places
@@ -62,5 +74,18 @@ applied_twice grades nothing files again placing path found later other applied 
     at (Ok rows) e comes =
         let own : rows ≡ later = cc in
         let is = comes other (subst (λ (r : Loaded). IsDeskOf r.qrels r.runs other) (sym own) ranked) in
-        record { places = same_places applied.printed.desk other (all_under applied.printed.desk found.1) is.same; grades = nothing applied.printed.desk other found.1 is.same }
+        let desk = applied.printed.desk in
+        let under = all_under desk found.1 in
+        let same : all_under other found.1 ≡ under = nothing desk other found.1 is.same in
+        let read = (taken_apart again (sources_again placing path) later loads).judgements in
+        let bytes : Some read.bytes ≡ Some applied.printed.prints.0 = sym read.there ∙ applied.with_text.judgements in
+        let text : read.bytes ≡ applied.printed.prints.0 = cc in
+        let says : qrels_of (qrels_text desk under) ≡ Ok later.qrels = ap qrels_of (sym (text ∙ applied.printed.prints.1)) ∙ read.says in
+        let judged = in_force files placing found applied.outcome applied.comes applied.printed grades in
+        record {
+          places = same_places desk other under is.same;
+          grades = same;
+          text = ap (qrels_text other) same
+              ∙ text_again (apart files placing found applied.outcome applied.comes applied.printed).judgements.bytes found.0.qrels later.qrels found.0.runs later.runs desk other under judged says ranked is.same;
+        }
     at (Err why) e comes = absurd (cc)

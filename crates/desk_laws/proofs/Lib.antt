@@ -2,6 +2,7 @@ pub mod LineEnds
 pub mod Statuses
 pub mod Answering
 pub mod Sheets
+pub mod SameText
 pub mod Applying
 pub mod Commands
 pub mod Answered

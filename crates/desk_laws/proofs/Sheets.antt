@@ -1,5 +1,5 @@
 -- What holds of the commands on sheets.
-use Rattle.std.proofs.Common.{◌≡◌, ℕ, List, [], ◌∷◌, refl, ap, sym, subst, ◌∙◌, inl, inr, arith}
+use Rattle.std.proofs.Common.{◌≡◌, ℕ, List, [], ◌∷◌, refl, sym, subst, ◌∙◌, inl, arith}
 use Rattle.std.specs.List.{Contains}
 use Rattle.desk_words.specs.declared.command.Placing.{Placing}
 use Rattle.desk_model.specs.Desk.{Desk}

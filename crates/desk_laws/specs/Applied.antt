@@ -3,6 +3,7 @@ use Rattle.std.specs.Prelude.{◌≡◌, ℕ, List, Ok}
 use Rattle.desk_outside.specs.Outside.{Files}
 use Rattle.desk_words.specs.declared.command.Placing.{Placing}
 use Rattle.desk_model.specs.Desk.{Desk}
+use Rattle.desk_report.specs.Judging.{qrels_text}
 use Rattle.topics_pool.specs.Rows.{IsDeskOf}
 use Rattle.sheet_merge.specs.Sheet.{SheetPlace, SheetRow}
 use Rattle.sheet_merge.specs.Placed.{is_placed}
@@ -30,10 +31,11 @@ AppliedFilesComeAgain =
     (files again : Files) (placing : Placing) (path : List ℕ) (found : Loaded × List SheetRow) → (applied : IsApplied files again placing path found) →
     ComesAgain (sources_again placing path) applied.printed.prints.0 applied.printed.desk (all_under applied.printed.desk found.1) (loaded again (sources_again placing path))
 
--- a sheet changes nothing of a desk's judgements: what has its place in the one desk has it in the other, and the grades in force under the sheet are the same
+-- a sheet changes nothing of a desk's judgements: what has its place in the one desk has it in the other, the grades in force under the sheet are the same, and so is their text
 pub record IsAsBefore (sheet : List SheetRow) (desk other : Desk) : Type 0 where
   pub places : (place : SheetPlace) → is_placed other place ≡ is_placed desk place
   pub grades : all_under other sheet ≡ all_under desk sheet
+  pub text : qrels_text other (all_under other sheet) ≡ qrels_text desk (all_under desk sheet)
 
 -- the same sheet applied to them changes nothing
 abbrev pub ApplyingTwiceChangesNothing : Type 0

@@ -12,8 +12,8 @@ pub fn applied_files_come_again()
     grades_under_are_grades();
 }
 
-/// Over the desk of these files the same sheet changes nothing: each entry has its place again, and the judgements in force
-/// under the sheet are the same.
+/// Over the desk of these files the same sheet changes nothing: each entry has its place again, the judgements in force under
+/// the sheet are the same, and so is the text that `apply` prints of them.
 pub fn applying_twice_changes_nothing()
     ensures { ApplyingTwiceChangesNothing }
 {
