@@ -33,7 +33,8 @@ impl AnyMeasure {
     /// The measure of this name.
     pub fn new(alloc: Global, name: MeasureName) -> Result<AnyMeasure, Memory>
         requires measure { IsMeasure name }
-        ensures { IfOk result (λ made. IsMadeFor name (measured_by made) (cell_by made) (bounds_by made)) }
+        ensures { IfOk result (λ made.
+            IsMadeFor name (measured_by made) (cell_by made) (bounds_by made)) }
     {
         match name {
             MeasureName::Precision(k) => Ok(AnyMeasure::Precision(Precision::new(k))),

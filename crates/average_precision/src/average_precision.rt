@@ -39,7 +39,9 @@ impl AveragePrecision {
     /// The measure, whose cells and bounds are made of the chosen candidates of each run. It takes no memory, and
     /// divides for each rank.
     pub fn new() -> AveragePrecision
-        ensures { IsMadeFor A (⟦<AveragePrecision as Measure>⟧.measured result) (⟦<AveragePrecision as Measure>⟧.cell_of result) (⟦<AveragePrecision as Measure>⟧.bounds_of result) }
+        ensures { IsMadeFor A (⟦<AveragePrecision as Measure>⟧.measured result)
+            (⟦<AveragePrecision as Measure>⟧.cell_of result)
+            (⟦<AveragePrecision as Measure>⟧.bounds_of result) }
     {
         AveragePrecision {
             parts: Parts::found(),
@@ -51,7 +53,10 @@ impl AveragePrecision {
     /// # Errors
     /// `Memory`: out of memory.
     pub fn with_parts(alloc: Global) -> Result<AveragePrecision, Memory>
-        ensures made { IfOk result (λ m. IsMadeFor A (⟦<AveragePrecision as Measure>⟧.measured m) (⟦<AveragePrecision as Measure>⟧.cell_of m) (⟦<AveragePrecision as Measure>⟧.bounds_of m)) }
+        ensures made { IfOk result (λ m.
+            IsMadeFor A (⟦<AveragePrecision as Measure>⟧.measured m)
+            (⟦<AveragePrecision as Measure>⟧.cell_of m)
+            (⟦<AveragePrecision as Measure>⟧.bounds_of m)) }
         ensures kept { IfOk result (λ m. m.parts ≡ true) }
     {
         let parts = Parts::kept(alloc)?;

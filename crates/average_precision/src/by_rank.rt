@@ -31,8 +31,10 @@ struct Last {
 impl Last {
     /// With the document of a rank.
     fn with(self, mark: Mark, rank: u32) -> Last
-        ensures rank { result.rank ≡ (if is_unjudged mark && nat_lt 0 self.left then rank else self.rank) }
-        ensures left { result.left ≡ (if is_unjudged mark && nat_lt 0 self.left then self.left - 1 else self.left) }
+        ensures rank { result.rank ≡
+            (if is_unjudged mark && nat_lt 0 self.left then rank else self.rank) }
+        ensures left { result.left ≡
+            (if is_unjudged mark && nat_lt 0 self.left then self.left - 1 else self.left) }
     {
         match mark {
             Mark::Unjudged => {

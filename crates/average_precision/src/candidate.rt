@@ -71,7 +71,8 @@ pub struct Side<'s> {
 /// The sum of the precisions where the first unjudged documents are true and the others not, rounded up,
 /// or the other way round, rounded down.
 pub fn sum_of(side: &Side<'_>, count: u32) -> u128
-    ensures value { result ≡ candidate_sum side.now.high (along side.now.marks.now side.now.docs.now) count }
+    ensures value { result ≡ candidate_sum side.now.high
+        (along side.now.marks.now side.now.docs.now) count }
     ensures small { result ≤ RANK_LIMIT * PARTS_OF_ONE }
 {
     let mut sum = Sum::NONE;

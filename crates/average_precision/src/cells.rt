@@ -136,7 +136,8 @@ impl KeptRuns<'_, '_> {
         requires kept { AreKept self.now }
         requires run { run < runs_on self.now.rankings.now }
         requires other { other < runs_on self.now.rankings.now }
-        ensures { IsPairRun self.now.marks.now (ranking_on self.now.rankings.now run) (ranking_on self.now.rankings.now other) result }
+        ensures { IsPairRun self.now.marks.now (ranking_on self.now.rankings.now run)
+            (ranking_on self.now.rankings.now other) result }
     {
         let docs = self.rankings.ranking(run).docs();
         let kept = self.kept(run);
@@ -152,8 +153,10 @@ impl KeptRuns<'_, '_> {
         requires kept { AreKept self.now }
         requires first { first < runs_on self.now.rankings.now }
         requires second { second < runs_on self.now.rankings.now }
-        ensures least { IsLeast self.now.marks.now (ranking_on self.now.rankings.now first) (ranking_on self.now.rankings.now second) result.least }
-        ensures swapped { IsLeast self.now.marks.now (ranking_on self.now.rankings.now second) (ranking_on self.now.rankings.now first) result.swapped }
+        ensures least { IsLeast self.now.marks.now (ranking_on self.now.rankings.now first)
+            (ranking_on self.now.rankings.now second) result.least }
+        ensures swapped { IsLeast self.now.marks.now (ranking_on self.now.rankings.now second)
+            (ranking_on self.now.rankings.now first) result.swapped }
     {
         let a = self.rankings.ranking(first).docs();
         let b = self.rankings.ranking(second).docs();
@@ -170,7 +173,9 @@ impl KeptRuns<'_, '_> {
         requires kept { AreKept self.now }
         requires order { at.first < at.second }
         requires within { at.second < runs_on self.now.rankings.now }
-        ensures cell { result ≡ average_cell self.now.marks.now (ranking_on self.now.rankings.now at.first) (ranking_on self.now.rankings.now at.second) }
+        ensures cell { result ≡
+            average_cell self.now.marks.now (ranking_on self.now.rankings.now at.first)
+            (ranking_on self.now.rankings.now at.second) }
         ensures modest { CellIsModest result }
     {
         KeptCell::of(cell_of(self.leasts(at.first, at.second)))
@@ -180,7 +185,8 @@ impl KeptRuns<'_, '_> {
 /// The cells of all pairs of runs, by what is kept of each and of each two. It is one step for each.
 fn fill_cells<L: Ledger>(kept: &KeptRuns<'_, '_>, cells: &mut [KeptCell], steps: &mut Steps<L>)
     requires kept { AreKept kept.now }
-    requires count { length cells.old ≡ length (pairs_of (run_numbers (runs_on kept.now.rankings.now))) }
+    requires count { length cells.old ≡
+        length (pairs_of (run_numbers (runs_on kept.now.rankings.now))) }
     ensures cells { cells.new ≡ pair_cells (average_cell kept.now.marks.now) kept.now.rankings.now }
     ensures modest { All CellIsModest cells.new }
     ensures steps { steps.new ≡ steps.old + length cells.old }
@@ -258,8 +264,10 @@ impl AveragePrecision {
         requires run { classes.now.run.now ≡ ranking_on rankings.now run }
         requires documents { AreDocuments classes.now.marks.now classes.now.run.now documents }
         requires room { runs_on rankings.now * runs_on rankings.now ≤ length scores.old }
-        requires before { AreCrossedTo classes.now.marks.now rankings.now (place_of rankings.now run 0) scores.old }
-        ensures after { AreCrossedTo classes.now.marks.now rankings.now (place_of rankings.now (run + 1) 0) scores.new }
+        requires before { AreCrossedTo classes.now.marks.now rankings.now
+            (place_of rankings.now run 0) scores.old }
+        ensures after { AreCrossedTo classes.now.marks.now rankings.now
+            (place_of rankings.now (run + 1) 0) scores.new }
         ensures count { length scores.new ≡ length scores.old }
     {
         let runs = rankings.runs();
@@ -316,7 +324,8 @@ impl AveragePrecision {
     ) -> bool
         requires met { AreAllMet marks.now rankings.now }
         requires count { length cells.old ≡ length (pairs_of (run_numbers (runs_on rankings.now))) }
-        ensures cells { result ≡ true → cells.new ≡ pair_cells (average_cell marks.now) rankings.now }
+        ensures cells { result ≡ true →
+            cells.new ≡ pair_cells (average_cell marks.now) rankings.now }
         ensures modest { result ≡ true → All CellIsModest cells.new }
         ensures steps { result ≡ true → steps.new ≡ steps.old + length cells.old }
         ensures too_small { result ≡ false → (cells.new ≡ cells.old) × (steps.new ≡ steps.old) }

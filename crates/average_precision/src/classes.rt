@@ -43,7 +43,8 @@ pub fn mark_run(docs: &[u32], marks: &[Mark], taken: u32, left_out: u32, classes
     requires ranking { IsRanking (length marks.now) docs.now }
     requires base { AreBase marks.now classes.old }
     requires taken { taken ≡ high_choice marks.now docs.now }
-    requires left_out { left_out ≡ length (open_docs marks.now docs.now) - low_choice marks.now docs.now }
+    requires left_out { left_out ≡ length (open_docs marks.now docs.now) -
+        low_choice marks.now docs.now }
     ensures { AreClasses marks.now docs.now classes.new }
 {
     let mut to_take = taken;

@@ -56,8 +56,12 @@ pub fn sums_in<C: Classes, P: RankParts>(
     parts: &P,
 ) -> Sums
     requires { IsRanking (length (C.marks classes.now)) docs.now }
-    ensures in_high { result.in_high ≡ ranked_sum (worth_of outward) 1 (true_ranks 1 (map (high_case (C.marks classes.now) (C.run classes.now)) docs.now)) }
-    ensures in_low { result.in_low ≡ ranked_sum (worth_of (not outward)) 1 (true_ranks 1 (map (low_case (C.marks classes.now) (C.run classes.now)) docs.now)) }
+    ensures in_high { result.in_high ≡
+        ranked_sum (worth_of outward) 1
+        (true_ranks 1 (map (high_case (C.marks classes.now) (C.run classes.now)) docs.now)) }
+    ensures in_low { result.in_low ≡
+        ranked_sum (worth_of (not outward)) 1
+        (true_ranks 1 (map (low_case (C.marks classes.now) (C.run classes.now)) docs.now)) }
     ensures high_small { result.in_high ≤ RANK_LIMIT * PARTS_OF_ONE }
     ensures low_small { result.in_low ≤ RANK_LIMIT * PARTS_OF_ONE }
 {
@@ -96,8 +100,12 @@ pub fn crossed<C: Classes>(
     requires ranking { IsRanking (length (C.marks classes.now)) docs.now }
     requires few { length (C.marks classes.now) ≤ DOCUMENT_LIMIT }
     requires documents { AreDocuments (C.marks classes.now) (C.run classes.now) documents }
-    ensures in_high { result.in_high ≡ rounded outward (length (C.marks classes.now)) (high_case (C.marks classes.now) (C.run classes.now)) docs.now }
-    ensures in_low { result.in_low ≡ rounded (not outward) (length (C.marks classes.now)) (low_case (C.marks classes.now) (C.run classes.now)) docs.now }
+    ensures in_high { result.in_high ≡
+        rounded outward (length (C.marks classes.now))
+        (high_case (C.marks classes.now) (C.run classes.now)) docs.now }
+    ensures in_low { result.in_low ≡
+        rounded (not outward) (length (C.marks classes.now))
+        (low_case (C.marks classes.now) (C.run classes.now)) docs.now }
     ensures high_small { result.in_high ≤ RANK_LIMIT * PARTS_OF_ONE }
     ensures low_small { result.in_low ≤ RANK_LIMIT * PARTS_OF_ONE }
 {

@@ -31,8 +31,10 @@ fn least_apart(a: RunNumbers, b: RunNumbers, a_in_high: u128, b_in_low: u128) ->
     requires a_in_high { a_in_high ≤ RANK_LIMIT * PARTS_OF_ONE }
     requires b_in_low { b_in_low ≤ RANK_LIMIT * PARTS_OF_ONE }
     ensures lo { result.lo ≡ pos a.lo -ℤ pos b.hi }
-    ensures hi { result.hi ≡ smaller_of (pos a.high_in_low -ℤ pos b_in_low) (pos a_in_high -ℤ pos b.low_in_high) }
-    ensures case { result.kind ≡ case_of (pos a.high_in_low -ℤ pos b_in_low) (pos a_in_high -ℤ pos b.low_in_high) }
+    ensures hi { result.hi ≡ smaller_of (pos a.high_in_low -ℤ pos b_in_low)
+        (pos a_in_high -ℤ pos b.low_in_high) }
+    ensures case { result.kind ≡
+        case_of (pos a.high_in_low -ℤ pos b_in_low) (pos a_in_high -ℤ pos b.low_in_high) }
 {
     let low = difference(a.high_in_low, b_in_low);
     let high = difference(a_in_high, b.low_in_high);
@@ -56,7 +58,9 @@ fn least_apart(a: RunNumbers, b: RunNumbers, a_in_high: u128, b_in_low: u128) ->
 pub fn least_of(same: bool, a: RunNumbers, b: RunNumbers, a_in_high: u128, b_in_low: u128) -> Least
     requires a_in_high { a_in_high ≤ RANK_LIMIT * PARTS_OF_ONE }
     requires b_in_low { b_in_low ≤ RANK_LIMIT * PARTS_OF_ONE }
-    ensures { (marks : List M) (first second : List ℕ) → AreKnown marks first second same a b a_in_high b_in_low → IsLeast marks first second result }
+    ensures { (marks : List M) (first second : List ℕ) →
+        AreKnown marks first second same a b a_in_high b_in_low →
+        IsLeast marks first second result }
 {
     if same {
         return Least {

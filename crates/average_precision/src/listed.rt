@@ -22,9 +22,13 @@ use std::alloc::Global;
 /// How many documents the list of a case of two runs has, where so many documents of the topic are relevant.
 fn size_of(kept: &KeptRuns<'_, '_>, relevant: u32, case: Case, pair: RunPair) -> u32
     requires kept { AreKept kept.now }
-    requires relevant { relevant ≡ true_count (with_picked kept.now.marks.now (λ _. false)) (length kept.now.marks.now) }
+    requires relevant { relevant ≡
+        true_count (with_picked kept.now.marks.now (λ _. false)) (length kept.now.marks.now) }
     requires pair { IsOfRuns (runs_on kept.now.rankings.now) pair }
-    ensures { result ≡ length (added_documents kept.now.marks.now (case_truth kept.now.marks.now (ranking_on kept.now.rankings.now pair.first) (ranking_on kept.now.rankings.now pair.second) case)) }
+    ensures { result ≡
+        length (added_documents kept.now.marks.now
+        (case_truth kept.now.marks.now (ranking_on kept.now.rankings.now pair.first)
+        (ranking_on kept.now.rankings.now pair.second) case)) }
 {
     match case {
         Case::OfNone => 0,
@@ -36,12 +40,16 @@ fn size_of(kept: &KeptRuns<'_, '_>, relevant: u32, case: Case, pair: RunPair) ->
 /// Counts the two lists of a pair among those of its runs' candidates, and answers their sizes.
 fn list_pair(kept: &KeptRuns<'_, '_>, relevant: u32, pair: RunPair, uses: &mut [Uses]) -> ListSizes
     requires kept { AreKept kept.now }
-    requires relevant { relevant ≡ true_count (with_picked kept.now.marks.now (λ _. false)) (length kept.now.marks.now) }
+    requires relevant { relevant ≡
+        true_count (with_picked kept.now.marks.now (λ _. false)) (length kept.now.marks.now) }
     requires pair { IsOfRuns (runs_on kept.now.rankings.now) pair }
     requires runs { length uses.old ≡ runs_on kept.now.rankings.now }
     requires few { AreUsesUpTo (2 ^ 62) uses.old }
     ensures sizes { result ≡ sizes_on A kept.now.marks.now kept.now.rankings.now pair }
-    ensures uses { (doc : ℕ) → all_shares kept.now.marks.now kept.now.rankings.now uses.new doc ≡ all_shares kept.now.marks.now kept.now.rankings.now uses.old doc + times (documents_on A kept.now.marks.now kept.now.rankings.now pair) doc }
+    ensures uses { (doc : ℕ) →
+        all_shares kept.now.marks.now kept.now.rankings.now uses.new doc ≡
+        all_shares kept.now.marks.now kept.now.rankings.now uses.old doc +
+        times (documents_on A kept.now.marks.now kept.now.rankings.now pair) doc }
     ensures few { (most : ℕ) → AreUsesUpTo most uses.old → AreUsesUpTo (most + 2) uses.new }
     ensures size { length uses.new ≡ length uses.old }
 {
@@ -72,8 +80,11 @@ fn list_pairs(
     requires pairs { All (IsOfRuns (runs_on kept.now.rankings.now)) pairs.now }
     requires runs { length uses.old ≡ runs_on kept.now.rankings.now }
     requires unused { AreUsesUpTo 0 uses.old }
-    ensures sizes { IfOk result (λ sizes. sizes.items ≡ map (sizes_on A kept.now.marks.now kept.now.rankings.now) pairs.now) }
-    ensures uses { OnOk result ((doc : ℕ) → all_shares kept.now.marks.now kept.now.rankings.now uses.new doc ≡ times (pair_documents A kept.now.marks.now kept.now.rankings.now pairs.now) doc) }
+    ensures sizes { IfOk result (λ sizes. sizes.items ≡
+        map (sizes_on A kept.now.marks.now kept.now.rankings.now) pairs.now) }
+    ensures uses { OnOk result ((doc : ℕ) →
+        all_shares kept.now.marks.now kept.now.rankings.now uses.new doc ≡
+        times (pair_documents A kept.now.marks.now kept.now.rankings.now pairs.now) doc) }
     ensures size { length uses.new ≡ length uses.old }
 {
     let relevant = counts_of(kept.marks).relevant;
@@ -102,8 +113,10 @@ impl AveragePrecision {
         requires pairs { All (IsOfRuns (runs_on rankings.now)) pairs.now }
         requires size { length counts.old ≡ length marks.now }
         requires room { HaveRoomFor counts.old (pair_documents A marks.now rankings.now pairs.now) }
-        ensures sizes { IfOk result (λ sizes. sizes.items ≡ map (sizes_on A marks.now rankings.now) pairs.now) }
-        ensures counts { OnOk result (AreCounted counts.old (pair_documents A marks.now rankings.now pairs.now) counts.new) }
+        ensures sizes { IfOk result (λ sizes. sizes.items ≡
+            map (sizes_on A marks.now rankings.now) pairs.now) }
+        ensures counts { OnOk result
+            (AreCounted counts.old (pair_documents A marks.now rankings.now pairs.now) counts.new) }
     {
         let runs = rankings.runs() as usize;
         let mut own = vec![in alloc; RunCandidates::NONE; runs]?;

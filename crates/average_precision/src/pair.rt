@@ -25,8 +25,10 @@ pub struct Leasts {
 
 /// The ends of the least difference of two runs, and of the same runs swapped, from what is known of both.
 pub fn leasts_between(a: &[u32], b: &[u32], first: PairRun, second: PairRun) -> Leasts
-    ensures least { (marks : List M) → IsPairRun marks a.now b.now first → IsPairRun marks b.now a.now second → IsLeast marks a.now b.now result.least }
-    ensures swapped { (marks : List M) → IsPairRun marks a.now b.now first → IsPairRun marks b.now a.now second → IsLeast marks b.now a.now result.swapped }
+    ensures least { (marks : List M) → IsPairRun marks a.now b.now first →
+        IsPairRun marks b.now a.now second → IsLeast marks a.now b.now result.least }
+    ensures swapped { (marks : List M) → IsPairRun marks a.now b.now first →
+        IsPairRun marks b.now a.now second → IsLeast marks b.now a.now result.swapped }
 {
     Leasts {
         least: least_of(
@@ -91,7 +93,8 @@ fn span_of(least: Least) -> Span
 
 /// The cell of two runs, from the ends of their least difference and of that of the same runs swapped.
 pub fn cell_of(both: Leasts) -> Cell
-    ensures { (marks : List M) (a b : List ℕ) → IsLeast marks a b both.least → IsLeast marks b a both.swapped → result ≡ average_cell marks a b }
+    ensures { (marks : List M) (a b : List ℕ) → IsLeast marks a b both.least →
+        IsLeast marks b a both.swapped → result ≡ average_cell marks a b }
 {
     Cell {
         least: span_of(both.least),

@@ -40,7 +40,8 @@ fn estimate_at(side: &Side<'_>, walk: Walk, totals: Totals) -> Estimate
 /// Whether a candidate is surely not chosen before another one.
 fn is_beaten(high: bool, estimate: Estimate, count: u32, best: Choice) -> bool
     requires { best.value ≤ RANK_LIMIT * PARTS_OF_ONE }
-    ensures { (sum : ℕ) → IsNear high sum estimate.sum estimate.slack → result ≡ true → Loses high (out_of high sum estimate.documents) count best }
+    ensures { (sum : ℕ) → IsNear high sum estimate.sum estimate.slack → result ≡ true →
+        Loses high (out_of high sum estimate.documents) count best }
 {
     let documents = u128::from(estimate.documents);
     if documents == 0 {
@@ -58,8 +59,10 @@ fn is_beaten(high: bool, estimate: Estimate, count: u32, best: Choice) -> bool
 /// The best candidate so far or the one that the walk has come to, whichever is chosen before the other.
 fn visited(side: &Side<'_>, walk: Walk, totals: Totals, best: Choice) -> Choice
     requires passing { IsPassing side.now.high side.now.marks.now side.now.docs.now totals walk }
-    requires best { IsBestSoFar side.now.high side.now.marks.now side.now.docs.now walk.passed best }
-    ensures { IsBestSoFar side.now.high side.now.marks.now side.now.docs.now (walk.passed + 1) result }
+    requires best { IsBestSoFar side.now.high side.now.marks.now side.now.docs.now walk.passed
+        best }
+    ensures { IsBestSoFar side.now.high side.now.marks.now side.now.docs.now (walk.passed + 1)
+        result }
 {
     let estimate = estimate_at(side, walk, totals);
     if is_beaten(side.high, estimate, walk.passed, best) {

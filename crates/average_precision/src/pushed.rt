@@ -32,7 +32,8 @@ fn is_added(high: bool, mark: Mark, class: Class) -> bool
 /// Appends the unjudged documents that are true in a run's high candidate, or in its low one.
 fn push_in(high: bool, run: &KeptClasses<'_>, docs: &mut Vec<u32>) -> Result<(), Memory>
     requires { length run.now.marks.now ≤ DOCUMENT_LIMIT }
-    ensures { OnOk result (docs.new.items ≡ docs.old.items ++ added_documents run.now.marks.now (class_truth high run.now.classes.now)) }
+    ensures { OnOk result (docs.new.items ≡ docs.old.items ++
+        added_documents run.now.marks.now (class_truth high run.now.classes.now)) }
 {
     for doc in 0..run.marks.len() {
         if is_added(high, run.marks[doc], run.classes[doc]) {
@@ -51,7 +52,9 @@ fn push_case(
 ) -> Result<(), Memory>
     requires marks { second.now.marks.now ≡ first.now.marks.now }
     requires few { length first.now.marks.now ≤ DOCUMENT_LIMIT }
-    ensures { OnOk result (docs.new.items ≡ docs.old.items ++ added_documents first.now.marks.now (case_truth first.now.marks.now first.now.run.now second.now.run.now case)) }
+    ensures { OnOk result (docs.new.items ≡ docs.old.items ++
+        added_documents first.now.marks.now
+        (case_truth first.now.marks.now first.now.run.now second.now.run.now case)) }
 {
     match case {
         Case::OfNone => Ok(()),
@@ -109,8 +112,10 @@ impl AveragePrecision {
         most: &mut Vec<u32>,
     ) -> Result<(), Memory>
         requires { AreMet marks.now a.now b.now }
-        ensures least { OnOk result (least.new.items ≡ least.old.items ++ least_documents A marks.now a.now b.now) }
-        ensures most { OnOk result (most.new.items ≡ most.old.items ++ least_documents A marks.now b.now a.now) }
+        ensures least { OnOk result (least.new.items ≡ least.old.items ++
+            least_documents A marks.now a.now b.now) }
+        ensures most { OnOk result (most.new.items ≡ most.old.items ++
+            least_documents A marks.now b.now a.now) }
     {
         let all = counts_of(marks);
         let (x, y) = (a.docs(), b.docs());

@@ -33,7 +33,10 @@ pub fn add_case(case: Case, a: u32, b: u32, uses: &mut [Uses])
     requires first { a < length uses.old }
     requires second { b < length uses.old }
     requires room { AreUsesUpTo (2 ^ 63) uses.old }
-    ensures uses { (marks : List M) (t : DeskTopic) (doc : ℕ) → all_shares marks t uses.new doc ≡ all_shares marks t uses.old doc + times (added_documents marks (case_truth marks (ranking_on t a) (ranking_on t b) case)) doc }
+    ensures uses { (marks : List M) (t : DeskTopic) (doc : ℕ) →
+        all_shares marks t uses.new doc ≡ all_shares marks t uses.old doc +
+        times (added_documents marks (case_truth marks (ranking_on t a) (ranking_on t b) case))
+        doc }
     ensures few { (most : ℕ) → AreUsesUpTo most uses.old → AreUsesUpTo (most + 1) uses.new }
     ensures size { length uses.new ≡ length uses.old }
 {
@@ -96,8 +99,10 @@ pub fn count_uses(
     requires kept { AreKept kept.now }
     requires runs { length uses.now ≡ runs_on kept.now.rankings.now }
     requires size { length counts.old ≡ length kept.now.marks.now }
-    requires room { HaveRoomFor counts.old (all_shares kept.now.marks.now kept.now.rankings.now uses.now) }
-    ensures { OnOk result (AreRaised counts.old (all_shares kept.now.marks.now kept.now.rankings.now uses.now) counts.new) }
+    requires room { HaveRoomFor counts.old
+        (all_shares kept.now.marks.now kept.now.rankings.now uses.now) }
+    ensures { OnOk result (AreRaised counts.old
+        (all_shares kept.now.marks.now kept.now.rankings.now uses.now) counts.new) }
 {
     let mut classes = vec![in alloc; Class::Neither; kept.marks.len()]?;
     for run in 0..kept.rankings.runs() {

@@ -41,9 +41,12 @@ pub fn bundle_report<M: Measure>(
 ) -> Result<Bundled, Memory>
     requires runs { 2 ≤ length desk.now.runs }
     requires marks { AreMarksOf desk.now marks.now.rows }
-    requires table { StandsFor (M.cell_of table.now.measure) (M.bounds_of table.now.measure) desk.now marks.now.rows table.now }
-    ensures { IfOk result (λ answer. (s : Subject) → s.level ≡ grading.level → s.depth ≡ grading.depth → s.marks ≡ marks.now.rows →
-        IsSubjectOf (M.measured table.now.measure) (M.cell_of table.now.measure) (M.bounds_of table.now.measure) desk.now table.now s →
+    requires table { StandsFor (M.cell_of table.now.measure) (M.bounds_of table.now.measure)
+        desk.now marks.now.rows table.now }
+    ensures { IfOk result (λ answer. (s : Subject) → s.level ≡ grading.level →
+        s.depth ≡ grading.depth → s.marks ≡ marks.now.rows →
+        IsSubjectOf (M.measured table.now.measure) (M.cell_of table.now.measure)
+        (M.bounds_of table.now.measure) desk.now table.now s →
         IsBundledAs s answer) }
 {
     desk.valid();

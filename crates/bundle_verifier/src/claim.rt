@@ -28,8 +28,11 @@ fn check(
     requires rows { HasRows topics.now evidence.now }
     requires numbers { AreNumbersOf comparison.now.desk topics.now numbers.now }
     requires form { IsWritable (named_evidence topics.now evidence.now) }
-    requires topics { length (topics_of (named_evidence topics.now evidence.now)) ≡ length (topics_in comparison.now) }
-    ensures { MatchResult result (λ _. ShowsOf comparison.now (named_evidence topics.now evidence.now)) (FailsBy comparison.now (named_evidence topics.now evidence.now)) }
+    requires topics { length (topics_of (named_evidence topics.now evidence.now)) ≡
+        length (topics_in comparison.now) }
+    ensures { MatchResult result (λ _.
+        ShowsOf comparison.now (named_evidence topics.now evidence.now))
+        (FailsBy comparison.now (named_evidence topics.now evidence.now)) }
 {
     match evidence {
         PairEvidence::Above(bounds) => {
@@ -62,7 +65,9 @@ pub fn check_claim(
     requires numbers { AreNumbersOf desk.now bundle.now.topics numbers.now }
     requires bounds { AreBoundsOf desk.now marks.now bounds.now }
     requires claim { IsClaimOf bundle.now claim.now }
-    ensures { MatchResult result (λ _. IsEvidence (written_out bundle.now claim.now) desk.now marks.now) (FailsOn bundle.now desk.now marks.now claim.now) }
+    ensures { MatchResult result (λ _.
+        IsEvidence (written_out bundle.now claim.now) desk.now marks.now)
+        (FailsOn bundle.now desk.now marks.now claim.now) }
 {
     bundle.valid();
     let names = bundle.runs.as_slice();

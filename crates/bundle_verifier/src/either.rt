@@ -24,8 +24,11 @@ fn check_one(
 ) -> Result<Result<(), BundleRejected>, Memory>
     requires certificate { IsCertificate certificate.now }
     requires marks { AreMarksOf desk.now marks.now.rows }
-    ensures verified { IfOk result (IsAnyVerified (AnyCertificate.One certificate.now) desk.now marks.now.rows) }
-    ensures claim { IfOk result (λ answer. IfOk answer (λ _. AnyClaimHolds (AnyCertificate.One certificate.now) desk.now marks.now.rows)) }
+    ensures verified { IfOk result
+        (IsAnyVerified (AnyCertificate.One certificate.now) desk.now marks.now.rows) }
+    ensures claim { IfOk result (λ answer.
+        IfOk answer (λ _. AnyClaimHolds (AnyCertificate.One certificate.now) desk.now
+        marks.now.rows)) }
 {
     let verifier = Verifier::new(alloc, &certificate.measure)?;
     match verifier.verify(desk, marks, certificate) {
@@ -42,8 +45,10 @@ fn check_many(
     bundle: &Bundle,
 ) -> Result<Result<(), BundleRejected>, Memory>
     requires { AreMarksOf desk.now marks.now }
-    ensures verified { IfOk result (IsAnyVerified (AnyCertificate.Many bundle.now) desk.now marks.now) }
-    ensures claims { IfOk result (λ answer. IfOk answer (λ _. AnyClaimHolds (AnyCertificate.Many bundle.now) desk.now marks.now)) }
+    ensures verified { IfOk result
+        (IsAnyVerified (AnyCertificate.Many bundle.now) desk.now marks.now) }
+    ensures claims { IfOk result (λ answer.
+        IfOk answer (λ _. AnyClaimHolds (AnyCertificate.Many bundle.now) desk.now marks.now)) }
 {
     bundle.valid();
     let verifier = BundleVerifier::new(alloc, &bundle.measure)?;
@@ -65,7 +70,8 @@ pub fn check_any(
     requires certificate { IsAnyCertificate certificate.now }
     requires marks { AreMarksOf desk.now marks.now.rows }
     ensures verified { IfOk result (IsAnyVerified certificate.now desk.now marks.now.rows) }
-    ensures claims { IfOk result (λ answer. IfOk answer (λ _. AnyClaimHolds certificate.now desk.now marks.now.rows)) }
+    ensures claims { IfOk result (λ answer.
+        IfOk answer (λ _. AnyClaimHolds certificate.now desk.now marks.now.rows)) }
 {
     let rows = marks.rows();
     match certificate {

@@ -15,7 +15,8 @@ use order_bundle::{Bundle, TopicNames};
 /// The first of some names, by its number from 0, that is that of no run of a desk.
 fn first_other_run(desk: &Desk, names: &[Name]) -> Option<u32>
     requires { length names.now ≤ RUN_LIMIT }
-    ensures { MatchOption result (All (IsRunOf desk.now) names.now) (IsFirstFailing (IsRunOf desk.now) (IsNoRunOf desk.now) names.now) }
+    ensures { MatchOption result (All (IsRunOf desk.now) names.now)
+        (IsFirstFailing (IsRunOf desk.now) (IsNoRunOf desk.now) names.now) }
 {
     let mut run = 0;
     for name in names {
@@ -31,7 +32,8 @@ fn first_other_run(desk: &Desk, names: &[Name]) -> Option<u32>
 fn first_other_topic(desk: &Desk, topics: &[TopicNames]) -> Option<u32>
     requires count { length topics.now ≡ length desk.now.topics }
     requires few { length topics.now ≤ TOPIC_LIMIT }
-    ensures { MatchOption result (names_of_topics topics.now ≡ topic_names desk.now) (λ topic. HaveWrongTopic (names_of_topics topics.now) (topic_names desk.now) (T topic)) }
+    ensures { MatchOption result (names_of_topics topics.now ≡ topic_names desk.now) (λ topic.
+        HaveWrongTopic (names_of_topics topics.now) (topic_names desk.now) (T topic)) }
 {
     let mut topic = 0;
     for item in topics {
@@ -45,7 +47,8 @@ fn first_other_topic(desk: &Desk, topics: &[TopicNames]) -> Option<u32>
 
 /// The first name of a bundle that is not the desk's.
 pub fn wrong_name(desk: &Desk, bundle: &Bundle) -> Option<BundleName>
-    ensures name { MatchOption result (NamesDesk bundle.now desk.now) (IsWrongName bundle.now desk.now) }
+    ensures name { MatchOption result (NamesDesk bundle.now desk.now)
+        (IsWrongName bundle.now desk.now) }
     ensures desk { IsDesk desk.now }
 {
     bundle.valid();

@@ -74,7 +74,8 @@ impl<'a> Room<'a> {
         bundle: &'a Bundle,
     ) -> Result<Room<'a>, Memory>
         requires { AreMarksOf desk.now marks.now }
-        ensures { IfOk result (λ room. room ≡ record { desk = desk.now; marks = marks.now; bundle = bundle.now }) }
+        ensures { IfOk result (λ room. room ≡
+            record { desk = desk.now; marks = marks.now; bundle = bundle.now }) }
     {
         Ok(Room {
             desk,

@@ -104,7 +104,8 @@ impl<'a> ClaimLists<'a> {
         numbers: &'a [DocumentNumbers],
     ) -> ClaimLists<'a>
         requires { length picks.now ≡ length topics.now }
-        ensures { result ≡ record { topics = topics.now; picks = picks.now; numbers = numbers.now } }
+        ensures { result ≡
+            record { topics = topics.now; picks = picks.now; numbers = numbers.now } }
     {
         ClaimLists {
             topics,
@@ -122,8 +123,10 @@ fn documents_of<'a>(
     numbers: &'a [DocumentNumbers],
     topic: u32,
 ) -> Documents<'a>
-    requires { (ns : List (Option ℕ)) → slice_get numbers.now topic ≡ Some ns → ns ≡ numbers_of book.now.docs names.now }
-    ensures { result ≡ record { docs = book.now.docs; names = names_listed names.now picks.now true } }
+    requires { (ns : List (Option ℕ)) → slice_get numbers.now topic ≡ Some ns →
+        ns ≡ numbers_of book.now.docs names.now }
+    ensures { result ≡
+        record { docs = book.now.docs; names = names_listed names.now picks.now true } }
 {
     match numbers.get(topic as usize) {
         Some(numbers) => Documents::numbered(book, names, picks, numbers.as_slice()),

@@ -144,7 +144,8 @@ impl BundleVerifier {
     pub fn check_in(&self, room: &Room<'_>) -> Result<(), BundleReason>
         requires { self.now ≡ room.now.bundle.measure }
         ensures verified { IsVerified room.now.bundle room.now.desk room.now.marks result }
-        ensures claims { IfOk result (λ _. ClaimsHold room.now.bundle room.now.desk room.now.marks) }
+        ensures claims { IfOk result (λ _.
+            ClaimsHold room.now.bundle room.now.desk room.now.marks) }
     {
         let marks = DeskMarks::counted(room.marks, room.counts.as_slice());
         self.check(
@@ -160,7 +161,8 @@ impl BundleVerifier {
     pub fn verify_in(&self, room: &Room<'_>) -> Result<(), BundleRejected>
         requires { self.now ≡ room.now.bundle.measure }
         ensures verified { IsAnswer room.now.bundle room.now.desk room.now.marks result }
-        ensures claims { IfOk result (λ _. ClaimsHold room.now.bundle room.now.desk room.now.marks) }
+        ensures claims { IfOk result (λ _.
+            ClaimsHold room.now.bundle room.now.desk room.now.marks) }
     {
         match self.check_in(room) {
             Ok(()) => Ok(()),

@@ -22,7 +22,8 @@ pub fn allows(row: &Row, given: &Given) -> bool
 
 // Whether each of the names has one value, which is not empty.
 fn each_is_one(names: &[&str], given: &Given) -> bool
-    ensures { IsTrue result ↔ All (λ name. IsOne (values_held given.now name)) (map (λ n. n.now) names.now) }
+    ensures { IsTrue result ↔
+        All (λ name. IsOne (values_held given.now name)) (map (λ n. n.now) names.now) }
 {
     for name in names {
         if !is_one(given.values(name)) {
@@ -34,7 +35,8 @@ fn each_is_one(names: &[&str], given: &Given) -> bool
 
 // Whether each of the names has no value, or one that is not empty.
 fn each_is_one_at_most(names: &[&str], given: &Given) -> bool
-    ensures { IsTrue result ↔ All (λ name. IsOneAtMost (values_held given.now name)) (map (λ n. n.now) names.now) }
+    ensures { IsTrue result ↔
+        All (λ name. IsOneAtMost (values_held given.now name)) (map (λ n. n.now) names.now) }
 {
     for name in names {
         if !is_one_at_most(given.values(name)) {

@@ -19,8 +19,10 @@ impl<'a> Given<'a> {
     /// What the words give to a command that takes this. `Usage` comes exactly where they give nothing, unless memory runs
     /// out; `Memory` may come at any words.
     pub fn read(alloc: Global, row: &Row, words: &'a [String]) -> Result<Given<'a>, WordsFault>
-        ensures ok { IfOk result (λ given. AreGiven row.now (map string_bytes words.entry.now) (values_held given)) }
-        ensures usage { result ≡ Err WordsFault.Usage → (values : Values) → AreGiven row.now (map string_bytes words.entry.now) values → ⊥ }
+        ensures ok { IfOk result (λ given.
+            AreGiven row.now (map string_bytes words.entry.now) (values_held given)) }
+        ensures usage { result ≡ Err WordsFault.Usage → (values : Values) →
+            AreGiven row.now (map string_bytes words.entry.now) values → ⊥ }
     {
         let given = Given {
             entries: entries(alloc, row, words)?,

@@ -15,9 +15,12 @@ pub fn entries<'a>(
     row: &Row,
     words: &'a [String],
 ) -> Result<ArgMatches<'a>, WordsFault>
-    ensures rows { IfOk result (λ m. rows_of (found_of m) ≡ matches_of (app_for row.now) (map string_bytes words.entry.now)) }
-    ensures accepted { OnOk result (fault_of (app_for row.now) (map string_bytes words.entry.now) ≡ []) }
-    ensures usage { result ≡ Err WordsFault.Usage → fault_of (app_for row.now) (map string_bytes words.entry.now) ≢ [] }
+    ensures rows { IfOk result (λ m. rows_of (found_of m) ≡
+        matches_of (app_for row.now) (map string_bytes words.entry.now)) }
+    ensures accepted { OnOk result (fault_of (app_for row.now) (map string_bytes words.entry.now) ≡
+        []) }
+    ensures usage { result ≡ Err WordsFault.Usage →
+        fault_of (app_for row.now) (map string_bytes words.entry.now) ≢ [] }
 {
     let command = command_for(alloc, row)?;
     matched(command, words)
@@ -27,9 +30,12 @@ pub fn entries<'a>(
 fn matched<'a>(command: Command<'a>, words: &'a [String]) -> Result<ArgMatches<'a>, WordsFault>
     requires simple { is_simple (app_of command) ≡ true }
     requires free { is_simple_and_free (app_of command) ≡ true }
-    ensures rows { IfOk result (λ m. rows_of (found_of m) ≡ matches_of (app_of command.entry) (map string_bytes words.entry.now)) }
-    ensures accepted { OnOk result (fault_of (app_of command.entry) (map string_bytes words.entry.now) ≡ []) }
-    ensures usage { result ≡ Err WordsFault.Usage → fault_of (app_of command.entry) (map string_bytes words.entry.now) ≢ [] }
+    ensures rows { IfOk result (λ m. rows_of (found_of m) ≡
+        matches_of (app_of command.entry) (map string_bytes words.entry.now)) }
+    ensures accepted { OnOk result
+        (fault_of (app_of command.entry) (map string_bytes words.entry.now) ≡ []) }
+    ensures usage { result ≡ Err WordsFault.Usage →
+        fault_of (app_of command.entry) (map string_bytes words.entry.now) ≢ [] }
 {
     match command.try_get_matches_from(words) {
         Ok(matches) => Ok(matches),
@@ -74,7 +80,8 @@ fn with_options<'a>(
     command: Command<'a>,
     names: &[&'static str],
 ) -> Result<Command<'a>, AllocError>
-    ensures app { IfOk result (λ c. app_of c ≡ with_rules (app_of command.entry) (map option_rule (map (λ n. n.now) names.now))) }
+    ensures app { IfOk result (λ c. app_of c ≡
+        with_rules (app_of command.entry) (map option_rule (map (λ n. n.now) names.now))) }
 {
     let mut built = command;
     for name in names {
@@ -89,7 +96,8 @@ fn with_flags<'a>(
     command: Command<'a>,
     names: &[&'static str],
 ) -> Result<Command<'a>, AllocError>
-    ensures app { IfOk result (λ c. app_of c ≡ with_rules (app_of command.entry) (map flag_rule (map (λ n. n.now) names.now))) }
+    ensures app { IfOk result (λ c. app_of c ≡
+        with_rules (app_of command.entry) (map flag_rule (map (λ n. n.now) names.now))) }
 {
     let mut built = command;
     for name in names {
@@ -104,7 +112,8 @@ fn with_option<'a>(
     command: Command<'a>,
     name: &'a str,
 ) -> Result<Command<'a>, AllocError>
-    ensures app { IfOk result (λ c. app_of c ≡ with_rule (app_of command.entry) (option_rule name.entry.now)) }
+    ensures app { IfOk result (λ c. app_of c ≡
+        with_rule (app_of command.entry) (option_rule name.entry.now)) }
 {
     command.arg(Arg::new(alloc, name).long(name).action(ArgAction::Append))
 }
@@ -115,7 +124,8 @@ fn with_flag<'a>(
     command: Command<'a>,
     name: &'a str,
 ) -> Result<Command<'a>, AllocError>
-    ensures app { IfOk result (λ c. app_of c ≡ with_rule (app_of command.entry) (flag_rule name.entry.now)) }
+    ensures app { IfOk result (λ c. app_of c ≡
+        with_rule (app_of command.entry) (flag_rule name.entry.now)) }
 {
     command.arg(
         Arg::new(alloc, name)
@@ -132,7 +142,8 @@ fn with_others<'a>(
     command: Command<'a>,
     name: &'a str,
 ) -> Result<Command<'a>, AllocError>
-    ensures app { IfOk result (λ c. app_of c ≡ with_rule (app_of command.entry) (other_rule name.entry.now)) }
+    ensures app { IfOk result (λ c. app_of c ≡
+        with_rule (app_of command.entry) (other_rule name.entry.now)) }
 {
     command.arg(Arg::new(alloc, name).action(ArgAction::Append))
 }

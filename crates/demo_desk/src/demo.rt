@@ -69,8 +69,10 @@ fn read_ranking(
     requires run { run < RUNS }
     requires within { IsWithinLimits used }
     requires read { IsOk (run_of None qrels.now used (run_after generator.old run)) }
-    ensures said { IfOk result (λ rows. run_of None qrels.now used (run_after generator.old run) ≡ Ok rows) }
-    ensures state { OnOk result (generator.new ≡ state_after generator.old ((1 + PLACES) * TOPICS)) }
+    ensures said { IfOk result (λ rows. run_of None qrels.now used (run_after generator.old run) ≡
+        Ok rows) }
+    ensures state { OnOk result (generator.new ≡
+        state_after generator.old ((1 + PLACES) * TOPICS)) }
 {
     let text = run_text(alloc, generator, run)?;
     match read_run_lines(alloc, &text, qrels, used) {
@@ -95,10 +97,14 @@ fn read_rankings(
 ) -> Result<Rankings, Memory>
     requires count { count ≤ RUNS }
     requires topics { HaveTopics TOPICS qrels.now }
-    ensures said { IfOk result (λ rankings. SayRuns qrels.now (used_before_runs qrels.now) (runs_after generator.old count) rankings.runs.items) }
+    ensures said { IfOk result (λ rankings.
+        SayRuns qrels.now (used_before_runs qrels.now) (runs_after generator.old count)
+        rankings.runs.items) }
     ensures rows { IfOk result (λ rankings. rankings.rows ≡ total_rows rankings.runs.items) }
-    ensures total { IfOk result (λ rankings. total_rows rankings.runs.items ≡ PLACES * TOPICS * count) }
-    ensures names { IfOk result (λ rankings. run_names rankings.runs.items ≡ map tag_text (range_with_len 0 count)) }
+    ensures total { IfOk result (λ rankings. total_rows rankings.runs.items ≡ PLACES * TOPICS *
+        count) }
+    ensures names { IfOk result (λ rankings. run_names rankings.runs.items ≡
+        map tag_text (range_with_len 0 count)) }
     ensures many { IfOk result (λ rankings. vec_len rankings.runs ≡ count) }
 {
     let mut runs = Vec::new(alloc);

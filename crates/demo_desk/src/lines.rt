@@ -18,7 +18,8 @@ fn line_length(text: &[u8]) -> usize
     requires { 0 < length text.now }
     ensures some { 0 < result }
     ensures within { result ≤ length text.now }
-    ensures line { (IsFirstByte (is_byte 10) text.now None × (result ≡ length text.now)) ⊎ ((at : ℕ) × IsFirstByte (is_byte 10) text.now (Some at) × (result ≡ at + 1)) }
+    ensures line { (IsFirstByte (is_byte 10) text.now None × (result ≡ length text.now)) ⊎
+        ((at : ℕ) × IsFirstByte (is_byte 10) text.now (Some at) × (result ≡ at + 1)) }
 {
     match memchr(LINE_FEED, text) {
         Some(at) => at + 1,

@@ -15,7 +15,8 @@ use std::alloc::{AllocError, Global};
 fn push_line(out: &mut Vec<u8>, topic: u32, doc: u32, grade: u32) -> Result<(), AllocError>
     requires topic { topic < TOPICS }
     requires doc { doc < DOCUMENTS }
-    ensures { OnOk result (out.new.items ≡ out.old.items ++ ended (qrels_line (topic_text topic) (document_text doc) (pos grade))) }
+    ensures { OnOk result (out.new.items ≡ out.old.items ++
+        ended (qrels_line (topic_text topic) (document_text doc) (pos grade))) }
 {
     push_topic(out, topic)?;
     out.extend_from_slice(b" 0 ")?;
@@ -29,7 +30,8 @@ fn push_line(out: &mut Vec<u8>, topic: u32, doc: u32, grade: u32) -> Result<(), 
 fn push_judgement(out: &mut Vec<u8>, topic: u32, doc: u32, value: u32) -> Result<(), AllocError>
     requires topic { topic < TOPICS }
     requires doc { doc < DOCUMENTS }
-    ensures { OnOk result (out.new.items ≡ out.old.items ++ flat_map ended (judgement_lines topic doc value)) }
+    ensures { OnOk result (out.new.items ≡ out.old.items ++
+        flat_map ended (judgement_lines topic doc value)) }
 {
     if value % 10 == 0 || doc == 0 {
         push_line(out, topic, doc, (value / 10) % 3)
@@ -47,7 +49,8 @@ fn push_topic_judgements(
 ) -> Result<(), AllocError>
     requires topic { topic < TOPICS }
     requires documents { documents ≤ DOCUMENTS }
-    ensures text { OnOk result (out.new.items ≡ out.old.items ++ flat_map ended (topic_judgements generator.old topic documents)) }
+    ensures text { OnOk result (out.new.items ≡ out.old.items ++
+        flat_map ended (topic_judgements generator.old topic documents)) }
     ensures state { OnOk result (generator.new ≡ state_after generator.old documents) }
 {
     for doc in 0..documents {
@@ -66,7 +69,8 @@ fn push_judgements(
 ) -> Result<(), AllocError>
     requires documents { documents ≤ DOCUMENTS }
     requires topics { topics ≤ TOPICS }
-    ensures text { OnOk result (out.new.items ≡ out.old.items ++ flat_map ended (judgements_on generator.old documents topics)) }
+    ensures text { OnOk result (out.new.items ≡ out.old.items ++
+        flat_map ended (judgements_on generator.old documents topics)) }
     ensures state { OnOk result (generator.new ≡ state_after generator.old (documents * topics)) }
 {
     for topic in 0..topics {

@@ -25,7 +25,8 @@ fn push_names(out: &mut Vec<u8>, topic: u32, doc: u32) -> Result<(), AllocError>
 // Its place, its score and the name of the run, each after a space.
 fn push_numbers(out: &mut Vec<u8>, run: u32, place: u32, score: u32) -> Result<(), AllocError>
     requires run { run < RUNS }
-    ensures { OnOk result (out.new.items ≡ out.old.items ++ (32 ∷ decimal place ++ 32 ∷ score_text score ++ 32 ∷ tag_text run)) }
+    ensures { OnOk result (out.new.items ≡ out.old.items ++
+        (32 ∷ decimal place ++ 32 ∷ score_text score ++ 32 ∷ tag_text run)) }
 {
     out.push(b' ')?;
     push_number(out, place)?;
@@ -46,7 +47,8 @@ fn push_place(
     requires run { run < RUNS }
     requires topic { topic < TOPICS }
     requires doc { doc < DOCUMENTS }
-    ensures { OnOk result (out.new.items ≡ out.old.items ++ ended (place_line run topic doc place score)) }
+    ensures { OnOk result (out.new.items ≡ out.old.items ++
+        ended (place_line run topic doc place score)) }
 {
     push_names(out, topic, doc)?;
     push_numbers(out, run, place, score)?;
@@ -64,7 +66,8 @@ fn push_topic_places(
     requires run { run < RUNS }
     requires topic { topic < TOPICS }
     requires places { places ≤ PLACES }
-    ensures text { OnOk result (out.new.items ≡ out.old.items ++ flat_map ended (topic_places generator.old run topic places)) }
+    ensures text { OnOk result (out.new.items ≡ out.old.items ++
+        flat_map ended (topic_places generator.old run topic places)) }
     ensures state { OnOk result (generator.new ≡ state_after generator.old (1 + places)) }
 {
     let first = generator.draw() % DOCUMENTS;
@@ -87,8 +90,10 @@ fn push_places(
     requires run { run < RUNS }
     requires places { places ≤ PLACES }
     requires topics { topics ≤ TOPICS }
-    ensures text { OnOk result (out.new.items ≡ out.old.items ++ flat_map ended (places_on generator.old run places topics)) }
-    ensures state { OnOk result (generator.new ≡ state_after generator.old ((1 + places) * topics)) }
+    ensures text { OnOk result (out.new.items ≡ out.old.items ++
+        flat_map ended (places_on generator.old run places topics)) }
+    ensures state { OnOk result (generator.new ≡
+        state_after generator.old ((1 + places) * topics)) }
 {
     for topic in 0..topics {
         push_topic_places(out, generator, run, topic, places)?;
@@ -104,7 +109,8 @@ fn push_places(
 pub fn run_text(alloc: Global, generator: &mut Generator, run: u32) -> Result<Vec<u8>, Memory>
     requires { run < RUNS }
     ensures text { IfOk result (λ text. text.items ≡ run_after generator.old run) }
-    ensures state { OnOk result (generator.new ≡ state_after generator.old ((1 + PLACES) * TOPICS)) }
+    ensures state { OnOk result (generator.new ≡
+        state_after generator.old ((1 + PLACES) * TOPICS)) }
 {
     let mut out = Vec::new(alloc);
     push_places(&mut out, generator, run, PLACES, TOPICS)?;

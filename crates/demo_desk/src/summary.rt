@@ -47,7 +47,8 @@ fn push_line(out: &mut Vec<u8>, word: &[u8], number: u64) -> Result<(), AllocErr
 
 // How many pairs have a verdict, after its word.
 fn push_count(out: &mut Vec<u8>, verdicts: &[Verdict], verdict: Verdict) -> Result<(), AllocError>
-    ensures { OnOk result (out.new.items ≡ out.old.items ++ ended (verdict_line verdicts.now verdict)) }
+    ensures { OnOk result (out.new.items ≡ out.old.items ++
+        ended (verdict_line verdicts.now verdict)) }
 {
     let word = match verdict {
         Verdict::Above => b"above".as_slice(),
@@ -60,7 +61,8 @@ fn push_count(out: &mut Vec<u8>, verdicts: &[Verdict], verdict: Verdict) -> Resu
 }
 
 fn push_head(out: &mut Vec<u8>, seed: u32, rows: u32, judged: u64) -> Result<(), AllocError>
-    ensures { OnOk result (out.new.items ≡ out.old.items ++ flat_map ended (head_lines seed rows judged)) }
+    ensures { OnOk result (out.new.items ≡ out.old.items ++
+        flat_map ended (head_lines seed rows judged)) }
 {
     push_line(out, b"demo", seed as u64)?;
     push_line(out, b"rows", rows as u64)?;
@@ -68,7 +70,8 @@ fn push_head(out: &mut Vec<u8>, seed: u32, rows: u32, judged: u64) -> Result<(),
 }
 
 fn push_counts(out: &mut Vec<u8>, verdicts: &[Verdict]) -> Result<(), AllocError>
-    ensures { OnOk result (out.new.items ≡ out.old.items ++ flat_map ended (verdict_lines verdicts.now)) }
+    ensures { OnOk result (out.new.items ≡ out.old.items ++
+        flat_map ended (verdict_lines verdicts.now)) }
 {
     push_count(out, verdicts, Verdict::Above)?;
     push_count(out, verdicts, Verdict::Below)?;
@@ -84,7 +87,8 @@ fn push_summary(
     judged: u64,
     verdicts: &[Verdict],
 ) -> Result<(), AllocError>
-    ensures { OnOk result (out.new.items ≡ out.old.items ++ flat_map ended (head_lines seed rows judged ++ verdict_lines verdicts.now)) }
+    ensures { OnOk result (out.new.items ≡ out.old.items ++
+        flat_map ended (head_lines seed rows judged ++ verdict_lines verdicts.now)) }
 {
     push_head(out, seed, rows, judged)?;
     push_counts(out, verdicts)

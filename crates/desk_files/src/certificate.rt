@@ -20,10 +20,12 @@ pub fn load_certificate<'a, F: Shelf>(
     files: &mut F,
     path: &'a Path,
 ) -> Result<Scoped, Stop<'a>>
-    ensures comes { ReadsCertificate (F.state files.old).files (F.state files.old).faults (F.state files.new).faults path.now result }
+    ensures comes { ReadsCertificate (F.state files.old).files (F.state files.old).faults
+        (F.state files.new).faults path.now result }
     ensures certificate { IfOk result IsScoped }
     ensures files { (F.state files.new).files ≡ (F.state files.old).files }
-    ensures reads { ReadsFile path.now (extent_of (answer_of result)) (F.state files.old).calls (F.state files.new).calls }
+    ensures reads { ReadsFile path.now (extent_of (answer_of result)) (F.state files.old).calls
+        (F.state files.new).calls }
     ensures later { (F.state files.old).faults ≤ (F.state files.new).faults }
 {
     scoped_certificates_have_texts();

@@ -22,11 +22,14 @@ pub fn load_check<'a, F: Shelf>(
     files: &mut F,
     check: &'a Check,
 ) -> Result<(Desk, Scoped), Stop<'a>>
-    ensures makes { MakesCheck (F.state files.old).files (F.state files.old).faults (F.state files.new).faults check.now result }
+    ensures makes { MakesCheck (F.state files.old).files (F.state files.old).faults
+        (F.state files.new).faults check.now result }
     ensures certificate { IfOk result (λ made. IsScoped made.1) }
     ensures files { (F.state files.new).files ≡ (F.state files.old).files }
-    ensures opened { Opens (CheckMayOpen (F.state files.old).files check.now) (opened_in (F.state files.old).calls) (opened_in (F.state files.new).calls) }
-    ensures reads { ReadsFiles (extent_of (answer_of result)) (F.state files.old).calls (F.state files.new).calls }
+    ensures opened { Opens (CheckMayOpen (F.state files.old).files check.now)
+        (opened_in (F.state files.old).calls) (opened_in (F.state files.new).calls) }
+    ensures reads { ReadsFiles (extent_of (answer_of result)) (F.state files.old).calls
+        (F.state files.new).calls }
     ensures later { (F.state files.old).faults ≤ (F.state files.new).faults }
 {
     let desk = load_desk(alloc, files, &check.qrels, &check.runs, 1)?;

@@ -51,9 +51,11 @@ fn join<'a>(alloc: Global, qrels: Qrels, runs: Vec<RunRows>, tables: u32) -> Res
     requires rows { total_rows runs.items ≤ MOST_RUN_ROWS }
     requires tables { 1 ≤ tables }
     ensures joins { Joins tables qrels runs.items result }
-    ensures whole { (extent_of (answer_of result) ≡ ToEnd) ⊎ (extent_of (answer_of result) ≡ Somewhere) }
+    ensures whole { (extent_of (answer_of result) ≡ ToEnd) ⊎
+        (extent_of (answer_of result) ≡ Somewhere) }
     ensures runs { IfOk result (λ desk. length desk.runs ≡ vec_len runs) }
-    ensures cells { IfOk result (λ desk. pair_count (length desk.runs) * length desk.topics * tables ≤ CELL_LIMIT) }
+    ensures cells { IfOk result (λ desk. pair_count (length desk.runs) * length desk.topics *
+        tables ≤ CELL_LIMIT) }
 {
     let cells = cell_count(&qrels, &runs, tables);
     let mut names = copy_names(alloc, &runs)?;
@@ -84,13 +86,19 @@ pub fn load_desk<'a, F: Shelf>(
     tables: u32,
 ) -> Result<Desk, Stop<'a>>
     requires { 1 ≤ tables }
-    ensures makes { Makes (F.state files.old).files (F.state files.old).faults (F.state files.new).faults (sources_for tables qrels.now runs.now) result }
+    ensures makes { Makes (F.state files.old).files (F.state files.old).faults
+        (F.state files.new).faults (sources_for tables qrels.now runs.now) result }
     ensures runs { IfOk result (λ desk. length desk.runs ≡ length runs.now) }
-    ensures cells { IfOk result (λ desk. pair_count (length desk.runs) * length desk.topics * tables ≤ CELL_LIMIT) }
+    ensures cells { IfOk result (λ desk. pair_count (length desk.runs) * length desk.topics *
+        tables ≤ CELL_LIMIT) }
     ensures files { (F.state files.new).files ≡ (F.state files.old).files }
-    ensures opened { Opens (DeskMayOpen (F.state files.old).files (sources_for tables qrels.now runs.now)) (opened_in (F.state files.old).calls) (opened_in (F.state files.new).calls) }
-    ensures all { OnOk result (opened_in (F.state files.new).calls ≡ opened_in (F.state files.old).calls ++ qrels.now ∷ paths_of runs.now) }
-    ensures reads { ReadsFiles (extent_of (answer_of result)) (F.state files.old).calls (F.state files.new).calls }
+    ensures opened { Opens (DeskMayOpen (F.state files.old).files
+        (sources_for tables qrels.now runs.now)) (opened_in (F.state files.old).calls)
+        (opened_in (F.state files.new).calls) }
+    ensures all { OnOk result (opened_in (F.state files.new).calls ≡
+        opened_in (F.state files.old).calls ++ qrels.now ∷ paths_of runs.now) }
+    ensures reads { ReadsFiles (extent_of (answer_of result)) (F.state files.old).calls
+        (F.state files.new).calls }
     ensures later { (F.state files.old).faults ≤ (F.state files.new).faults }
 {
     let judged = load_qrels(alloc, files, qrels.as_str())?;

@@ -19,10 +19,13 @@ const ROOM: usize = 65_536;
 
 /// Opens a file, to be fed from its first byte on.
 pub fn open_file<'a, F: Shelf>(files: &mut F, path: &'a str) -> Result<(), Stop<'a>>
-    ensures stops { IfErr result (λ stop. Stops (F.state files.old).files (F.state files.old).faults (F.state files.new).faults stop (λ held. whole_file path.now (held path.now))) }
+    ensures stops { IfErr result (λ stop.
+        Stops (F.state files.old).files (F.state files.old).faults (F.state files.new).faults stop
+        (λ held. whole_file path.now (held path.now))) }
     ensures outside { IfErr result (λ stop. stop ≡ Outside) }
     ensures open { OnOk result ((F.state files.new).is_open ≡ true) }
-    ensures content { OnOk result (Opens (F.state files.old).files path.now (F.state files.new).rest) }
+    ensures content { OnOk result
+        (Opens (F.state files.old).files path.now (F.state files.new).rest) }
     ensures files { (F.state files.new).files ≡ (F.state files.old).files }
     ensures calls { (F.state files.new).calls ≡ (F.state files.old).calls ++ Opening path.now ∷ [] }
     ensures later { (F.state files.old).faults ≤ (F.state files.new).faults }
@@ -43,10 +46,14 @@ pub fn feed_file<'a, F: Shelf, T: Taker>(
     requires open { (F.state files.old).is_open ≡ true }
     requires content { Opens (F.state files.old).files path.now (F.state files.old).rest }
     requires none { T.taken taker.old ≡ [] }
-    ensures gives { Gives (F.state files.old).files (F.state files.old).faults (F.state files.new).faults (λ _. T.taken taker.new) result (λ held. whole_file path.now (held path.now)) }
+    ensures gives { Gives (F.state files.old).files (F.state files.old).faults
+        (F.state files.new).faults (λ _. T.taken taker.new) result (λ held.
+        whole_file path.now (held path.now)) }
     ensures beside { T.beside taker.new ≡ T.beside taker.old }
     ensures files { (F.state files.new).files ≡ (F.state files.old).files }
-    ensures reads { (reads : List ReadCall) × ((F.state files.new).calls ≡ (F.state files.old).calls ++ map Reading reads) × GoTo (extent_of (answer_of result)) reads }
+    ensures reads { (reads : List ReadCall) ×
+        ((F.state files.new).calls ≡ (F.state files.old).calls ++ map Reading reads) ×
+        GoTo (extent_of (answer_of result)) reads }
     ensures later { (F.state files.old).faults ≤ (F.state files.new).faults }
 {
     let mut count = 0;
@@ -71,9 +78,12 @@ pub fn read_file<'a, F: Shelf>(
     files: &mut F,
     path: &'a str,
 ) -> Result<Vec<u8>, Stop<'a>>
-    ensures gives { Gives (F.state files.old).files (F.state files.old).faults (F.state files.new).faults (λ v. v.items) result (λ held. whole_file path.now (held path.now)) }
+    ensures gives { Gives (F.state files.old).files (F.state files.old).faults
+        (F.state files.new).faults (λ v. v.items) result (λ held.
+        whole_file path.now (held path.now)) }
     ensures files { (F.state files.new).files ≡ (F.state files.old).files }
-    ensures reads { ReadsFile path.now (extent_of (answer_of result)) (F.state files.old).calls (F.state files.new).calls }
+    ensures reads { ReadsFile path.now (extent_of (answer_of result)) (F.state files.old).calls
+        (F.state files.new).calls }
     ensures later { (F.state files.old).faults ≤ (F.state files.new).faults }
 {
     open_file(files, path)?;

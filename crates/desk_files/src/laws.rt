@@ -11,8 +11,11 @@ ghost use Rattle.desk_files.specs.Sheets.{IsRefusedAt, SaySheets, merge_of};
 /// say sheets and these merge to the rows, and to too many entries at a path where the files up to it say sheets whose merge
 /// is refused.
 pub fn merge_of_files_is_of_sheets()
-    ensures merge { (files : Files) (paths : List (List ℕ)) (rows : List SheetRow) → merge_of files [] paths ≡ Ok rows →
-        (sheets : List (List SheetRow)) × SaySheets files paths sheets × MergesTo ENTRY_LIMIT [] sheets (Some rows) }
-    ensures refusal { (files : Files) (paths : List (List ℕ)) (path : List ℕ) → merge_of files [] paths ≡ Err (Refused (TooManyEntries path)) →
+    ensures merge { (files : Files) (paths : List (List ℕ)) (rows : List SheetRow) →
+        merge_of files [] paths ≡ Ok rows →
+        (sheets : List (List SheetRow)) × SaySheets files paths sheets ×
+        MergesTo ENTRY_LIMIT [] sheets (Some rows) }
+    ensures refusal { (files : Files) (paths : List (List ℕ)) (path : List ℕ) →
+        merge_of files [] paths ≡ Err (Refused (TooManyEntries path)) →
         IsRefusedAt files [] paths path }
 {}

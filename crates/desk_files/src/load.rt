@@ -41,9 +41,12 @@ pub fn load_qrels<'a, F: Shelf>(
     files: &mut F,
     path: &'a str,
 ) -> Result<Qrels, Stop<'a>>
-    ensures gives { Gives (F.state files.old).files (F.state files.old).faults (F.state files.new).faults (λ qrels. qrels) result (λ held. file_as qrels_of held path.now) }
+    ensures gives { Gives (F.state files.old).files (F.state files.old).faults
+        (F.state files.new).faults (λ qrels. qrels) result (λ held.
+        file_as qrels_of held path.now) }
     ensures files { (F.state files.new).files ≡ (F.state files.old).files }
-    ensures reads { ReadsFile path.now (extent_of (answer_of result)) (F.state files.old).calls (F.state files.new).calls }
+    ensures reads { ReadsFile path.now (extent_of (answer_of result)) (F.state files.old).calls
+        (F.state files.new).calls }
     ensures later { (F.state files.old).faults ≤ (F.state files.new).faults }
 {
     open_file(files, path)?;
@@ -75,10 +78,13 @@ pub fn load_run<'a, F: Shelf>(
     used: Used,
 ) -> Result<RunRows, Stop<'a>>
     requires { IsWithinLimits used }
-    ensures gives { Gives (F.state files.old).files (F.state files.old).faults (F.state files.new).faults (λ run. run) result (λ held. file_as (run_of word.now.name qrels.now used) held word.now.path) }
+    ensures gives { Gives (F.state files.old).files (F.state files.old).faults
+        (F.state files.new).faults (λ run. run) result (λ held.
+        file_as (run_of word.now.name qrels.now used) held word.now.path) }
     ensures rows { IfOk result (λ run. run.used.rows ≡ used.rows + row_count run.topics) }
     ensures files { (F.state files.new).files ≡ (F.state files.old).files }
-    ensures reads { ReadsFile word.now.path (extent_of (answer_of result)) (F.state files.old).calls (F.state files.new).calls }
+    ensures reads { ReadsFile word.now.path (extent_of (answer_of result)) (F.state files.old).calls
+        (F.state files.new).calls }
     ensures later { (F.state files.old).faults ≤ (F.state files.new).faults }
 {
     let path = word.path.as_str();
@@ -98,13 +104,19 @@ pub fn load_runs<'a, F: Shelf>(
     words: &'a [RunWord],
     qrels: &Qrels,
 ) -> Result<Vec<RunRows>, Stop<'a>>
-    ensures gives { Gives (F.state files.old).files (F.state files.old).faults (F.state files.new).faults (λ runs. runs.items) result (λ held. runs_of held qrels.now (used_by qrels.now) words.now) }
+    ensures gives { Gives (F.state files.old).files (F.state files.old).faults
+        (F.state files.new).faults (λ runs. runs.items) result (λ held.
+        runs_of held qrels.now (used_by qrels.now) words.now) }
     ensures count { IfOk result (λ runs. vec_len runs ≡ length words.now) }
     ensures rows { IfOk result (λ runs. total_rows runs.items ≤ MOST_RUN_ROWS) }
     ensures files { (F.state files.new).files ≡ (F.state files.old).files }
-    ensures opened { Opens (MayOpen (F.state files.old).files (λ held. runs_to_open held qrels.now (used_by qrels.now) words.now) (paths_of words.now)) (opened_in (F.state files.old).calls) (opened_in (F.state files.new).calls) }
-    ensures all { OnOk result (opened_in (F.state files.new).calls ≡ opened_in (F.state files.old).calls ++ paths_of words.now) }
-    ensures reads { ReadsFiles (extent_of (answer_of result)) (F.state files.old).calls (F.state files.new).calls }
+    ensures opened { Opens (MayOpen (F.state files.old).files (λ held.
+        runs_to_open held qrels.now (used_by qrels.now) words.now) (paths_of words.now))
+        (opened_in (F.state files.old).calls) (opened_in (F.state files.new).calls) }
+    ensures all { OnOk result (opened_in (F.state files.new).calls ≡
+        opened_in (F.state files.old).calls ++ paths_of words.now) }
+    ensures reads { ReadsFiles (extent_of (answer_of result)) (F.state files.old).calls
+        (F.state files.new).calls }
     ensures later { (F.state files.old).faults ≤ (F.state files.new).faults }
 {
     let mut runs = Vec::new(alloc);

@@ -49,11 +49,14 @@ pub fn load_placing<'a, F: Shelf>(
     files: &mut F,
     placing: &'a Placing,
 ) -> Result<(Desk, Sheet), Stop<'a>>
-    ensures makes { MakesPlacing (F.state files.old).files (F.state files.old).faults (F.state files.new).faults placing.now result }
+    ensures makes { MakesPlacing (F.state files.old).files (F.state files.old).faults
+        (F.state files.new).faults placing.now result }
     ensures placed { IfOk result (λ made. All (λ row. is_placed made.0 row.0 ≡ true) made.1) }
     ensures files { (F.state files.new).files ≡ (F.state files.old).files }
-    ensures opened { Opens (PlacingMayOpen (F.state files.old).files placing.now) (opened_in (F.state files.old).calls) (opened_in (F.state files.new).calls) }
-    ensures reads { ReadsFiles (extent_of (answer_of result)) (F.state files.old).calls (F.state files.new).calls }
+    ensures opened { Opens (PlacingMayOpen (F.state files.old).files placing.now)
+        (opened_in (F.state files.old).calls) (opened_in (F.state files.new).calls) }
+    ensures reads { ReadsFiles (extent_of (answer_of result)) (F.state files.old).calls
+        (F.state files.new).calls }
     ensures later { (F.state files.old).faults ≤ (F.state files.new).faults }
 {
     let desk = load_desk(alloc, files, &placing.qrels, &placing.runs, 1)?;

@@ -32,9 +32,11 @@ pub fn load_sheet<'a, F: Shelf>(
     files: &mut F,
     path: &'a str,
 ) -> Result<Sheet, Stop<'a>>
-    ensures gives { Gives (F.state files.old).files (F.state files.old).faults (F.state files.new).faults (λ sheet. sheet) result (λ held. sheet_in held path.now) }
+    ensures gives { Gives (F.state files.old).files (F.state files.old).faults
+        (F.state files.new).faults (λ sheet. sheet) result (λ held. sheet_in held path.now) }
     ensures files { (F.state files.new).files ≡ (F.state files.old).files }
-    ensures reads { ReadsFile path.now (extent_of (answer_of result)) (F.state files.old).calls (F.state files.new).calls }
+    ensures reads { ReadsFile path.now (extent_of (answer_of result)) (F.state files.old).calls
+        (F.state files.new).calls }
     ensures later { (F.state files.old).faults ≤ (F.state files.new).faults }
 {
     open_file(files, path)?;
@@ -53,9 +55,12 @@ fn merge_next<'a, F: Shelf>(
     path: &'a str,
     all: &mut Sheet,
 ) -> Result<(), Stop<'a>>
-    ensures gives { Gives (F.state files.old).files (F.state files.old).faults (F.state files.new).faults (λ _. all.new) result (λ held. with_sheet_in held all.old path.now) }
+    ensures gives { Gives (F.state files.old).files (F.state files.old).faults
+        (F.state files.new).faults (λ _. all.new) result (λ held.
+        with_sheet_in held all.old path.now) }
     ensures files { (F.state files.new).files ≡ (F.state files.old).files }
-    ensures reads { ReadsFile path.now (extent_of (answer_of result)) (F.state files.old).calls (F.state files.new).calls }
+    ensures reads { ReadsFile path.now (extent_of (answer_of result)) (F.state files.old).calls
+        (F.state files.new).calls }
     ensures later { (F.state files.old).faults ≤ (F.state files.new).faults }
 {
     let sheet = load_sheet(alloc, files, path)?;
@@ -74,11 +79,14 @@ pub fn load_merged<'a, F: Shelf>(
     files: &mut F,
     sheets: &'a Sheets,
 ) -> Result<Sheet, Stop<'a>>
-    ensures gives { Gives (F.state files.old).files (F.state files.old).faults (F.state files.new).faults (λ sheet. sheet) result (λ held. merge_of held [] sheets.now) }
+    ensures gives { Gives (F.state files.old).files (F.state files.old).faults
+        (F.state files.new).faults (λ sheet. sheet) result (λ held. merge_of held [] sheets.now) }
     ensures some { 0 < length sheets.now }
     ensures files { (F.state files.new).files ≡ (F.state files.old).files }
-    ensures opened { Opens (SheetsMayOpen (F.state files.old).files sheets.now) (opened_in (F.state files.old).calls) (opened_in (F.state files.new).calls) }
-    ensures reads { ReadsFiles (extent_of (answer_of result)) (F.state files.old).calls (F.state files.new).calls }
+    ensures opened { Opens (SheetsMayOpen (F.state files.old).files sheets.now)
+        (opened_in (F.state files.old).calls) (opened_in (F.state files.new).calls) }
+    ensures reads { ReadsFiles (extent_of (answer_of result)) (F.state files.old).calls
+        (F.state files.new).calls }
     ensures later { (F.state files.old).faults ≤ (F.state files.new).faults }
 {
     let mut all = Sheet::empty(alloc);

@@ -30,7 +30,8 @@ fn run<L: Ledger>(rt: &HostRuntime, words: &[String], blank: Blank) -> u8
     requires parts { blank.parts ≡ L.parts }
     requires some { 0 < blank.parts }
     ensures known { result ≤ 6 }
-    ensures ends { IsStatus result (λ status. Means (map string_bytes words.now) (λ meaning. CanEnd meaning None status)) }
+    ensures ends { IsStatus result (λ status.
+        Means (map string_bytes words.now) (λ meaning. CanEnd meaning None status)) }
 {
     let mut files = HostShelf::new(rt);
     let mut input = HostSource::new(rt.reader());
@@ -78,7 +79,9 @@ fn status(rt: &HostRuntime, words: Result<Vec<String>, NoWords>) -> u8
     ensures known { result ≤ 6 }
     ensures outside { words ≡ Err NoWords.Outside → result ≡ 3 }
     ensures memory { words ≡ Err NoWords.Memory → result ≡ 4 }
-    ensures ends { IfOk words (λ words. IsStatus result (λ status. Means (map string_bytes words.items) (λ meaning. CanEnd meaning None status))) }
+    ensures ends { IfOk words (λ words.
+        IsStatus result (λ status.
+        Means (map string_bytes words.items) (λ meaning. CanEnd meaning None status))) }
 {
     match words {
         Ok(words) => run::<Brand>(rt, &words, Blank::new(1)),

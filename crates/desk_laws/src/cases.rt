@@ -37,9 +37,12 @@ pub fn marks_under_a_depth()
     ensures outside { mark_within None 1 false ≡ Other }
     ensures judged_outside { mark_within (Some (pos 1)) 1 false ≡ Relevant }
     ensures negative_outside { mark_within (Some (negsuc 0)) 1 false ≡ Other }
-    ensures pool { closed_under two_runs (Some 1) ((Unjudged ∷ Unjudged ∷ Unjudged ∷ []) ∷ []) ≡ (Unjudged ∷ Unjudged ∷ Other ∷ []) ∷ [] }
-    ensures deeper { closed_under two_runs (Some 2) ((Unjudged ∷ Unjudged ∷ Unjudged ∷ []) ∷ []) ≡ (Unjudged ∷ Unjudged ∷ Unjudged ∷ []) ∷ [] }
-    ensures no_depth { closed_under two_runs None ((Unjudged ∷ Unjudged ∷ Unjudged ∷ []) ∷ []) ≡ (Unjudged ∷ Unjudged ∷ Unjudged ∷ []) ∷ [] }
+    ensures pool { closed_under two_runs (Some 1) ((Unjudged ∷ Unjudged ∷ Unjudged ∷ []) ∷ []) ≡
+        (Unjudged ∷ Unjudged ∷ Other ∷ []) ∷ [] }
+    ensures deeper { closed_under two_runs (Some 2) ((Unjudged ∷ Unjudged ∷ Unjudged ∷ []) ∷ []) ≡
+        (Unjudged ∷ Unjudged ∷ Unjudged ∷ []) ∷ [] }
+    ensures no_depth { closed_under two_runs None ((Unjudged ∷ Unjudged ∷ Unjudged ∷ []) ∷ []) ≡
+        (Unjudged ∷ Unjudged ∷ Unjudged ∷ []) ∷ [] }
 {}
 
 /// d1 comes before d10, and d10 before d2: bytes are compared, and not numbers.
@@ -65,12 +68,14 @@ pub fn scores_in_a_completion()
     ensures biased_with_a_tail { score (Biased 5 10) 3 d3_false a (true ∷ []) ≡ parts 625 1000 }
     ensures average { score AveragePrecision 3 d3_true b [] ≡ parts 1 4 }
     ensures average_of_all { score AveragePrecision 3 d3_true a [] ≡ parts 4 4 }
-    ensures average_with_no_relevant_document { score AveragePrecision 3 no_document a [] ≡ parts 0 1 }
+    ensures average_with_no_relevant_document { score AveragePrecision 3 no_document a [] ≡
+        parts 0 1 }
 {}
 
 /// Run A lacks the second of two topics, and scores 0 there: (1/2 + 0) / 2.
 pub fn mean_of_a_run_without_the_topic()
-    ensures { IsSame (run_mean (Precision 2) 0 (topics_under two_topics (marks_401 ∷ (Relevant ∷ []) ∷ []))
+    ensures { IsSame (run_mean (Precision 2) 0
+        (topics_under two_topics (marks_401 ∷ (Relevant ∷ []) ∷ []))
         (without_tails d3_false ∷ without_tails d3_true ∷ [])) (parts 1 4) }
 {}
 
@@ -80,23 +85,31 @@ pub fn verdicts_of_sums()
     ensures above { verdict (sums (pos 1) (pos 1) (pos 1) (pos 1)) ≡ Above }
     ensures open { verdict (sums (negsuc 0) (negsuc 0) (pos 0) (pos 0)) ≡ Open }
     ensures close { verdict (sums (negsuc 0) (pos 1) (negsuc 0) (pos 1)) ≡ Close }
-    ensures swapped_totals { swapped_totals (sums (pos 1) (pos 1) (pos 2) (pos 2)) ≡ sums (negsuc 1) (negsuc 1) (negsuc 0) (negsuc 0) }
+    ensures swapped_totals { swapped_totals (sums (pos 1) (pos 1) (pos 2) (pos 2)) ≡
+        sums (negsuc 1) (negsuc 1) (negsuc 0) (negsuc 0) }
 {}
 
 /// Of three topics the first is won, as its least difference is above 0, and the second lost, as its greatest is below. The ends of
 /// the third are on both sides of 0, so it is neither.
 pub fn topics_of_a_covering_pair()
-    ensures wins { wins_in (ends (pos 1) (pos 1) (pos 3) (pos 3) ∷ ends (negsuc 2) (negsuc 2) (negsuc 0) (negsuc 0) ∷ ends (negsuc 0) (negsuc 0) (pos 1) (pos 1) ∷ []) ≡ 1 }
-    ensures losses { losses_in (ends (pos 1) (pos 1) (pos 3) (pos 3) ∷ ends (negsuc 2) (negsuc 2) (negsuc 0) (negsuc 0) ∷ ends (negsuc 0) (negsuc 0) (pos 1) (pos 1) ∷ []) ≡ 1 }
+    ensures wins { wins_in (ends (pos 1) (pos 1) (pos 3) (pos 3) ∷
+        ends (negsuc 2) (negsuc 2) (negsuc 0) (negsuc 0) ∷
+        ends (negsuc 0) (negsuc 0) (pos 1) (pos 1) ∷ []) ≡ 1 }
+    ensures losses { losses_in (ends (pos 1) (pos 1) (pos 3) (pos 3) ∷
+        ends (negsuc 2) (negsuc 2) (negsuc 0) (negsuc 0) ∷
+        ends (negsuc 0) (negsuc 0) (pos 1) (pos 1) ∷ []) ≡ 1 }
 {}
 
 /// Of two runs of the relevant r and the unjudged u the first has r before u and the second u before r. The first scores 1 in
 /// both completions under average precision, the second 1 where u is relevant and else 1/2. The least case makes u relevant,
 /// and the most case does not.
 pub fn averages_of_a_pair()
-    ensures ends { average_ends (Relevant ∷ Unjudged ∷ []) (0 ∷ 1 ∷ []) (1 ∷ 0 ∷ []) ≡ ends (pos 0) (pos 0) (pos 500000000000000000) (pos 500000000000000000) }
-    ensures least { least_truth AveragePrecision (Relevant ∷ Unjudged ∷ []) (0 ∷ 1 ∷ []) (1 ∷ 0 ∷ []) 1 ≡ true }
-    ensures most { least_truth AveragePrecision (Relevant ∷ Unjudged ∷ []) (1 ∷ 0 ∷ []) (0 ∷ 1 ∷ []) 1 ≡ false }
+    ensures ends { average_ends (Relevant ∷ Unjudged ∷ []) (0 ∷ 1 ∷ []) (1 ∷ 0 ∷ []) ≡
+        ends (pos 0) (pos 0) (pos 500000000000000000) (pos 500000000000000000) }
+    ensures least { least_truth AveragePrecision (Relevant ∷ Unjudged ∷ []) (0 ∷ 1 ∷ []) (1 ∷ 0 ∷
+        []) 1 ≡ true }
+    ensures most { least_truth AveragePrecision (Relevant ∷ Unjudged ∷ []) (1 ∷ 0 ∷ []) (0 ∷ 1 ∷ [])
+        1 ≡ false }
 {}
 
 /// The judged d1 tells A from B under precision at 2, and the unjudged d3, which both have, does not. In

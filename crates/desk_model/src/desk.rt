@@ -38,8 +38,20 @@ impl Desk {
     /// A desk of topics that ascend by name, runs of different names, and the rankings of each run, one for each
     /// topic over that topic's universe.
     pub fn new(topics: Vec<TopicBook>, runs: Vec<Name>, rankings: Vec<Vec<Ranking>>) -> Desk
-        requires { IsDesk (record { topics = topics.items; runs = runs.items; rankings = map (λ each. each.items) rankings.items }) }
-        ensures { result ≡ record { topics = topics.items; runs = runs.items; rankings = map (λ each. each.items) rankings.items } }
+        requires { IsDesk
+            (record {
+              topics = topics.items;
+              runs = runs.items;
+              rankings = map (λ each. each.items)
+                  rankings.items;
+            }) }
+        ensures { result ≡
+            record {
+              topics = topics.items;
+              runs = runs.items;
+              rankings = map (λ each. each.items)
+                  rankings.items;
+            } }
     {
         Desk {
             topics,
@@ -92,7 +104,8 @@ impl Desk {
         requires run { r < length self.now.runs }
         requires topic { t < length self.now.topics }
         ensures ranking { result.now ≡ ranking_of self.now r t }
-        ensures over { IfSome (slice_get self.now.topics t) (λ book. IsRanking (length book.docs) result.now) }
+        ensures over { IfSome (slice_get self.now.topics t) (λ book.
+            IsRanking (length book.docs) result.now) }
     {
         &self.rankings[r as usize][t as usize]
     }

@@ -13,7 +13,8 @@ use std::alloc::{AllocError, Global};
 
 /// The marks of all topics where there is no depth.
 pub fn file_topics(alloc: Global, desk: &Desk, level: u32) -> Result<Vec<Vec<Mark>>, AllocError>
-    ensures { IfOk result (λ topics. map (λ each. each.items) topics.items ≡ map (file_marks level) desk.now.topics) }
+    ensures { IfOk result (λ topics. map (λ each. each.items) topics.items ≡
+        map (file_marks level) desk.now.topics) }
 {
     let mut topics = Vec::new(alloc);
     for t in 0..desk.topic_count() {
@@ -40,8 +41,10 @@ pub fn closed_topics(
     level: u32,
     depth: u32,
 ) -> Result<(Vec<Vec<Mark>>, Vec<Vec<bool>>), AllocError>
-    ensures marks { IfOk result (λ both. map (λ each. each.items) both.0.items ≡ closed_under desk.now (Some depth) (map (file_marks level) desk.now.topics)) }
-    ensures pools { IfOk result (λ both. map (λ each. each.items) both.1.items ≡ pool_rows desk.now depth) }
+    ensures marks { IfOk result (λ both. map (λ each. each.items) both.0.items ≡
+        closed_under desk.now (Some depth) (map (file_marks level) desk.now.topics)) }
+    ensures pools { IfOk result (λ both. map (λ each. each.items) both.1.items ≡
+        pool_rows desk.now depth) }
 {
     let mut topics = Vec::new(alloc);
     let mut pools = Vec::new(alloc);
@@ -62,7 +65,8 @@ fn closed_marks(
     pool: &[bool],
 ) -> Result<Vec<Mark>, AllocError>
     requires { length pool.now ≡ length book.now.grades }
-    ensures { IfOk result (λ marks. marks.items ≡ closed_topic (λ doc. slice_index_or pool.now doc true) (file_marks level book.now)) }
+    ensures { IfOk result (λ marks. marks.items ≡
+        closed_topic (λ doc. slice_index_or pool.now doc true) (file_marks level book.now)) }
 {
     let grades = book.grades();
     let mut marks = Vec::with_capacity(alloc, grades.len())?;

@@ -34,8 +34,10 @@ pub fn sums_decide_order()
     ensures below { (measure : MeasureName) (unit a b : ℕ) (topics : List Topic) (highs : List ℤ) →
         AreHighEnds measure unit topics a b highs →
         whole_sum highs <ℤ pos 0 → IsAlwaysAbove measure topics b a }
-    ensures equal { (measure : MeasureName) (unit a b : ℕ) (topics : List Topic) (lows highs : List ℤ) →
-        0 < unit → AreLowEnds measure unit topics a b lows → AreHighEnds measure unit topics a b highs →
+    ensures equal { (measure : MeasureName) (unit a b : ℕ) (topics : List Topic)
+        (lows highs : List ℤ) →
+        0 < unit → AreLowEnds measure unit topics a b lows →
+        AreHighEnds measure unit topics a b highs →
         pos 0 ≤ℤ whole_sum lows → whole_sum highs ≤ℤ pos 0 → AreAlwaysEqual measure topics a b }
 {}
 
@@ -47,7 +49,8 @@ pub fn sums_enclose_difference()
         IsAtMost (whole_sum lows) (unit * length topics)
         (run_mean measure a topics cs) (run_mean measure b topics cs) }
     ensures high { (measure : MeasureName) (unit a b : ℕ) (topics : List Topic) (highs : List ℤ) →
-        AreHighEnds measure unit topics a b highs → (cs : List Completion) → IsCompletion topics cs →
+        AreHighEnds measure unit topics a b highs → (cs : List Completion) →
+        IsCompletion topics cs →
         IsAtLeast (whole_sum highs) (unit * length topics)
         (run_mean measure a topics cs) (run_mean measure b topics cs) }
 {}
@@ -56,10 +59,12 @@ pub fn sums_enclose_difference()
 /// topics times the mean of one run, in every completion.
 pub fn sums_enclose_mean()
     ensures low { (measure : MeasureName) (unit run : ℕ) (topics : List Topic) (lows : List ℤ) →
-        AreLowBounds measure unit topics run lows → (cs : List Completion) → IsCompletion topics cs →
+        AreLowBounds measure unit topics run lows → (cs : List Completion) →
+        IsCompletion topics cs →
         IsAtMostScore (whole_sum lows) (unit * length topics) (run_mean measure run topics cs) }
     ensures high { (measure : MeasureName) (unit run : ℕ) (topics : List Topic) (highs : List ℤ) →
-        AreHighBounds measure unit topics run highs → (cs : List Completion) → IsCompletion topics cs →
+        AreHighBounds measure unit topics run highs → (cs : List Completion) →
+        IsCompletion topics cs →
         IsAtLeastScore (whole_sum highs) (unit * length topics) (run_mean measure run topics cs) }
 {}
 
@@ -83,7 +88,8 @@ pub fn precision_is_counted()
         IsRanking (length marks) a → IsRanking (length marks) b →
         AreExtremes (Precision k) k marks a b (precision_ends k marks a b) }
     ensures bounds { (k : ℕ) (marks : List Mark) (a : List ℕ) → 0 < k → IsRanking (length marks) a →
-        AreBounds (Precision k) k marks a (pos (prefix_count false k marks a)) (pos (prefix_count true k marks a)) }
+        AreBounds (Precision k) k marks a (pos (prefix_count false k marks a))
+        (pos (prefix_count true k marks a)) }
 {}
 
 /// There are as many topics under marks as topics of the desk, each has a universe of at most
@@ -93,29 +99,39 @@ pub fn rankings_are_over_universes()
         length (topics_under desk marks) ≡ length desk.topics }
     ensures small { (desk : Desk) (marks : List (List Mark)) → IsDesk desk → AreMarksOf desk marks →
         All (λ topic. length topic.marks ≤ DOCUMENT_LIMIT) (topics_under desk marks) }
-    ensures rankings { (desk : Desk) (marks : List (List Mark)) (run : ℕ) → IsDesk desk → AreMarksOf desk marks →
+    ensures rankings { (desk : Desk) (marks : List (List Mark)) (run : ℕ) → IsDesk desk →
+        AreMarksOf desk marks →
         run < length desk.runs →
-        All (λ topic. IsRanking (length topic.marks) (topic.ranking run)) (topics_under desk marks) }
+        All (λ topic. IsRanking (length topic.marks) (topic.ranking run))
+        (topics_under desk marks) }
 {}
 
 /// Closing keeps each topic and each document: what were marks of a desk still are.
 pub fn closing_keeps_documents()
-    ensures topics { (desk : Desk) (depth : Option ℕ) (marks : List (List Mark)) → length (closed_under desk depth marks) ≡ length marks }
+    ensures topics { (desk : Desk) (depth : Option ℕ) (marks : List (List Mark)) →
+        length (closed_under desk depth marks) ≡ length marks }
     ensures docs { (desk : Desk) (depth : Option ℕ) (marks : List (List Mark)) (topic : ℕ) →
-        length (slice_index_or (closed_under desk depth marks) topic []) ≡ length (slice_index_or marks topic []) }
-    ensures marks { (desk other : Desk) (depth : Option ℕ) (marks : List (List Mark)) → AreMarksOf desk marks → AreMarksOf desk (closed_under other depth marks) }
+        length (slice_index_or (closed_under desk depth marks) topic []) ≡
+        length (slice_index_or marks topic []) }
+    ensures marks { (desk other : Desk) (depth : Option ℕ) (marks : List (List Mark)) →
+        AreMarksOf desk marks → AreMarksOf desk (closed_under other depth marks) }
 {}
 
 /// To give one document another mark and then to close is to close and then to give it that mark, closed.
 pub fn one_mark_is_closed()
-    ensures { (desk : Desk) (depth : Option ℕ) (marks : List (List Mark)) (topic doc : ℕ) (mark : Mark) →
-        closed_under desk depth (slice_set marks topic (slice_set (slice_index_or marks topic []) doc mark))
-        ≡ slice_set (closed_under desk depth marks) topic (slice_set (slice_index_or (closed_under desk depth marks) topic []) doc (closed (is_within desk depth topic doc) mark)) }
+    ensures { (desk : Desk) (depth : Option ℕ) (marks : List (List Mark)) (topic doc : ℕ)
+        (mark : Mark) →
+        closed_under desk depth
+        (slice_set marks topic (slice_set (slice_index_or marks topic []) doc mark))
+        ≡ slice_set (closed_under desk depth marks) topic
+        (slice_set (slice_index_or (closed_under desk depth marks) topic []) doc
+        (closed (is_within desk depth topic doc) mark)) }
 {}
 
 /// What a depth closes is fixed by the rankings: no judgement changes it.
 pub fn closing_is_by_rankings()
-    ensures { (desk other : Desk) (depth : Option ℕ) (marks : List (List Mark)) → other.rankings ≡ desk.rankings →
+    ensures { (desk other : Desk) (depth : Option ℕ) (marks : List (List Mark)) →
+        other.rankings ≡ desk.rankings →
         closed_under other depth marks ≡ closed_under desk depth marks }
 {}
 
@@ -123,19 +139,26 @@ pub fn closing_is_by_rankings()
 pub fn open_documents_are_pooled()
     ensures { (desk : Desk) (depth : Option ℕ) (marks : List (List Mark)) (topic doc : ℕ) →
         slice_get (slice_index_or (closed_under desk depth marks) topic []) doc ≡ Some Unjudged →
-        (is_within desk depth topic doc ≡ true) × (slice_get (slice_index_or marks topic []) doc ≡ Some Unjudged) }
+        (is_within desk depth topic doc ≡ true) ×
+        (slice_get (slice_index_or marks topic []) doc ≡ Some Unjudged) }
 {}
 
 /// Whether a document is in the pool is told by the pools of a desk: each of their answers is that of the desk.
 pub fn pools_are_of_the_desk()
-    ensures { (desk : Desk) (depth : Option ℕ) (topic doc : ℕ) (book : Book) → slice_get desk.topics topic ≡ Some book → doc < length book.docs →
+    ensures { (desk : Desk) (depth : Option ℕ) (topic doc : ℕ) (book : Book) →
+        slice_get desk.topics topic ≡ Some book → doc < length book.docs →
         is_in_pools (pools_of desk depth) topic doc ≡ is_within desk depth topic doc }
 {}
 
 /// To give a document the mark of a grade by the pools is to give it the mark of the grade, and then to close.
 pub fn judging_keeps_closing()
-    ensures { (desk : Desk) (depth : Option ℕ) (marks : List (List Mark)) (topic doc : ℕ) (book : Book) (grade : Option ℤ) (level : ℕ) →
+    ensures { (desk : Desk) (depth : Option ℕ) (marks : List (List Mark)) (topic doc : ℕ)
+        (book : Book) (grade : Option ℤ) (level : ℕ) →
         slice_get desk.topics topic ≡ Some book → doc < length book.docs →
-        slice_set (closed_under desk depth marks) topic (slice_set (slice_index_or (closed_under desk depth marks) topic []) doc (mark_within grade level (is_in_pools (pools_of desk depth) topic doc)))
-        ≡ closed_under desk depth (slice_set marks topic (slice_set (slice_index_or marks topic []) doc (mark_of grade level))) }
+        slice_set (closed_under desk depth marks) topic
+        (slice_set (slice_index_or (closed_under desk depth marks) topic []) doc
+        (mark_within grade level (is_in_pools (pools_of desk depth) topic doc)))
+        ≡ closed_under desk depth
+        (slice_set marks topic
+        (slice_set (slice_index_or marks topic []) doc (mark_of grade level))) }
 {}

@@ -36,7 +36,8 @@ impl Rows {
     pub fn set(&mut self, t: u32, doc: u32, mark: Mark)
         requires topic { t < length self.old }
         requires doc { doc < length (slice_index_or self.old t []) }
-        ensures { self.new ≡ slice_set self.old t (slice_set (slice_index_or self.old t []) doc mark) }
+        ensures { self.new ≡ slice_set self.old t
+            (slice_set (slice_index_or self.old t []) doc mark) }
     {
         let topic = &mut self.topics[t as usize];
         topic[doc as usize] = mark;
@@ -116,7 +117,12 @@ impl Marks {
     pub fn set(&mut self, t: u32, doc: u32, mark: Mark)
         requires topic { t < length self.old.rows }
         requires doc { doc < length (slice_index_or self.old.rows t []) }
-        ensures { self.new ≡ record { rows = slice_set self.old.rows t (slice_set (slice_index_or self.old.rows t []) doc mark); pools = self.old.pools } }
+        ensures { self.new ≡
+            record {
+              rows = slice_set self.old.rows t
+                  (slice_set (slice_index_or self.old.rows t []) doc mark);
+              pools = self.old.pools;
+            } }
     {
         self.rows.set(t, doc, mark);
     }

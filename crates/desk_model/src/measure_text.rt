@@ -42,7 +42,8 @@ pub fn read_measure(text: &[u8]) -> Result<MeasureName, UnknownMeasure>
 
 /// A text is of one measure at most.
 pub fn measure_of_text_is_unique()
-    ensures { (text : List ℕ) (a b : MeasureName) → IsMeasure a → IsMeasure b → IsTextOf a text → IsTextOf b text → a ≡ b }
+    ensures { (text : List ℕ) (a b : MeasureName) → IsMeasure a → IsMeasure b → IsTextOf a text →
+        IsTextOf b text → a ≡ b }
 {}
 
 // The text after the prefix.
@@ -71,7 +72,8 @@ fn depth_after(text: &[u8], prefix: &[u8]) -> Option<u32>
 fn biased(text: &[u8]) -> Option<MeasureName>
     ensures measure { IfSome result (λ m. IsMeasure m) }
     ensures some { IfSome result (λ m. IsTextOf m text.now) }
-    ensures none { IfNone result ((top bottom : ℕ) → IsPersistence top bottom → IsTextOf (Biased top bottom) text.now → ⊥) }
+    ensures none { IfNone result ((top bottom : ℕ) → IsPersistence top bottom →
+        IsTextOf (Biased top bottom) text.now → ⊥) }
 {
     let decimals = after(text, b"rbp_0.")?;
     let top = top_of(decimals)?;
@@ -81,8 +83,10 @@ fn biased(text: &[u8]) -> Option<MeasureName>
 // The number that 1 to 6 decimals say, if they are digits that are not all 0.
 fn top_of(decimals: &[u8]) -> Option<u32>
     ensures few { IfSome result (λ _. length decimals.now ≤ 6) }
-    ensures some { IfSome result (λ top. (0 < top) × (top < 10 ^ length decimals.now) × (decimal (10 ^ length decimals.now + top) ≡ 49 ∷ decimals.now)) }
-    ensures none { IfNone result ((top : ℕ) → 0 < top → top < 10 ^ length decimals.now → length decimals.now ≤ 6 → decimal (10 ^ length decimals.now + top) ≢ 49 ∷ decimals.now) }
+    ensures some { IfSome result (λ top. (0 < top) × (top < 10 ^ length decimals.now) ×
+        (decimal (10 ^ length decimals.now + top) ≡ 49 ∷ decimals.now)) }
+    ensures none { IfNone result ((top : ℕ) → 0 < top → top < 10 ^ length decimals.now →
+        length decimals.now ≤ 6 → decimal (10 ^ length decimals.now + top) ≢ 49 ∷ decimals.now) }
 {
     if decimals.len() > 6 {
         return None;

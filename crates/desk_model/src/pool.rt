@@ -87,7 +87,8 @@ fn is_in_pool(desk: &Desk, topic: u32, depth: u32, doc: u32) -> bool
 pub fn pool_count(desk: &Desk, marks: &Marks, topic: u32, depth: u32) -> PoolCount
     requires topic { topic < length desk.now.topics }
     requires marks { AreMarksOf desk.now marks.now.rows }
-    ensures { IsCountOf (pool_of desk.now topic depth) (slice_index_or marks.now.rows topic []) result }
+    ensures { IsCountOf (pool_of desk.now topic depth) (slice_index_or marks.now.rows topic [])
+        result }
 {
     let marks = marks.rows().topic(topic);
     let mut count = PoolCount {

@@ -17,7 +17,8 @@ pub fn pool_of_topic(
     depth: u32,
 ) -> Result<Vec<bool>, AllocError>
     requires { topic < length desk.now.topics }
-    ensures { IfOk result (λ pool. pool.items ≡ map (is_pooled desk.now topic depth) (docs_of desk.now topic)) }
+    ensures { IfOk result (λ pool. pool.items ≡
+        map (is_pooled desk.now topic depth) (docs_of desk.now topic)) }
 {
     let mut pool = vec![in alloc; false; desk.topic(topic).doc_count() as usize]?;
     for run in 0..desk.run_count() {
@@ -30,7 +31,9 @@ pub fn pool_of_topic(
 fn add_first(ranking: &Ranking, depth: u32, pool: &mut [bool])
     requires { All (λ doc. doc < length pool.old) ranking.now }
     ensures count { length pool.new ≡ length pool.old }
-    ensures each { (doc : ℕ) → doc < length pool.old → slice_index_or pool.new doc false ≡ (slice_index_or pool.old doc false || is_in (take depth ranking.now) doc) }
+    ensures each { (doc : ℕ) → doc < length pool.old →
+        slice_index_or pool.new doc false ≡
+        (slice_index_or pool.old doc false || is_in (take depth ranking.now) doc) }
 {
     let docs = ranking.docs();
     let end = docs.len().min(depth as usize);

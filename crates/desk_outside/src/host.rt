@@ -30,7 +30,8 @@ pub struct HostShelf<'r, R: Files> {
 impl<'r, R: Files> HostShelf<'r, R> {
     /// A shelf with no file open.
     pub fn new(rt: &'r R) -> HostShelf<'r, R>
-        ensures { ⟦<HostShelf<'r, R> as Shelf>⟧.state result ≡ record { files = None; rest = None; is_open = false; faults = 0; calls = [] } }
+        ensures { ⟦<HostShelf<'r, R> as Shelf>⟧.state result ≡
+            record { files = None; rest = None; is_open = false; faults = 0; calls = [] } }
     {
         HostShelf {
             rt,
@@ -85,7 +86,8 @@ pub struct HostSource<I> {
 impl<I: Read> HostSource<I> {
     /// A source that reads from the reader's place on.
     pub fn new(reader: I) -> HostSource<I>
-        ensures { ⟦<HostSource<I> as Source>⟧.state result ≡ record { rest = None; faults = 0; reads = [] } }
+        ensures { ⟦<HostSource<I> as Source>⟧.state result ≡
+            record { rest = None; faults = 0; reads = [] } }
     {
         HostSource {
             reader,

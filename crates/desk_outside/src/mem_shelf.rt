@@ -80,7 +80,8 @@ fn place_of(files: &[(String, Vec<u8>)], name: &str) -> Option<usize>
 // What is left of a file from a place on.
 fn left_of(files: &[(String, Vec<u8>)], place: usize, at: usize) -> &[u8]
     requires { place < length files.now }
-    ensures left { option_map (λ e. drop at e.1) (slice_get (entries_of files.now) place) ≡ Some result.now }
+    ensures left { option_map (λ e. drop at e.1) (slice_get (entries_of files.now) place) ≡
+        Some result.now }
     ensures fits { at + length result.now < 2 ^ 64 }
 {
     let bytes = files[place].1.as_slice();
@@ -130,11 +131,13 @@ impl Shelf for MemShelf {
         requires room { 0 < length room.old }
         ensures open { OnOk result (is_some self.new.rest ≡ true) }
         ensures bound { ReadsAtMost result room.new }
-        ensures bytes { IfOk result (λ n. self.old.rest ≡ prepend_known (take n room.new) self.new.rest) }
+        ensures bytes { IfOk result (λ n. self.old.rest ≡
+            prepend_known (take n room.new) self.new.rest) }
         ensures end { IfOk result (λ n. n ≡ 0 → IsAtEnd self.new.rest) }
         ensures cause { HasCause self.old.calls.faults self.new.calls.faults result }
         ensures fails { IsErr result ↔ IsTrue (is_listed self.old.calls) }
-        ensures count { IfOk result (λ n. IfSome self.old.rest (λ rest. n ≡ min (length rest) (length room.old))) }
+        ensures count { IfOk result (λ n.
+            IfSome self.old.rest (λ rest. n ≡ min (length rest) (length room.old))) }
         ensures entries { self.new.entries ≡ self.old.entries }
         ensures made { self.new.made ≡ self.old.made ++ Reading (read_of result) ∷ [] }
         ensures calls { self.new.calls ≡ after_call self.old.calls (is_listed self.old.calls) }

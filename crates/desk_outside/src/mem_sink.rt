@@ -71,7 +71,8 @@ impl Sink for MemSink {
         requires { 0 < length piece.now }
         ensures some { IfOk result (λ n. 0 < n) }
         ensures bound { IfOk result (λ n. n ≤ length piece.now) }
-        ensures bytes { IfOk result (λ n. self.new.received ≡ self.old.received ++ take n piece.now) }
+        ensures bytes { IfOk result (λ n. self.new.received ≡ self.old.received ++
+            take n piece.now) }
         ensures err { OnErr result (self.new.received ≡ self.old.received) }
         ensures cause { HasCause self.old.calls.faults self.new.calls.faults result }
         ensures fails { IsErr result ↔ FailsNext self.old }

@@ -65,7 +65,8 @@ impl Source for MemSource {
         ensures err { OnErr result (self.new.rest ≡ self.old.rest) }
         ensures cause { HasCause self.old.calls.faults self.new.calls.faults result }
         ensures fails { IsErr result ↔ IsTrue (is_listed self.old.calls) }
-        ensures count { IfOk result (λ n. n ≡ min (min (length self.old.rest) self.old.piece) (length room.old)) }
+        ensures count { IfOk result (λ n. n ≡
+            min (min (length self.old.rest) self.old.piece) (length room.old)) }
         ensures piece { self.new.piece ≡ self.old.piece }
         ensures reads { self.new.reads ≡ self.old.reads ++ read_of result ∷ [] }
         ensures calls { self.new.calls ≡ after_call self.old.calls (is_listed self.old.calls) }

@@ -38,7 +38,8 @@ fn push_close(
     second: &[u8],
     totals: &Totals,
 ) -> Result<(), AllocError>
-    ensures { OnOk result (out.new.items ≡ out.old.items ++ ended (close_line first.now second.now totals.now)) }
+    ensures { OnOk result (out.new.items ≡ out.old.items ++
+        ended (close_line first.now second.now totals.now)) }
 {
     push_names(out, first, second)?;
     push_sums(out, totals)?;
@@ -57,7 +58,8 @@ pub fn close_line(
     second: &[u8],
     totals: &Totals,
 ) -> Result<Vec<u8>, Memory>
-    ensures { IfOk result (λ line. line.items ≡ ended (close_line first.now second.now totals.now)) }
+    ensures { IfOk result (λ line. line.items ≡
+        ended (close_line first.now second.now totals.now)) }
 {
     let mut out = Vec::new(alloc);
     push_close(&mut out, first, second, totals)?;

@@ -28,7 +28,8 @@ fn push_graded_head(
     topics: u32,
     runs: u32,
 ) -> Result<(), AllocError>
-    ensures { OnOk result (out.new.items ≡ out.old.items ++ flat_map ended (graded_head measure.now greatest topics runs)) }
+    ensures { OnOk result (out.new.items ≡ out.old.items ++
+        flat_map ended (graded_head measure.now greatest topics runs)) }
 {
     push_measure_line(out, measure)?;
     push_number_line(out, b"greatest ", greatest)?;
@@ -56,7 +57,8 @@ pub fn graded_text(
     requires totals_count { length totals.now ≡ length (pairs_of desk.now.runs) }
     requires bounds { All IsShort bounds.now }
     requires totals { All AreNearTotals totals.now }
-    ensures { IfOk result (λ text. text.items ≡ graded_text desk.now name.now greatest bounds.now totals.now) }
+    ensures { IfOk result (λ text. text.items ≡
+        graded_text desk.now name.now greatest bounds.now totals.now) }
 {
     let mut out = Vec::new(alloc);
     let topics = desk.topic_count();

@@ -20,7 +20,8 @@ fn push_in_force(out: &mut Vec<u8>, grade: Option<i32>) -> Result<(), AllocError
 }
 
 fn push_names(out: &mut Vec<u8>, word: &[u8], topic: &[u8], doc: &[u8]) -> Result<(), AllocError>
-    ensures { OnOk result (out.new.items ≡ out.old.items ++ (word.now ++ 32 ∷ topic.now ++ 32 ∷ doc.now)) }
+    ensures { OnOk result (out.new.items ≡ out.old.items ++
+        (word.now ++ 32 ∷ topic.now ++ 32 ∷ doc.now)) }
 {
     out.extend_from_slice(word)?;
     out.extend_from_slice(b" ")?;
@@ -36,7 +37,8 @@ fn push_changed(
     doc: &[u8],
     grade: Option<i32>,
 ) -> Result<(), AllocError>
-    ensures { OnOk result (out.new.items ≡ out.old.items ++ ended (changed_line word.now topic.now doc.now grade)) }
+    ensures { OnOk result (out.new.items ≡ out.old.items ++
+        ended (changed_line word.now topic.now doc.now grade)) }
 {
     push_names(out, word, topic, doc)?;
     out.extend_from_slice(b" ")?;
@@ -58,7 +60,9 @@ pub fn changed_line(
     requires topic { changed.now.topic < length desk.now.topics }
     requires doc { changed.now.doc < length (book_at desk.now changed.now.topic).docs }
     ensures { IfOk result (λ line. line.items
-        ≡ ended (changed_line word.now (book_at desk.now changed.now.topic).name (slice_index_or (book_at desk.now changed.now.topic).docs changed.now.doc []) changed.now.grade)) }
+        ≡ ended (changed_line word.now (book_at desk.now changed.now.topic).name
+        (slice_index_or (book_at desk.now changed.now.topic).docs changed.now.doc [])
+        changed.now.grade)) }
 {
     let book = desk.topic(changed.topic);
     let doc = book.doc_name(changed.doc);
@@ -119,8 +123,10 @@ fn push_proposal(
     proposal: Option<&Proposal>,
 ) -> Result<(), AllocError>
     requires topic { IfSome (option_copied proposal) (λ p. p.topic < length desk.now.topics) }
-    requires doc { IfSome (option_copied proposal) (λ p. p.doc < length (book_at desk.now p.topic).docs) }
-    ensures { OnOk result (out.new.items ≡ out.old.items ++ ended (next_line desk.now (option_copied proposal.entry))) }
+    requires doc { IfSome (option_copied proposal) (λ p. p.doc <
+        length (book_at desk.now p.topic).docs) }
+    ensures { OnOk result (out.new.items ≡ out.old.items ++
+        ended (next_line desk.now (option_copied proposal.entry))) }
 {
     match proposal {
         Some(proposal) => {
@@ -143,8 +149,10 @@ pub fn next_line_text(
     proposal: Option<&Proposal>,
 ) -> Result<Vec<u8>, Memory>
     requires topic { IfSome (option_copied proposal) (λ p. p.topic < length desk.now.topics) }
-    requires doc { IfSome (option_copied proposal) (λ p. p.doc < length (book_at desk.now p.topic).docs) }
-    ensures { IfOk result (λ line. line.items ≡ ended (next_line desk.now (option_copied proposal.entry))) }
+    requires doc { IfSome (option_copied proposal) (λ p. p.doc <
+        length (book_at desk.now p.topic).docs) }
+    ensures { IfOk result (λ line. line.items ≡
+        ended (next_line desk.now (option_copied proposal.entry))) }
 {
     let mut out = Vec::new(alloc);
     push_proposal(&mut out, desk, proposal)?;

@@ -79,7 +79,8 @@ fn push_low(out: &mut Vec<u8>, parts: u128, sum: i128) -> Result<(), AllocError>
     requires parts_small { parts ≤ 10 ^ 23 }
     requires low { neg_ℤ (pos (10 ^ 30)) ≤ℤ sum }
     requires high { sum ≤ℤ pos (10 ^ 30) }
-    ensures { OnOk result (out.new.items ≡ out.old.items ++ decimal_text (floor_of (sum *ℤ pos 1000000) parts)) }
+    ensures { OnOk result (out.new.items ≡ out.old.items ++
+        decimal_text (floor_of (sum *ℤ pos 1000000) parts)) }
 {
     push_decimal(out, floor(parts, sum))
 }
@@ -89,7 +90,8 @@ fn push_high(out: &mut Vec<u8>, parts: u128, sum: i128) -> Result<(), AllocError
     requires parts_small { parts ≤ 10 ^ 23 }
     requires low { neg_ℤ (pos (10 ^ 30)) ≤ℤ sum }
     requires high { sum ≤ℤ pos (10 ^ 30) }
-    ensures { OnOk result (out.new.items ≡ out.old.items ++ decimal_text (ceiling_of (sum *ℤ pos 1000000) parts)) }
+    ensures { OnOk result (out.new.items ≡ out.old.items ++
+        decimal_text (ceiling_of (sum *ℤ pos 1000000) parts)) }
 {
     push_decimal(out, ceiling(parts, sum))
 }
@@ -99,7 +101,8 @@ pub fn push_ends(out: &mut Vec<u8>, parts: u128, ends: &Span) -> Result<(), Allo
     requires parts { 1 ≤ parts }
     requires parts_small { parts ≤ 10 ^ 23 }
     requires ends { IsShort ends.now }
-    ensures { OnOk result (out.new.items ≡ out.old.items ++ ends_text parts ends.now.lo ends.now.hi) }
+    ensures { OnOk result (out.new.items ≡ out.old.items ++
+        ends_text parts ends.now.lo ends.now.hi) }
 {
     push_low(out, parts, ends.lo)?;
     out.extend_from_slice(b" ")?;

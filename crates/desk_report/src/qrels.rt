@@ -10,7 +10,8 @@ use std::alloc::{AllocError, Global};
 const NO_GRADE: i32 = -1;
 
 fn push_line(out: &mut Vec<u8>, topic: &[u8], doc: &[u8], grade: i32) -> Result<(), AllocError>
-    ensures { OnOk result (out.new.items ≡ out.old.items ++ ended (qrels_line topic.now doc.now grade)) }
+    ensures { OnOk result (out.new.items ≡ out.old.items ++
+        ended (qrels_line topic.now doc.now grade)) }
 {
     out.extend_from_slice(topic)?;
     out.extend_from_slice(b" 0 ")?;
@@ -28,7 +29,8 @@ fn push_document(
     file: Option<i32>,
     grade: Option<i32>,
 ) -> Result<(), AllocError>
-    ensures { OnOk result (out.new.items ≡ out.old.items ++ flat_map ended (qrels_lines_of topic.now doc.now file grade)) }
+    ensures { OnOk result (out.new.items ≡ out.old.items ++
+        flat_map ended (qrels_lines_of topic.now doc.now file grade)) }
 {
     match (file, grade) {
         (_, Some(grade)) => push_line(out, topic, doc, grade),
@@ -67,7 +69,8 @@ pub fn qrels_text(
 ) -> Result<Vec<u8>, Memory>
     requires topic { topic < length desk.now.topics }
     requires count { length grades.now ≡ length (book_at desk.now topic).docs }
-    ensures { IfOk result (λ text. text.items ≡ topic_qrels_text (book_at desk.now topic) grades.now) }
+    ensures { IfOk result (λ text. text.items ≡
+        topic_qrels_text (book_at desk.now topic) grades.now) }
 {
     let mut out = Vec::new(alloc);
     push_topic(&mut out, desk.topic(topic), grades)?;

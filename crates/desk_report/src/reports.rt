@@ -44,8 +44,10 @@ pub fn table_report<M: Measure>(
     table: &Table<M>,
 ) -> Result<Vec<u8>, Memory>
     requires { table.now.runs ≡ length desk.now.runs }
-    ensures { IfOk result (λ text. (s : Subject) → s.level ≡ grading.level → s.depth ≡ grading.depth →
-        IsSubjectOf (M.measured table.now.measure) (M.cell_of table.now.measure) (M.bounds_of table.now.measure) desk.now table.now s →
+    ensures { IfOk result (λ text. (s : Subject) → s.level ≡ grading.level →
+        s.depth ≡ grading.depth →
+        IsSubjectOf (M.measured table.now.measure) (M.cell_of table.now.measure)
+        (M.bounds_of table.now.measure) desk.now table.now s →
         IsTableText s text.items) }
 {
     desk.valid();
@@ -79,7 +81,8 @@ pub fn pair_report<M: Measure>(
     requires runs { AreRuns desk.now first second }
     requires table { table.now.runs ≡ length desk.now.runs }
     ensures { IfOk result (λ text. (s : Subject) →
-        IsSubjectOf (M.measured table.now.measure) (M.cell_of table.now.measure) (M.bounds_of table.now.measure) desk.now table.now s →
+        IsSubjectOf (M.measured table.now.measure) (M.cell_of table.now.measure)
+        (M.bounds_of table.now.measure) desk.now table.now s →
         IsPairText s first second text.items) }
 {
     let measure = table.measure();
@@ -106,7 +109,8 @@ fn certificate_text(
 ) -> Result<Vec<u8>, Memory>
     requires certificate { IsCertificate certificate }
     requires depth { IsScope depth }
-    ensures { IfOk result (λ text. text.items ≡ scoped_text (record { depth = depth; body = One certificate })) }
+    ensures { IfOk result (λ text. text.items ≡
+        scoped_text (record { depth = depth; body = One certificate })) }
 {
     scoped_certificates_have_texts();
     let scoped = Scoped {
@@ -136,9 +140,12 @@ pub fn certified_report<M: Measure>(
 ) -> Result<Certified, Memory>
     requires runs { AreRuns desk.now first second }
     requires marks { AreMarksOf desk.now marks.now.rows }
-    requires table { StandsFor (M.cell_of table.now.measure) (M.bounds_of table.now.measure) desk.now marks.now.rows table.now }
-    ensures { IfOk result (λ answer. (s : Subject) → s.level ≡ grading.level → s.depth ≡ grading.depth → s.marks ≡ marks.now.rows →
-        IsSubjectOf (M.measured table.now.measure) (M.cell_of table.now.measure) (M.bounds_of table.now.measure) desk.now table.now s →
+    requires table { StandsFor (M.cell_of table.now.measure) (M.bounds_of table.now.measure)
+        desk.now marks.now.rows table.now }
+    ensures { IfOk result (λ answer. (s : Subject) → s.level ≡ grading.level →
+        s.depth ≡ grading.depth → s.marks ≡ marks.now.rows →
+        IsSubjectOf (M.measured table.now.measure) (M.cell_of table.now.measure)
+        (M.bounds_of table.now.measure) desk.now table.now s →
         IsCertifiedAs s first second answer) }
 {
     desk.valid();
@@ -169,7 +176,8 @@ pub fn next_report<M: Measure>(
     requires marks { AreMarksOf desk.now marks.now.rows }
     requires table { table.now.runs ≡ length desk.now.runs }
     ensures { IfOk result (λ text. (s : Subject) → s.marks ≡ marks.now.rows →
-        IsSubjectOf (M.measured table.now.measure) (M.cell_of table.now.measure) (M.bounds_of table.now.measure) desk.now table.now s →
+        IsSubjectOf (M.measured table.now.measure) (M.cell_of table.now.measure)
+        (M.bounds_of table.now.measure) desk.now table.now s →
         IsNextText s text.items) }
 {
     desk.valid();
@@ -193,7 +201,8 @@ pub fn kept_next_report(
 ) -> Result<Vec<u8>, Memory>
     requires marks { AreMarksOf desk.now marks.now.rows }
     requires kept { (measure : Measured) × AreKeptFor measure desk.now marks.now.rows weights.now }
-    ensures { IfOk result (λ text. (s : Subject) → s.desk ≡ desk.now → s.marks ≡ marks.now.rows → AreWeightsOf s weights.now → IsNextText s text.items) }
+    ensures { IfOk result (λ text. (s : Subject) → s.desk ≡ desk.now → s.marks ≡ marks.now.rows →
+        AreWeightsOf s weights.now → IsNextText s text.items) }
 {
     desk.valid();
     let proposal = weights.next(marks);

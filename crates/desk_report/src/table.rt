@@ -57,7 +57,8 @@ pub(crate) fn push_head(
     topics: u32,
     runs: u32,
 ) -> Result<(), AllocError>
-    ensures { OnOk result (out.new.items ≡ out.old.items ++ flat_map ended (head_lines measure.now level depth topics runs)) }
+    ensures { OnOk result (out.new.items ≡ out.old.items ++
+        flat_map ended (head_lines measure.now level depth topics runs)) }
 {
     push_measure_line(out, measure)?;
     push_number_line(out, b"level ", level)?;
@@ -70,7 +71,8 @@ fn push_run(out: &mut Vec<u8>, parts: u128, name: &[u8], bounds: &Span) -> Resul
     requires parts { 1 ≤ parts }
     requires parts_small { parts ≤ 10 ^ 23 }
     requires bounds { IsShort bounds.now }
-    ensures { OnOk result (out.new.items ≡ out.old.items ++ ended (run_line parts name.now bounds.now)) }
+    ensures { OnOk result (out.new.items ≡ out.old.items ++
+        ended (run_line parts name.now bounds.now)) }
 {
     out.extend_from_slice(b"run ")?;
     out.extend_from_slice(name)?;
@@ -90,7 +92,8 @@ pub fn push_runs(
     requires parts_small { parts ≤ 10 ^ 23 }
     requires count { length bounds.now ≡ length desk.now.runs }
     requires bounds { All IsShort bounds.now }
-    ensures { OnOk result (out.new.items ≡ out.old.items ++ flat_map ended (run_lines parts desk.now.runs bounds.now)) }
+    ensures { OnOk result (out.new.items ≡ out.old.items ++
+        flat_map ended (run_lines parts desk.now.runs bounds.now)) }
 {
     for r in 0..desk.run_count() {
         push_run(out, parts, desk.run_name(r), &bounds[r as usize])?;
@@ -131,7 +134,8 @@ fn push_pair(
     requires parts { 1 ≤ parts }
     requires parts_small { parts ≤ 10 ^ 23 }
     requires totals { AreNearTotals totals.now }
-    ensures { OnOk result (out.new.items ≡ out.old.items ++ ended (pair_line parts first.now second.now totals.now)) }
+    ensures { OnOk result (out.new.items ≡ out.old.items ++
+        ended (pair_line parts first.now second.now totals.now)) }
 {
     push_names(out, first, word(verdict_of(totals)), second)?;
     out.extend_from_slice(b" ")?;
@@ -154,7 +158,8 @@ pub fn push_pairs(
     requires parts_small { parts ≤ 10 ^ 23 }
     requires count { length totals.now ≡ length (pairs_of desk.now.runs) }
     requires totals { All AreNearTotals totals.now }
-    ensures { OnOk result (out.new.items ≡ out.old.items ++ flat_map ended (pair_lines parts desk.now.runs totals.now)) }
+    ensures { OnOk result (out.new.items ≡ out.old.items ++
+        flat_map ended (pair_lines parts desk.now.runs totals.now)) }
 {
     let runs = desk.run_count();
     let mut at = PairPlaces::START;
@@ -186,7 +191,8 @@ pub fn pair_line(
     requires topics { 1 ≤ topics }
     requires topics_few { topics ≤ TOPIC_LIMIT }
     requires totals { AreNearTotals totals.now }
-    ensures { IfOk result (λ line. line.items ≡ ended (pair_line (unsigned_abs unit * topics) first.now second.now totals.now)) }
+    ensures { IfOk result (λ line. line.items ≡
+        ended (pair_line (unsigned_abs unit * topics) first.now second.now totals.now)) }
 {
     let mut out = Vec::new(alloc);
     push_pair(&mut out, parts(unit, topics), first, second, totals)?;
@@ -212,7 +218,8 @@ pub fn table_text(
     requires totals_count { length totals.now ≡ length (pairs_of desk.now.runs) }
     requires bounds { All IsShort bounds.now }
     requires totals { All AreNearTotals totals.now }
-    ensures { IfOk result (λ text. text.items ≡ table_text desk.now measure.now level depth unit bounds.now totals.now) }
+    ensures { IfOk result (λ text. text.items ≡
+        table_text desk.now measure.now level depth unit bounds.now totals.now) }
 {
     let mut out = Vec::new(alloc);
     let topics = desk.topic_count();

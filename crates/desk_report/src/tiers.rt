@@ -27,7 +27,8 @@ fn push_system(out: &mut Vec<u8>, name: &[u8], tier: u32) -> Result<(), AllocErr
 
 fn push_systems(out: &mut Vec<u8>, desk: &Desk, order: &Order) -> Result<(), AllocError>
     requires { length order.now.tiers ≡ length desk.now.runs }
-    ensures { OnOk result (out.new.items ≡ out.old.items ++ flat_map ended (system_lines desk.now.runs order.now.tiers)) }
+    ensures { OnOk result (out.new.items ≡ out.old.items ++
+        flat_map ended (system_lines desk.now.runs order.now.tiers)) }
 {
     for run in 0..desk.run_count() {
         push_system(out, desk.run_name(run), order.tier(run))?;
@@ -45,7 +46,8 @@ fn push_cover_names(out: &mut Vec<u8>, first: &[u8], second: &[u8]) -> Result<()
 }
 
 fn push_counts(out: &mut Vec<u8>, wins: u32, losses: u32) -> Result<(), AllocError>
-    ensures { OnOk result (out.new.items ≡ out.old.items ++ (32 ∷ decimal wins ++ 32 ∷ decimal losses)) }
+    ensures { OnOk result (out.new.items ≡ out.old.items ++
+        (32 ∷ decimal wins ++ 32 ∷ decimal losses)) }
 {
     out.extend_from_slice(b" ")?;
     push_number(out, wins)?;
@@ -55,7 +57,8 @@ fn push_counts(out: &mut Vec<u8>, wins: u32, losses: u32) -> Result<(), AllocErr
 
 fn push_cover(out: &mut Vec<u8>, desk: &Desk, cover: &Cover) -> Result<(), AllocError>
     requires { CoverIsWithin (length desk.now.runs) cover.now }
-    ensures { OnOk result (out.new.items ≡ out.old.items ++ ended (line_of_cover desk.now.runs cover.now)) }
+    ensures { OnOk result (out.new.items ≡ out.old.items ++
+        ended (line_of_cover desk.now.runs cover.now)) }
 {
     let first = desk.run_name(cover.first);
     let second = desk.run_name(cover.second);
@@ -66,7 +69,8 @@ fn push_cover(out: &mut Vec<u8>, desk: &Desk, cover: &Cover) -> Result<(), Alloc
 
 fn push_covers(out: &mut Vec<u8>, desk: &Desk, covers: &[Cover]) -> Result<(), AllocError>
     requires { All (CoverIsWithin (length desk.now.runs)) covers.now }
-    ensures { OnOk result (out.new.items ≡ out.old.items ++ flat_map ended (map (line_of_cover desk.now.runs) covers.now)) }
+    ensures { OnOk result (out.new.items ≡ out.old.items ++
+        flat_map ended (map (line_of_cover desk.now.runs) covers.now)) }
 {
     for cover in covers {
         push_cover(out, desk, cover)?;
@@ -88,7 +92,8 @@ pub fn tiers_text(
     order: &Order,
 ) -> Result<Vec<u8>, Memory>
     requires { length order.now.tiers ≡ length desk.now.runs }
-    ensures { IfOk result (λ text. text.items ≡ tiers_text desk.now name.now level depth order.now) }
+    ensures { IfOk result (λ text. text.items ≡
+        tiers_text desk.now name.now level depth order.now) }
 {
     let mut out = Vec::new(alloc);
     push_head(
@@ -119,9 +124,12 @@ pub fn tiers_report<M: Measure>(
     table: &Table<M>,
 ) -> Result<Vec<u8>, Memory>
     requires marks { AreMarksOf desk.now marks.now.rows }
-    requires table { StandsFor (M.cell_of table.now.measure) (M.bounds_of table.now.measure) desk.now marks.now.rows table.now }
-    ensures { IfOk result (λ text. (s : Subject) → s.level ≡ grading.level → s.depth ≡ grading.depth → s.marks ≡ marks.now.rows →
-        IsSubjectOf (M.measured table.now.measure) (M.cell_of table.now.measure) (M.bounds_of table.now.measure) desk.now table.now s →
+    requires table { StandsFor (M.cell_of table.now.measure) (M.bounds_of table.now.measure)
+        desk.now marks.now.rows table.now }
+    ensures { IfOk result (λ text. (s : Subject) → s.level ≡ grading.level →
+        s.depth ≡ grading.depth → s.marks ≡ marks.now.rows →
+        IsSubjectOf (M.measured table.now.measure) (M.cell_of table.now.measure)
+        (M.bounds_of table.now.measure) desk.now table.now s →
         IsTiersText s text.items) }
 {
     desk.valid();

@@ -35,7 +35,8 @@ fn skip(line: &[u8], from: usize) -> usize
     ensures from { from ≤ result }
     ensures within { result ≤ length line.now }
     ensures stops { result < length line.now → is_separator (slice_index line.now result) ≡ false }
-    ensures separators { (i : ℕ) → from ≤ i → i < result → is_separator (slice_index line.now i) ≡ true }
+    ensures separators { (i : ℕ) → from ≤ i → i < result →
+        is_separator (slice_index line.now i) ≡ true }
 {
     let mut at = from;
     while at < line.len() && is_separator(line[at]) {
@@ -49,7 +50,8 @@ fn is_cut(line: &[u8], end: usize) -> bool
     requires { end ≤ length line.now }
     ensures within { result ≡ true → end < length line.now }
     ensures cut { result ≡ true → is_separator (slice_index line.now end) ≡ false }
-    ensures ends { result ≡ false → end < length line.now → is_separator (slice_index line.now end) ≡ true }
+    ensures ends { result ≡ false → end < length line.now →
+        is_separator (slice_index line.now end) ≡ true }
 {
     end < line.len() && !is_separator(line[end])
 }
@@ -57,7 +59,8 @@ fn is_cut(line: &[u8], end: usize) -> bool
 /// The fields of a line, or its first bad byte: one below 0x21 that is no separator, or 0x7F. It takes no memory.
 pub fn fields(line: &[u8]) -> Result<Fields, BadByte>
     ensures ok { IfOk result (λ f. AreFields line.now (count_of f) (places_of f)) }
-    ensures bad { result_err result ≡ option_map (λ i. record { at = i }) (position is_bad line.now) }
+    ensures bad { result_err result ≡
+        option_map (λ i. record { at = i }) (position is_bad line.now) }
 {
     let mut count = 0;
     let mut places = [(0, 0); 6];

@@ -11,7 +11,8 @@ pub fn pieces_do_not_matter()
 /// Where the line of a text that has not ended is kept, a push keeps it after the bytes that it took, or the whole line
 /// that they end. So what a user reads and clears line by line are the lines of the text.
 pub fn pushes_keep_the_line()
-    ensures { (text piece : List ℕ) (new : Option (List ℕ)) (pushed : Pushed) → IsPushed (kept_line (unended text)) piece new pushed
+    ensures { (text piece : List ℕ) (new : Option (List ℕ)) (pushed : Pushed) →
+        IsPushed (kept_line (unended text)) piece new pushed
         → KeepsOn pushed.ended text (take pushed.used piece) new }
 {}
 
@@ -22,12 +23,15 @@ pub fn lines_are_whole_or_last()
 
 /// Bytes without a line feed end no line, and stand at the end of the one that has not ended.
 pub fn bytes_of_a_line_end_none()
-    ensures whole { (text more : List ℕ) → HasNoLineFeed more → whole_lines (text ++ more) ≡ whole_lines text }
-    ensures unended { (text more : List ℕ) → HasNoLineFeed more → unended (text ++ more) ≡ unended text ++ more }
+    ensures whole { (text more : List ℕ) → HasNoLineFeed more →
+        whole_lines (text ++ more) ≡ whole_lines text }
+    ensures unended { (text more : List ℕ) → HasNoLineFeed more →
+        unended (text ++ more) ≡ unended text ++ more }
 {}
 
 /// A line feed ends the line that had not ended.
 pub fn a_line_feed_ends_a_line()
-    ensures whole { (text more : List ℕ) → HasNoLineFeed more → whole_lines (text ++ more ++ 10 ∷ []) ≡ whole_lines text ++ (unended text ++ more) ∷ [] }
+    ensures whole { (text more : List ℕ) → HasNoLineFeed more →
+        whole_lines (text ++ more ++ 10 ∷ []) ≡ whole_lines text ++ (unended text ++ more) ∷ [] }
     ensures unended { (text more : List ℕ) → unended (text ++ more ++ 10 ∷ []) ≡ [] }
 {}

@@ -24,7 +24,8 @@ pub struct Line {
 pub fn next_line(bytes: &[u8], from: usize) -> Line
     requires { from < length bytes.now }
     // The lines from there on are this one and those after it.
-    ensures lines { lines (drop from bytes.now) ≡ slice_range bytes.now result.start result.end ∷ lines (drop result.next bytes.now) }
+    ensures lines { lines (drop from bytes.now) ≡ slice_range bytes.now result.start result.end ∷
+        lines (drop result.next bytes.now) }
     ensures start { result.start ≡ from }
     ensures end { result.start ≤ result.end }
     ensures next { result.end ≤ result.next }

@@ -35,7 +35,8 @@ fn digits(text: &[u8], most: u64) -> Option<u64>
 
 /// A text is read as a number exactly where it is what is written of that number.
 pub fn plain_is_decimal()
-    ensures { (most n : ℕ) (text : List ℕ) → most < 2 ^ 64 → n ≤ most → text ≡ decimal n → plain_of most text ≡ Some n }
+    ensures { (most n : ℕ) (text : List ℕ) → most < 2 ^ 64 → n ≤ most → text ≡ decimal n →
+        plain_of most text ≡ Some n }
 {}
 
 /// The number that the text is, if it is an optional `+` or `-` and one or more digits, and lies from `least` to `most`.
@@ -77,7 +78,8 @@ fn with_sign(negative: bool, size: u64) -> i128
 
 // The number that digits say, or the greatest u64 where it is greater.
 fn magnitude(digits: &[u8]) -> Option<u64>
-    ensures { result ≡ (if is_digits digits.now then Some (min (read_on 0 digits.now) (2 ^ 64 - 1)) else None) }
+    ensures { result ≡
+        (if is_digits digits.now then Some (min (read_on 0 digits.now) (2 ^ 64 - 1)) else None) }
 {
     if digits.is_empty() {
         return None;

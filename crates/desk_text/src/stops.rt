@@ -23,7 +23,8 @@ fn is_stop(byte: u8) -> bool
 #[inline(always)]
 fn stops(line: &[u8], from: usize) -> u64
     requires { from + 16 ≤ length line.now }
-    ensures bits { (k : ℕ) → k < 16 → bit_at result k ≡ (if is_stop (slice_index line.now (from + k)) then 1 else 0) }
+    ensures bits { (k : ℕ) → k < 16 →
+        bit_at result k ≡ (if is_stop (slice_index line.now (from + k)) then 1 else 0) }
     ensures few { result < 65536 }
 {
     let bytes = u8x16::from_slice(&line[from..]);
@@ -79,7 +80,8 @@ impl FirstStops {
     #[inline(always)]
     fn past(self, from: usize) -> usize
         requires { self.known ≤ 64 }
-        ensures { (line : List ℕ) → AreFirstStops line self → from ≤ length line → IsInField line from result }
+        ensures { (line : List ℕ) → AreFirstStops line self → from ≤ length line →
+            IsInField line from result }
     {
         if self.known <= from {
             return from;

@@ -34,7 +34,8 @@ fn texts_of<M: Measure>(
 ) -> Result<Vec<u8>, Memory>
     requires valid { IsDesk demo.now.desk }
     requires marks { marks.now.rows ≡ (demo_subject demo.now.desk).marks }
-    requires table { IsTableOn (M.measured table.now.measure) (M.cell_of table.now.measure) (M.bounds_of table.now.measure) (demo_subject demo.now.desk) table.now }
+    requires table { IsTableOn (M.measured table.now.measure) (M.cell_of table.now.measure)
+        (M.bounds_of table.now.measure) (demo_subject demo.now.desk) table.now }
     ensures { IfOk result (λ text. IsShown seed demo.now.desk demo.now.rows text.items) }
 {
     let mut text = summary_text(
@@ -79,7 +80,8 @@ pub fn demo_outcome<'a, P: Maker, L: Ledger>(
     seed: u32,
     steps: &mut Steps<L>,
 ) -> Result<Outcome, Stop<'a>>
-    ensures works { (files : SeenShelf) → Works (demo_meaning seed) files steps.old steps.new result }
+    ensures works { (files : SeenShelf) →
+        Works (demo_meaning seed) files steps.old steps.new result }
     ensures memory { IfErr result (λ stop. stop ≡ NoMemory) }
 {
     let text = demo_text(tools, seed, steps)?;

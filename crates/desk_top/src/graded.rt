@@ -38,8 +38,10 @@ fn graded_report<P: Maker, L: Ledger>(
     requires biased { HasPersistence measure }
     requires some { 1 ≤ greatest }
     requires few { greatest ≤ GREATEST_LIMIT }
-    requires cells { pair_count (length desk.now.runs) * length desk.now.topics * greatest ≤ CELL_LIMIT }
-    ensures text { IfOk result (λ text. (m : GradedMeasure) → IsMeasureByGrades measure greatest m → IsGradedText m desk.now text.items) }
+    requires cells { pair_count (length desk.now.runs) * length desk.now.topics * greatest ≤
+        CELL_LIMIT }
+    ensures text { IfOk result (λ text. (m : GradedMeasure) → IsMeasureByGrades measure greatest m →
+        IsGradedText m desk.now text.items) }
     ensures steps { steps.new ≤ steps.old + cells_of desk.now * greatest }
 {
     let table = GradedTable::new(tools.alloc, desk, greatest, measure, tools.maker, steps)?;
@@ -62,9 +64,12 @@ pub fn graded_outcome<'a, F: Shelf, P: Maker, L: Ledger>(
     steps: &mut Steps<L>,
 ) -> Result<Outcome, Stop<'a>>
     requires { IsAskedByGrades job.now greatest }
-    ensures works { Works (graded_meaning job.now greatest) (shelf (F.state files.old) (F.state files.new)) steps.old steps.new result }
-    ensures opened { OpensWithin (graded_loading job.now greatest) (shelf (F.state files.old) (F.state files.new)) }
-    ensures reads { ReadsFiles (extent_of (answer_of result)) (F.state files.old).calls (F.state files.new).calls }
+    ensures works { Works (graded_meaning job.now greatest)
+        (shelf (F.state files.old) (F.state files.new)) steps.old steps.new result }
+    ensures opened { OpensWithin (graded_loading job.now greatest)
+        (shelf (F.state files.old) (F.state files.new)) }
+    ensures reads { ReadsFiles (extent_of (answer_of result)) (F.state files.old).calls
+        (F.state files.new).calls }
     ensures files { (F.state files.new).files ≡ (F.state files.old).files }
 {
     let desk = load_desk(tools.alloc, files, &job.qrels, &job.runs, greatest)?;

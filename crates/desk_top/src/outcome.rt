@@ -31,7 +31,8 @@ pub enum Outcome {
 
 /// Puts a text, and answers its status; or where the output fails, tells that.
 pub fn put_text<K: Sink, E: Sink>(out: &mut K, err: &mut E, text: &[u8], status: Status) -> Status
-    ensures { PutsText (sink (K.state out.old) (K.state out.new)) (sink (E.state err.old) (E.state err.new)) text.now status result }
+    ensures { PutsText (sink (K.state out.old) (K.state out.new))
+        (sink (E.state err.old) (E.state err.new)) text.now status result }
 {
     match put_all(out, text) {
         Ok(()) => status,

@@ -33,9 +33,13 @@ pub fn session_outcome<'a, F: Shelf>(
     job: &'a Job,
 ) -> Result<Outcome, Stop<'a>>
     requires { IsAsked 1 job.now }
-    ensures works { (cells : ℕ) → Works (session_meaning job.now) (shelf (F.state files.old) (F.state files.new)) cells cells result }
-    ensures opened { OpensWithin (desk_loading job.now) (shelf (F.state files.old) (F.state files.new)) }
-    ensures reads { ReadsFiles (extent_of (answer_of result)) (F.state files.old).calls (F.state files.new).calls }
+    ensures works { (cells : ℕ) →
+        Works (session_meaning job.now) (shelf (F.state files.old) (F.state files.new)) cells cells
+        result }
+    ensures opened { OpensWithin (desk_loading job.now)
+        (shelf (F.state files.old) (F.state files.new)) }
+    ensures reads { ReadsFiles (extent_of (answer_of result)) (F.state files.old).calls
+        (F.state files.new).calls }
     ensures files { (F.state files.new).files ≡ (F.state files.old).files }
 {
     let desk = load_desk(alloc, files, &job.qrels, &job.runs, 1)?;

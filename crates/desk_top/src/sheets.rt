@@ -21,9 +21,13 @@ pub fn merge_outcome<'a, F: Shelf>(
     files: &mut F,
     sheets: &'a Sheets,
 ) -> Result<Outcome, Stop<'a>>
-    ensures works { (cells : ℕ) → Works (merge_meaning sheets.now) (shelf (F.state files.old) (F.state files.new)) cells cells result }
-    ensures opened { OpensWithin (sheets_loading sheets.now) (shelf (F.state files.old) (F.state files.new)) }
-    ensures reads { ReadsFiles (extent_of (answer_of result)) (F.state files.old).calls (F.state files.new).calls }
+    ensures works { (cells : ℕ) →
+        Works (merge_meaning sheets.now) (shelf (F.state files.old) (F.state files.new)) cells cells
+        result }
+    ensures opened { OpensWithin (sheets_loading sheets.now)
+        (shelf (F.state files.old) (F.state files.new)) }
+    ensures reads { ReadsFiles (extent_of (answer_of result)) (F.state files.old).calls
+        (F.state files.new).calls }
     ensures files { (F.state files.new).files ≡ (F.state files.old).files }
 {
     let sheet = load_merged(alloc, files, sheets)?;
@@ -41,9 +45,13 @@ pub fn apply_outcome<'a, F: Shelf>(
     files: &mut F,
     placing: &'a Placing,
 ) -> Result<Outcome, Stop<'a>>
-    ensures works { (cells : ℕ) → Works (apply_meaning placing.now) (shelf (F.state files.old) (F.state files.new)) cells cells result }
-    ensures opened { OpensWithin (placing_loading placing.now) (shelf (F.state files.old) (F.state files.new)) }
-    ensures reads { ReadsFiles (extent_of (answer_of result)) (F.state files.old).calls (F.state files.new).calls }
+    ensures works { (cells : ℕ) →
+        Works (apply_meaning placing.now) (shelf (F.state files.old) (F.state files.new)) cells
+        cells result }
+    ensures opened { OpensWithin (placing_loading placing.now)
+        (shelf (F.state files.old) (F.state files.new)) }
+    ensures reads { ReadsFiles (extent_of (answer_of result)) (F.state files.old).calls
+        (F.state files.new).calls }
     ensures files { (F.state files.new).files ≡ (F.state files.old).files }
 {
     let (desk, sheet) = load_placing(alloc, files, placing)?;

@@ -22,7 +22,8 @@ fn tell<E: Sink>(err: &mut E, line: &[u8])
 /// Tells that the words are of no command.
 pub fn tell_usage<E: Sink>(err: &mut E) -> Status
     ensures status { result ≡ Status.Usage }
-    ensures line { WritesLine (sink (E.state err.old) (E.state err.new)) (status_line Status.Usage) }
+    ensures line { WritesLine (sink (E.state err.old) (E.state err.new))
+        (status_line Status.Usage) }
 {
     tell(
         err,
@@ -34,7 +35,8 @@ pub fn tell_usage<E: Sink>(err: &mut E) -> Status
 /// Tells that the outside failed.
 pub fn tell_outside<E: Sink>(err: &mut E) -> Status
     ensures status { result ≡ Status.Outside }
-    ensures line { WritesLine (sink (E.state err.old) (E.state err.new)) (status_line Status.Outside) }
+    ensures line { WritesLine (sink (E.state err.old) (E.state err.new))
+        (status_line Status.Outside) }
 {
     tell(err, b"fault: outside\n");
     Status::Outside
@@ -43,7 +45,8 @@ pub fn tell_outside<E: Sink>(err: &mut E) -> Status
 /// Tells that memory ran out.
 pub fn tell_memory<E: Sink>(err: &mut E) -> Status
     ensures status { result ≡ Status.Memory }
-    ensures line { WritesLine (sink (E.state err.old) (E.state err.new)) (status_line Status.Memory) }
+    ensures line { WritesLine (sink (E.state err.old) (E.state err.new))
+        (status_line Status.Memory) }
 {
     tell(err, b"fault: memory\n");
     Status::Memory
@@ -119,7 +122,8 @@ pub fn too_long_line(alloc: Global, bytes: u64) -> Result<Vec<u8>, AllocError>
 
 // What is wrong with a line of a file.
 fn push_at_line(line: &mut Vec<u8>, path: &str, number: u64, word: &str) -> Result<(), AllocError>
-    ensures { OnOk result (line.new.items ≡ line.old.items ++ (path.now ++ at_line number word.now)) }
+    ensures { OnOk result (line.new.items ≡ line.old.items ++
+        (path.now ++ at_line number word.now)) }
 {
     line.extend_from_slice(path.as_bytes())?;
     line.extend_from_slice(b" line ")?;
@@ -146,7 +150,8 @@ fn push_document(line: &mut Vec<u8>, path: &str, topic: &[u8], doc: &[u8]) -> Re
 }
 
 fn push_refusal(line: &mut Vec<u8>, refusal: &Refusal) -> Result<(), AllocError>
-    ensures { OnOk result (line.new.items ≡ line.old.items ++ refusal_text (refusal_of refusal.now)) }
+    ensures { OnOk result (line.new.items ≡ line.old.items ++
+        refusal_text (refusal_of refusal.now)) }
 {
     match refusal {
         Refusal::FileTooLong(path) => push_of(line, path.as_bytes(), b": FileTooLong"),
@@ -182,7 +187,8 @@ fn refusal_line(alloc: Global, refusal: &Refusal) -> Result<Vec<u8>, AllocError>
 
 // Tells that the files are refused, or that memory for the line ran out.
 fn tell_refused<E: Sink>(alloc: Global, err: &mut E, refusal: &Refusal) -> Status
-    ensures { TellsRefusal (refusal_of refusal.now) (sink (E.state err.old) (E.state err.new)) result }
+    ensures { TellsRefusal (refusal_of refusal.now) (sink (E.state err.old) (E.state err.new))
+        result }
 {
     match refusal_line(alloc, refusal) {
         Ok(line) => tell_refusal(err, &line),

@@ -32,9 +32,12 @@ fn run_command<F: Shelf, S: Source, K: Sink, E: Sink, P: Maker, L: Ledger>(
 ) -> Status
     requires { (meaning_of command.now).asked }
     ensures meets { Meets (meaning_of command.now)
-        (call (shelf (F.state files.old) (F.state files.new)) (source (S.state input.old) (S.state input.new))
-        (sink (K.state out.old) (K.state out.new)) (sink (E.state err.old) (E.state err.new)) steps.old steps.new) result }
-    ensures input { LeavesInput (meaning_of command.now) (F.state files.old).files input.old input.new }
+        (call (shelf (F.state files.old) (F.state files.new))
+        (source (S.state input.old) (S.state input.new))
+        (sink (K.state out.old) (K.state out.new)) (sink (E.state err.old) (E.state err.new))
+        steps.old steps.new) result }
+    ensures input { LeavesInput (meaning_of command.now) (F.state files.old).files input.old
+        input.new }
     ensures files { (F.state files.new).files ≡ (F.state files.old).files }
 {
     match outcome_of(tools, command, files, steps) {
@@ -85,9 +88,12 @@ pub fn run_desk<F: Shelf, S: Source, K: Sink, E: Sink, P: Maker, L: Ledger>(
 ) -> u8
     ensures known { result ≤ 6 }
     ensures ends { IsStatus result (IsCallOf (map string_bytes words.now)
-        (call (shelf (F.state files.old) (F.state files.new)) (source (S.state input.old) (S.state input.new))
-        (sink (K.state out.old) (K.state out.new)) (sink (E.state err.old) (E.state err.new)) steps.old steps.new)) }
-    ensures input { Means (map string_bytes words.now) (λ meaning. LeavesInput meaning (F.state files.old).files input.old input.new) }
+        (call (shelf (F.state files.old) (F.state files.new))
+        (source (S.state input.old) (S.state input.new))
+        (sink (K.state out.old) (K.state out.new)) (sink (E.state err.old) (E.state err.new))
+        steps.old steps.new)) }
+    ensures input { Means (map string_bytes words.now) (λ meaning.
+        LeavesInput meaning (F.state files.old).files input.old input.new) }
     ensures files { (F.state files.new).files ≡ (F.state files.old).files }
 {
     command_is_unique();

@@ -130,9 +130,13 @@ pub fn check_outcome<'a, F: Shelf>(
     files: &mut F,
     check: &'a Check,
 ) -> Result<Outcome, Stop<'a>>
-    ensures works { (cells : ℕ) → Works (check_meaning check.now) (shelf (F.state files.old) (F.state files.new)) cells cells result }
-    ensures opened { OpensWithin (check_loading check.now) (shelf (F.state files.old) (F.state files.new)) }
-    ensures reads { ReadsFiles (extent_of (answer_of result)) (F.state files.old).calls (F.state files.new).calls }
+    ensures works { (cells : ℕ) →
+        Works (check_meaning check.now) (shelf (F.state files.old) (F.state files.new)) cells cells
+        result }
+    ensures opened { OpensWithin (check_loading check.now)
+        (shelf (F.state files.old) (F.state files.new)) }
+    ensures reads { ReadsFiles (extent_of (answer_of result)) (F.state files.old).calls
+        (F.state files.new).calls }
     ensures files { (F.state files.new).files ≡ (F.state files.old).files }
 {
     let (desk, certificate) = load_check(alloc, files, check)?;

@@ -47,13 +47,18 @@ fn tabled<'a, F: Shelf, P: Maker, L: Ledger>(
     steps: &mut Steps<L>,
 ) -> Result<DeskTable<P::Made>, Stop<'a>>
     requires { IsMeasure job.now.measure }
-    ensures on { IfOk result (λ on. IsTabled (P.Made.measured on.table.measure) (P.Made.cell_of on.table.measure) (P.Made.bounds_of on.table.measure)
+    ensures on { IfOk result (λ on.
+        IsTabled (P.Made.measured on.table.measure) (P.Made.cell_of on.table.measure)
+        (P.Made.bounds_of on.table.measure)
         job.now (F.state files.old).files on) }
-    ensures stops { IfErr result (StopsLoading (desk_loading job.now) (shelf (F.state files.old) (F.state files.new))) }
+    ensures stops { IfErr result
+        (StopsLoading (desk_loading job.now) (shelf (F.state files.old) (F.state files.new))) }
     ensures steps { IfOk result (λ on. steps.new ≡ steps.old + cells_of on.desk) }
     ensures no_steps { OnErr result (steps.new ≡ steps.old) }
-    ensures opened { OpensWithin (desk_loading job.now) (shelf (F.state files.old) (F.state files.new)) }
-    ensures reads { ReadsFiles (extent_of (answer_of result)) (F.state files.old).calls (F.state files.new).calls }
+    ensures opened { OpensWithin (desk_loading job.now)
+        (shelf (F.state files.old) (F.state files.new)) }
+    ensures reads { ReadsFiles (extent_of (answer_of result)) (F.state files.old).calls
+        (F.state files.new).calls }
     ensures files { (F.state files.new).files ≡ (F.state files.old).files }
 {
     let desk = load_desk(tools.alloc, files, &job.qrels, &job.runs, 1)?;
@@ -71,9 +76,12 @@ pub fn table_outcome<'a, F: Shelf, P: Maker, L: Ledger>(
     steps: &mut Steps<L>,
 ) -> Result<Outcome, Stop<'a>>
     requires { IsAsked 1 job.now }
-    ensures works { Works (meaning_of (commands.Table job.now)) (shelf (F.state files.old) (F.state files.new)) steps.old steps.new result }
-    ensures opened { OpensWithin (desk_loading job.now) (shelf (F.state files.old) (F.state files.new)) }
-    ensures reads { ReadsFiles (extent_of (answer_of result)) (F.state files.old).calls (F.state files.new).calls }
+    ensures works { Works (meaning_of (commands.Table job.now))
+        (shelf (F.state files.old) (F.state files.new)) steps.old steps.new result }
+    ensures opened { OpensWithin (desk_loading job.now)
+        (shelf (F.state files.old) (F.state files.new)) }
+    ensures reads { ReadsFiles (extent_of (answer_of result)) (F.state files.old).calls
+        (F.state files.new).calls }
     ensures files { (F.state files.new).files ≡ (F.state files.old).files }
 {
     let on = tabled(tools, job, files, steps)?;
@@ -93,9 +101,12 @@ pub fn tiers_outcome<'a, F: Shelf, P: Maker, L: Ledger>(
     steps: &mut Steps<L>,
 ) -> Result<Outcome, Stop<'a>>
     requires { IsAsked 1 job.now }
-    ensures works { Works (meaning_of (commands.Tiers job.now)) (shelf (F.state files.old) (F.state files.new)) steps.old steps.new result }
-    ensures opened { OpensWithin (desk_loading job.now) (shelf (F.state files.old) (F.state files.new)) }
-    ensures reads { ReadsFiles (extent_of (answer_of result)) (F.state files.old).calls (F.state files.new).calls }
+    ensures works { Works (meaning_of (commands.Tiers job.now))
+        (shelf (F.state files.old) (F.state files.new)) steps.old steps.new result }
+    ensures opened { OpensWithin (desk_loading job.now)
+        (shelf (F.state files.old) (F.state files.new)) }
+    ensures reads { ReadsFiles (extent_of (answer_of result)) (F.state files.old).calls
+        (F.state files.new).calls }
     ensures files { (F.state files.new).files ≡ (F.state files.old).files }
 {
     let on = tabled(tools, job, files, steps)?;
@@ -131,9 +142,12 @@ pub fn certificate_outcome<'a, F: Shelf, P: Maker, L: Ledger>(
     steps: &mut Steps<L>,
 ) -> Result<Outcome, Stop<'a>>
     requires { IsAsked 2 job.now }
-    ensures works { Works (meaning_of (commands.Certify job.now)) (shelf (F.state files.old) (F.state files.new)) steps.old steps.new result }
-    ensures opened { OpensWithin (desk_loading job.now) (shelf (F.state files.old) (F.state files.new)) }
-    ensures reads { ReadsFiles (extent_of (answer_of result)) (F.state files.old).calls (F.state files.new).calls }
+    ensures works { Works (meaning_of (commands.Certify job.now))
+        (shelf (F.state files.old) (F.state files.new)) steps.old steps.new result }
+    ensures opened { OpensWithin (desk_loading job.now)
+        (shelf (F.state files.old) (F.state files.new)) }
+    ensures reads { ReadsFiles (extent_of (answer_of result)) (F.state files.old).calls
+        (F.state files.new).calls }
     ensures files { (F.state files.new).files ≡ (F.state files.old).files }
 {
     let on = tabled(tools, job, files, steps)?;
@@ -166,9 +180,12 @@ pub fn all_pairs_outcome<'a, F: Shelf, P: Maker, L: Ledger>(
     steps: &mut Steps<L>,
 ) -> Result<Outcome, Stop<'a>>
     requires { IsAsked 2 job.now }
-    ensures works { Works (meaning_of (commands.CertifyAll job.now)) (shelf (F.state files.old) (F.state files.new)) steps.old steps.new result }
-    ensures opened { OpensWithin (desk_loading job.now) (shelf (F.state files.old) (F.state files.new)) }
-    ensures reads { ReadsFiles (extent_of (answer_of result)) (F.state files.old).calls (F.state files.new).calls }
+    ensures works { Works (meaning_of (commands.CertifyAll job.now))
+        (shelf (F.state files.old) (F.state files.new)) steps.old steps.new result }
+    ensures opened { OpensWithin (desk_loading job.now)
+        (shelf (F.state files.old) (F.state files.new)) }
+    ensures reads { ReadsFiles (extent_of (answer_of result)) (F.state files.old).calls
+        (F.state files.new).calls }
     ensures files { (F.state files.new).files ≡ (F.state files.old).files }
 {
     let on = tabled(tools, job, files, steps)?;
@@ -186,9 +203,12 @@ pub fn outcome_of<'a, F: Shelf, P: Maker, L: Ledger>(
     steps: &mut Steps<L>,
 ) -> Result<Outcome, Stop<'a>>
     requires { (meaning_of command.now).asked }
-    ensures works { Works (meaning_of command.now) (shelf (F.state files.old) (F.state files.new)) steps.old steps.new result }
-    ensures opened { OpensWithin (meaning_of command.now).loading (shelf (F.state files.old) (F.state files.new)) }
-    ensures reads { ReadsFiles (extent_of (answer_of result)) (F.state files.old).calls (F.state files.new).calls }
+    ensures works { Works (meaning_of command.now) (shelf (F.state files.old) (F.state files.new))
+        steps.old steps.new result }
+    ensures opened { OpensWithin (meaning_of command.now).loading
+        (shelf (F.state files.old) (F.state files.new)) }
+    ensures reads { ReadsFiles (extent_of (answer_of result)) (F.state files.old).calls
+        (F.state files.new).calls }
     ensures files { (F.state files.new).files ≡ (F.state files.old).files }
 {
     match command {

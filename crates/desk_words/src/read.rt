@@ -112,7 +112,8 @@ fn pairs_from(least: usize) -> Row
 /// of no command, unless memory runs out; `Memory` may come at any words.
 pub fn read_words(alloc: Global, words: &[String]) -> Result<Command, WordsFault>
     ensures ok { IfOk result (λ command. IsCommandOf (map string_bytes words.now) command) }
-    ensures usage { result ≡ Err WordsFault.Usage → (command : Command) → IsCommandOf (map string_bytes words.now) command → ⊥ }
+    ensures usage { result ≡ Err WordsFault.Usage → (command : Command) →
+        IsCommandOf (map string_bytes words.now) command → ⊥ }
 {
     let Some((word, rest)) = words.split_first() else {
         return Err(WordsFault::Usage);
@@ -128,7 +129,8 @@ pub fn read_words(alloc: Global, words: &[String]) -> Result<Command, WordsFault
 // The command of a verb that the values say.
 fn said(alloc: Global, verb: Verb, given: &Given) -> Result<Command, WordsFault>
     ensures ok { IfOk result (λ command. IsSaid verb (values_held given.now) command) }
-    ensures usage { result ≡ Err WordsFault.Usage → (command : Command) → IsSaid verb (values_held given.now) command → ⊥ }
+    ensures usage { result ≡ Err WordsFault.Usage → (command : Command) →
+        IsSaid verb (values_held given.now) command → ⊥ }
 {
     match verb {
         Verb::Table => Ok(Command::Table(job(alloc, given)?)),
@@ -148,7 +150,8 @@ fn said(alloc: Global, verb: Verb, given: &Given) -> Result<Command, WordsFault>
 // The table by grades. The measure is rank-biased precision.
 fn graded(alloc: Global, given: &Given) -> Result<Command, WordsFault>
     ensures ok { IfOk result (λ command. IsSaid Verb.Graded (values_held given.now) command) }
-    ensures usage { result ≡ Err WordsFault.Usage → (command : Command) → IsSaid Verb.Graded (values_held given.now) command → ⊥ }
+    ensures usage { result ≡ Err WordsFault.Usage → (command : Command) →
+        IsSaid Verb.Graded (values_held given.now) command → ⊥ }
 {
     let job = job(alloc, given)?;
     if !has_persistence(&job.measure) {
@@ -172,7 +175,8 @@ fn has_persistence(measure: &MeasureName) -> bool
 // The certificate of the first two runs, or with the flag that of all pairs.
 fn certified(alloc: Global, given: &Given) -> Result<Command, WordsFault>
     ensures ok { IfOk result (λ command. IsSaid Verb.Certify (values_held given.now) command) }
-    ensures usage { result ≡ Err WordsFault.Usage → (command : Command) → IsSaid Verb.Certify (values_held given.now) command → ⊥ }
+    ensures usage { result ≡ Err WordsFault.Usage → (command : Command) →
+        IsSaid Verb.Certify (values_held given.now) command → ⊥ }
 {
     let job = job(alloc, given)?;
     if given.values("all").is_empty() {
@@ -184,7 +188,8 @@ fn certified(alloc: Global, given: &Given) -> Result<Command, WordsFault>
 
 fn job(alloc: Global, given: &Given) -> Result<Job, WordsFault>
     ensures ok { IfOk result (λ job. SaysJob (values_held given.now) job) }
-    ensures usage { result ≡ Err WordsFault.Usage → (job : Job) → SaysJob (values_held given.now) job → ⊥ }
+    ensures usage { result ≡ Err WordsFault.Usage → (job : Job) →
+        SaysJob (values_held given.now) job → ⊥ }
 {
     Ok(Job {
         qrels: path(alloc, given.values("qrels"))?,
@@ -197,7 +202,8 @@ fn job(alloc: Global, given: &Given) -> Result<Job, WordsFault>
 
 fn check(alloc: Global, given: &Given) -> Result<Check, WordsFault>
     ensures ok { IfOk result (λ check. SaysCheck (values_held given.now) check) }
-    ensures usage { result ≡ Err WordsFault.Usage → (check : Check) → SaysCheck (values_held given.now) check → ⊥ }
+    ensures usage { result ≡ Err WordsFault.Usage → (check : Check) →
+        SaysCheck (values_held given.now) check → ⊥ }
 {
     Ok(Check {
         qrels: path(alloc, given.values("qrels"))?,
@@ -208,7 +214,8 @@ fn check(alloc: Global, given: &Given) -> Result<Check, WordsFault>
 
 fn placing(alloc: Global, given: &Given) -> Result<Placing, WordsFault>
     ensures ok { IfOk result (λ placing. SaysPlacing (values_held given.now) placing) }
-    ensures usage { result ≡ Err WordsFault.Usage → (placing : Placing) → SaysPlacing (values_held given.now) placing → ⊥ }
+    ensures usage { result ≡ Err WordsFault.Usage → (placing : Placing) →
+        SaysPlacing (values_held given.now) placing → ⊥ }
 {
     Ok(Placing {
         qrels: path(alloc, given.values("qrels"))?,

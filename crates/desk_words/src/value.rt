@@ -15,7 +15,8 @@ use std::alloc::Global;
 /// The one value, a path that is not empty.
 pub fn path(alloc: Global, values: &[&str]) -> Result<Path, WordsFault>
     ensures ok { IfOk result (λ p. IsPathOf (map (λ v. v.now) values.now) p) }
-    ensures usage { result ≡ Err WordsFault.Usage → (p : Text) → IsPathOf (map (λ v. v.now) values.now) p → ⊥ }
+    ensures usage { result ≡ Err WordsFault.Usage → (p : Text) →
+        IsPathOf (map (λ v. v.now) values.now) p → ⊥ }
 {
     match *values {
         [text] => filled(alloc, text),
@@ -26,7 +27,8 @@ pub fn path(alloc: Global, values: &[&str]) -> Result<Path, WordsFault>
 /// The measure that the one value names, and none where there is not one value or it names none.
 pub fn measure(values: &[&str]) -> Option<MeasureName>
     ensures some { IfSome result (λ m. IsMeasureOf (map (λ v. v.now) values.now) m) }
-    ensures none { IfNone result ((m : MeasureName) → IsMeasureOf (map (λ v. v.now) values.now) m → ⊥) }
+    ensures none { IfNone result ((m : MeasureName) → IsMeasureOf (map (λ v. v.now) values.now) m →
+        ⊥) }
 {
     match *values {
         [text] => read_measure(text.as_bytes()).ok(),
@@ -61,7 +63,8 @@ pub fn greatest(values: &[&str]) -> Option<u32>
 /// neither.
 pub fn depth(values: &[&str]) -> Result<Option<u32>, WordsFault>
     ensures ok { IfOk result (λ depth. IsDepthOf (map (λ v. v.now) values.now) depth) }
-    ensures usage { IfErr result (λ fault. (fault ≡ WordsFault.Usage) × ((depth : Option ℕ) → IsDepthOf (map (λ v. v.now) values.now) depth → ⊥)) }
+    ensures usage { IfErr result (λ fault. (fault ≡ WordsFault.Usage) ×
+        ((depth : Option ℕ) → IsDepthOf (map (λ v. v.now) values.now) depth → ⊥)) }
 {
     match *values {
         [] => Ok(None),
@@ -111,7 +114,8 @@ pub fn seed(values: &[&str]) -> Option<u32>
 /// The runs of the RUN words, from 1 to 256.
 pub fn runs(alloc: Global, values: &[&str]) -> Result<RunWords, WordsFault>
     ensures ok { IfOk result (λ runs. AreRunsOf (map (λ v. v.now) values.now) runs) }
-    ensures usage { result ≡ Err WordsFault.Usage → (runs : List RunWord) → AreRunsOf (map (λ v. v.now) values.now) runs → ⊥ }
+    ensures usage { result ≡ Err WordsFault.Usage → (runs : List RunWord) →
+        AreRunsOf (map (λ v. v.now) values.now) runs → ⊥ }
 {
     if !are_some_and_few(values) {
         return Err(WordsFault::Usage);
@@ -130,8 +134,10 @@ fn are_some_and_few(values: &[&str]) -> bool
 
 // Each RUN word, in order.
 fn run_words(alloc: Global, values: &[&str]) -> Result<Vec<RunWord>, WordsFault>
-    ensures ok { IfOk result (λ runs. map run_word_of (map (λ v. v.now) values.now) ≡ map Some runs.items) }
-    ensures usage { result ≡ Err WordsFault.Usage → (runs : List RunWord) → map run_word_of (map (λ v. v.now) values.now) ≢ map Some runs }
+    ensures ok { IfOk result (λ runs. map run_word_of (map (λ v. v.now) values.now) ≡
+        map Some runs.items) }
+    ensures usage { result ≡ Err WordsFault.Usage → (runs : List RunWord) →
+        map run_word_of (map (λ v. v.now) values.now) ≢ map Some runs }
 {
     let mut words = Vec::new(alloc);
     for value in values {
@@ -174,7 +180,8 @@ fn named(alloc: Global, name: &str, path: &str) -> Result<RunWord, WordsFault>
 /// The sheets of these paths, from 1 to 256 that are not empty.
 pub fn sheets(alloc: Global, values: &[&str]) -> Result<Sheets, WordsFault>
     ensures ok { IfOk result (λ sheets. AreSheetsOf (map (λ v. v.now) values.now) sheets) }
-    ensures usage { result ≡ Err WordsFault.Usage → (sheets : List Text) → AreSheetsOf (map (λ v. v.now) values.now) sheets → ⊥ }
+    ensures usage { result ≡ Err WordsFault.Usage → (sheets : List Text) →
+        AreSheetsOf (map (λ v. v.now) values.now) sheets → ⊥ }
 {
     if !are_some_and_few(values) {
         return Err(WordsFault::Usage);

@@ -84,7 +84,8 @@ pub fn score_of(measure: MeasureName, docs: &[u32], marks: &[Mark]) -> ScoreFrac
     requires measure { LooksAtNoTail measure }
     requires docs { IsRanking (length marks.now) docs.now }
     requires universe { length marks.now ≤ DOCUMENT_LIMIT }
-    ensures value { value_of result ≡ score measure (length marks.now) (with_picked marks.now (λ _. false)) docs.now [] }
+    ensures value { value_of result ≡
+        score measure (length marks.now) (with_picked marks.now (λ _. false)) docs.now [] }
     ensures small { IsSmallFraction result }
 {
     match measure {

@@ -37,9 +37,12 @@ fn is_unjudged_mark(mark: Mark) -> bool
 /// The first unjudged document from a number on.
 fn first_unjudged(marks: &[Mark], from: usize) -> Option<usize>
     requires { from ≤ length marks.now }
-    ensures here { IfSome result (λ doc. (from ≤ doc) × (doc < length marks.now) × (is_unjudged (mark_at marks.now doc) ≡ true)) }
-    ensures before { IfSome result (λ doc. (d : ℕ) → from ≤ d → d < doc → is_unjudged (mark_at marks.now d) ≡ false) }
-    ensures none { IfNone result ((d : ℕ) → from ≤ d → d < length marks.now → is_unjudged (mark_at marks.now d) ≡ false) }
+    ensures here { IfSome result (λ doc. (from ≤ doc) × (doc < length marks.now) ×
+        (is_unjudged (mark_at marks.now doc) ≡ true)) }
+    ensures before { IfSome result (λ doc. (d : ℕ) → from ≤ d → d < doc →
+        is_unjudged (mark_at marks.now d) ≡ false) }
+    ensures none { IfNone result ((d : ℕ) → from ≤ d → d < length marks.now →
+        is_unjudged (mark_at marks.now d) ≡ false) }
 {
     for doc in from..marks.len() {
         if is_unjudged_mark(marks[doc]) {
@@ -88,7 +91,8 @@ fn judged_ends(
     requires first { IsRanking (length marks.now) first.now }
     requires second { IsRanking (length marks.now) second.now }
     requires universe { length marks.now ≤ DOCUMENT_LIMIT }
-    requires judged { (doc : ℕ) → doc < length marks.now → is_unjudged (mark_at marks.now doc) ≡ false }
+    requires judged { (doc : ℕ) → doc < length marks.now →
+        is_unjudged (mark_at marks.now doc) ≡ false }
     ensures { AreExtremes measure unit marks.now first.now second.now (ends_of result) }
 {
     let x = score_of(measure, first, marks);
@@ -150,8 +154,10 @@ pub fn extremes(
     requires first { IsRanking (length marks.now) first.now }
     requires second { IsRanking (length marks.now) second.now }
     requires universe { length marks.now ≤ DOCUMENT_LIMIT }
-    ensures ends { IfOk result (λ ends. AreExtremes measure unit marks.now first.now second.now (ends_of ends)) }
-    ensures many { (result ≡ Err EndsFault.TooManyUnjudged) ↔ (16 < count_by is_unjudged marks.now) }
+    ensures ends { IfOk result (λ ends.
+        AreExtremes measure unit marks.now first.now second.now (ends_of ends)) }
+    ensures many { (result ≡ Err EndsFault.TooManyUnjudged) ↔
+        (16 < count_by is_unjudged marks.now) }
 {
     if unjudged_count(marks) > 16 {
         return Err(EndsFault::TooManyUnjudged);

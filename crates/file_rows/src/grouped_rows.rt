@@ -97,7 +97,8 @@ impl<V: RowValue> GroupedRows<V> {
 
     /// The rows of a topic, where there are any.
     pub fn rows_on(&self, name: &[u8]) -> Option<&ValuedRows<V>>
-        ensures { MatchOption result (rows_in name.now self.now ≡ []) (λ rows. rows.now ≡ rows_in name.now self.now) }
+        ensures { MatchOption result (rows_in name.now self.now ≡ []) (λ rows. rows.now ≡
+            rows_in name.now self.now) }
     {
         match self.place(name) {
             Some(t) => Some(self.at(t)),
@@ -108,7 +109,8 @@ impl<V: RowValue> GroupedRows<V> {
     /// Puts a topic with no row at the end. It fails only where memory runs out, and then changes nothing.
     pub fn add_topic(&mut self, alloc: Global, name: &[u8]) -> Result<(), AllocError>
         requires { is_topic name.now self.old ≡ false }
-        ensures ok { OnOk result (self.new ≡ self.old ++ record { name = name.now; rows = [] } ∷ []) }
+        ensures ok { OnOk result (self.new ≡ self.old ++ record { name = name.now; rows = [] } ∷
+            []) }
         ensures err { OnErr result (self.new ≡ self.old) }
     {
         self.grouped.reserve(1)?;
@@ -123,7 +125,8 @@ impl<V: RowValue> GroupedRows<V> {
         requires topic { t < length self.old }
         requires rows { row_count self.old + 1 < 2 ^ 32 }
         requires names { name_bytes_in self.old + length document.now < 2 ^ 32 }
-        ensures ok { OnOk result (self.new ≡ with_valued self.old t (record { document = document.now; value = V.number value })) }
+        ensures ok { OnOk result (self.new ≡
+            with_valued self.old t (record { document = document.now; value = V.number value })) }
         ensures err { OnErr result (self.new ≡ self.old) }
     {
         let grouped = &mut self.grouped[t];

@@ -36,14 +36,16 @@ pub trait LineReader {
         requires { is_ready self.old }
         ensures ready { is_ready self.new }
         ensures same { same self.old self.new }
-        ensures read { (before : List (List ℕ)) → has_read self.old before → has_read self.new (before ++ line.now ∷ []) };
+        ensures read { (before : List (List ℕ)) → has_read self.old before →
+            has_read self.new (before ++ line.now ∷ []) };
 
     /// Reads a line, or what is kept of it: nothing where it is too long.
     fn read_kept(&mut self, kept: Option<&[u8]>)
         requires { is_ready self.old }
         ensures ready { is_ready self.new }
         ensures same { same self.old self.new }
-        ensures read { (before : List (List ℕ)) (line : List ℕ) → option_map (λ bytes. bytes.now) kept.entry ≡ kept_line line →
+        ensures read { (before : List (List ℕ)) (line : List ℕ) →
+            option_map (λ bytes. bytes.now) kept.entry ≡ kept_line line →
             has_read self.old before → has_read self.new (before ++ line ∷ []) };
 
     // lines after one that has a fault change nothing
@@ -81,7 +83,8 @@ impl<R: LineReader + Drop> Pieces<R> {
         requires { R.is_ready self.old.reader }
         ensures ready { R.is_ready self.new.reader }
         ensures same { R.same self.old.reader self.new.reader }
-        ensures fed { (fed : List ℕ) → HasFed R.has_read R.stopped self.old.reader self.old.unended fed →
+        ensures fed { (fed : List ℕ) →
+            HasFed R.has_read R.stopped self.old.reader self.old.unended fed →
             HasFed R.has_read R.stopped self.new.reader self.new.unended (fed ++ piece.now) }
     {
         let mut at = 0;
@@ -95,7 +98,8 @@ impl<R: LineReader + Drop> Pieces<R> {
         requires { R.is_ready self.reader }
         ensures ready { R.is_ready result }
         ensures same { R.same self.reader result }
-        ensures fed { (fed : List ℕ) → HasFed R.has_read R.stopped self.reader self.unended fed → R.has_read result (lines fed) }
+        ensures fed { (fed : List ℕ) → HasFed R.has_read R.stopped self.reader self.unended fed →
+            R.has_read result (lines fed) }
     {
         let Pieces {
             mut reader,
@@ -115,8 +119,10 @@ impl<R: LineReader + Drop> Pieces<R> {
         ensures same { R.same self.old.reader self.new.reader }
         ensures some { 0 < result }
         ensures within { result ≤ length piece.now }
-        ensures fed { (fed : List ℕ) → HasFed R.has_read R.stopped self.old.reader self.old.unended fed →
-            HasFed R.has_read R.stopped self.new.reader self.new.unended (fed ++ take result piece.now) }
+        ensures fed { (fed : List ℕ) →
+            HasFed R.has_read R.stopped self.old.reader self.old.unended fed →
+            HasFed R.has_read R.stopped self.new.reader self.new.unended (fed ++
+            take result piece.now) }
     {
         if self.reader.is_stopped() {
             return piece.len();
@@ -138,8 +144,10 @@ impl<R: LineReader + Drop> Pieces<R> {
         ensures same { R.same self.old.reader self.new.reader }
         ensures some { 0 < result }
         ensures within { result ≤ length piece.now }
-        ensures fed { (fed : List ℕ) → R.stopped self.old.reader ≡ false → HasFed R.has_read R.stopped self.old.reader self.old.unended fed →
-            HasFed R.has_read R.stopped self.new.reader self.new.unended (fed ++ take result piece.now) }
+        ensures fed { (fed : List ℕ) → R.stopped self.old.reader ≡ false →
+            HasFed R.has_read R.stopped self.old.reader self.old.unended fed →
+            HasFed R.has_read R.stopped self.new.reader self.new.unended (fed ++
+            take result piece.now) }
     {
         let pushed = self.unended.push(piece);
         if pushed.ended {
@@ -155,7 +163,8 @@ fn read_last<R: LineReader>(reader: &mut R, unended: &Lines)
     requires { R.is_ready reader.old }
     ensures ready { R.is_ready reader.new }
     ensures same { R.same reader.old reader.new }
-    ensures fed { (fed : List ℕ) → R.stopped reader.old ≡ false → HasFed R.has_read R.stopped reader.old unended.now fed → R.has_read reader.new (lines fed) }
+    ensures fed { (fed : List ℕ) → R.stopped reader.old ≡ false →
+        HasFed R.has_read R.stopped reader.old unended.now fed → R.has_read reader.new (lines fed) }
 {
     if !is_empty(unended) {
         reader.read_kept(unended.line());

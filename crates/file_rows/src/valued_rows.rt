@@ -90,7 +90,8 @@ impl<V: RowValue> ValuedRows<V> {
     /// Puts a document at the end. It fails only where memory runs out, and then changes nothing.
     pub fn push(&mut self, document: &[u8], value: V) -> Result<(), AllocError>
         requires { bytes_in self.old + length document.now < 2 ^ 32 }
-        ensures ok { OnOk result (self.new ≡ self.old ++ record { document = document.now; value = V.number value } ∷ []) }
+        ensures ok { OnOk result (self.new ≡ self.old ++
+            record { document = document.now; value = V.number value } ∷ []) }
         ensures err { OnErr result (self.new ≡ self.old) }
     {
         self.values.reserve(1)?;

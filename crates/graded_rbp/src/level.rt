@@ -30,10 +30,14 @@ pub fn level_table<P: Maker, L: Ledger>(
     requires measure { IsMeasure name }
     ensures runs { IfOk result (λ table. table.runs ≡ length desk.now.runs) }
     ensures totals { IfOk result (λ table. (m : GradedMeasure) → name ≡ binary m →
-        table.totals ≡ map (λ (pair : ℕ × ℕ). level_totals m pair.0 pair.1 (graded_topics desk.now) level) (pairs_of (run_numbers (length desk.now.runs)))) }
+        table.totals ≡ map (λ (pair : ℕ × ℕ).
+        level_totals m pair.0 pair.1 (graded_topics desk.now) level)
+        (pairs_of (run_numbers (length desk.now.runs)))) }
     ensures bounds { IfOk result (λ table. (m : GradedMeasure) → name ≡ binary m →
-        table.bounds ≡ map (λ run. level_bounds m run (graded_topics desk.now) level) (run_numbers (length desk.now.runs))) }
-    ensures steps { OnOk result (steps.new ≡ steps.old + pair_count (length desk.now.runs) * length desk.now.topics) }
+        table.bounds ≡ map (λ run. level_bounds m run (graded_topics desk.now) level)
+        (run_numbers (length desk.now.runs))) }
+    ensures steps { OnOk result (steps.new ≡ steps.old + pair_count (length desk.now.runs) *
+        length desk.now.topics) }
     ensures no_steps { OnErr result (steps.new ≡ steps.old) }
 {
     desk.valid();

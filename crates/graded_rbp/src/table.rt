@@ -55,8 +55,10 @@ const NO_BOUNDS: Span = Span { lo: 0, hi: 0 };
 
 /// Room for the sums of so many pairs, and for the bounds of so many runs.
 fn sum_rooms(alloc: Global, pairs: u32, runs: u32) -> Result<(Vec<Totals>, Vec<Span>), AllocError>
-    ensures totals { IfOk result (λ rooms. (length rooms.0.items ≡ pairs) × All (λ sums. sums ≡ totals_of []) rooms.0.items) }
-    ensures bounds { IfOk result (λ rooms. (length rooms.1.items ≡ runs) × All (λ sums. sums ≡ record { lo = pos 0; hi = pos 0 }) rooms.1.items) }
+    ensures totals { IfOk result (λ rooms. (length rooms.0.items ≡ pairs) ×
+        All (λ sums. sums ≡ totals_of []) rooms.0.items) }
+    ensures bounds { IfOk result (λ rooms. (length rooms.1.items ≡ runs) ×
+        All (λ sums. sums ≡ record { lo = pos 0; hi = pos 0 }) rooms.1.items) }
 {
     let totals = vec![in alloc; NO_SUMS; pairs as usize]?;
     let bounds = vec![in alloc; NO_BOUNDS; runs as usize]?;
@@ -82,10 +84,14 @@ impl<M: Measure> GradedTable<M> {
         requires biased { IsBiased measure }
         requires some { 1 ≤ greatest }
         requires few { greatest ≤ GREATEST_LIMIT }
-        requires cells { pair_count (length desk.now.runs) * length desk.now.topics * greatest ≤ CELL_LIMIT }
-        ensures table { IfOk result (λ table. (m : GradedMeasure) → measure ≡ binary m → m.greatest ≡ greatest → StandsByGrades m desk.now table) }
-        ensures steps { OnOk result (steps.new ≡ steps.old + pair_count (length desk.now.runs) * length desk.now.topics * greatest) }
-        ensures few_steps { steps.new ≤ steps.old + pair_count (length desk.now.runs) * length desk.now.topics * greatest }
+        requires cells { pair_count (length desk.now.runs) * length desk.now.topics * greatest ≤
+            CELL_LIMIT }
+        ensures table { IfOk result (λ table. (m : GradedMeasure) → measure ≡ binary m →
+            m.greatest ≡ greatest → StandsByGrades m desk.now table) }
+        ensures steps { OnOk result (steps.new ≡ steps.old + pair_count (length desk.now.runs) *
+            length desk.now.topics * greatest) }
+        ensures few_steps { steps.new ≤ steps.old + pair_count (length desk.now.runs) *
+            length desk.now.topics * greatest }
     {
         let runs = desk.run_count();
         let (mut totals, mut bounds) = sum_rooms(alloc, runs * (runs - 1) / 2, runs)?;
@@ -118,7 +124,8 @@ impl<M: Measure> GradedTable<M> {
         requires different { i ≢ j }
         requires first { i < self.now.runs }
         requires second { j < self.now.runs }
-        ensures { (sums : Sums) × AreSumsOf self.now.runs self.now.totals i j sums × (result ≡ verdict sums) }
+        ensures { (sums : Sums) × AreSumsOf self.now.runs self.now.totals i j sums ×
+            (result ≡ verdict sums) }
     {
         verdict_of(&self.totals(i, j))
     }

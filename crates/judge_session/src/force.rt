@@ -41,7 +41,8 @@ pub fn find_document(desk: &Desk, topic: &[u8], doc: &[u8]) -> Result<(u32, u32)
 pub fn told_at(changes: &[Change], desk: &Desk, place: usize) -> Changed
     requires place { place < length changes.now }
     requires desk { IsSessionOf desk.now changes.now }
-    ensures told { (d : Change) → result ≡ told_of desk.now changes.now (slice_index_or changes.now place d) }
+    ensures told { (d : Change) →
+        result ≡ told_of desk.now changes.now (slice_index_or changes.now place d) }
     ensures document { IsOfDesk desk.now result }
 {
     let change = &changes[place];
@@ -56,7 +57,13 @@ pub fn told_at(changes: &[Change], desk: &Desk, place: usize) -> Changed
 pub fn told_by(desk: &Desk, topic: u32, doc: u32, grade: Option<i32>) -> Changed
     requires topic { topic < length desk.now.topics }
     requires doc { doc < length (book_at desk.now topic).docs }
-    ensures told { result ≡ record { topic = topic; doc = doc; grade = counted_grade (option_or grade (file_grade_of (book_at desk.now topic) doc)) } }
+    ensures told { result ≡
+        record {
+          topic = topic;
+          doc = doc;
+          grade = counted_grade
+              (option_or grade (file_grade_of (book_at desk.now topic) doc));
+        } }
     ensures document { IsOfDesk desk.now result }
 {
     let file = desk.topic(topic).file_grade(doc);
@@ -94,7 +101,8 @@ fn replay(grades: &mut [Option<i32>], changes: &[Change], topic: u32)
     requires counted { (doc : ℕ) (e : Option ℤ) → doc < length grades.old →
         slice_index_or grades.old doc e ≡ counted_grade (slice_index_or grades.old doc e) }
     ensures { (doc : ℕ) (e : Option ℤ) → doc < length grades.old →
-        slice_index_or grades.new doc e ≡ counted_grade (grade_after (slice_index_or grades.old doc e) topic doc changes.now) }
+        slice_index_or grades.new doc e ≡
+        counted_grade (grade_after (slice_index_or grades.old doc e) topic doc changes.now) }
 {
     for change in changes {
         replay_one(grades, change, topic);
@@ -104,7 +112,8 @@ fn replay(grades: &mut [Option<i32>], changes: &[Change], topic: u32)
 fn replay_one(grades: &mut [Option<i32>], change: &Change, topic: u32)
     ensures { (doc : ℕ) (e : Option ℤ) → doc < length grades.old →
         slice_index_or grades.new doc e ≡
-        (if is_live_on topic doc change.now then counted_grade (Some change.now.grade) else slice_index_or grades.old doc e) }
+        (if is_live_on topic doc change.now then counted_grade (Some change.now.grade) else
+        slice_index_or grades.old doc e) }
 {
     let doc = change.doc as usize;
     if change.live && change.topic == topic && doc < grades.len() {

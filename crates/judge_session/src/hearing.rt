@@ -133,7 +133,8 @@ fn judging<'a>(
     doc: &'a [u8],
     grade: &[u8],
 ) -> Option<Request<'a>>
-    ensures { option_map request_said result ≡ judging word.now who.now topic.now doc.now grade.now }
+    ensures { option_map request_said result ≡
+        judging word.now who.now topic.now doc.now grade.now }
 {
     if word != b"judge".as_slice() {
         return None;

@@ -21,8 +21,10 @@ pub fn steps_keep_turns()
 
 /// A judgement directly followed by its caller's undo leaves all grades in force.
 pub fn judge_then_undo()
-    ensures { (who : List ℕ) (topic doc : ℕ) (grade : ℤ) (changes : List Change) (file : Option ℤ) (t d : ℕ) →
-        grade_after file t d (undone who (judged who topic doc grade changes)) ≡ grade_after file t d changes }
+    ensures { (who : List ℕ) (topic doc : ℕ) (grade : ℤ) (changes : List Change) (file : Option ℤ)
+        (t d : ℕ) →
+        grade_after file t d (undone who (judged who topic doc grade changes)) ≡
+        grade_after file t d changes }
 {}
 
 /// An undo of a caller with a live change, directly followed by that caller's redo, leaves the whole list.
@@ -36,11 +38,13 @@ pub fn marks_are_own()
     ensures undo { (who : List ℕ) (changes : List Change) (place : ℕ) (change : Change) →
         slice_get changes place ≡ Some change → is_by who change ≡ false →
         slice_get (undone who changes) place ≡ Some change }
-    ensures undo_length { (who : List ℕ) (changes : List Change) → length (undone who changes) ≡ length changes }
+    ensures undo_length { (who : List ℕ) (changes : List Change) →
+        length (undone who changes) ≡ length changes }
     ensures redo { (who : List ℕ) (changes : List Change) (place : ℕ) (change : Change) →
         slice_get changes place ≡ Some change → is_by who change ≡ false →
         slice_get (redone who changes) place ≡ Some change }
-    ensures redo_length { (who : List ℕ) (changes : List Change) → length (redone who changes) ≡ length changes }
+    ensures redo_length { (who : List ℕ) (changes : List Change) →
+        length (redone who changes) ≡ length changes }
 {}
 
 /// A judgement is refused for a full history exactly where its document is there and 1,000,000 changes
@@ -48,13 +52,16 @@ pub fn marks_are_own()
 pub fn history_is_full_at_its_limit()
     ensures { (desk : Desk) (who topic doc : List ℕ) (changes : List Change) → IsSession changes →
         (judgeable desk who topic doc changes ≡ Err HistoryFull)
-        ↔ (IsOk (found_document desk topic doc) × (length (without_undone who changes) ≡ CHANGE_LIMIT)) }
+        ↔ (IsOk (found_document desk topic doc) ×
+        (length (without_undone who changes) ≡ CHANGE_LIMIT)) }
 {}
 
 /// Two judgements of different documents leave the same grades in force in both orders.
 pub fn judgements_of_two_documents_commute()
-    ensures { (who other : List ℕ) (topic doc topic' doc' : ℕ) (grade grade' : ℤ) (changes : List Change) →
+    ensures { (who other : List ℕ) (topic doc topic' doc' : ℕ) (grade grade' : ℤ)
+        (changes : List Change) →
         (topic ≢ topic') ⊎ (doc ≢ doc') → (file : Option ℤ) (t d : ℕ) →
         grade_after file t d (judged other topic' doc' grade' (judged who topic doc grade changes))
-        ≡ grade_after file t d (judged who topic doc grade (judged other topic' doc' grade' changes)) }
+        ≡ grade_after file t d
+        (judged who topic doc grade (judged other topic' doc' grade' changes)) }
 {}

@@ -19,7 +19,8 @@ pub struct Found {
 
 impl Found {
     fn is_all(&self) -> bool
-        ensures { result ≡ (is_some self.now.place && (is_some self.now.next && is_some self.now.grade)) }
+        ensures { result ≡
+            (is_some self.now.place && (is_some self.now.next && is_some self.now.grade)) }
     {
         self.place.is_some() && self.next.is_some() && self.grade.is_some()
     }

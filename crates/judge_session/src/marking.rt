@@ -38,7 +38,8 @@ fn is_undone_of(change: &Change, who: &[u8]) -> bool
 pub fn set_live(changes: &mut Vec<Change>, place: usize, live: bool)
     requires { place < length changes.old.items }
     ensures { (d : Change) →
-        changes.new.items ≡ slice_set changes.old.items place (with_live live (slice_index_or changes.old.items place d)) }
+        changes.new.items ≡ slice_set changes.old.items place
+        (with_live live (slice_index_or changes.old.items place d)) }
 {
     let change = &mut changes[place];
     change.live = live;

@@ -98,11 +98,13 @@ impl Session {
         requires high { grade ≤ℤ pos 1000 }
         requires desk { IsSessionOf desk.now self.old }
 
-        ensures judged { IfOk result (Judges desk.now who.now topic.now doc.now grade self.old self.new) }
+        ensures judged { IfOk result
+            (Judges desk.now who.now topic.now doc.now grade self.old self.new) }
         ensures document { IfOk result (IsOfDesk desk.now) }
 
         // The first refusal of the topic, the document and the room, exactly where it holds.
-        ensures refused { IfErr (judgeable desk.now who.now topic.now doc.now self.old) (λ fault. result ≡ Err fault) }
+        ensures refused { IfErr (judgeable desk.now who.now topic.now doc.now self.old) (λ fault.
+            result ≡ Err fault) }
         ensures accepted { OnOk (judgeable desk.now who.now topic.now doc.now self.old)
             (IsOkUnless result JudgeFault.Memory) }
         ensures unchanged { OnErr result (self.new ≡ self.old) }

@@ -30,7 +30,8 @@ pub fn append(
     requires named { is_name who.now ≡ true }
     requires kept { IsKept changes.old.items tally.old }
     requires room { length (without_undone who.now changes.old.items) < CHANGE_LIMIT }
-    ensures ok { OnOk result (changes.new.items ≡ judged who.now topic doc grade changes.old.items) }
+    ensures ok { OnOk result (changes.new.items ≡
+        judged who.now topic doc grade changes.old.items) }
     ensures err { OnErr result (changes.new.items ≡ changes.old.items) }
     ensures kept { IsKept changes.new.items tally.new }
 {

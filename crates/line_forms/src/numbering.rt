@@ -12,7 +12,8 @@ fn line_feeds(text: &[u8]) -> usize
 /// The number, from 1, of the line with which the last bytes of a text begin.
 pub fn line_number(bytes: &[u8], last: &[u8]) -> u64
     requires { length last.now ≤ length bytes.now }
-    ensures { result ≡ count_by (λ b. b == 10) (take (length bytes.now - length last.now) bytes.now) + 1 }
+    ensures { result ≡ count_by (λ b. b == 10) (take (length bytes.now - length last.now) bytes.now)
+        + 1 }
 {
     line_feeds(&bytes[..bytes.len() - last.len()]) as u64 + 1
 }

@@ -74,7 +74,8 @@ pub fn later_name_and_text<'a>(
 ) -> Result<(Name, &'a [u8]), FormFault>
     ensures ok { IfOk result (λ p. line.now ≡ word.now ++ (p.0 ++ 32 ∷ p.1.now)) }
     ensures later { IfOk result (λ p. IsLaterName before.now p.0) }
-    ensures bad { result ≡ Err FormFault.Bad → (name rest : List ℕ) → IsLaterName before.now name → line.now ≢ word.now ++ (name ++ 32 ∷ rest) }
+    ensures bad { result ≡ Err FormFault.Bad → (name rest : List ℕ) → IsLaterName before.now name →
+        line.now ≢ word.now ++ (name ++ 32 ∷ rest) }
 {
     let Some(text) = after(line, word) else {
         return Err(FormFault::Bad);
@@ -125,7 +126,8 @@ pub fn later_name_of(
 /// The number from `least` to `most` after a word.
 pub fn number_of(line: &[u8], word: &[u8], least: u64, most: u64) -> Result<u32, FormFault>
     requires { most ≤ DOCUMENT_LIMIT }
-    ensures { IsPartOf (λ n. word.now ++ decimal n) (λ n. (least ≤ n) × (n ≤ most)) line.now result }
+    ensures { IsPartOf (λ n. word.now ++ decimal n) (λ n. (least ≤ n) ×
+        (n ≤ most)) line.now result }
 {
     let Some(text) = after(line, word) else {
         return Err(FormFault::Bad);
@@ -182,7 +184,8 @@ pub fn name_and_count_of(
     line: &[u8],
 ) -> Result<(Name, u32), FormFault>
     requires { most ≤ DOCUMENT_LIMIT }
-    ensures { IsPartOf (λ p. count_line word.now p.0 p.1) (λ p. IsLaterName before.now p.0 × (p.1 ≤ most)) line.now result }
+    ensures { IsPartOf (λ p. count_line word.now p.0 p.1) (λ p. IsLaterName before.now p.0 ×
+        (p.1 ≤ most)) line.now result }
 {
     let (name, text) = later_name_and_text(alloc, word, before, line)?;
     match count(text, 0, most) {

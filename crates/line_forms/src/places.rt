@@ -60,7 +60,8 @@ pub fn number_line(
 ) -> Result<u32, FormFault>
     requires word { IsFreeOf 10 word.now }
     requires most { most ≤ DOCUMENT_LIMIT }
-    ensures { IsReading (number_place word.now (λ n. (least ≤ n) × (n ≤ most))) lines.old.rest result lines.new }
+    ensures { IsReading (number_place word.now (λ n. (least ≤ n) × (n ≤ most))) lines.old.rest
+        result lines.new }
 {
     match lines.next_line() {
         Some(line) => number_of(line, word, least, most),
@@ -74,7 +75,8 @@ fn first_number<'a>(text: &'a [u8], word: &[u8], least: u64, most: u64) -> Optio
     requires most { most ≤ DOCUMENT_LIMIT }
     ensures some { IfSome result (λ p. text.now ≡ ended (word.now ++ decimal p.0) ++ p.1.now) }
     ensures within { IfSome result (λ p. (least ≤ p.0) × (p.0 ≤ most)) }
-    ensures none { IfNone result (BeginsWithNone (λ n. word.now ++ decimal n) (λ n. (least ≤ n) × (n ≤ most)) text.now) }
+    ensures none { IfNone result (BeginsWithNone (λ n. word.now ++ decimal n) (λ n. (least ≤ n) ×
+        (n ≤ most)) text.now) }
 {
     let Some((line, rest)) = cut(text, b'\n') else {
         return None;
@@ -97,7 +99,8 @@ pub fn number_line_if_next(
 ) -> Option<u32>
     requires word { IsFreeOf 10 word.now }
     requires most { most ≤ DOCUMENT_LIMIT }
-    ensures { IsTakenIfNext (λ n. word.now ++ decimal n) (λ n. (least ≤ n) × (n ≤ most)) lines.old result lines.new }
+    ensures { IsTakenIfNext (λ n. word.now ++ decimal n) (λ n. (least ≤ n) ×
+        (n ≤ most)) lines.old result lines.new }
 {
     match first_number(lines.rest(), word, least, most) {
         Some((number, rest)) => {
@@ -118,7 +121,8 @@ fn any_number_line(
 ) -> Result<u32, FormFault>
     requires word { IsFreeOf 10 word.now }
     requires end { end ≤ DOCUMENT_LIMIT }
-    ensures { IsReading (number_place word.now (λ n. (least ≤ n) × (n < end))) lines.old.rest result lines.new }
+    ensures { IsReading (number_place word.now (λ n. (least ≤ n) × (n < end))) lines.old.rest result
+        lines.new }
 {
     match lines.next_line() {
         Some(line) => number_below_of(line, word, least, end),
@@ -148,7 +152,8 @@ pub fn number_below_line(
 ) -> Result<u32, FormFault>
     requires word { IsFreeOf 10 word.now }
     requires end { end ≤ DOCUMENT_LIMIT }
-    ensures { IsReading (number_place word.now (λ n. (least ≤ n) × (n < end))) lines.old.rest result lines.new }
+    ensures { IsReading (number_place word.now (λ n. (least ≤ n) × (n < end))) lines.old.rest result
+        lines.new }
 {
     match simple_number(lines.rest(), word) {
         Some((number, rest)) if least <= u64::from(number) && u64::from(number) < end => {
@@ -169,7 +174,8 @@ pub fn name_and_count_line(
 ) -> Result<(Name, u32), FormFault>
     requires word { IsFreeOf 10 word.now }
     requires most { most ≤ DOCUMENT_LIMIT }
-    ensures { IsReading (name_and_count_place word.now (λ n. n ≤ most) before.now) lines.old.rest result lines.new }
+    ensures { IsReading (name_and_count_place word.now (λ n. n ≤ most) before.now) lines.old.rest
+        result lines.new }
 {
     match lines.next_line() {
         Some(line) => name_and_count_of(alloc, word, before, most, line),

@@ -37,7 +37,8 @@ fn push_unhidden(
     docs: &mut Vec<u32>,
 ) -> Result<(), Memory>
     requires { AreMet marks.now a.now b.now }
-    ensures { OnOk result (docs.new.items ≡ docs.old.items ++ added_documents marks.now (with_picked marks.now (only_second k a.now b.now))) }
+    ensures { OnOk result (docs.new.items ≡ docs.old.items ++
+        added_documents marks.now (with_picked marks.now (only_second k a.now b.now))) }
 {
     let mut left = marks.to_vec(alloc)?;
     hide_first(k, a, &mut left);
@@ -59,7 +60,8 @@ pub fn push_own_marked(
     docs: &mut Vec<u32>,
 ) -> Result<(), Memory>
     requires { AreMet marks.now a.now b.now }
-    ensures { OnOk result (docs.new.items ≡ docs.old.items ++ added_documents marks.now (with_picked marks.now (only_second k a.now b.now))) }
+    ensures { OnOk result (docs.new.items ≡ docs.old.items ++
+        added_documents marks.now (with_picked marks.now (only_second k a.now b.now))) }
 {
     if k <= LOOKED_UP || marks.len() > COPIED {
         push_own(k, a, b, marks, docs)

@@ -15,7 +15,8 @@ use topic_counts::pairs::passed;
 fn shift_rest<W: RankWorth>(ranks: &W, places: &[Placed], shift: Shift, totals: &mut [u128])
     requires places { IsLeft (length totals.old) places.now }
     requires room { HaveRoom shift (λ doc. W.worth ranks.now (lookup places.now doc)) totals.old }
-    ensures { AreShifted shift (λ doc. W.worth ranks.now (lookup places.now doc)) totals.old totals.new }
+    ensures { AreShifted shift (λ doc. W.worth ranks.now (lookup places.now doc)) totals.old
+        totals.new }
 {
     for place in places {
         let total = &mut totals[place.doc as usize];
@@ -35,7 +36,8 @@ pub fn shift_by_ranks<W: RankWorth>(
     requires first { IsRanking (length totals.old) a.now }
     requires second { IsRanking (length totals.old) b.now }
     requires room { HaveRoom shift (worths_apart (W.worth ranks.now) a.now b.now) totals.old }
-    ensures { AreShifted shift (worths_apart (W.worth ranks.now) a.now b.now) totals.old totals.new }
+    ensures { AreShifted shift (worths_apart (W.worth ranks.now) a.now b.now) totals.old
+        totals.new }
 {
     let first = a.by_doc();
     let second = b.by_doc();

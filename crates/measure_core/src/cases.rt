@@ -24,7 +24,8 @@ pub trait Picks {
 /// `Memory`: out of memory.
 pub fn case_values<P: Picks>(alloc: Global, picks: &P, marks: &[Mark]) -> Result<Vec<bool>, Memory>
     requires { length marks.now ≤ DOCUMENT_LIMIT }
-    ensures { IfOk result (λ values. AreValues (with_picked marks.now (P.picks picks.now)) (length marks.now) values.items) }
+    ensures { IfOk result (λ values.
+        AreValues (with_picked marks.now (P.picks picks.now)) (length marks.now) values.items) }
 {
     let mut values = Vec::new(alloc);
     for (place, mark) in marks.iter().enumerate() {

@@ -32,7 +32,9 @@ pub fn count_list(counts: &mut [u32], list: &[u32])
 /// depends on it, which no processor foresees.
 #[inline]
 fn counted<T: RankTest>(test: &T, first: u32, second: u32, mark: Mark, left: u32) -> u32
-    ensures { result ≡ (if (is_unjudged mark && T.test test.now (rank_or_none first) (rank_or_none second)) && nat_lt 0 left then 1 else 0) }
+    ensures { result ≡
+        (if (is_unjudged mark && T.test test.now (rank_or_none first) (rank_or_none second)) &&
+        nat_lt 0 left then 1 else 0) }
 {
     u32::from(((mark == Mark::Unjudged) & test.passes(first, second)) & (left > 0))
 }
@@ -50,9 +52,19 @@ fn count_placed<T: RankTest>(
     requires places { IsLeft (length marks.now) places.now }
     requires ranks { length marks.now ≤ length ranks.now }
     requires size { length counts.old ≡ length marks.now }
-    requires room { HaveRoomFor counts.old (take most (placed_documents marks.now (λ place. T.test test.now (rank_or_none (slice_index ranks.now place.doc)) (Some place.rank)) places.now)) }
-    ensures left { result + length (take most (placed_documents marks.now (λ place. T.test test.now (rank_or_none (slice_index ranks.now place.doc)) (Some place.rank)) places.now)) ≡ most }
-    ensures counts { AreCounted counts.old (take most (placed_documents marks.now (λ place. T.test test.now (rank_or_none (slice_index ranks.now place.doc)) (Some place.rank)) places.now)) counts.new }
+    requires room { HaveRoomFor counts.old
+        (take most (placed_documents marks.now (λ place.
+        T.test test.now (rank_or_none (slice_index ranks.now place.doc)) (Some place.rank))
+        places.now)) }
+    ensures left { result +
+        length
+        (take most (placed_documents marks.now (λ place.
+        T.test test.now (rank_or_none (slice_index ranks.now place.doc)) (Some place.rank))
+        places.now)) ≡ most }
+    ensures counts { AreCounted counts.old
+        (take most (placed_documents marks.now (λ place.
+        T.test test.now (rank_or_none (slice_index ranks.now place.doc)) (Some place.rank))
+        places.now)) counts.new }
 {
     let mut left = most;
     for place in places {
@@ -78,9 +90,11 @@ pub fn count_by_ranks<T: RankTest>(
     requires met { AreMet marks.now a.now b.now }
     requires ranks { AreRanksIn marks.now a.now ranks.now }
     requires size { length counts.old ≡ length marks.now }
-    requires room { HaveRoomFor counts.old (first_by_ranks most (T.test test.now) marks.now a.now b.now) }
+    requires room { HaveRoomFor counts.old
+        (first_by_ranks most (T.test test.now) marks.now a.now b.now) }
     ensures count { result ≡ length (first_by_ranks most (T.test test.now) marks.now a.now b.now) }
-    ensures counts { AreCounted counts.old (first_by_ranks most (T.test test.now) marks.now a.now b.now) counts.new }
+    ensures counts { AreCounted counts.old
+        (first_by_ranks most (T.test test.now) marks.now a.now b.now) counts.new }
 {
     most - count_placed(test, most, ranks, b.by_doc(), marks, counts)
 }

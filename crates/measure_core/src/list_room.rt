@@ -61,7 +61,9 @@ impl ListRoom {
     pub fn change_first(&mut self, first: &mut Option<u32>, number: u32, run: &Ranking)
         requires { IsRanking (length self.old.first.items) run.now }
         ensures first { first.new ≡ Some number }
-        ensures room { (marks : List M) → IsTopicRoom marks self.old → (first.old ≡ Some number → AreRanksIn marks run.now self.old.first.items) → IsRoomFor marks run.now self.new }
+        ensures room { (marks : List M) → IsTopicRoom marks self.old →
+            (first.old ≡ Some number → AreRanksIn marks run.now self.old.first.items) →
+            IsRoomFor marks run.now self.new }
     {
         match *first {
             Some(kept) if kept == number => {}
@@ -75,8 +77,10 @@ impl ListRoom {
     /// Makes a run the second one.
     pub fn set_second(&mut self, run: &Ranking)
         requires { IsRanking (length self.old.second.items) run.now }
-        ensures kept { (marks : List M) (first : List ℕ) → IsRoomFor marks first self.old → IsRoomFor marks first self.new }
-        ensures ranks { (marks : List M) → IsTopicRoom marks self.old → AreRanksIn marks run.now self.new.second.items }
+        ensures kept { (marks : List M) (first : List ℕ) → IsRoomFor marks first self.old →
+            IsRoomFor marks first self.new }
+        ensures ranks { (marks : List M) → IsTopicRoom marks self.old →
+            AreRanksIn marks run.now self.new.second.items }
     {
         place_ranks(run, &mut self.second);
     }

@@ -20,7 +20,8 @@ fn is_added(mark: Mark, relevant: bool) -> bool
 pub fn push_added(marks: &[Mark], truth: &[bool], docs: &mut Vec<u32>) -> Result<(), Memory>
     requires truth { length truth.now ≡ length marks.now }
     requires small { length marks.now ≤ DOCUMENT_LIMIT }
-    ensures { OnOk result (docs.new.items ≡ docs.old.items ++ added_documents marks.now (λ doc. slice_index_or truth.now doc false)) }
+    ensures { OnOk result (docs.new.items ≡ docs.old.items ++
+        added_documents marks.now (λ doc. slice_index_or truth.now doc false)) }
 {
     for doc in 0..marks.len() {
         if is_added(marks[doc], truth[doc]) {

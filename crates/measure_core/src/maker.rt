@@ -15,5 +15,7 @@ pub trait Maker {
     /// over all completions, and for rank-biased precision the sums of shares and of weights.
     fn make(&self, alloc: Global, name: MeasureName) -> Result<Self::Made, Memory>
         requires measure { IsMeasure name }
-        ensures { IfOk result (λ made. IsMadeFor name (Self.Made.measured made) (Self.Made.cell_of made) (Self.Made.bounds_of made)) };
+        ensures { IfOk result (λ made.
+            IsMadeFor name (Self.Made.measured made) (Self.Made.cell_of made)
+            (Self.Made.bounds_of made)) };
 }

@@ -78,7 +78,9 @@ pub trait Measure: Drop {
         marks: &[Mark],
     ) -> Result<Vec<bool>, Memory>
         requires { AreMet marks.now a.now b.now }
-        ensures { IfOk result (λ values. AreValues (least_truth (measured self.now) marks.now a.now b.now) (length marks.now) values.items) };
+        ensures { IfOk result (λ values.
+            AreValues (least_truth (measured self.now) marks.now a.now b.now) (length marks.now)
+            values.items) };
 
     /// Which documents are relevant in the most case of a and b, the least case of b and a.
     fn most_case(
@@ -89,7 +91,9 @@ pub trait Measure: Drop {
         marks: &[Mark],
     ) -> Result<Vec<bool>, Memory>
         requires { AreMet marks.now a.now b.now }
-        ensures { IfOk result (λ values. AreValues (least_truth (measured self.now) marks.now b.now a.now) (length marks.now) values.items) }
+        ensures { IfOk result (λ values.
+            AreValues (least_truth (measured self.now) marks.now b.now a.now) (length marks.now)
+            values.items) }
     {
         self.least_case(alloc, b, a, marks)
     }
@@ -110,7 +114,8 @@ pub trait Measure: Drop {
         docs: &mut Vec<u32>,
     ) -> Result<(), Memory>
         requires { AreMet marks.now a.now b.now }
-        ensures { OnOk result (docs.new.items ≡ docs.old.items ++ added_documents marks.now (least_truth (measured self.now) marks.now a.now b.now)) }
+        ensures { OnOk result (docs.new.items ≡ docs.old.items ++
+            added_documents marks.now (least_truth (measured self.now) marks.now a.now b.now)) }
     {
         let truth = self.least_case(alloc, a, b, marks)?;
         push_added(marks, &truth, docs)
@@ -133,8 +138,10 @@ pub trait Measure: Drop {
         most: &mut Vec<u32>,
     ) -> Result<(), Memory>
         requires { AreMet marks.now a.now b.now }
-        ensures least { OnOk result (least.new.items ≡ least.old.items ++ least_documents (measured self.now) marks.now a.now b.now) }
-        ensures most { OnOk result (most.new.items ≡ most.old.items ++ least_documents (measured self.now) marks.now b.now a.now) }
+        ensures least { OnOk result (least.new.items ≡ least.old.items ++
+            least_documents (measured self.now) marks.now a.now b.now) }
+        ensures most { OnOk result (most.new.items ≡ most.old.items ++
+            least_documents (measured self.now) marks.now b.now a.now) }
     {
         self.push_least_docs(alloc, a, b, marks, least)?;
         self.push_least_docs(alloc, b, a, marks, most)
@@ -157,10 +164,15 @@ pub trait Measure: Drop {
     ) -> Result<ListSizes, Memory>
         requires met { AreMet marks.now a.now b.now }
         requires size { length counts.old ≡ length marks.now }
-        requires room { HaveRoomFor counts.old (case_documents (measured self.now) marks.now a.now b.now) }
-        ensures least { IfOk result (λ sizes. sizes.least ≡ length (least_documents (measured self.now) marks.now a.now b.now)) }
-        ensures most { IfOk result (λ sizes. sizes.most ≡ length (least_documents (measured self.now) marks.now b.now a.now)) }
-        ensures counts { OnOk result (AreCounted counts.old (case_documents (measured self.now) marks.now a.now b.now) counts.new) }
+        requires room { HaveRoomFor counts.old
+            (case_documents (measured self.now) marks.now a.now b.now) }
+        ensures least { IfOk result (λ sizes. sizes.least ≡
+            length (least_documents (measured self.now) marks.now a.now b.now)) }
+        ensures most { IfOk result (λ sizes. sizes.most ≡
+            length (least_documents (measured self.now) marks.now b.now a.now)) }
+        ensures counts { OnOk result
+            (AreCounted counts.old (case_documents (measured self.now) marks.now a.now b.now)
+            counts.new) }
     {
         docs.clear();
         self.push_least_docs(alloc, a, b, marks, docs)?;
@@ -195,11 +207,16 @@ pub trait Measure: Drop {
         requires met { AreMet marks.now a.now b.now }
         requires kept { IsRoomFor marks.now a.now room.old }
         requires size { length counts.old ≡ length marks.now }
-        requires room { HaveRoomFor counts.old (case_documents (measured self.now) marks.now a.now b.now) }
+        requires room { HaveRoomFor counts.old
+            (case_documents (measured self.now) marks.now a.now b.now) }
         ensures kept { OnOk result (IsRoomFor marks.now a.now room.new) }
-        ensures least { IfOk result (λ sizes. sizes.least ≡ length (least_documents (measured self.now) marks.now a.now b.now)) }
-        ensures most { IfOk result (λ sizes. sizes.most ≡ length (least_documents (measured self.now) marks.now b.now a.now)) }
-        ensures counts { OnOk result (AreCounted counts.old (case_documents (measured self.now) marks.now a.now b.now) counts.new) }
+        ensures least { IfOk result (λ sizes. sizes.least ≡
+            length (least_documents (measured self.now) marks.now a.now b.now)) }
+        ensures most { IfOk result (λ sizes. sizes.most ≡
+            length (least_documents (measured self.now) marks.now b.now a.now)) }
+        ensures counts { OnOk result
+            (AreCounted counts.old (case_documents (measured self.now) marks.now a.now b.now)
+            counts.new) }
     {
         self.count_pushed(alloc, a, b, marks, &mut room.docs, counts)
     }
@@ -222,9 +239,13 @@ pub trait Measure: Drop {
         requires met { AreAllMet marks.now rankings.now }
         requires pairs { All (IsOfRuns (runs_on rankings.now)) pairs.now }
         requires size { length counts.old ≡ length marks.now }
-        requires room { HaveRoomFor counts.old (pair_documents (measured self.now) marks.now rankings.now pairs.now) }
-        ensures sizes { IfOk result (λ sizes. sizes.items ≡ map (sizes_on (measured self.now) marks.now rankings.now) pairs.now) }
-        ensures counts { OnOk result (AreCounted counts.old (pair_documents (measured self.now) marks.now rankings.now pairs.now) counts.new) }
+        requires room { HaveRoomFor counts.old
+            (pair_documents (measured self.now) marks.now rankings.now pairs.now) }
+        ensures sizes { IfOk result (λ sizes. sizes.items ≡
+            map (sizes_on (measured self.now) marks.now rankings.now) pairs.now) }
+        ensures counts { OnOk result
+            (AreCounted counts.old
+            (pair_documents (measured self.now) marks.now rankings.now pairs.now) counts.new) }
     {
         let mut room = ListRoom::new(alloc, marks)?;
         let mut first = None;
@@ -259,8 +280,10 @@ pub trait Measure: Drop {
     )
         requires met { AreMet marks.now a.now b.now }
         requires count { length totals.old ≡ length marks.now }
-        requires room { HaveRoom shift (weight_of (measured self.now) marks.now a.now b.now) totals.old }
-        ensures { AreShifted shift (weight_of (measured self.now) marks.now a.now b.now) totals.old totals.new }
+        requires room { HaveRoom shift (weight_of (measured self.now) marks.now a.now b.now)
+            totals.old }
+        ensures { AreShifted shift (weight_of (measured self.now) marks.now a.now b.now) totals.old
+            totals.new }
     {
         for doc in 0..marks.len() as u32 {
             if a.rank_of(doc).is_some() || b.rank_of(doc).is_some() {

@@ -36,7 +36,11 @@ impl More {
 
     /// Whether one more document is listed.
     fn lists(self, mark: Mark, in_first: bool, in_second: bool) -> bool
-        ensures { result ≡ (is_unjudged mark && ((in_second && not in_first) || (((not (in_second && not in_first) && not (in_first && not in_second)) && nat_lt 0 self.both) || ((in_first && not in_second) && nat_lt 0 self.first)))) }
+        ensures { result ≡
+            (is_unjudged mark &&
+            ((in_second && not in_first) ||
+            (((not (in_second && not in_first) && not (in_first && not in_second)) && nat_lt 0
+            self.both) || ((in_first && not in_second) && nat_lt 0 self.first)))) }
     {
         let is_left = match (in_first, in_second) {
             (false, true) => true,
@@ -48,8 +52,11 @@ impl More {
 
     /// How many are left to be listed after it.
     fn after(self, mark: Mark, in_first: bool, in_second: bool) -> More
-        ensures both { result.both ≡ self.both - (if is_unjudged mark && (not (in_second && not in_first) && not (in_first && not in_second)) then 1 else 0) }
-        ensures first { result.first ≡ self.first - (if is_unjudged mark && (in_first && not in_second) then 1 else 0) }
+        ensures both { result.both ≡ self.both -
+            (if is_unjudged mark &&
+            (not (in_second && not in_first) && not (in_first && not in_second)) then 1 else 0) }
+        ensures first { result.first ≡ self.first -
+            (if is_unjudged mark && (in_first && not in_second) then 1 else 0) }
     {
         let of_both = u32::from(mark == Mark::Unjudged && in_first == in_second);
         let of_first = u32::from(mark == Mark::Unjudged && in_first && !in_second);
@@ -64,7 +71,8 @@ impl More {
 #[inline]
 pub(crate) fn rank_from(places: &[Placed], at: usize, doc: u32) -> u32
     requires ascending { IsAscending places.now }
-    requires ranks { AllByRecursion (λ (place : P). IsRankWithin RANK_LIMIT (Some place.rank)) places.now }
+    requires ranks { AllByRecursion (λ (place : P). IsRankWithin RANK_LIMIT (Some place.rank))
+        places.now }
     requires from { BeginsAt doc (drop at places.now) }
     ensures { rank_or_none result ≡ lookup (drop at places.now) doc }
 {
@@ -106,7 +114,9 @@ pub fn push_own_and_more(
     docs: &mut Vec<u32>,
 ) -> Result<(), Memory>
     requires { AreMet marks.now a.now b.now }
-    ensures { OnOk result (docs.new.items ≡ docs.old.items ++ added_documents marks.now (with_picked marks.now (own_and_more k more marks.now a.now b.now))) }
+    ensures { OnOk result (docs.new.items ≡ docs.old.items ++
+        added_documents marks.now
+        (with_picked marks.now (own_and_more k more marks.now a.now b.now))) }
 {
     let first = a.by_doc();
     let second = b.by_doc();

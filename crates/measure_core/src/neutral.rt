@@ -14,7 +14,10 @@ use desk_model::{Mark, Ranking};
 /// 1 for an unjudged document that both or neither have there, by its ranks, and 0 for another.
 #[inline]
 fn counted(k: u32, first: u32, second: u32, mark: Mark) -> u32
-    ensures { result ≡ (if is_unjudged mark && (not (is_by k (rank_or_none second) && not (is_by k (rank_or_none first))) && not (is_by k (rank_or_none first) && not (is_by k (rank_or_none second)))) then 1 else 0) }
+    ensures { result ≡
+        (if is_unjudged mark &&
+        (not (is_by k (rank_or_none second) && not (is_by k (rank_or_none first))) && not
+        (is_by k (rank_or_none first) && not (is_by k (rank_or_none second)))) then 1 else 0) }
 {
     u32::from((mark == Mark::Unjudged) & (is_by(k, first) == is_by(k, second)))
 }

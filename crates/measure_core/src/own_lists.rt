@@ -54,7 +54,9 @@ fn push_found(
     docs: &mut Vec<u32>,
 ) -> Result<(), Memory>
     requires { AreMet marks.now a.now b.now }
-    ensures { OnOk result (docs.new.items ≡ docs.old.items ++ filter (λ doc. is_unjudged (mark_at marks.now doc) && not (is_in (take k a.now) doc)) (take k b.now)) }
+    ensures { OnOk result (docs.new.items ≡ docs.old.items ++
+        filter (λ doc. is_unjudged (mark_at marks.now doc) && not (is_in (take k a.now) doc))
+        (take k b.now)) }
 {
     for doc in prefix(b.docs(), k) {
         if is_open_outside(k, a, *doc, marks[*doc as usize]) {
@@ -86,7 +88,8 @@ pub fn push_own(
     docs: &mut Vec<u32>,
 ) -> Result<(), Memory>
     requires { AreMet marks.now a.now b.now }
-    ensures { OnOk result (docs.new.items ≡ docs.old.items ++ added_documents marks.now (with_picked marks.now (only_second k a.now b.now))) }
+    ensures { OnOk result (docs.new.items ≡ docs.old.items ++
+        added_documents marks.now (with_picked marks.now (only_second k a.now b.now))) }
 {
     if k > LOOKED_UP {
         return push_by_ranks(&SecondAlone { k }, a, b, marks, docs);
@@ -113,7 +116,8 @@ pub fn count_own(
     requires size { length counts.old ≡ length marks.now }
     requires room { HaveRoomFor counts.old (take most (own_documents k marks.now a.now b.now)) }
     ensures count { result ≡ length (take most (own_documents k marks.now a.now b.now)) }
-    ensures counts { AreCounted counts.old (take most (own_documents k marks.now a.now b.now)) counts.new }
+    ensures counts { AreCounted counts.old (take most (own_documents k marks.now a.now b.now))
+        counts.new }
 {
     count_by_ranks(&SecondAlone { k }, most, ranks, a, b, marks, counts)
 }

@@ -22,7 +22,10 @@ pub trait OwnMeasure {
     /// The cell of two rankings, from the counts of the documents that each alone has among its first
     /// k, and of all documents of the topic.
     fn own_cell(&self, own: OwnCounts, all: Counts) -> Cell
-        requires { (marks : List M) × (a : List ℕ) × (b : List ℕ) × AreTold (depth_of self.now) marks a b own all }
-        ensures cell { (marks : List M) (a b : List ℕ) → AreTold (depth_of self.now) marks a b own all → result ≡ own_cell_of self.now marks a b }
+        requires { (marks : List M) × (a : List ℕ) × (b : List ℕ) ×
+            AreTold (depth_of self.now) marks a b own all }
+        ensures cell { (marks : List M) (a b : List ℕ) →
+            AreTold (depth_of self.now) marks a b own all →
+            result ≡ own_cell_of self.now marks a b }
         ensures modest { CellIsModest result };
 }

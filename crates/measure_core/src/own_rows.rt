@@ -96,7 +96,8 @@ pub fn own_cells<O: OwnMeasure, L: Ledger>(
 ) -> bool
     requires met { AreAllMet marks.now rankings.now }
     requires count { length cells.old ≡ length (pairs_of (run_numbers (runs_on rankings.now))) }
-    ensures cells { result ≡ true → cells.new ≡ pair_cells (O.own_cell_of measure.now marks.now) rankings.now }
+    ensures cells { result ≡ true →
+        cells.new ≡ pair_cells (O.own_cell_of measure.now marks.now) rankings.now }
     ensures modest { result ≡ true → All CellIsModest cells.new }
     ensures steps { result ≡ true → steps.new ≡ steps.old + length cells.old }
     ensures too_small { result ≡ false → (cells.new ≡ cells.old) × (steps.new ≡ steps.old) }

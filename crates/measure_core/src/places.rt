@@ -32,7 +32,8 @@ pub fn rest(places: &[Placed], place: usize) -> &[Placed]
 pub fn first_weight<W: RankWorth>(ranks: &W, x: Placed, y: Placed) -> u64
     requires first { IsRankWithin RANK_LIMIT (Some x.rank) }
     requires second { IsRankWithin RANK_LIMIT (Some y.rank) }
-    ensures { result ≡ abs_diff (W.worth ranks.now (rank_unless_after x y)) (W.worth ranks.now (rank_unless_after y x)) }
+    ensures { result ≡ abs_diff (W.worth ranks.now (rank_unless_after x y))
+        (W.worth ranks.now (rank_unless_after y x)) }
 {
     let first = ranks.worth_at(rank_unless_after(x, y));
     let second = ranks.worth_at(rank_unless_after(y, x));

@@ -31,7 +31,8 @@ pub trait RankTest {
 #[inline]
 fn is_listed<T: RankTest>(test: &T, first: u32, place: Placed, mark: Mark) -> bool
     requires { IsRankWithin RANK_LIMIT (Some place.rank) }
-    ensures { result ≡ (is_unjudged mark && T.test test.now (rank_or_none first) (Some place.rank)) }
+    ensures { result ≡
+        (is_unjudged mark && T.test test.now (rank_or_none first) (Some place.rank)) }
 {
     (mark == Mark::Unjudged) & test.passes(first, place.rank)
 }
@@ -41,7 +42,9 @@ fn is_listed<T: RankTest>(test: &T, first: u32, place: Placed, mark: Mark) -> bo
 fn lists_second<T: RankTest>(test: &T, x: Placed, y: Placed, mark: Mark) -> bool
     requires first { IsRankWithin RANK_LIMIT (Some x.rank) }
     requires second { IsRankWithin RANK_LIMIT (Some y.rank) }
-    ensures { result ≡ (nat_le y.doc x.doc && (is_unjudged mark && T.test test.now (rank_unless_after x y) (Some y.rank))) }
+    ensures { result ≡
+        (nat_le y.doc x.doc &&
+        (is_unjudged mark && T.test test.now (rank_unless_after x y) (Some y.rank))) }
 {
     let listed = is_listed(test, rank_unless_after(x, y), y, mark);
     (y.doc <= x.doc) & listed
@@ -52,7 +55,8 @@ fn lists_second<T: RankTest>(test: &T, x: Placed, y: Placed, mark: Mark) -> bool
 #[inline]
 fn put(docs: &mut [u32], count: usize, doc: u32, is_listed: bool) -> usize
     requires { count < length docs.old }
-    ensures first { take result docs.new ≡ (if is_listed then take count docs.old ++ doc ∷ [] else take count docs.old) }
+    ensures first { take result docs.new ≡
+        (if is_listed then take count docs.old ++ doc ∷ [] else take count docs.old) }
     ensures count { result ≡ count + (if is_listed then 1 else 0) }
     ensures size { length docs.new ≡ length docs.old }
 {
@@ -71,7 +75,8 @@ fn put_rest<T: RankTest>(
 ) -> usize
     requires places { IsLeft (length marks.now) places.now }
     requires room { before + length places.now ≤ length docs.old }
-    ensures first { take result docs.new ≡ take before docs.old ++ placed_documents marks.now (λ place. T.test test.now None (Some place.rank)) places.now }
+    ensures first { take result docs.new ≡ take before docs.old ++
+        placed_documents marks.now (λ place. T.test test.now None (Some place.rank)) places.now }
     ensures size { length docs.new ≡ length docs.old }
 {
     let mut count = before;
@@ -95,7 +100,9 @@ fn put_places<T: RankTest>(
     requires first { IsLeft (length marks.now) first.now }
     requires second { IsLeft (length marks.now) second.now }
     requires room { before + length second.now ≤ length docs.old }
-    ensures first { take result docs.new ≡ take before docs.old ++ placed_documents marks.now (λ place. T.test test.now (lookup first.now place.doc) (Some place.rank)) second.now }
+    ensures first { take result docs.new ≡ take before docs.old ++
+        placed_documents marks.now (λ place.
+        T.test test.now (lookup first.now place.doc) (Some place.rank)) second.now }
     ensures size { length docs.new ≡ length docs.old }
 {
     let mut count = before;
@@ -123,7 +130,9 @@ pub(crate) fn push_places<T: RankTest>(
 ) -> Result<(), Memory>
     requires first { IsLeft (length marks.now) first.now }
     requires second { IsLeft (length marks.now) second.now }
-    ensures { OnOk result (docs.new.items ≡ docs.old.items ++ placed_documents marks.now (λ place. T.test test.now (lookup first.now place.doc) (Some place.rank)) second.now) }
+    ensures { OnOk result (docs.new.items ≡ docs.old.items ++
+        placed_documents marks.now (λ place.
+        T.test test.now (lookup first.now place.doc) (Some place.rank)) second.now) }
 {
     let before = docs.len();
     docs.resize(before + second.len(), 0)?;
@@ -145,7 +154,9 @@ pub fn push_by_ranks<T: RankTest>(
     docs: &mut Vec<u32>,
 ) -> Result<(), Memory>
     requires { AreMet marks.now a.now b.now }
-    ensures { OnOk result (docs.new.items ≡ docs.old.items ++ added_documents marks.now (with_picked marks.now (passes_by_ranks (T.test test.now) a.now b.now))) }
+    ensures { OnOk result (docs.new.items ≡ docs.old.items ++
+        added_documents marks.now
+        (with_picked marks.now (passes_by_ranks (T.test test.now) a.now b.now))) }
 {
     push_places(test, a.by_doc(), b.by_doc(), marks, docs)
 }

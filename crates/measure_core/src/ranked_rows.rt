@@ -84,9 +84,12 @@ fn kept_pair<'k>(weights: &[RunWeights], sums: &'k [RunSums], at: PairPlaces) ->
     requires weights { at.second < length weights.now }
     requires sums { at.second < length sums.now }
     ensures first { (none : W) → result.weights.first ≡ slice_index_or weights.now at.first none }
-    ensures second { (none : W) → result.weights.second ≡ slice_index_or weights.now at.second none }
-    ensures first_sums { (none : S) → result.sums.first.now ≡ slice_index_or sums.now at.first none }
-    ensures second_sums { (none : S) → result.sums.second.now ≡ slice_index_or sums.now at.second none }
+    ensures second { (none : W) →
+        result.weights.second ≡ slice_index_or weights.now at.second none }
+    ensures first_sums { (none : S) →
+        result.sums.first.now ≡ slice_index_or sums.now at.first none }
+    ensures second_sums { (none : S) →
+        result.sums.second.now ≡ slice_index_or sums.now at.second none }
 {
     KeptPair {
         weights: KeptWeights {
@@ -155,7 +158,8 @@ pub fn ranked_cells<R: RankedMeasure, L: Ledger>(
 ) -> bool
     requires met { AreAllMet marks.now rankings.now }
     requires count { length cells.old ≡ length (pairs_of (run_numbers (runs_on rankings.now))) }
-    ensures cells { result ≡ true → cells.new ≡ pair_cells (R.ranked_cell_of measure.now marks.now) rankings.now }
+    ensures cells { result ≡ true →
+        cells.new ≡ pair_cells (R.ranked_cell_of measure.now marks.now) rankings.now }
     ensures modest { result ≡ true → All CellIsModest cells.new }
     ensures steps { result ≡ true → steps.new ≡ steps.old + length cells.old }
     ensures too_small { result ≡ false → (cells.new ≡ cells.old) × (steps.new ≡ steps.old) }

@@ -18,20 +18,29 @@ ghost use Rattle.measure_laws.specs.AverageEnds.{average_upper_end, average_trut
 /// that of a low candidate, and its greatest that of a high one.
 pub fn candidates_reach_the_extremes()
     ensures low { ForCompletion (λ marks docs truth. (t : ℕ) × (t ≤ length (open_docs marks docs)) ×
-        IsNoMore (average_precision (length marks) (low_truth marks docs t) docs) (average_precision (length marks) truth docs)) }
-    ensures high { ForCompletion (λ marks docs truth. (t : ℕ) × (t ≤ length (open_docs marks docs)) ×
-        IsNoMore (average_precision (length marks) truth docs) (average_precision (length marks) (high_truth marks docs t) docs)) }
-    ensures completes_low { (marks : List Mark) (docs : List ℕ) (t : ℕ) → Completes marks (low_truth marks docs t) }
-    ensures completes_high { (marks : List Mark) (docs : List ℕ) (t : ℕ) → Completes marks (high_truth marks docs t) }
+        IsNoMore (average_precision (length marks) (low_truth marks docs t) docs)
+        (average_precision (length marks) truth docs)) }
+    ensures high { ForCompletion (λ marks docs truth. (t : ℕ) ×
+        (t ≤ length (open_docs marks docs)) ×
+        IsNoMore (average_precision (length marks) truth docs)
+        (average_precision (length marks) (high_truth marks docs t) docs)) }
+    ensures completes_low { (marks : List Mark) (docs : List ℕ) (t : ℕ) →
+        Completes marks (low_truth marks docs t) }
+    ensures completes_high { (marks : List Mark) (docs : List ℕ) (t : ℕ) →
+        Completes marks (high_truth marks docs t) }
 {}
 
 /// The bounds of a run are the least of its averages rounded down, and the greatest of those rounded up, over
 /// every completion; each is that of a completion. The greatest is at most 10^18.
 pub fn bounds_are_extremes()
-    ensures low { ForCompletion (λ marks docs truth. average_bound_lo marks docs ≤ low_average (length marks) truth docs) }
-    ensures high { ForCompletion (λ marks docs truth. high_average (length marks) truth docs ≤ average_bound_hi marks docs) }
-    ensures low_attained { ForRun (λ marks docs. (truth : ℕ → Bool) × Completes marks truth × (average_bound_lo marks docs ≡ low_average (length marks) truth docs)) }
-    ensures high_attained { ForRun (λ marks docs. (truth : ℕ → Bool) × Completes marks truth × (average_bound_hi marks docs ≡ high_average (length marks) truth docs)) }
+    ensures low { ForCompletion (λ marks docs truth. average_bound_lo marks docs ≤
+        low_average (length marks) truth docs) }
+    ensures high { ForCompletion (λ marks docs truth. high_average (length marks) truth docs ≤
+        average_bound_hi marks docs) }
+    ensures low_attained { ForRun (λ marks docs. (truth : ℕ → Bool) × Completes marks truth ×
+        (average_bound_lo marks docs ≡ low_average (length marks) truth docs)) }
+    ensures high_attained { ForRun (λ marks docs. (truth : ℕ → Bool) × Completes marks truth ×
+        (average_bound_hi marks docs ≡ high_average (length marks) truth docs)) }
     ensures low_size { ForRun (λ marks docs. average_bound_lo marks docs ≤ PARTS_OF_ONE) }
     ensures high_size { ForRun (λ marks docs. average_bound_hi marks docs ≤ PARTS_OF_ONE) }
 {}
@@ -39,26 +48,36 @@ pub fn bounds_are_extremes()
 /// In each completion the averages enclose 10^18 times the score, and are less than two parts away from it.
 pub fn averages_enclose()
     ensures low { (universe : ℕ) (truth : ℕ → Bool) (docs : List ℕ) →
-        IsAtMostScore (pos (low_average universe truth docs)) PARTS_OF_ONE (average_precision universe truth docs) }
+        IsAtMostScore (pos (low_average universe truth docs)) PARTS_OF_ONE
+        (average_precision universe truth docs) }
     ensures high { (universe : ℕ) (truth : ℕ → Bool) (docs : List ℕ) →
-        IsAtLeastScore (pos (high_average universe truth docs)) PARTS_OF_ONE (average_precision universe truth docs) }
+        IsAtLeastScore (pos (high_average universe truth docs)) PARTS_OF_ONE
+        (average_precision universe truth docs) }
     ensures low_near { (universe : ℕ) (truth : ℕ → Bool) (docs : List ℕ) → IsRanking universe docs →
-        let x = average_precision universe truth docs in PARTS_OF_ONE * x.num < (low_average universe truth docs + 2) * x.den }
-    ensures high_near { (universe : ℕ) (truth : ℕ → Bool) (docs : List ℕ) → IsRanking universe docs →
-        let x = average_precision universe truth docs in high_average universe truth docs * x.den < PARTS_OF_ONE * x.num + 2 * x.den }
+        let x = average_precision universe truth docs in PARTS_OF_ONE * x.num <
+        (low_average universe truth docs + 2) * x.den }
+    ensures high_near { (universe : ℕ) (truth : ℕ → Bool) (docs : List ℕ) →
+        IsRanking universe docs →
+        let x = average_precision universe truth docs in high_average universe truth docs * x.den <
+        PARTS_OF_ONE * x.num + 2 * x.den }
 {}
 
 /// The ends enclose 10^18 times the difference of two runs: the lower end of the least difference in every
 /// completion, the upper end of a completion in that one. The least case is a completion, and all ends lie
 /// from -2*10^18 to 2*10^18.
 pub fn average_ends_enclose()
-    ensures low { (marks : List Mark) (a b : List ℕ) (truth : ℕ → Bool) → IsRanking (length marks) a → IsRanking (length marks) b → Completes marks truth →
-        IsAtMost (average_least_lo marks a b) PARTS_OF_ONE (average_precision (length marks) truth a) (average_precision (length marks) truth b) }
+    ensures low { (marks : List Mark) (a b : List ℕ) (truth : ℕ → Bool) →
+        IsRanking (length marks) a → IsRanking (length marks) b → Completes marks truth →
+        IsAtMost (average_least_lo marks a b) PARTS_OF_ONE
+        (average_precision (length marks) truth a) (average_precision (length marks) truth b) }
     ensures upper { (universe : ℕ) (truth : ℕ → Bool) (a b : List ℕ) →
-        IsAtLeast (average_upper_end universe truth a b) PARTS_OF_ONE (average_precision universe truth a) (average_precision universe truth b) }
+        IsAtLeast (average_upper_end universe truth a b) PARTS_OF_ONE
+        (average_precision universe truth a) (average_precision universe truth b) }
     ensures case { (marks : List Mark) (a b : List ℕ) → Completes marks (average_truth marks a b) }
-    ensures low_size { (marks : List Mark) (a b : List ℕ) → IsRanking (length marks) a → IsRanking (length marks) b → IsModest (average_least_lo marks a b) }
-    ensures high_size { (marks : List Mark) (a b : List ℕ) → IsRanking (length marks) a → IsRanking (length marks) b → IsModest (average_least_hi marks a b) }
+    ensures low_size { (marks : List Mark) (a b : List ℕ) → IsRanking (length marks) a →
+        IsRanking (length marks) b → IsModest (average_least_lo marks a b) }
+    ensures high_size { (marks : List Mark) (a b : List ℕ) → IsRanking (length marks) a →
+        IsRanking (length marks) b → IsModest (average_least_hi marks a b) }
     ensures mirror { (marks : List Mark) (a b : List ℕ) →
         let ends = average_ends marks a b in
         average_ends marks b a ≡ record {
@@ -71,10 +90,14 @@ pub fn average_ends_enclose()
 
 /// Under refined marks the bounds of a run and the outer ends of two runs close in.
 pub fn average_ends_close_in()
-    ensures low { (marks later : List Mark) (docs : List ℕ) → AreRefinedBy marks later → IsRanking (length marks) docs → average_bound_lo marks docs ≤ average_bound_lo later docs }
-    ensures high { (marks later : List Mark) (docs : List ℕ) → AreRefinedBy marks later → IsRanking (length marks) docs → average_bound_hi later docs ≤ average_bound_hi marks docs }
-    ensures least { (marks later : List Mark) (a b : List ℕ) → AreRefinedBy marks later → IsRanking (length marks) a → IsRanking (length marks) b →
+    ensures low { (marks later : List Mark) (docs : List ℕ) → AreRefinedBy marks later →
+        IsRanking (length marks) docs → average_bound_lo marks docs ≤ average_bound_lo later docs }
+    ensures high { (marks later : List Mark) (docs : List ℕ) → AreRefinedBy marks later →
+        IsRanking (length marks) docs → average_bound_hi later docs ≤ average_bound_hi marks docs }
+    ensures least { (marks later : List Mark) (a b : List ℕ) → AreRefinedBy marks later →
+        IsRanking (length marks) a → IsRanking (length marks) b →
         (average_ends marks a b).least_lo ≤ℤ (average_ends later a b).least_lo }
-    ensures most { (marks later : List Mark) (a b : List ℕ) → AreRefinedBy marks later → IsRanking (length marks) a → IsRanking (length marks) b →
+    ensures most { (marks later : List Mark) (a b : List ℕ) → AreRefinedBy marks later →
+        IsRanking (length marks) a → IsRanking (length marks) b →
         (average_ends later a b).most_hi ≤ℤ (average_ends marks a b).most_hi }
 {}

@@ -40,7 +40,8 @@ pub fn least_case_is_least()
 /// number of relevant documents that has it. Each candidate before it has a greater difference.
 pub fn least_case_is_first()
     ensures reciprocal { (marks : List Mark) (a b : List ℕ) →
-        IsFirstLeast (reciprocal_scores marks a b) (None ∷ unjudged_of marks b) (reciprocal_choice marks a b) }
+        IsFirstLeast (reciprocal_scores marks a b) (None ∷ unjudged_of marks b)
+        (reciprocal_choice marks a b) }
     ensures rprec { (marks : List Mark) (a b : List ℕ) →
         IsFirstLeast (greedy_scores marks a b) (rprec_counts marks) (rprec_count marks a b) }
     ensures rprec_smallest { (marks : List Mark) (a b : List ℕ) →
@@ -52,7 +53,8 @@ pub fn least_case_is_first()
 /// are counts of documents: the two ends of the least difference are one number, and so are those of
 /// the greatest.
 pub fn ends_are_determined()
-    ensures unique { (measure : MeasureName) (unit : ℕ) (marks : List Mark) (a b : List ℕ) (e f : Ends) →
+    ensures unique { (measure : MeasureName) (unit : ℕ) (marks : List Mark) (a b : List ℕ)
+        (e f : Ends) →
         AreExtremes measure unit marks a b e → AreExtremes measure unit marks a b f → e ≡ f }
     ensures named { (measure : MeasureName) (marks : List Mark) (a b : List ℕ) (e f : Ends) →
         HasEnds measure marks a b e → HasEnds measure marks a b f → e ≡ f }
@@ -74,7 +76,8 @@ pub fn powers_enclose()
 
 /// After 10^24 places less than one part of S is left.
 pub fn long_tail_leaves_little()
-    ensures { (top bottom n : ℕ) → IsPersistence top bottom → n ≡ 10 ^ 24 → PARTS_OF_ONE * top ^ n < bottom ^ n }
+    ensures { (top bottom n : ℕ) → IsPersistence top bottom → n ≡ 10 ^ 24 →
+        PARTS_OF_ONE * top ^ n < bottom ^ n }
 {}
 
 /// The ends of rank-biased precision enclose S times the difference of two runs in every completion,
@@ -97,7 +100,8 @@ pub fn shares_enclose()
 /// and change places.
 pub fn biased_ends_are_in_order()
     ensures least { ForPersistence (λ top bottom marks a b.
-        (biased_ends top bottom marks a b).least_lo ≤ℤ (biased_ends top bottom marks a b).least_hi) }
+        (biased_ends top bottom marks a b).least_lo ≤ℤ
+        (biased_ends top bottom marks a b).least_hi) }
     ensures most { ForPersistence (λ top bottom marks a b.
         (biased_ends top bottom marks a b).most_lo ≤ℤ (biased_ends top bottom marks a b).most_hi) }
     ensures mirror { ForPersistence (λ top bottom marks a b.
@@ -123,10 +127,13 @@ pub fn weights_enclose()
 pub fn shares_are_narrow()
     ensures width { ForPersistence (λ top bottom marks a b.
         AreNear a b (biased_least_lo top bottom marks a b) (biased_least_hi top bottom marks a b)) }
-    ensures low { ForPersistence (λ top bottom marks a b. IsModest (biased_least_lo top bottom marks a b)) }
-    ensures high { ForPersistence (λ top bottom marks a b. IsModest (biased_least_hi top bottom marks a b)) }
+    ensures low { ForPersistence (λ top bottom marks a b.
+        IsModest (biased_least_lo top bottom marks a b)) }
+    ensures high { ForPersistence (λ top bottom marks a b.
+        IsModest (biased_least_hi top bottom marks a b)) }
     ensures bounds { ForRun (λ top bottom marks a.
-        (biased_bound_lo top bottom marks a ≤ PARTS_OF_ONE) × (biased_bound_hi top bottom marks a ≤ PARTS_OF_ONE)) }
+        (biased_bound_lo top bottom marks a ≤ PARTS_OF_ONE) ×
+        (biased_bound_hi top bottom marks a ≤ PARTS_OF_ONE)) }
 {}
 
 /// A unit is from 1 to 10^18. A weight is at most 10^18 and does not depend on the order of the runs.
@@ -153,8 +160,10 @@ pub fn units_are_known()
 /// two shares are.
 pub fn reciprocal_weight_is_known()
     ensures { (marks : List Mark) (a b : List ℕ) (doc : ℕ) → (v : ℕ) × (w : ℕ) ×
-        MatchOption (rank a doc) (v ≡ 0) (λ r. (v * r ≤ PARTS_OF_ONE) × (PARTS_OF_ONE < (v + 1) * r)) ×
-        MatchOption (rank b doc) (w ≡ 0) (λ r. (w * r ≤ PARTS_OF_ONE) × (PARTS_OF_ONE < (w + 1) * r)) ×
+        MatchOption (rank a doc) (v ≡ 0) (λ r. (v * r ≤ PARTS_OF_ONE) ×
+        (PARTS_OF_ONE < (v + 1) * r)) ×
+        MatchOption (rank b doc) (w ≡ 0) (λ r. (w * r ≤ PARTS_OF_ONE) ×
+        (PARTS_OF_ONE < (w + 1) * r)) ×
         (weight_of Reciprocal marks a b doc ≡ abs_diff v w) }
 {}
 
@@ -162,23 +171,29 @@ pub fn reciprocal_weight_is_known()
 pub fn named_ends_enclose()
     ensures low { (measure : MeasureName) (marks : List Mark) (a b : List ℕ) (ends : Ends) →
         IsMeasure measure → IsRanking (length marks) a → IsRanking (length marks) b →
-        HasEnds measure marks a b ends → InEvery measure marks a b (IsAtMost ends.least_lo (unit_of measure)) }
+        HasEnds measure marks a b ends →
+        InEvery measure marks a b (IsAtMost ends.least_lo (unit_of measure)) }
     ensures high { (measure : MeasureName) (marks : List Mark) (a b : List ℕ) (ends : Ends) →
         IsMeasure measure → IsRanking (length marks) a → IsRanking (length marks) b →
-        HasEnds measure marks a b ends → InEvery measure marks a b (IsAtLeast ends.most_hi (unit_of measure)) }
+        HasEnds measure marks a b ends →
+        InEvery measure marks a b (IsAtLeast ends.most_hi (unit_of measure)) }
 {}
 
 /// In a completion unit times the difference is at most the upper end, with the tails of the least
 /// case, and at least the lower end, with those of the most case.
 pub fn ends_of_a_completion_hold()
     ensures upper { (measure : MeasureName) (universe : ℕ) (truth : ℕ → Bool) (a b : List ℕ) (z : ℤ)
-        (tail_a tail_b : List Bool) → IsMeasure measure → IsRanking universe a → IsRanking universe b →
+        (tail_a tail_b : List Bool) → IsMeasure measure → IsRanking universe a →
+        IsRanking universe b →
         IsUpperEnd measure universe truth a b z → HasLeastTails measure tail_a tail_b →
-        IsAtLeast z (unit_of measure) (score measure universe truth a tail_a) (score measure universe truth b tail_b) }
+        IsAtLeast z (unit_of measure) (score measure universe truth a tail_a)
+        (score measure universe truth b tail_b) }
     ensures lower { (measure : MeasureName) (universe : ℕ) (truth : ℕ → Bool) (a b : List ℕ) (z : ℤ)
-        (tail_a tail_b : List Bool) → IsMeasure measure → IsRanking universe a → IsRanking universe b →
+        (tail_a tail_b : List Bool) → IsMeasure measure → IsRanking universe a →
+        IsRanking universe b →
         IsLowerEnd measure universe truth a b z → HasLeastTails measure tail_b tail_a →
-        IsAtMost z (unit_of measure) (score measure universe truth a tail_a) (score measure universe truth b tail_b) }
+        IsAtMost z (unit_of measure) (score measure universe truth a tail_a)
+        (score measure universe truth b tail_b) }
 {}
 
 /// The least case has the upper end of the least difference, and the most case, which is the least
@@ -193,7 +208,8 @@ pub fn cases_have_the_ends()
         IsMeasure measure → IsRanking (length marks) a → IsRanking (length marks) b →
         HasEnds measure marks a b ends →
         IsLowerEnd measure (length marks) (least_truth measure marks b a) a b ends.most_lo }
-    ensures universe { (measure : MeasureName) (universe : ℕ) (truth other : ℕ → Bool) (a b : List ℕ) (z : ℤ) →
+    ensures universe { (measure : MeasureName) (universe : ℕ) (truth other : ℕ →
+        Bool) (a b : List ℕ) (z : ℤ) →
         IsRanking universe a → IsRanking universe b →
         ((doc : ℕ) → doc < universe → truth doc ≡ other doc) →
         IsUpperEnd measure universe truth a b z → IsUpperEnd measure universe other a b z }

@@ -8,7 +8,8 @@ use std::alloc::{AllocError, Global};
 /// Marks under which each document is judged: relevant where its truth value says so.
 /// It fails only where memory runs out.
 pub fn judged(alloc: Global, values: &[bool]) -> Result<Vec<Mark>, AllocError>
-    ensures { IfOk result (λ marks. marks.items ≡ map (λ value. if value then Relevant else Other) values.now) }
+    ensures { IfOk result (λ marks. marks.items ≡
+        map (λ value. if value then Relevant else Other) values.now) }
 {
     let mut marks = Vec::new(alloc);
     for value in values {

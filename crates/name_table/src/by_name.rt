@@ -53,7 +53,8 @@ impl NumbersByName {
     ) -> Result<usize, AllocError>
         ensures number { IfOk result (λ i. i ≡ unwrap_or (number_in name.now self.old) number) }
         ensures put { IfOk result (λ i. number_in name.now self.new ≡ Some i) }
-        ensures others { OnOk result ((other : List ℕ) → bytes_eq name.now other ≡ false → number_in other self.new ≡ number_in other self.old) }
+        ensures others { OnOk result ((other : List ℕ) → bytes_eq name.now other ≡ false →
+            number_in other self.new ≡ number_in other self.old) }
         ensures unchanged { OnErr result (self.new ≡ self.old) }
     {
         let key = Vec::from_slice(alloc, name)?;
@@ -64,8 +65,10 @@ impl NumbersByName {
 
 // The number of a key, which is given this one where it has none.
 fn given(numbers: &mut BTreeMap<Vec<u8>, u32>, key: Vec<u8>, number: u32) -> Result<u32, AllocError>
-    ensures number { IfOk result (λ i. i ≡ unwrap_or (get (λ x y. slice_cmp nat_cmp x.items y.items) numbers.old key) number) }
-    ensures entries { IfOk result (λ i. numbers.new.entries ≡ insert_entry (λ x y. slice_cmp nat_cmp x.items y.items) numbers.old.entries key i) }
+    ensures number { IfOk result (λ i. i ≡
+        unwrap_or (get (λ x y. slice_cmp nat_cmp x.items y.items) numbers.old key) number) }
+    ensures entries { IfOk result (λ i. numbers.new.entries ≡
+        insert_entry (λ x y. slice_cmp nat_cmp x.items y.items) numbers.old.entries key i) }
     ensures unchanged { OnErr result (numbers.new.entries ≡ numbers.old.entries) }
 {
     Ok(*numbers.entry(key)?.or_insert(number))

@@ -57,7 +57,8 @@ impl NameTable {
 
     // A table of no name, with room for some.
     pub(crate) fn with_room(alloc: Global, names: usize) -> Result<NameTable, AllocError>
-        ensures table { IfOk result (λ table. (names : List (List ℕ)) → AreDifferent names → Finds names 0 table) }
+        ensures table { IfOk result (λ table. (names : List (List ℕ)) → AreDifferent names →
+            Finds names 0 table) }
         ensures room { IfOk result (λ table. REACH < length table.slots.items) }
     {
         let slots = slots_for(names)?;
@@ -97,9 +98,13 @@ impl NameTable {
         requires room { REACH < length self.old.slots.items }
         requires hash { hash ≡ hash_of name.now }
         requires fits { length keys.now + 1 < 2 ^ 32 }
-        ensures number { IfOk result (λ found. found ≡ position (bytes_eq name.now) (map K.name keys.now)) }
-        ensures found { IfOk result (λ found. IfSome found (λ _. Finds (map K.name keys.now) (length keys.now) self.new)) }
-        ensures entered { IfOk result (λ found. IfNone found (Finds (map K.name keys.now ++ name.now ∷ []) (length keys.now + 1) self.new)) }
+        ensures number { IfOk result (λ found. found ≡
+            position (bytes_eq name.now) (map K.name keys.now)) }
+        ensures found { IfOk result (λ found.
+            IfSome found (λ _. Finds (map K.name keys.now) (length keys.now) self.new)) }
+        ensures entered { IfOk result (λ found.
+            IfNone found (Finds (map K.name keys.now ++ name.now ∷ []) (length keys.now + 1)
+            self.new)) }
         ensures unchanged { OnErr result (self.new ≡ self.old) }
     {
         let i = keys.len();
@@ -131,7 +136,8 @@ impl NameTable {
         requires room { REACH < length self.old.slots.items }
         requires hash { hash ≡ hash_of name.now }
         requires fits { i + 1 < 2 ^ 32 }
-        ensures ok { OnOk result ((names : List (List ℕ)) → i < length names → name_at names i ≡ name.now → Finds names i self.old → Finds names (i + 1) self.new) }
+        ensures ok { OnOk result ((names : List (List ℕ)) → i < length names →
+            name_at names i ≡ name.now → Finds names i self.old → Finds names (i + 1) self.new) }
         ensures room { length self.new.slots.items ≡ length self.old.slots.items }
         ensures err { OnErr result (self.new ≡ self.old) }
     {
@@ -194,7 +200,8 @@ impl NameTable {
     fn fill(&mut self, at: usize, hash: u32, i: usize)
         requires within { at < length self.old.slots.items }
         requires fits { i + 1 < 2 ^ 32 }
-        ensures slots { self.new.slots.items ≡ set self.old.slots.items at (record { hash = hash; number = i + 1 }) }
+        ensures slots { self.new.slots.items ≡
+            set self.old.slots.items at (record { hash = hash; number = i + 1 }) }
         ensures rest { self.new.rest ≡ self.old.rest }
     {
         self.slots[at] = Slot {
@@ -217,7 +224,9 @@ impl NameTable {
     fn free(&self, hash: u32) -> Option<usize>
         requires { REACH < length self.now.slots.items }
         ensures free { IfSome result (λ at. IsFree self.now.slots.items hash at) }
-        ensures taken { IfNone result (AreTaken self.now.slots.items (start_of self.now.slots.items hash) (start_of self.now.slots.items hash + REACH)) }
+        ensures taken { IfNone result
+            (AreTaken self.now.slots.items (start_of self.now.slots.items hash)
+            (start_of self.now.slots.items hash + REACH)) }
     {
         let start = self.start(hash);
         for at in start..start + REACH {

@@ -34,8 +34,10 @@ impl<'a, M: Measure> DocumentStanding<'a, M> {
 
     /// The best of the documents up to this one, from the best of those before it.
     fn best_with(&self, best: Option<Proposal>) -> Option<Proposal>
-        requires best { IsBestBefore (shown_at M.measured self.now.topic) self.now.topic.number self.now.number best }
-        ensures { IsBestBefore (shown_at M.measured self.now.topic) self.now.topic.number (self.now.number + 1) result }
+        requires best { IsBestBefore (shown_at M.measured self.now.topic) self.now.topic.number
+            self.now.number best }
+        ensures { IsBestBefore (shown_at M.measured self.now.topic) self.now.topic.number
+            (self.now.number + 1) result }
     {
         let topic = self.topic.number;
         let doc = self.number;

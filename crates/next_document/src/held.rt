@@ -14,7 +14,8 @@ use measure_core::{Measure, Shift};
 /// What is done with the weights of a pair whose verdict changes: nothing where both count or neither does.
 fn shift_between(before: Verdict, after: Verdict) -> Option<Shift>
     ensures { MatchOption result ((weight : ℕ) → counted before weight ≡ counted after weight)
-        (λ shift. (weight : ℕ) → IsShifted shift weight (counted before weight) (counted after weight)) }
+        (λ shift. (weight : ℕ) →
+        IsShifted shift weight (counted before weight) (counted after weight)) }
 {
     match (is_unsettled(before), is_unsettled(after)) {
         (false, true) => Some(Shift::Add),
@@ -28,8 +29,10 @@ impl<'a, M: Measure> DeskPairStanding<'a, M> {
 
     /// Adds the weights of the pair to the totals of all topics, or takes them back.
     fn shift_all(&self, shift: Shift, totals: &mut [Vec<u128>])
-        requires room { HaveRoomOnAll shift (shown M.measured self.now.standing) self.now.pair (map (λ each. each.items) totals.old) }
-        ensures { AreShiftedOnAll shift (shown M.measured self.now.standing) self.now.pair (map (λ each. each.items) totals.old) (map (λ each. each.items) totals.new) }
+        requires room { HaveRoomOnAll shift (shown M.measured self.now.standing) self.now.pair
+            (map (λ each. each.items) totals.old) }
+        ensures { AreShiftedOnAll shift (shown M.measured self.now.standing) self.now.pair
+            (map (λ each. each.items) totals.old) (map (λ each. each.items) totals.new) }
     {
         for topic in 0..self.standing.on.desk.topic_count() {
             let totals = &mut totals[topic as usize];
@@ -46,8 +49,10 @@ impl<'a, M: Measure> DeskPairStanding<'a, M> {
 
     /// Moves the totals of all topics, where the pair's verdict changes.
     fn move_all(&self, before: Verdict, after: Verdict, totals: &mut [Vec<u128>])
-        requires counted { HaveCountedOnAll before (shown M.measured self.now.standing) self.now.pair (map (λ each. each.items) totals.old) }
-        ensures { AreMovedOnAll before after (shown M.measured self.now.standing) self.now.pair (map (λ each. each.items) totals.old) (map (λ each. each.items) totals.new) }
+        requires counted { HaveCountedOnAll before (shown M.measured self.now.standing)
+            self.now.pair (map (λ each. each.items) totals.old) }
+        ensures { AreMovedOnAll before after (shown M.measured self.now.standing) self.now.pair
+            (map (λ each. each.items) totals.old) (map (λ each. each.items) totals.new) }
     {
         if let Some(shift) = shift_between(before, after) {
             self.shift_all(shift, totals);
@@ -61,8 +66,10 @@ impl<'a, M: Measure> Standing<'a, M> {
     /// Holds other verdicts, and renews all totals for them.
     pub fn hold_verdicts(&self, held: &mut [Verdict], totals: &mut [Vec<u128>])
         requires held { length held.old ≡ length (pairs_of self.now.on.desk.now.runs) }
-        requires totals { AreTotalsOf (holding held.old (shown M.measured self.now)) (map (λ each. each.items) totals.old) }
-        ensures totals { AreTotalsOf (shown M.measured self.now) (map (λ each. each.items) totals.new) }
+        requires totals { AreTotalsOf (holding held.old (shown M.measured self.now))
+            (map (λ each. each.items) totals.old) }
+        ensures totals { AreTotalsOf (shown M.measured self.now)
+            (map (λ each. each.items) totals.new) }
         ensures held { held.new ≡ self.now.verdicts.now }
     {
         // The name of a measure can be made.

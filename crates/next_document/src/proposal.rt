@@ -36,7 +36,13 @@ pub fn next<'x, M: Measure>(
 ) -> Option<Proposal>
     requires marks { AreMarksOf desk.now marks.now.rows }
     requires verdicts { length verdicts.now ≡ length (pairs_of desk.now.runs) }
-    ensures next { IsNext (record { measure = M.measured measure.now; desk = desk.now; marks = marks.now.rows; verdicts = verdicts.now }) result }
+    ensures next { IsNext
+        (record {
+          measure = M.measured measure.now;
+          desk = desk.now;
+          marks = marks.now.rows;
+          verdicts = verdicts.now;
+        }) result }
     ensures topic { IfSome result (λ p. p.topic < length desk.now.topics) }
     ensures doc { IfSome result (λ p. p.doc < length (book_at desk.now p.topic).docs) }
 {

@@ -39,8 +39,11 @@ pub fn renew<'x, M: Measure>(
     requires marks { AreMarksOf desk.now marks.now }
     requires held { length held.now ≡ length (pairs_of desk.now.runs) }
     requires topic { topic < length desk.now.topics }
-    requires others { AreTotalsBut topic (standing (M.measured measure.now) desk.now marks.now held.now) (map (λ each. each.items) totals.old) }
-    ensures { AreTotalsOf (standing (M.measured measure.now) desk.now marks.now held.now) (map (λ each. each.items) totals.new) }
+    requires others { AreTotalsBut topic
+        (standing (M.measured measure.now) desk.now marks.now held.now)
+        (map (λ each. each.items) totals.old) }
+    ensures { AreTotalsOf (standing (M.measured measure.now) desk.now marks.now held.now)
+        (map (λ each. each.items) totals.new) }
 {
     let changed = TopicStanding {
         standing: Standing {

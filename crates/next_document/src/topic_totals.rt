@@ -16,8 +16,12 @@ impl<'a, M: Measure> PairStanding<'a, M> {
     /// Adds the weights of the topic's documents in the pair to their totals, or takes them back.
     pub fn shift_totals(&self, shift: Shift, totals: &mut [u128])
         requires count { length totals.old ≡ length (marks_at self.now.topic) }
-        requires room { HaveRoom shift (weights_of (shown_at M.measured self.now.topic) self.now.pair self.now.topic.number) totals.old }
-        ensures { AreShifted shift (weights_of (shown_at M.measured self.now.topic) self.now.pair self.now.topic.number) totals.old totals.new }
+        requires room { HaveRoom shift
+            (weights_of (shown_at M.measured self.now.topic) self.now.pair self.now.topic.number)
+            totals.old }
+        ensures { AreShifted shift
+            (weights_of (shown_at M.measured self.now.topic) self.now.pair self.now.topic.number)
+            totals.old totals.new }
     {
         let standing = self.topic.standing;
         let topic = self.topic.number;
@@ -64,7 +68,8 @@ impl<'a, M: Measure> TopicStanding<'a, M> {
     /// The totals of a topic.
     fn topic_totals(&self, alloc: Global) -> Result<Vec<u128>, Memory>
         ensures count { IfOk result (λ totals. length totals.items ≡ length (marks_at self.now)) }
-        ensures totals { IfOk result (λ totals. AreTopicTotals (shown_at M.measured self.now) self.now.number totals.items) }
+        ensures totals { IfOk result (λ totals.
+            AreTopicTotals (shown_at M.measured self.now) self.now.number totals.items) }
     {
         let mut totals = vec![in alloc; 0u128; self.standing.on.marks.topic(self.number).len()]?;
         self.sum_topic(&mut totals);
@@ -77,7 +82,8 @@ impl<'a, M: Measure> Standing<'a, M> {
 
     /// The totals of all topics.
     pub fn all_totals(&self, alloc: Global) -> Result<Vec<Vec<u128>>, Memory>
-        ensures totals { IfOk result (λ all. AreTotalsOf (shown M.measured self.now) (map (λ each. each.items) all.items)) }
+        ensures totals { IfOk result (λ all.
+            AreTotalsOf (shown M.measured self.now) (map (λ each. each.items) all.items)) }
         ensures numbered { IfOk result (λ all. AreNumbered (map (λ each. each.items) all.items)) }
     {
         let mut all = Vec::new(alloc);

@@ -24,8 +24,10 @@ impl<'a, M: Measure> PairStanding<'a, M> {
     /// The weight of a document of the topic in the pair. The measure is asked only where one of the two runs has it.
     fn weight_of(&self, doc: u32, holders: &Holders) -> u128
         requires doc { doc < length (marks_at self.now.topic) }
-        requires holders { AreHolders self.now.topic.standing.on.desk.now self.now.topic.number doc holders.now }
-        ensures { result ≡ pair_weight (shown_at M.measured self.now.topic) self.now.topic.number doc (self.now.pair.first, self.now.pair.second) }
+        requires holders { AreHolders self.now.topic.standing.on.desk.now self.now.topic.number doc
+            holders.now }
+        ensures { result ≡ pair_weight (shown_at M.measured self.now.topic) self.now.topic.number
+            doc (self.now.pair.first, self.now.pair.second) }
     {
         let standing = self.topic.standing;
         let topic = self.topic.number;
@@ -49,7 +51,8 @@ impl<'a, M: Measure> DocumentStanding<'a, M> {
     /// The sum of the document's weights over the pairs that are not settled. It asks each run once whether it has the
     /// document.
     pub fn total(&self) -> u128
-        ensures { result ≡ total_weight (shown_at M.measured self.now.topic) self.now.topic.number self.now.number }
+        ensures { result ≡ total_weight (shown_at M.measured self.now.topic) self.now.topic.number
+            self.now.number }
     {
         let standing = self.topic.standing;
         // The name of a measure can be made, so its weights are modest.

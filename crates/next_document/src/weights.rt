@@ -101,7 +101,8 @@ impl Weights {
         requires verdicts { length verdicts.now ≡ length (pairs_of desk.now.runs) }
         requires topic { topic < length desk.now.topics }
         requires held { length self.old.verdicts ≡ length (pairs_of desk.now.runs) }
-        requires others { AreKeptBut topic (M.measured measure.now) desk.now marks.now.rows self.old }
+        requires others { AreKeptBut topic (M.measured measure.now) desk.now marks.now.rows
+            self.old }
         ensures totals { AreKeptFor (M.measured measure.now) desk.now marks.now.rows self.new }
         ensures held { self.new.verdicts ≡ verdicts.now }
     {

@@ -192,7 +192,8 @@ fn each_claim(
 ) -> Result<PairClaims, FormFault>
     requires runs { runs ≤ RUN_LIMIT }
     requires topics { AreTopicNames topics.now }
-    ensures { IsReading (rows (claim_places runs topics.now) last_pair count None) lines.old.rest result lines.new }
+    ensures { IsReading (rows (claim_places runs topics.now) last_pair count None) lines.old.rest
+        result lines.new }
 {
     let mut claims = Vec::new(alloc);
     let mut last = None;

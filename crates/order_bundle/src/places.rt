@@ -111,7 +111,8 @@ fn both_bounds_of(line: &[u8]) -> Result<Bound, FormFault>
 // The claim that a line begins with, and the text after it and a space.
 fn claim_and_text(line: &[u8]) -> Option<(Claim, &[u8])>
     ensures some { IfSome result (λ p. line.now ≡ claim_line p.0 ++ 32 ∷ p.1.now) }
-    ensures none { IfNone result ((claim : OfClaim) (rest : List ℕ) → line.now ≢ claim_line claim ++ 32 ∷ rest) }
+    ensures none { IfNone result ((claim : OfClaim) (rest : List ℕ) →
+        line.now ≢ claim_line claim ++ 32 ∷ rest) }
 {
     if let Some(text) = after(line, b"claim above ") {
         return Some((Claim::Above, text));
@@ -155,7 +156,8 @@ fn are_runs_of_claim(runs: u32, last: Option<UnorderedPair>, first: u32, second:
 // The claim of a line on two of so many runs, whose pair comes after the last one.
 fn head_of(line: &[u8], runs: u32, last: Option<UnorderedPair>) -> Result<ClaimHead, FormFault>
     requires { runs ≤ RUN_LIMIT }
-    ensures { IsPartOf head_line (λ (h : OfHead). AreRunsOfClaim runs last h.first h.second) line.now result }
+    ensures { IsPartOf head_line (λ (h : OfHead). AreRunsOfClaim runs last h.first h.second)
+        line.now result }
 {
     let Some((claim, text)) = claim_and_text(line) else {
         return Err(FormFault::Bad);

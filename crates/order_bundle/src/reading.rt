@@ -37,7 +37,8 @@ fn from_end(
     requires runs { AreBundleRuns runs }
     requires topics { AreTopicNames topics }
     requires claims { AreClaims (length runs) topics claims }
-    ensures { IsReading (from_end measure level runs topics claims) lines.old.rest result lines.new }
+    ensures { IsReading (from_end measure level runs topics claims) lines.old.rest result
+        lines.new }
 {
     fixed_line(lines, b"end")?;
     Ok(Bundle {

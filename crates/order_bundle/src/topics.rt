@@ -59,7 +59,8 @@ fn listed_topics(
     lines: &mut TextLines<'_>,
     count: u32,
 ) -> Result<BundleTopics, FormFault>
-    ensures { IsReading (named_rows topic_places (λ t. t.topic) count) lines.old.rest result lines.new }
+    ensures { IsReading (named_rows topic_places (λ t. t.topic) count) lines.old.rest result
+        lines.new }
 {
     let mut topics = Vec::new(alloc);
     while topics.len() < count as usize {

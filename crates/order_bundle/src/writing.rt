@@ -59,7 +59,8 @@ fn push_picks(out: &mut Vec<u8>, picks: &[u32]) -> Result<(), AllocError>
 }
 
 fn push_list(out: &mut Vec<u8>, word: &[u8], picks: &[u32]) -> Result<(), AllocError>
-    ensures { OnOk result (out.new.items ≡ out.old.items ++ text_of (list_lines word.now picks.now)) }
+    ensures { OnOk result (out.new.items ≡ out.old.items ++
+        text_of (list_lines word.now picks.now)) }
 {
     push_number_line(out, word, picks.len())?;
     push_picks(out, picks)
@@ -73,7 +74,8 @@ fn push_lists(out: &mut Vec<u8>, picks: &Picks) -> Result<(), AllocError>
 }
 
 fn push_topic_picks(out: &mut Vec<u8>, picks: &[Picks]) -> Result<(), AllocError>
-    ensures { OnOk result (out.new.items ≡ out.old.items ++ text_of (flat_map picks_lines picks.now)) }
+    ensures { OnOk result (out.new.items ≡ out.old.items ++
+        text_of (flat_map picks_lines picks.now)) }
 {
     for lists in picks {
         push_lists(out, lists)?;
@@ -113,7 +115,8 @@ fn push_bounds(out: &mut Vec<u8>, bounds: &[Bound]) -> Result<(), AllocError>
 }
 
 fn push_both_bounds(out: &mut Vec<u8>, bounds: &[Bound]) -> Result<(), AllocError>
-    ensures { OnOk result (out.new.items ≡ out.old.items ++ text_of (map both_bounds_line bounds.now)) }
+    ensures { OnOk result (out.new.items ≡ out.old.items ++
+        text_of (map both_bounds_line bounds.now)) }
 {
     for bound in bounds {
         push_both_bounds_line(out, *bound)?;
@@ -127,7 +130,8 @@ fn push_runs_of_claim(
     first: u32,
     second: u32,
 ) -> Result<(), AllocError>
-    ensures { OnOk result (out.new.items ≡ out.old.items ++ ended (claim.now ++ runs_text first second)) }
+    ensures { OnOk result (out.new.items ≡ out.old.items ++
+        ended (claim.now ++ runs_text first second)) }
 {
     out.extend_from_slice(claim)?;
     push_number(out, first)?;
@@ -154,7 +158,8 @@ fn push_claim(out: &mut Vec<u8>, claim: &PairClaim) -> Result<(), AllocError>
 }
 
 fn push_claims(out: &mut Vec<u8>, claims: &[PairClaim]) -> Result<(), AllocError>
-    ensures { OnOk result (out.new.items ≡ out.old.items ++ text_of (flat_map claim_lines claims.now)) }
+    ensures { OnOk result (out.new.items ≡ out.old.items ++
+        text_of (flat_map claim_lines claims.now)) }
 {
     for claim in claims {
         push_claim(out, claim)?;
@@ -171,7 +176,8 @@ fn push_topic(out: &mut Vec<u8>, topic: &TopicNames) -> Result<(), AllocError>
 }
 
 fn push_topics(out: &mut Vec<u8>, topics: &[TopicNames]) -> Result<(), AllocError>
-    ensures { OnOk result (out.new.items ≡ out.old.items ++ text_of (flat_map topic_lines topics.now)) }
+    ensures { OnOk result (out.new.items ≡ out.old.items ++
+        text_of (flat_map topic_lines topics.now)) }
 {
     for topic in topics {
         push_topic(out, topic)?;
@@ -190,7 +196,8 @@ fn push_runs(out: &mut Vec<u8>, runs: &[Name]) -> Result<(), AllocError>
 
 // The first lines: which form it is, and what the runs are compared by.
 fn push_opening(out: &mut Vec<u8>, measure: &MeasureName, level: u32) -> Result<(), AllocError>
-    ensures { OnOk result (out.new.items ≡ out.old.items ++ text_of (opening_lines measure.now level)) }
+    ensures { OnOk result (out.new.items ≡ out.old.items ++
+        text_of (opening_lines measure.now level)) }
 {
     push_line(out, b"desk-certificate 2", b"")?;
     push_measure_line(out, measure)?;
@@ -212,7 +219,8 @@ fn push_from_topics(
     topics: &[TopicNames],
     claims: &[PairClaim],
 ) -> Result<(), AllocError>
-    ensures { OnOk result (out.new.items ≡ out.old.items ++ text_of (topics_lines topics.now claims.now)) }
+    ensures { OnOk result (out.new.items ≡ out.old.items ++
+        text_of (topics_lines topics.now claims.now)) }
 {
     push_number_line(out, b"topics ", topics.len())?;
     push_topics(out, topics)?;
@@ -226,7 +234,8 @@ fn push_from_runs(
     topics: &[TopicNames],
     claims: &[PairClaim],
 ) -> Result<(), AllocError>
-    ensures { OnOk result (out.new.items ≡ out.old.items ++ text_of (runs_lines runs.now topics.now claims.now)) }
+    ensures { OnOk result (out.new.items ≡ out.old.items ++
+        text_of (runs_lines runs.now topics.now claims.now)) }
 {
     push_number_line(out, b"runs ", runs.len())?;
     push_runs(out, runs)?;
@@ -244,7 +253,8 @@ fn push_depth(out: &mut Vec<u8>, depth: Option<u32>) -> Result<(), AllocError>
 }
 
 fn push_bundle(out: &mut Vec<u8>, depth: Option<u32>, bundle: &Bundle) -> Result<(), AllocError>
-    ensures { OnOk result (out.new.items ≡ out.old.items ++ scoped_text (record { depth = depth; body = Many bundle.now })) }
+    ensures { OnOk result (out.new.items ≡ out.old.items ++
+        scoped_text (record { depth = depth; body = Many bundle.now })) }
 {
     push_opening(out, &bundle.measure, bundle.level)?;
     push_depth(out, depth)?;
@@ -258,9 +268,11 @@ fn push_bundle(out: &mut Vec<u8>, depth: Option<u32>, bundle: &Bundle) -> Result
 
 // The text of a bundle that was made under a depth or under none, if it is not too long.
 fn bundle_under(alloc: Global, depth: Option<u32>, bundle: &Bundle) -> Result<Vec<u8>, BundleFault>
-    ensures text { IfOk result (λ text. text.items ≡ scoped_text (record { depth = depth; body = Many bundle.now })) }
+    ensures text { IfOk result (λ text. text.items ≡
+        scoped_text (record { depth = depth; body = Many bundle.now })) }
     ensures short { IfOk result (λ text. length text.items ≤ TEXT_LIMIT) }
-    ensures fault { IfErr result (λ fault. IsScopedFault (record { depth = depth; body = Many bundle.now }) fault) }
+    ensures fault { IfErr result (λ fault.
+        IsScopedFault (record { depth = depth; body = Many bundle.now }) fault) }
 {
     let bytes = bundle_length_under(depth, bundle);
     if bytes > LONGEST_TEXT {
@@ -277,7 +289,8 @@ fn certificate_under(
     depth: Option<u32>,
     certificate: &Certificate,
 ) -> Result<Vec<u8>, AllocError>
-    ensures { IfOk result (λ text. text.items ≡ scoped_text (record { depth = depth; body = One certificate.now })) }
+    ensures { IfOk result (λ text. text.items ≡
+        scoped_text (record { depth = depth; body = One certificate.now })) }
 {
     let mut out = Vec::new(alloc);
     push_opening_of_one(&mut out, &certificate.measure, certificate.level)?;

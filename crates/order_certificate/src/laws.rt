@@ -23,7 +23,8 @@ use desk_model::measure_of_text_is_unique;
 
 /// A text is of one certificate at most, and a certificate has one text at most.
 pub fn text_and_certificate_are_one()
-    ensures certificate { (bytes : List ℕ) (c d : Certificate) → IsText bytes c → IsText bytes d → c ≡ d }
+    ensures certificate { (bytes : List ℕ) (c d : Certificate) → IsText bytes c → IsText bytes d →
+        c ≡ d }
     ensures text { (a b : List ℕ) (c : Certificate) → IsText a c → IsText b c → a ≡ b }
 {
     measure_of_text_is_unique();
@@ -32,21 +33,24 @@ pub fn text_and_certificate_are_one()
 /// Exactly the certificates within the limits have a text, and it is the one that is written.
 pub fn certificates_have_texts()
     ensures within { (bytes : List ℕ) (c : Certificate) → IsText bytes c → IsCertificate c }
-    ensures written { (bytes : List ℕ) (c : Certificate) → IsText bytes c → bytes ≡ certificate_text c }
+    ensures written { (bytes : List ℕ) (c : Certificate) → IsText bytes c →
+        bytes ≡ certificate_text c }
     ensures text { (c : Certificate) → IsCertificate c → IsText (certificate_text c) c }
 {}
 
 /// The first six lines of a certificate's text say what it claims: the form, the measure, the level, the first run, the
 /// second run, and on line 6 the claim, which is `claim above`, `claim equal` or `claim open` by its evidence.
 pub fn claim_is_on_line_6()
-    ensures { (bytes : List ℕ) (c : Certificate) → IsText bytes c → take 6 (whole_lines bytes) ≡ first_lines c }
+    ensures { (bytes : List ℕ) (c : Certificate) → IsText bytes c →
+        take 6 (whole_lines bytes) ≡ first_lines c }
 {
     measure_of_text_is_unique();
 }
 
 /// No text of a certificate begins with the text of another.
 pub fn no_text_begins_another()
-    ensures { (bytes more : List ℕ) (c d : Certificate) → IsText bytes c → IsText (bytes ++ more) d →
+    ensures { (bytes more : List ℕ) (c d : Certificate) → IsText bytes c →
+        IsText (bytes ++ more) d →
         (more ≡ []) × (c ≡ d) }
 {
     measure_of_text_is_unique();
@@ -80,8 +84,10 @@ pub fn lines_are_short()
 /// So it is no longer than a file may be where these take at most so many bytes as names of 268,435,456 bytes and
 /// 25,000,000 documents take on two lists.
 pub fn texts_are_short()
-    ensures documents { (c : Certificate) → IsCertificate c → length (certificate_text c) ≤ 6000000 + listed_bytes c.evidence }
-    ensures file { (c : Certificate) → IsCertificate c → listed_bytes c.evidence ≤ 2 * (268435456 + 5 * 25000000) →
+    ensures documents { (c : Certificate) → IsCertificate c →
+        length (certificate_text c) ≤ 6000000 + listed_bytes c.evidence }
+    ensures file { (c : Certificate) → IsCertificate c →
+        listed_bytes c.evidence ≤ 2 * (268435456 + 5 * 25000000) →
         length (certificate_text c) ≤ 1073741824 }
 {}
 
@@ -117,8 +123,12 @@ pub fn evidence_holds_in_completions()
 
 /// The two sums of an open claim are determined.
 pub fn open_sums_are_determined()
-    ensures low { (measure : MeasureName) (a b : ℕ) (witnesses : List TopicWitness) (topics : List NamedTopic)
-        (x y : ℤ) → IsLowSum measure a b witnesses topics x → IsLowSum measure a b witnesses topics y → x ≡ y }
-    ensures high { (measure : MeasureName) (a b : ℕ) (witnesses : List TopicWitness) (topics : List NamedTopic)
-        (x y : ℤ) → IsHighSum measure a b witnesses topics x → IsHighSum measure a b witnesses topics y → x ≡ y }
+    ensures low { (measure : MeasureName) (a b : ℕ) (witnesses : List TopicWitness)
+        (topics : List NamedTopic)
+        (x y : ℤ) → IsLowSum measure a b witnesses topics x →
+        IsLowSum measure a b witnesses topics y → x ≡ y }
+    ensures high { (measure : MeasureName) (a b : ℕ) (witnesses : List TopicWitness)
+        (topics : List NamedTopic)
+        (x y : ℤ) → IsHighSum measure a b witnesses topics x →
+        IsHighSum measure a b witnesses topics y → x ≡ y }
 {}

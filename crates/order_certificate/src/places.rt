@@ -67,7 +67,8 @@ fn claim_of(line: &[u8]) -> Result<Claim, FormFault>
 }
 
 fn low_of(alloc: Global, before: &[u8], line: &[u8]) -> Result<TopicBound, FormFault>
-    ensures { IsPartOf low_line (λ (b : OfBound). IsLaterName before.now b.topic × IsLowBound b) line.now result }
+    ensures { IsPartOf low_line (λ (b : OfBound). IsLaterName before.now b.topic ×
+        IsLowBound b) line.now result }
 {
     let (topic, low) = later_name_and_text(alloc, b"topic ", before, line)?;
     match number(low) {
@@ -81,7 +82,8 @@ fn low_of(alloc: Global, before: &[u8], line: &[u8]) -> Result<TopicBound, FormF
 }
 
 fn low_high_of(alloc: Global, before: &[u8], line: &[u8]) -> Result<TopicBound, FormFault>
-    ensures { IsPartOf low_high_line (λ (b : OfBound). IsLaterName before.now b.topic × IsLowHighBound b) line.now result }
+    ensures { IsPartOf low_high_line (λ (b : OfBound). IsLaterName before.now b.topic ×
+        IsLowHighBound b) line.now result }
 {
     let (topic, numbers) = later_name_and_text(alloc, b"topic ", before, line)?;
     let Some((low, high)) = cut(numbers, b' ') else {
@@ -99,7 +101,8 @@ fn low_high_of(alloc: Global, before: &[u8], line: &[u8]) -> Result<TopicBound, 
 // The text after a word, a topic and a space.
 fn after_topic<'a>(line: &'a [u8], word: &[u8], topic: &[u8]) -> Option<&'a [u8]>
     ensures some { IfSome result (λ rest. line.now ≡ word.now ++ (topic.now ++ 32 ∷ rest.now)) }
-    ensures none { IfNone result ((rest : List ℕ) → line.now ≢ word.now ++ (topic.now ++ 32 ∷ rest)) }
+    ensures none { IfNone result ((rest : List ℕ) →
+        line.now ≢ word.now ++ (topic.now ++ 32 ∷ rest)) }
 {
     let text = after(line, word)?;
     let text = after(text, topic)?;

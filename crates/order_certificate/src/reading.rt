@@ -32,7 +32,8 @@ fn from_end(
     second: Name,
     evidence: Evidence,
 ) -> Result<Certificate, FormFault>
-    ensures { IsReading (from_end measure level first second evidence) lines.old.rest result lines.new }
+    ensures { IsReading (from_end measure level first second evidence) lines.old.rest result
+        lines.new }
 {
     fixed_line(lines, b"end")?;
     Ok(Certificate {

@@ -70,7 +70,8 @@ fn documents(alloc: Global, lines: &mut TextLines<'_>, count: u32) -> Result<Nam
 
 // So many topics with a lower number.
 fn lows(alloc: Global, lines: &mut TextLines<'_>, count: u32) -> Result<TopicBounds, FormFault>
-    ensures { IsReading (named_rows low_place (λ b. b.topic) count) lines.old.rest result lines.new }
+    ensures { IsReading (named_rows low_place (λ b. b.topic) count) lines.old.rest result
+        lines.new }
 {
     let mut bounds = Vec::new(alloc);
     while bounds.len() < count as usize {
@@ -86,7 +87,8 @@ fn lows_and_highs(
     lines: &mut TextLines<'_>,
     count: u32,
 ) -> Result<TopicBounds, FormFault>
-    ensures { IsReading (named_rows low_high_place (λ b. b.topic) count) lines.old.rest result lines.new }
+    ensures { IsReading (named_rows low_high_place (λ b. b.topic) count) lines.old.rest result
+        lines.new }
 {
     let mut bounds = Vec::new(alloc);
     while bounds.len() < count as usize {
@@ -137,7 +139,8 @@ fn witness(
 
 // The lists of so many topics.
 fn witnesses(alloc: Global, lines: &mut TextLines<'_>, count: u32) -> Result<Witnesses, FormFault>
-    ensures { IsReading (named_rows witness_places (λ w. w.topic) count) lines.old.rest result lines.new }
+    ensures { IsReading (named_rows witness_places (λ w. w.topic) count) lines.old.rest result
+        lines.new }
 {
     let mut witnesses = Vec::new(alloc);
     while witnesses.len() < count as usize {

@@ -79,7 +79,8 @@ fn push_lows(out: &mut Vec<u8>, bounds: &[TopicBound]) -> Result<(), AllocError>
 }
 
 fn push_lows_and_highs(out: &mut Vec<u8>, bounds: &[TopicBound]) -> Result<(), AllocError>
-    ensures { OnOk result (out.new.items ≡ out.old.items ++ text_of (map low_high_line bounds.now)) }
+    ensures { OnOk result (out.new.items ≡ out.old.items ++
+        text_of (map low_high_line bounds.now)) }
 {
     for bound in bounds {
         push_low_high_line(out, bound)?;
@@ -104,7 +105,8 @@ pub fn push_count_line(
     topic: &[u8],
     count: usize,
 ) -> Result<(), AllocError>
-    ensures { OnOk result (out.new.items ≡ out.old.items ++ ended (count_line word.now topic.now count)) }
+    ensures { OnOk result (out.new.items ≡ out.old.items ++
+        ended (count_line word.now topic.now count)) }
 {
     out.extend_from_slice(word)?;
     out.extend_from_slice(topic)?;
@@ -112,7 +114,8 @@ pub fn push_count_line(
 }
 
 fn push_list(out: &mut Vec<u8>, word: &[u8], topic: &[u8], names: &[Name]) -> Result<(), AllocError>
-    ensures { OnOk result (out.new.items ≡ out.old.items ++ text_of (count_line word.now topic.now (length names.now) ∷ map document_line names.now)) }
+    ensures { OnOk result (out.new.items ≡ out.old.items ++
+        text_of (count_line word.now topic.now (length names.now) ∷ map document_line names.now)) }
 {
     push_count_line(out, word, topic, names.len())?;
     push_documents(out, names)
@@ -136,7 +139,8 @@ fn push_witness(out: &mut Vec<u8>, witness: &TopicWitness) -> Result<(), AllocEr
 }
 
 fn push_witnesses(out: &mut Vec<u8>, witnesses: &[TopicWitness]) -> Result<(), AllocError>
-    ensures { OnOk result (out.new.items ≡ out.old.items ++ text_of (flat_map witness_lines witnesses.now)) }
+    ensures { OnOk result (out.new.items ≡ out.old.items ++
+        text_of (flat_map witness_lines witnesses.now)) }
 {
     for witness in witnesses {
         push_witness(out, witness)?;
@@ -172,7 +176,8 @@ fn push_evidence(out: &mut Vec<u8>, evidence: &Evidence) -> Result<(), AllocErro
 
 /// Puts the first lines: which form it is, and what the runs are compared by.
 pub fn push_opening(out: &mut Vec<u8>, measure: &MeasureName, level: u32) -> Result<(), AllocError>
-    ensures { OnOk result (out.new.items ≡ out.old.items ++ text_of (opening_lines measure.now level)) }
+    ensures { OnOk result (out.new.items ≡ out.old.items ++
+        text_of (opening_lines measure.now level)) }
 {
     push_line(out, b"desk-certificate 1", b"")?;
     push_measure_line(out, measure)?;
@@ -188,7 +193,8 @@ fn push_runs(out: &mut Vec<u8>, first: &[u8], second: &[u8]) -> Result<(), Alloc
 
 /// Puts the lines of a certificate from that of its first run on.
 pub fn push_from_first(out: &mut Vec<u8>, certificate: &Certificate) -> Result<(), AllocError>
-    ensures { OnOk result (out.new.items ≡ out.old.items ++ text_of (from_first_lines certificate.now)) }
+    ensures { OnOk result (out.new.items ≡ out.old.items ++
+        text_of (from_first_lines certificate.now)) }
 {
     push_runs(
         out,

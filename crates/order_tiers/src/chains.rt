@@ -17,8 +17,10 @@ pub(crate) fn chain_rows<M: Measure>(
     desk: &Desk,
     marks: &Rows,
 ) -> Result<Vec<RunSet>, AllocError>
-    requires { IsTableFor (M.measured table.now.measure) (M.cell_of table.now.measure) (M.bounds_of table.now.measure) desk.now marks.now table.now }
-    ensures { IfOk result (λ rows. AreChainRows (compared desk.now marks.now table.now.totals) rows.items) }
+    requires { IsTableFor (M.measured table.now.measure) (M.cell_of table.now.measure)
+        (M.bounds_of table.now.measure) desk.now marks.now table.now }
+    ensures { IfOk result (λ rows.
+        AreChainRows (compared desk.now marks.now table.now.totals) rows.items) }
 {
     let rows = certified_rows(alloc, table.verdicts(), desk.run_count())?;
     Ok(rows)

@@ -17,7 +17,9 @@ fn lead_through(rows: &mut [RunSet], via: u32, leads: &RunSet)
     requires via { via < length leads.now }
     requires square { IsSquare (length leads.now) rows.old }
     ensures square { IsSquare (length leads.now) rows.new }
-    ensures led { (a b : ℕ) → is_above rows.new a b ≡ (is_above rows.old a b || (is_above rows.old a via && has leads.now b)) }
+    ensures led { (a b : ℕ) →
+        is_above rows.new a b ≡
+        (is_above rows.old a b || (is_above rows.old a via && has leads.now b)) }
 {
     for run in 0..rows.len() {
         let row = &mut rows[run];
@@ -31,7 +33,8 @@ fn close(rows: &mut [RunSet], leads: &mut RunSet)
     requires { IsSquare (length leads.old) rows.old }
     ensures square { IsSquare (length leads.old) rows.new }
     ensures leads { length leads.new ≡ length leads.old }
-    ensures chains { (a b : ℕ) → (is_above rows.new a b ≡ true) ↔ IsCertifiedAbove (AboveBy rows.old) a b }
+    ensures chains { (a b : ℕ) → (is_above rows.new a b ≡ true) ↔
+        IsCertifiedAbove (AboveBy rows.old) a b }
 {
     for via in 0..rows.len() {
         leads.clear();

@@ -26,13 +26,15 @@ fn cell_on<M: Measure>(
     second: u32,
     topic: u32,
 ) -> Cell
-    requires table { IsTableFor (M.measured table.now.measure) (M.cell_of table.now.measure) (M.bounds_of table.now.measure) desk.now marks.now table.now }
+    requires table { IsTableFor (M.measured table.now.measure) (M.cell_of table.now.measure)
+        (M.bounds_of table.now.measure) desk.now marks.now table.now }
     requires different { first ≢ second }
     requires first { first < length desk.now.runs }
     requires second { second < length desk.now.runs }
     requires topic { topic < length desk.now.topics }
     ensures { let at = topic_at desk.now marks.now topic in
-        ends_of result ≡ ends_of (M.cell_of table.now.measure at.marks (at.ranking first) (at.ranking second)) }
+        ends_of result ≡
+        ends_of (M.cell_of table.now.measure at.marks (at.ranking first) (at.ranking second)) }
 {
     table.cell(first, second, topic)
 }
@@ -59,14 +61,19 @@ fn cover_of<M: Measure>(
     first: u32,
     second: u32,
 ) -> Cover
-    requires table { IsTableFor (M.measured table.now.measure) (M.cell_of table.now.measure) (M.bounds_of table.now.measure) desk.now marks.now table.now }
+    requires table { IsTableFor (M.measured table.now.measure) (M.cell_of table.now.measure)
+        (M.bounds_of table.now.measure) desk.now marks.now table.now }
     requires different { first ≢ second }
     requires first { first < length desk.now.runs }
     requires second { second < length desk.now.runs }
     ensures first { result.first ≡ first }
     ensures second { result.second ≡ second }
-    ensures wins { result.wins ≡ wins_in (cell_ends (M.cell_of table.now.measure) (topics_under desk.now marks.now) first second) }
-    ensures losses { result.losses ≡ losses_in (cell_ends (M.cell_of table.now.measure) (topics_under desk.now marks.now) first second) }
+    ensures wins { result.wins ≡
+        wins_in (cell_ends (M.cell_of table.now.measure) (topics_under desk.now marks.now) first
+        second) }
+    ensures losses { result.losses ≡
+        losses_in (cell_ends (M.cell_of table.now.measure) (topics_under desk.now marks.now) first
+        second) }
 {
     let mut wins = 0;
     let mut losses = 0;
@@ -123,12 +130,17 @@ fn push_covers<M: Measure>(
     between: &RunSet,
     first: u32,
 ) -> Result<(), AllocError>
-    requires table { IsTableFor (M.measured table.now.measure) (M.cell_of table.now.measure) (M.bounds_of table.now.measure) desk.now marks.now table.now }
+    requires table { IsTableFor (M.measured table.now.measure) (M.cell_of table.now.measure)
+        (M.bounds_of table.now.measure) desk.now marks.now table.now }
     requires rows { AreRowsFor desk.now rows.now }
     requires between { IsBelowBelow rows.now first between.now }
     requires first { first < length desk.now.runs }
-    requires before { HaveCoversBefore (AboveBy rows.now) (HasCellEnds (M.cell_of table.now.measure)) (compared desk.now marks.now table.now.totals) list.old.items first 0 }
-    ensures { OnOk result (HaveCoversBefore (AboveBy rows.now) (HasCellEnds (M.cell_of table.now.measure)) (compared desk.now marks.now table.now.totals) list.new.items (first + 1) 0) }
+    requires before { HaveCoversBefore (AboveBy rows.now)
+        (HasCellEnds (M.cell_of table.now.measure)) (compared desk.now marks.now table.now.totals)
+        list.old.items first 0 }
+    ensures { OnOk result (HaveCoversBefore (AboveBy rows.now)
+        (HasCellEnds (M.cell_of table.now.measure)) (compared desk.now marks.now table.now.totals)
+        list.new.items (first + 1) 0) }
 {
     for second in 0..desk.run_count() {
         if is_covering(rows, between, first, second) {
@@ -146,9 +158,12 @@ pub(crate) fn covers_of<M: Measure>(
     marks: &Rows,
     rows: &[RunSet],
 ) -> Result<Vec<Cover>, AllocError>
-    requires table { IsTableFor (M.measured table.now.measure) (M.cell_of table.now.measure) (M.bounds_of table.now.measure) desk.now marks.now table.now }
+    requires table { IsTableFor (M.measured table.now.measure) (M.cell_of table.now.measure)
+        (M.bounds_of table.now.measure) desk.now marks.now table.now }
     requires rows { AreRowsFor desk.now rows.now }
-    ensures { IfOk result (λ covers. AreCovers (AboveBy rows.now) (HasCellEnds (M.cell_of table.now.measure)) (compared desk.now marks.now table.now.totals) covers.items) }
+    ensures { IfOk result (λ covers.
+        AreCovers (AboveBy rows.now) (HasCellEnds (M.cell_of table.now.measure))
+        (compared desk.now marks.now table.now.totals) covers.items) }
 {
     let mut between = RunSet::new(rows.len() as u32);
     let mut list = Vec::new(alloc);

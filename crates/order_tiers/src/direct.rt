@@ -52,7 +52,8 @@ fn add_pairs(rows: &mut [RunSet], verdicts: &[Verdict])
     requires none { (a b : ℕ) → is_above rows.old a b ≡ false }
     requires count { length verdicts.now ≡ length (pairs_of (run_numbers (length rows.old))) }
     ensures square { IsSquare (length rows.old) rows.new }
-    ensures above { (a b : ℕ) → (is_above rows.new a b ≡ true) ↔ IsAbovePair (length rows.old) verdicts.now a b }
+    ensures above { (a b : ℕ) → (is_above rows.new a b ≡ true) ↔
+        IsAbovePair (length rows.old) verdicts.now a b }
 {
     let runs = rows.len() as u32;
     let mut at = PairPlaces::START;
@@ -72,7 +73,8 @@ pub(crate) fn direct_rows(
     requires few { runs ≤ RUN_LIMIT }
     requires count { length verdicts.now ≡ length (pairs_of (run_numbers runs)) }
     ensures square { IfOk result (λ rows. IsSquare runs rows.items) }
-    ensures above { IfOk result (λ rows. (a b : ℕ) → (is_above rows.items a b ≡ true) ↔ IsAbovePair runs verdicts.now a b) }
+    ensures above { IfOk result (λ rows. (a b : ℕ) →
+        (is_above rows.items a b ≡ true) ↔ IsAbovePair runs verdicts.now a b) }
 {
     let mut rows = empty_rows(alloc, runs)?;
     add_pairs(&mut rows, verdicts);

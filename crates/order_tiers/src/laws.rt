@@ -23,7 +23,8 @@ ghost use Rattle.order_tiers.specs.Tiers.{AreTiers};
 /// Certified above is the least relation that leads on and holds of each pair. Which pairs there are is any test of two
 /// runs.
 pub fn chains_lead_on()
-    ensures pairs { (above : ℕ → ℕ → Bool) (a b : ℕ) → ByTest above a b → IsCertifiedAbove (ByTest above) a b }
+    ensures pairs { (above : ℕ → ℕ → Bool) (a b : ℕ) → ByTest above a b →
+        IsCertifiedAbove (ByTest above) a b }
     ensures leads { (above : ℕ → ℕ → Bool) → IsTransitive (IsCertifiedAbove (ByTest above)) }
     ensures least { (above other : ℕ → ℕ → Bool) → IsTransitive (ByTest other) →
         ((a b : ℕ) → ByTest above a b → ByTest other a b) →
@@ -33,7 +34,8 @@ pub fn chains_lead_on()
 /// Runs have one tier each.
 pub fn tiers_are_one()
     ensures { (above : ℕ → ℕ → Bool) (runs : ℕ) (tier other : ℕ → ℕ) →
-        AreTiers (IsCertifiedAbove (ByTest above)) runs tier → AreTiers (IsCertifiedAbove (ByTest above)) runs other →
+        AreTiers (IsCertifiedAbove (ByTest above)) runs tier →
+        AreTiers (IsCertifiedAbove (ByTest above)) runs other →
         (b : ℕ) → b < runs → tier b ≡ other b }
 {}
 
@@ -49,16 +51,20 @@ pub fn pairs_give_tiers()
 
 /// The order of a table of a measure whose cells and bounds are a name's is the order by that name.
 pub fn tables_have_named_orders()
-    ensures { (name : MeasureName) (cell : List Mark → List ℕ → List ℕ → Cell) (bounds : List Mark → List ℕ → Span)
+    ensures { (name : MeasureName) (cell : List Mark → List ℕ → List ℕ → Cell) (bounds : List Mark →
+        List ℕ → Span)
         (desk : Desk) (marks : List (List Mark)) (order : Ordered) →
         AreNumbersOfName name cell bounds → IsDesk desk → AreMarksOf desk marks →
-        IsOrderBy (HasCellEnds cell) (compared desk marks (all_pair_sums cell (topics_under desk marks) (length desk.runs))) order →
+        IsOrderBy (HasCellEnds cell)
+        (compared desk marks (all_pair_sums cell (topics_under desk marks) (length desk.runs)))
+        order →
         IsOrderIn name desk marks order }
 {}
 
 /// A measure's name, a desk and its marks have one order.
 pub fn orders_are_one()
-    ensures { (name : MeasureName) (desk : Desk) (marks : List (List Mark)) (order other : Ordered) →
+    ensures { (name : MeasureName) (desk : Desk) (marks : List (List Mark))
+        (order other : Ordered) →
         IsOrderIn name desk marks order → IsOrderIn name desk marks other → order ≡ other }
 {}
 
@@ -78,22 +84,29 @@ pub fn certified_is_exact()
 /// A covering pair is of the desk's runs, and what it says is so: the first run's mean is greater in every completion, on each topic that it wins its
 /// score is, and on each that it loses the second's.
 pub fn covers_hold()
-    ensures within { (name : MeasureName) (desk : Desk) (marks : List (List Mark)) (order : Ordered) →
+    ensures within { (name : MeasureName) (desk : Desk) (marks : List (List Mark))
+        (order : Ordered) →
         IsOrderIn name desk marks order → All (CoverIsWithin (length desk.runs)) order.covers }
-    ensures holds { (name : MeasureName) (desk : Desk) (marks : List (List Mark)) (order : Ordered) →
+    ensures holds { (name : MeasureName) (desk : Desk) (marks : List (List Mark))
+        (order : Ordered) →
         IsMeasure name → IsDesk desk → AreMarksOf desk marks → IsOrderIn name desk marks order →
         All (CoverHolds name (topics_under desk marks)) order.covers }
-    ensures measured { (name : MeasureName) (cell : List Mark → List ℕ → List ℕ → Cell) (bounds : List Mark → List ℕ → Span)
+    ensures measured { (name : MeasureName) (cell : List Mark → List ℕ → List ℕ →
+        Cell) (bounds : List Mark → List ℕ → Span)
         (desk : Desk) (marks : List (List Mark)) (order : Ordered) →
         IsMeasure name → MeetsLaws name cell bounds → IsDesk desk → AreMarksOf desk marks →
-        IsOrderBy (HasCellEnds cell) (compared desk marks (all_pair_sums cell (topics_under desk marks) (length desk.runs))) order →
+        IsOrderBy (HasCellEnds cell)
+        (compared desk marks (all_pair_sums cell (topics_under desk marks) (length desk.runs)))
+        order →
         All (CoverHolds name (topics_under desk marks)) order.covers }
 {}
 
 /// A covering pair has the verdict above itself, read from the first run's side, and wins at least one topic.
 pub fn covers_are_won_pairs()
-    ensures { (name : MeasureName) (desk : Desk) (marks : List (List Mark)) (totals : List Totals) (order : Ordered) →
-        IsMeasure name → IsDesk desk → AreMarksOf desk marks → AreAllPairNumbers name desk marks totals →
+    ensures { (name : MeasureName) (desk : Desk) (marks : List (List Mark)) (totals : List Totals)
+        (order : Ordered) →
+        IsMeasure name → IsDesk desk → AreMarksOf desk marks →
+        AreAllPairNumbers name desk marks totals →
         IsOrderBy (HasEnds name) (compared desk marks totals) order →
         All (IsWonPair (compared desk marks totals)) order.covers }
 {}
@@ -107,8 +120,10 @@ pub fn chains_add_no_pair()
 /// A run that is certified above another stays so while more documents are judged: where unjudged documents get a
 /// judgement and nothing else changes.
 pub fn certified_stays()
-    ensures { (name : MeasureName) (desk : Desk) (marks later : List (List Mark)) (totals after : List Totals) (a b : ℕ) →
+    ensures { (name : MeasureName) (desk : Desk) (marks later : List (List Mark))
+        (totals after : List Totals) (a b : ℕ) →
         IsMeasure name → IsDesk desk → AreMarksOf desk marks → AreAllRefinedBy marks later →
         AreAllPairNumbers name desk marks totals → AreAllPairNumbers name desk later after →
-        IsCertifiedIn (compared desk marks totals) a b → IsCertifiedIn (compared desk later after) a b }
+        IsCertifiedIn (compared desk marks totals) a b →
+        IsCertifiedIn (compared desk later after) a b }
 {}

@@ -45,8 +45,10 @@ fn order_of<M: Measure>(
     desk: &Desk,
     marks: &Rows,
 ) -> Result<Order, AllocError>
-    requires { IsTableFor (M.measured table.now.measure) (M.cell_of table.now.measure) (M.bounds_of table.now.measure) desk.now marks.now table.now }
-    ensures { IfOk result (IsOrderBy (HasCellEnds (M.cell_of table.now.measure)) (compared desk.now marks.now table.now.totals)) }
+    requires { IsTableFor (M.measured table.now.measure) (M.cell_of table.now.measure)
+        (M.bounds_of table.now.measure) desk.now marks.now table.now }
+    ensures { IfOk result (IsOrderBy (HasCellEnds (M.cell_of table.now.measure))
+        (compared desk.now marks.now table.now.totals)) }
 {
     let rows = chain_rows(alloc, table, desk, marks)?;
     let tiers = tiers_of(alloc, &rows)?;
@@ -73,8 +75,10 @@ impl Order {
         marks: &Marks,
     ) -> Result<Order, Memory>
         requires marks { AreMarksOf desk.now marks.now.rows }
-        requires table { StandsFor (M.cell_of table.now.measure) (M.bounds_of table.now.measure) desk.now marks.now.rows table.now }
-        ensures { IfOk result (IsOrderBy (HasCellEnds (M.cell_of table.now.measure)) (compared desk.now marks.now.rows table.now.totals)) }
+        requires table { StandsFor (M.cell_of table.now.measure) (M.bounds_of table.now.measure)
+            desk.now marks.now.rows table.now }
+        ensures { IfOk result (IsOrderBy (HasCellEnds (M.cell_of table.now.measure))
+            (compared desk.now marks.now.rows table.now.totals)) }
     {
         desk.valid();
         // The laws speak of measures that have a name.

@@ -29,7 +29,9 @@ impl Model for RunSet {
 
 // Puts the runs whose bits are set in others among those of some words.
 fn join_words(words: &mut [u64; WORDS], others: &[u64; WORDS])
-    ensures { (place : ℕ) → slice_index words.new place ≡ bit_or (slice_index words.old place) (slice_index others.now place) }
+    ensures { (place : ℕ) →
+        slice_index words.new place ≡
+        bit_or (slice_index words.old place) (slice_index others.now place) }
 {
     for place in 0..WORDS {
         words[place] |= others[place];
@@ -89,7 +91,8 @@ impl RunSet {
         requires via { via < length self.old }
         requires lengths { length self.old ≡ length leads.now }
         ensures count { length self.new ≡ length self.old }
-        ensures joined { (run : ℕ) → has self.new run ≡ (has self.old run || (has self.old via && has leads.now run)) }
+        ensures joined { (run : ℕ) →
+            has self.new run ≡ (has self.old run || (has self.old via && has leads.now run)) }
     {
         if self.has(via) {
             self.add_all(leads);

@@ -77,7 +77,8 @@ fn fill_tiers(rows: &[RunSet], counts: &[u32], tiers: &mut [u32], count: u32)
 pub(crate) fn tiers_of(alloc: Global, rows: &[RunSet]) -> Result<Vec<u32>, AllocError>
     requires { IsStrictOrder rows.now }
     ensures count { IfOk result (λ tiers. length tiers.items ≡ length rows.now) }
-    ensures tiers { IfOk result (λ tiers. AreTiers (AboveBy rows.now) (length rows.now) (tier_in tiers.items)) }
+    ensures tiers { IfOk result (λ tiers.
+        AreTiers (AboveBy rows.now) (length rows.now) (tier_in tiers.items)) }
 {
     let counts = counts_above(alloc, rows)?;
     let mut tiers = vec![in alloc; 0; rows.len()]?;

@@ -32,7 +32,8 @@ fn are_same(a: &[u32], b: &[u32]) -> bool
 /// The sum of the precisions at a ranking's relevant documents in one completion, rounded up or down.
 fn sum_in<T: Relevance>(high: bool, docs: &[u32], relevant: &T) -> u128
     requires { IsRanking (T.universe relevant.now) docs.now }
-    ensures value { result ≡ ranked_sum (worth_of high) 1 (true_ranks 1 (map (T.truth relevant.now) docs.now)) }
+    ensures value { result ≡ ranked_sum (worth_of high) 1
+        (true_ranks 1 (map (T.truth relevant.now) docs.now)) }
     ensures small { result ≤ RANK_LIMIT * PARTS_OF_ONE }
 {
     let mut sum = PartSum::NONE;
@@ -48,7 +49,8 @@ fn sum_in<T: Relevance>(high: bool, docs: &[u32], relevant: &T) -> u128
 fn average_in<T: Relevance>(high: bool, docs: &[u32], relevant: &T) -> u128
     requires ranking { IsRanking (T.universe relevant.now) docs.now }
     requires few { T.universe relevant.now ≤ DOCUMENT_LIMIT }
-    ensures value { result ≡ rounded high (T.universe relevant.now) (T.truth relevant.now) docs.now }
+    ensures value { result ≡ rounded high (T.universe relevant.now) (T.truth relevant.now)
+        docs.now }
     ensures small { result ≤ RANK_LIMIT * PARTS_OF_ONE }
 {
     let sum = sum_in(high, docs, relevant);

@@ -58,7 +58,9 @@ fn least_gain(powers: &Powers, x: Option<u32>, y: Option<u32>, mark: Mark) -> i1
     requires powers { ArePowers powers.now }
     requires first { IsRankWithin RANK_LIMIT x }
     requires second { IsRankWithin RANK_LIMIT y }
-    ensures gain { result ≡ (if picked_value (comes_before y x) mark then low_share powers.now.top powers.now.bottom x y else pos 0) }
+    ensures gain { result ≡
+        (if picked_value (comes_before y x) mark then low_share powers.now.top powers.now.bottom x y
+        else pos 0) }
     ensures low { neg_ℤ (pos PARTS_OF_ONE) ≤ℤ result }
     ensures high { result ≤ℤ pos PARTS_OF_ONE }
 {
@@ -83,9 +85,12 @@ fn greatest_gain(
     is_relevant: bool,
 ) -> i128
     requires powers { ArePowers powers.now }
-    requires places { (a : List ℕ) × (b : List ℕ) × (length a ≤ RANK_LIMIT) × (length b ≤ RANK_LIMIT) × AreFrom doc a first.now × AreFrom doc b second.now }
+    requires places { (a : List ℕ) × (b : List ℕ) × (length a ≤ RANK_LIMIT) ×
+        (length b ≤ RANK_LIMIT) × AreFrom doc a first.now × AreFrom doc b second.now }
     ensures gain { (a : List ℕ) (b : List ℕ) → AreFrom doc a first.now → AreFrom doc b second.now →
-        result ≡ (if is_relevant then high_share powers.now.top powers.now.bottom (rank a doc) (rank b doc) else pos 0) }
+        result ≡
+        (if is_relevant then high_share powers.now.top powers.now.bottom (rank a doc) (rank b doc)
+        else pos 0) }
     ensures low { neg_ℤ (pos PARTS_OF_ONE) ≤ℤ result }
     ensures high { result ≤ℤ pos PARTS_OF_ONE }
 {
@@ -101,7 +106,8 @@ fn greatest_gain(
 /// What a tail of a ranking adds at most.
 fn tail_most(powers: &Powers, ranking: &Ranking) -> i128
     requires { ArePowers powers.now }
-    ensures value { result ≡ pos (high_power powers.now.top powers.now.bottom (length ranking.now)) }
+    ensures value { result ≡
+        pos (high_power powers.now.top powers.now.bottom (length ranking.now)) }
     ensures small { result ≤ℤ pos PARTS_OF_ONE }
 {
     powers.high(ranking.docs().len() as u32)
@@ -110,7 +116,8 @@ fn tail_most(powers: &Powers, ranking: &Ranking) -> i128
 /// What a tail of 10^24 relevant places adds at least.
 fn tail_least(powers: &Powers, ranking: &Ranking) -> i128
     requires { ArePowers powers.now }
-    ensures value { result ≡ pos (low_power powers.now.top powers.now.bottom (length ranking.now) - 1) }
+    ensures value { result ≡ pos (low_power powers.now.top powers.now.bottom (length ranking.now) -
+        1) }
     ensures small { result ≤ℤ pos PARTS_OF_ONE }
 {
     let whole = powers.low(ranking.docs().len() as u32);
@@ -151,8 +158,10 @@ pub fn upper_ends<T: Relevance>(
     requires powers { ArePowers powers.now }
     requires low { AreRankings (T.universe low.now) a.now b.now }
     requires high { AreRankings (T.universe high.now) b.now a.now }
-    ensures low { IsUpperEnd (B powers.now.top powers.now.bottom) (T.universe low.now) (T.truth low.now) a.now b.now result.low }
-    ensures high { IsUpperEnd (B powers.now.top powers.now.bottom) (T.universe high.now) (T.truth high.now) b.now a.now result.high }
+    ensures low { IsUpperEnd (B powers.now.top powers.now.bottom) (T.universe low.now)
+        (T.truth low.now) a.now b.now result.low }
+    ensures high { IsUpperEnd (B powers.now.top powers.now.bottom) (T.universe high.now)
+        (T.truth high.now) b.now a.now result.high }
 {
     let mut first = a.by_doc();
     let mut second = b.by_doc();

@@ -44,7 +44,8 @@ impl Comparison<'_> {
     fn first_low_too_great<N: BoundRows>(&self, numbers: &N) -> Option<u32>
         requires topics { length (N.bounds numbers.now) ≡ length (topics_in self.now) }
         requires few { length (N.bounds numbers.now) ≤ TOPIC_LIMIT }
-        ensures { MatchOption result (BoundsHold self.now (A (N.bounds numbers.now))) (HasBoundTooGreat self.now (A (N.bounds numbers.now))) }
+        ensures { MatchOption result (BoundsHold self.now (A (N.bounds numbers.now)))
+            (HasBoundTooGreat self.now (A (N.bounds numbers.now))) }
     {
         for topic in 0..numbers.count() {
             let low = numbers.low(topic);
@@ -59,7 +60,8 @@ impl Comparison<'_> {
     fn first_too_great<N: BoundRows>(&self, numbers: &N) -> Option<u32>
         requires topics { length (N.bounds numbers.now) ≡ length (topics_in self.now) }
         requires few { length (N.bounds numbers.now) ≤ TOPIC_LIMIT }
-        ensures { MatchOption result (BoundsHold self.now (E (N.bounds numbers.now))) (HasBoundTooGreat self.now (E (N.bounds numbers.now))) }
+        ensures { MatchOption result (BoundsHold self.now (E (N.bounds numbers.now)))
+            (HasBoundTooGreat self.now (E (N.bounds numbers.now))) }
     {
         for topic in 0..numbers.count() {
             let low = numbers.low(topic);
@@ -77,7 +79,8 @@ impl Comparison<'_> {
         requires topics { length (N.bounds numbers.now) ≡ length (topics_in self.now) }
         requires few { length (N.bounds numbers.now) ≤ TOPIC_LIMIT }
         requires lows { All (λ (b : Bound). IsShortNumber b.low) (N.bounds numbers.now) }
-        ensures { MatchResult result (λ _. ShowsOf self.now (A (N.bounds numbers.now))) (FailsBy self.now (A (N.bounds numbers.now))) }
+        ensures { MatchResult result (λ _. ShowsOf self.now (A (N.bounds numbers.now)))
+            (FailsBy self.now (A (N.bounds numbers.now))) }
     {
         if let Some(topic) = self.first_low_too_great(numbers) {
             return Err(Failure::BoundTooGreat { topic });
@@ -94,7 +97,8 @@ impl Comparison<'_> {
         requires few { length (N.bounds numbers.now) ≤ TOPIC_LIMIT }
         requires lows { All (λ (b : Bound). IsShortNumber b.low) (N.bounds numbers.now) }
         requires highs { All (λ (b : Bound). IsShortNumber b.high) (N.bounds numbers.now) }
-        ensures { MatchResult result (λ _. ShowsOf self.now (E (N.bounds numbers.now))) (FailsBy self.now (E (N.bounds numbers.now))) }
+        ensures { MatchResult result (λ _. ShowsOf self.now (E (N.bounds numbers.now)))
+            (FailsBy self.now (E (N.bounds numbers.now))) }
     {
         if let Some(topic) = self.first_too_great(numbers) {
             return Err(Failure::BoundTooGreat { topic });

@@ -69,7 +69,14 @@ impl<'a> Comparison<'a> {
     ) -> Comparison<'a>
         requires runs { IsOne desk.now marks.now runs.first runs.second }
         requires bounds { BoundsOf desk.now marks.now bounds.now }
-        ensures { result ≡ record { measure = ends.now; desk = desk.now; marks = marks.now; first = runs.first; second = runs.second } }
+        ensures { result ≡
+            record {
+              measure = ends.now;
+              desk = desk.now;
+              marks = marks.now;
+              first = runs.first;
+              second = runs.second;
+            } }
     {
         Comparison {
             ends,
@@ -92,7 +99,8 @@ impl<'a> Comparison<'a> {
     /// The lower end of the least difference of the two runs on a topic.
     pub fn least_low(&self, topic: u32) -> i128
         requires { topic < length (topics_in self.now) }
-        ensures { OfTopic (topics_in self.now) topic (λ t. OfEnds self.now t (λ ends. result ≡ ends.least_lo)) }
+        ensures { OfTopic (topics_in self.now) topic (λ t.
+            OfEnds self.now t (λ ends. result ≡ ends.least_lo)) }
     {
         let first = known_ranking(self.desk, self.bounds, self.runs.first, topic);
         let second = known_ranking(self.desk, self.bounds, self.runs.second, topic);
@@ -103,7 +111,9 @@ impl<'a> Comparison<'a> {
     /// The outer ends of the differences of the two runs on a topic.
     pub fn outer_ends(&self, topic: u32) -> OuterEnds
         requires { topic < length (topics_in self.now) }
-        ensures { OfTopic (topics_in self.now) topic (λ t. OfEnds self.now t (λ ends. result ≡ record { least_low = ends.least_lo; most_high = ends.most_hi })) }
+        ensures { OfTopic (topics_in self.now) topic (λ t.
+            OfEnds self.now t (λ ends. result ≡
+            record { least_low = ends.least_lo; most_high = ends.most_hi })) }
     {
         let first = known_ranking(self.desk, self.bounds, self.runs.first, topic);
         let second = known_ranking(self.desk, self.bounds, self.runs.second, topic);
@@ -136,7 +146,9 @@ impl<'a> Comparison<'a> {
         requires place { place < length documents.now.names }
         requires marks { slice_get self.now.marks topic ≡ Some marks.now }
         requires topic { OfTopic (topics_in self.now) topic (λ t. documents.now.docs ≡ t.docs) }
-        ensures { OfRow documents.now.names place (λ name. OfTopic (topics_in self.now) topic (λ t. IsTrue result.is_found ↔ AreUnjudged t (name ∷ []))) }
+        ensures { OfRow documents.now.names place (λ name.
+            OfTopic (topics_in self.now) topic (λ t. IsTrue result.is_found ↔
+            AreUnjudged t (name ∷ []))) }
     {
         let _desk = self.desk;
         match documents.number(place, near) {
@@ -161,10 +173,16 @@ impl<'a> Comparison<'a> {
     ) -> CompletionEnds
         requires low_ascends { AreAscending low.now.names }
         requires high_ascends { AreAscending high.now.names }
-        requires low_topic { OfTopic (topics_in self.now) topic (λ t. (low.now.docs ≡ t.docs) × AreUnjudged t low.now.names) }
-        requires high_topic { OfTopic (topics_in self.now) topic (λ t. (high.now.docs ≡ t.docs) × AreUnjudged t high.now.names) }
-        ensures low { OfTopic (topics_in self.now) topic (λ t. IsUpperEnd self.now.measure (length t.topic.marks) (listed_truth t low.now.names) (t.topic.ranking self.now.first) (t.topic.ranking self.now.second) result.low) }
-        ensures high { OfTopic (topics_in self.now) topic (λ t. IsLowerEnd self.now.measure (length t.topic.marks) (listed_truth t high.now.names) (t.topic.ranking self.now.first) (t.topic.ranking self.now.second) result.high) }
+        requires low_topic { OfTopic (topics_in self.now) topic (λ t. (low.now.docs ≡ t.docs) ×
+            AreUnjudged t low.now.names) }
+        requires high_topic { OfTopic (topics_in self.now) topic (λ t. (high.now.docs ≡ t.docs) ×
+            AreUnjudged t high.now.names) }
+        ensures low { OfTopic (topics_in self.now) topic (λ t.
+            IsUpperEnd self.now.measure (length t.topic.marks) (listed_truth t low.now.names)
+            (t.topic.ranking self.now.first) (t.topic.ranking self.now.second) result.low) }
+        ensures high { OfTopic (topics_in self.now) topic (λ t.
+            IsLowerEnd self.now.measure (length t.topic.marks) (listed_truth t high.now.names)
+            (t.topic.ranking self.now.first) (t.topic.ranking self.now.second) result.high) }
         ensures low_modest { IsModest result.low }
         ensures high_modest { IsModest result.high }
     {

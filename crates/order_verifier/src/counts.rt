@@ -29,8 +29,10 @@ impl RelevantCounts {
     pub fn with(self, mark: Mark) -> RelevantCounts
         requires order { self.relevant ≤ self.possible }
         requires few { self.possible < DOCUMENT_LIMIT }
-        ensures relevant { result.relevant ≡ self.relevant + (if picked_value false mark then 1 else 0) }
-        ensures possible { result.possible ≡ self.possible + (if picked_value true mark then 1 else 0) }
+        ensures relevant { result.relevant ≡ self.relevant +
+            (if picked_value false mark then 1 else 0) }
+        ensures possible { result.possible ≡ self.possible +
+            (if picked_value true mark then 1 else 0) }
     {
         RelevantCounts {
             relevant: self.relevant + u32::from(mark == Mark::Relevant),
@@ -42,8 +44,10 @@ impl RelevantCounts {
     pub fn without(self, mark: Mark) -> RelevantCounts
         requires relevant { (if picked_value false mark then 1 else 0) ≤ self.relevant }
         requires possible { (if picked_value true mark then 1 else 0) ≤ self.possible }
-        ensures relevant { result.relevant + (if picked_value false mark then 1 else 0) ≡ self.relevant }
-        ensures possible { result.possible + (if picked_value true mark then 1 else 0) ≡ self.possible }
+        ensures relevant { result.relevant + (if picked_value false mark then 1 else 0) ≡
+            self.relevant }
+        ensures possible { result.possible + (if picked_value true mark then 1 else 0) ≡
+            self.possible }
     {
         RelevantCounts {
             relevant: self.relevant - u32::from(mark == Mark::Relevant),

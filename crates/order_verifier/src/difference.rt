@@ -22,7 +22,8 @@ impl Difference {
     fn span(self) -> Span
         requires { IsSmallDifference self }
         ensures floor { IsFloor (pos PARTS_OF_ONE *ℤ lead_of self) (pos (whole_of self)) result.lo }
-        ensures ceiling { IsCeiling (pos PARTS_OF_ONE *ℤ lead_of self) (pos (whole_of self)) result.hi }
+        ensures ceiling { IsCeiling (pos PARTS_OF_ONE *ℤ lead_of self) (pos (whole_of self))
+            result.hi }
         ensures near { IsNear result.lo }
     {
         span_of(

@@ -66,7 +66,8 @@ impl<'a> Documents<'a> {
 
     /// Those of some names that are picked by their numbers, from 0.
     pub fn picked(book: &'a TopicBook, names: &'a [Name], picks: &'a [u32]) -> Documents<'a>
-        ensures { result ≡ record { docs = book.now.docs; names = names_listed names.now picks.now true } }
+        ensures { result ≡
+            record { docs = book.now.docs; names = names_listed names.now picks.now true } }
     {
         Documents {
             book,
@@ -85,7 +86,8 @@ impl<'a> Documents<'a> {
         numbers: &'a [Option<u32>],
     ) -> Documents<'a>
         requires { numbers.now ≡ numbers_of book.now.docs names.now }
-        ensures { result ≡ record { docs = book.now.docs; names = names_listed names.now picks.now true } }
+        ensures { result ≡
+            record { docs = book.now.docs; names = names_listed names.now picks.now true } }
     {
         Documents {
             book,
@@ -132,7 +134,8 @@ impl<'a> Documents<'a> {
     pub fn has(&self, doc: u32) -> bool
         requires known { AreKnown self.now.docs self.now.names }
         requires doc { doc < length self.now.docs }
-        ensures { result ≡ list_any (λ each. is_same_name each (slice_index_or self.now.docs doc [])) self.now.names }
+        ensures { result ≡ list_any (λ each.
+            is_same_name each (slice_index_or self.now.docs doc [])) self.now.names }
     {
         match self.form {
             ListForm::Names => is_on(self.names, self.book.doc_name(doc)),
@@ -149,7 +152,9 @@ impl<'a> Documents<'a> {
     pub fn find(&self, doc: u32, near: usize) -> FoundNear
         requires known { AreKnown self.now.docs self.now.names }
         requires doc { doc < length self.now.docs }
-        ensures { result.is_found ≡ list_any (λ each. is_same_name each (slice_index_or self.now.docs doc [])) self.now.names }
+        ensures { result.is_found ≡
+            list_any (λ each. is_same_name each (slice_index_or self.now.docs doc []))
+            self.now.names }
     {
         match self.form {
             ListForm::NumberedPicks => {
@@ -216,7 +221,8 @@ fn find_name(names: &[Name], name: &[u8], near: usize) -> FoundNear
 /// Whether a name is one of those picked of some names.
 fn is_picked(names: &[Name], picks: &[u32], name: &[u8]) -> bool
     requires { AreAscending (names_listed names.now picks.now true) }
-    ensures { result ≡ list_any (λ each. is_same_name each name.now) (names_listed names.now picks.now true) }
+    ensures { result ≡ list_any (λ each. is_same_name each name.now)
+        (names_listed names.now picks.now true) }
 {
     match picks.binary_search_by(|pick| name_at(names, *pick).cmp(name)) {
         Ok(_) => true,
@@ -233,7 +239,9 @@ fn order_at(
     place: usize,
     doc: u32,
 ) -> Ordering
-    ensures within { place < length picks.now → result ≡ nat_cmp (number_of_pick book.now.docs numbers.now (slice_index_or picks.now place 0)) doc }
+    ensures within { place < length picks.now →
+        result ≡
+        nat_cmp (number_of_pick book.now.docs numbers.now (slice_index_or picks.now place 0)) doc }
     ensures past { length picks.now ≤ place → result ≡ Greater }
 {
     match picks.get(place) {
@@ -251,7 +259,8 @@ fn place_by_halving(
     doc: u32,
 ) -> Result<usize, usize>
     ensures bound { IsSearchInRange result (length picks.now) }
-    ensures place { IsBinarySearchResult (λ k. nat_cmp (number_of_pick book.now.docs numbers.now k) doc) picks.now result }
+    ensures place { IsBinarySearchResult (λ k.
+        nat_cmp (number_of_pick book.now.docs numbers.now k) doc) picks.now result }
 {
     picks.binary_search_by(|pick| number_at(book, numbers, *pick).unwrap_or(0).cmp(&doc))
 }
@@ -266,7 +275,8 @@ fn place_near(
     near: usize,
 ) -> Result<usize, usize>
     ensures bound { IsSearchInRange result (length picks.now) }
-    ensures place { IsBinarySearchResult (λ k. nat_cmp (number_of_pick book.now.docs numbers.now k) doc) picks.now result }
+    ensures place { IsBinarySearchResult (λ k.
+        nat_cmp (number_of_pick book.now.docs numbers.now k) doc) picks.now result }
 {
     let here = order_at(book, numbers, picks, near, doc);
     if here.is_eq() {
@@ -289,8 +299,10 @@ fn find_number(
     near: usize,
 ) -> FoundNear
     requires { doc < length book.now.docs }
-    ensures { (names : List (List ℕ)) → numbers.now ≡ numbers_of book.now.docs names → AreKnown book.now.docs (names_listed names picks.now true) →
-        result.is_found ≡ list_any (λ each. is_same_name each (slice_index_or book.now.docs doc [])) (names_listed names picks.now true) }
+    ensures { (names : List (List ℕ)) → numbers.now ≡ numbers_of book.now.docs names →
+        AreKnown book.now.docs (names_listed names picks.now true) →
+        result.is_found ≡ list_any (λ each. is_same_name each (slice_index_or book.now.docs doc []))
+        (names_listed names picks.now true) }
 {
     match place_near(book, numbers, picks, doc, near) {
         Ok(place) => FoundNear {

@@ -57,8 +57,10 @@ impl TopicEnds {
     /// rankings, negated.
     pub fn least_low(&self, a: &Ranking, b: &Ranking, marks: &TopicMarks<'_>) -> i128
         requires { AreRankings (length marks.now) a.now b.now }
-        ensures low { (ends : Ends) → HasEnds self.now marks.now a.now b.now ends → result ≡ ends.least_lo }
-        ensures most { (ends : Ends) → HasEnds self.now marks.now b.now a.now ends → neg_ℤ result ≡ ends.most_hi }
+        ensures low { (ends : Ends) → HasEnds self.now marks.now a.now b.now ends →
+            result ≡ ends.least_lo }
+        ensures most { (ends : Ends) → HasEnds self.now marks.now b.now a.now ends →
+            neg_ℤ result ≡ ends.most_hi }
         ensures ends { (ends : Ends) × HasEnds self.now marks.now a.now b.now ends }
         ensures modest { IsModest result }
     {
@@ -78,9 +80,14 @@ impl TopicEnds {
         requires rankings { AreRankings (length marks.now) a.now.ranking.now b.now.ranking.now }
         requires a { AreKnown marks.now a.now.ranking.now a.now.bounds }
         requires b { AreKnown marks.now b.now.ranking.now b.now.bounds }
-        ensures low { (ends : Ends) → HasEnds self.now marks.now a.now.ranking.now b.now.ranking.now ends → result ≡ ends.least_lo }
-        ensures most { (ends : Ends) → HasEnds self.now marks.now b.now.ranking.now a.now.ranking.now ends → neg_ℤ result ≡ ends.most_hi }
-        ensures ends { (ends : Ends) × HasEnds self.now marks.now a.now.ranking.now b.now.ranking.now ends }
+        ensures low { (ends : Ends) →
+            HasEnds self.now marks.now a.now.ranking.now b.now.ranking.now ends →
+            result ≡ ends.least_lo }
+        ensures most { (ends : Ends) →
+            HasEnds self.now marks.now b.now.ranking.now a.now.ranking.now ends →
+            neg_ℤ result ≡ ends.most_hi }
+        ensures ends { (ends : Ends) ×
+            HasEnds self.now marks.now a.now.ranking.now b.now.ranking.now ends }
         ensures modest { IsModest result }
     {
         self.kind.least_low(a, b, marks)
@@ -90,7 +97,8 @@ impl TopicEnds {
     /// precision with the tails of the least case.
     pub fn upper_end<T: Relevance>(&self, a: &Ranking, b: &Ranking, relevant: &T) -> i128
         requires { AreRankings (T.universe relevant.now) a.now b.now }
-        ensures upper { IsUpperEnd self.now (T.universe relevant.now) (T.truth relevant.now) a.now b.now result }
+        ensures upper { IsUpperEnd self.now (T.universe relevant.now) (T.truth relevant.now) a.now
+            b.now result }
         ensures modest { IsModest result }
     {
         self.upper_ends(a, b, relevant, relevant).low
@@ -100,8 +108,10 @@ impl TopicEnds {
     pub fn upper_ends<T: Relevance>(&self, a: &Ranking, b: &Ranking, low: &T, high: &T) -> UpperEnds
         requires low { AreRankings (T.universe low.now) a.now b.now }
         requires high { AreRankings (T.universe high.now) b.now a.now }
-        ensures low { IsUpperEnd self.now (T.universe low.now) (T.truth low.now) a.now b.now result.low }
-        ensures high { IsUpperEnd self.now (T.universe high.now) (T.truth high.now) b.now a.now result.high }
+        ensures low { IsUpperEnd self.now (T.universe low.now) (T.truth low.now) a.now b.now
+            result.low }
+        ensures high { IsUpperEnd self.now (T.universe high.now) (T.truth high.now) b.now a.now
+            result.high }
         ensures low_modest { IsModest result.low }
         ensures high_modest { IsModest result.high }
     {

@@ -87,7 +87,8 @@ impl Passed {
 /// The sum of one over each rank that is relevant where the unjudged documents are as those that come last.
 fn inverses_of(high: bool, docs: &[u32], marks: &[Mark]) -> u128
     requires { IsRanking (length marks.now) docs.now }
-    ensures value { result ≡ inverse_sum (true_ranks 1 (gains_by high (along marks.now docs.now) 0)) }
+    ensures value { result ≡
+        inverse_sum (true_ranks 1 (gains_by high (along marks.now docs.now) 0)) }
     ensures small { result ≤ RANK_LIMIT * PARTS_OF_ONE }
 {
     let mut sum = 0;

@@ -36,7 +36,8 @@ impl Kind {
         requires rankings { AreRankings (length marks.now) x.now.ranking.now y.now.ranking.now }
         requires x { AreKnown marks.now x.now.ranking.now x.now.bounds }
         requires y { AreKnown marks.now y.now.ranking.now y.now.bounds }
-        ensures { IsLeastLow (name_of self.now) marks.now x.now.ranking.now y.now.ranking.now result }
+        ensures { IsLeastLow (name_of self.now) marks.now x.now.ranking.now y.now.ranking.now
+            result }
     {
         let a = x.ranking;
         let b = y.ranking;
@@ -56,8 +57,10 @@ impl Kind {
         requires kind { IsKind self.now }
         requires low { AreRankings (T.universe low.now) a.now b.now }
         requires high { AreRankings (T.universe high.now) b.now a.now }
-        ensures low { IsUpperEnd (name_of self.now) (T.universe low.now) (T.truth low.now) a.now b.now result.low }
-        ensures high { IsUpperEnd (name_of self.now) (T.universe high.now) (T.truth high.now) b.now a.now result.high }
+        ensures low { IsUpperEnd (name_of self.now) (T.universe low.now) (T.truth low.now) a.now
+            b.now result.low }
+        ensures high { IsUpperEnd (name_of self.now) (T.universe high.now) (T.truth high.now) b.now
+            a.now result.high }
     {
         match self {
             Kind::Precision(k) => UpperEnds {

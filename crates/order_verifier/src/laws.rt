@@ -14,20 +14,26 @@ ghost use Rattle.order_verifier.specs.declared.rejected.Rejected.TheVariants.{Wr
 /// A certificate that is rejected, for whichever reason, is no evidence: so it is accepted exactly where it is
 /// evidence.
 pub fn rejected_certificates_are_no_evidence()
-    ensures { (c : Certificate) (desk : Desk) (marks : List (List Mark)) (why : Rejected) → IsRejected c desk marks why → IsEvidence c desk marks → ⊥ }
+    ensures { (c : Certificate) (desk : Desk) (marks : List (List Mark)) (why : Rejected) →
+        IsRejected c desk marks why → IsEvidence c desk marks → ⊥ }
 {}
 
 /// A certificate has one answer on a desk under its marks.
 pub fn answers_are_one()
-    ensures { (c : Certificate) (desk : Desk) (marks : List (List Mark)) (r s : Result (Unit {0}) Rejected) →
+    ensures { (c : Certificate) (desk : Desk) (marks : List (List Mark))
+        (r s : Result (Unit {0}) Rejected) →
         IsVerified c desk marks r → IsVerified c desk marks s → r ≡ s }
 {}
 
 /// The line that is told says in the certificate's text what stands at the first wrong place: the name of a run, the number
 /// of topics or the name of a topic that is not the desk's, or the name of a document that is no unjudged one.
 pub fn numbers_are_of_lines()
-    ensures names { (c : Certificate) (desk : Desk) (marks : List (List Mark)) (line : ℕ) → IsRejected c desk marks (WrongNames line) →
+    ensures names { (c : Certificate) (desk : Desk) (marks : List (List Mark)) (line : ℕ) →
+        IsRejected c desk marks (WrongNames line) →
         (place : CertificatePlace) × IsWrongName c desk place × OfLine c line (SaysPlace c place) }
-    ensures document { (c : Certificate) (desk : Desk) (marks : List (List Mark)) (line : ℕ) → IsRejected c desk marks (NotCompletion line) →
-        (place : CertificatePlace) × OnDesk c desk marks (λ k. HasWrongDocument k c.evidence place) × OfLine c line (SaysPlace c place) }
+    ensures document { (c : Certificate) (desk : Desk) (marks : List (List Mark)) (line : ℕ) →
+        IsRejected c desk marks (NotCompletion line) →
+        (place : CertificatePlace) ×
+        OnDesk c desk marks (λ k. HasWrongDocument k c.evidence place) ×
+        OfLine c line (SaysPlace c place) }
 {}

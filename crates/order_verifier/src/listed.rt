@@ -30,8 +30,10 @@ impl<'a> Model for Listed<'a> {
 impl<'a> Listed<'a> {
     /// A list of unjudged documents of a topic, ascending by name.
     pub fn new(marks: &'a TopicMarks<'a>, documents: &'a Documents<'a>) -> Listed<'a>
-        requires { AreListed (record { docs = documents.now.docs; marks = marks.now; names = documents.now.names }) }
-        ensures { result ≡ record { docs = documents.now.docs; marks = marks.now; names = documents.now.names } }
+        requires { AreListed
+            (record { docs = documents.now.docs; marks = marks.now; names = documents.now.names }) }
+        ensures { result ≡
+            record { docs = documents.now.docs; marks = marks.now; names = documents.now.names } }
     {
         Listed { marks, documents }
     }

@@ -18,7 +18,8 @@ pub struct RunNumbers {
 
 /// The two runs of a certificate, or the place of the first that is none of the desk's.
 pub fn runs_of(desk: &Desk, certificate: &Certificate) -> Result<RunNumbers, CertificatePlace>
-    ensures { MatchResult result (λ runs. NamesRuns certificate.now desk.now runs.first runs.second) (HasWrongRun certificate.now desk.now) }
+    ensures { MatchResult result (λ runs. NamesRuns certificate.now desk.now runs.first runs.second)
+        (HasWrongRun certificate.now desk.now) }
 {
     let Some(first) = desk.find_run(certificate.first.as_bytes()) else {
         return Err(CertificatePlace::FirstRun);
@@ -60,7 +61,8 @@ impl OnTopic for TopicWitness {
 fn first_wrong<T: OnTopic>(desk: &Desk, items: &[T]) -> Option<CertificatePlace>
     requires count { length items.now ≡ length desk.now.topics }
     requires few { length items.now ≤ TOPIC_LIMIT }
-    ensures { MatchOption result (map T.topic_of items.now ≡ topic_names desk.now) (HaveWrongTopic (map T.topic_of items.now) (topic_names desk.now)) }
+    ensures { MatchOption result (map T.topic_of items.now ≡ topic_names desk.now)
+        (HaveWrongTopic (map T.topic_of items.now) (topic_names desk.now)) }
 {
     let mut topic = 0;
     for item in items {
@@ -75,7 +77,8 @@ fn first_wrong<T: OnTopic>(desk: &Desk, items: &[T]) -> Option<CertificatePlace>
 /// The same, or the number of topics where it is not that of the desk's.
 fn wrong_among<T: OnTopic>(desk: &Desk, items: &[T]) -> Option<CertificatePlace>
     requires { length items.now ≤ TOPIC_LIMIT }
-    ensures place { MatchOption result (map T.topic_of items.now ≡ topic_names desk.now) (HaveWrongTopic (map T.topic_of items.now) (topic_names desk.now)) }
+    ensures place { MatchOption result (map T.topic_of items.now ≡ topic_names desk.now)
+        (HaveWrongTopic (map T.topic_of items.now) (topic_names desk.now)) }
     ensures desk { IsDesk desk.now }
 {
     if items.len() != desk.topic_count() as usize {
@@ -87,7 +90,8 @@ fn wrong_among<T: OnTopic>(desk: &Desk, items: &[T]) -> Option<CertificatePlace>
 /// The first place by which the topics of evidence differ from a desk's.
 pub fn wrong_topic(desk: &Desk, evidence: &Evidence) -> Option<CertificatePlace>
     requires { IsWritable evidence.now }
-    ensures place { MatchOption result (topics_of evidence.now ≡ topic_names desk.now) (HaveWrongTopic (topics_of evidence.now) (topic_names desk.now)) }
+    ensures place { MatchOption result (topics_of evidence.now ≡ topic_names desk.now)
+        (HaveWrongTopic (topics_of evidence.now) (topic_names desk.now)) }
     ensures desk { IsDesk desk.now }
 {
     match evidence {

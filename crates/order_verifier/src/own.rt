@@ -50,12 +50,18 @@ impl Own {
     /// among its first ones, and else it is the first's own.
     fn with_next(self, mark: Mark, is_shared: bool) -> Own
         requires ordered { IsOrdered self }
-        requires relevant { (if picked_value false mark && is_shared then 1 else 0) ≤ self.second.relevant }
-        requires possible { (if picked_value true mark && is_shared then 1 else 0) ≤ self.second.possible }
-        ensures first_relevant { result.first.relevant ≡ self.first.relevant + (if picked_value false mark && not is_shared then 1 else 0) }
-        ensures first_possible { result.first.possible ≡ self.first.possible + (if picked_value true mark && not is_shared then 1 else 0) }
-        ensures second_relevant { result.second.relevant + (if picked_value false mark && is_shared then 1 else 0) ≡ self.second.relevant }
-        ensures second_possible { result.second.possible + (if picked_value true mark && is_shared then 1 else 0) ≡ self.second.possible }
+        requires relevant { (if picked_value false mark && is_shared then 1 else 0) ≤
+            self.second.relevant }
+        requires possible { (if picked_value true mark && is_shared then 1 else 0) ≤
+            self.second.possible }
+        ensures first_relevant { result.first.relevant ≡ self.first.relevant +
+            (if picked_value false mark && not is_shared then 1 else 0) }
+        ensures first_possible { result.first.possible ≡ self.first.possible +
+            (if picked_value true mark && not is_shared then 1 else 0) }
+        ensures second_relevant { result.second.relevant +
+            (if picked_value false mark && is_shared then 1 else 0) ≡ self.second.relevant }
+        ensures second_possible { result.second.possible +
+            (if picked_value true mark && is_shared then 1 else 0) ≡ self.second.possible }
     {
         if is_shared {
             Own {
@@ -74,12 +80,20 @@ impl Own {
     /// no count, and is not looked up there.
     fn with_marked(self, mark: Mark, doc: u32, seen: u32, other: &Ranking) -> Own
         requires ordered { IsOrdered self }
-        requires relevant { (if picked_value false mark && is_in (take seen other.now) doc then 1 else 0) ≤ self.second.relevant }
-        requires possible { (if picked_value true mark && is_in (take seen other.now) doc then 1 else 0) ≤ self.second.possible }
-        ensures first_relevant { result.first.relevant ≡ self.first.relevant + (if picked_value false mark && not (is_in (take seen other.now) doc) then 1 else 0) }
-        ensures first_possible { result.first.possible ≡ self.first.possible + (if picked_value true mark && not (is_in (take seen other.now) doc) then 1 else 0) }
-        ensures second_relevant { result.second.relevant + (if picked_value false mark && is_in (take seen other.now) doc then 1 else 0) ≡ self.second.relevant }
-        ensures second_possible { result.second.possible + (if picked_value true mark && is_in (take seen other.now) doc then 1 else 0) ≡ self.second.possible }
+        requires relevant { (if picked_value false mark && is_in (take seen other.now) doc then 1
+            else 0) ≤ self.second.relevant }
+        requires possible { (if picked_value true mark && is_in (take seen other.now) doc then 1
+            else 0) ≤ self.second.possible }
+        ensures first_relevant { result.first.relevant ≡ self.first.relevant +
+            (if picked_value false mark && not (is_in (take seen other.now) doc) then 1 else 0) }
+        ensures first_possible { result.first.possible ≡ self.first.possible +
+            (if picked_value true mark && not (is_in (take seen other.now) doc) then 1 else 0) }
+        ensures second_relevant { result.second.relevant +
+            (if picked_value false mark && is_in (take seen other.now) doc then 1 else 0) ≡
+            self.second.relevant }
+        ensures second_possible { result.second.possible +
+            (if picked_value true mark && is_in (take seen other.now) doc then 1 else 0) ≡
+            self.second.possible }
     {
         match mark {
             Mark::Other => self,

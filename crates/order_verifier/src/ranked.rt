@@ -42,7 +42,8 @@ impl BoundsOnTopic {
     ) -> Result<BoundsOnTopic, Memory>
         requires marks { AreMarksOf desk.now marks.now }
         requires topic { topic < length desk.now.topics }
-        ensures { IfOk result (λ row. (m : List M) → slice_get marks.now topic ≡ Some m → AreBoundsOn desk.now topic m row) }
+        ensures { IfOk result (λ row. (m : List M) → slice_get marks.now topic ≡ Some m →
+            AreBoundsOn desk.now topic m row) }
     {
         let runs = desk.run_count();
         let own = marks.topic(topic);
@@ -90,7 +91,8 @@ pub fn known_ranking<'a>(
     requires run { run < length desk.now.runs }
     requires topic { topic < length desk.now.topics }
     ensures ranking { result.ranking.now ≡ ranking_of desk.now run topic }
-    ensures bounds { (marks : List (List M)) (m : List M) → AreBoundsOf desk.now marks bounds.now → slice_get marks topic ≡ Some m → AreKnown m result.ranking.now result.bounds }
+    ensures bounds { (marks : List (List M)) (m : List M) → AreBoundsOf desk.now marks bounds.now →
+        slice_get marks topic ≡ Some m → AreKnown m result.ranking.now result.bounds }
 {
     let ranking = desk.ranking(run, topic);
     let bounds = match bounds.get(topic as usize) {

@@ -47,13 +47,15 @@ pub trait ListRows {
     fn low<'d>(&'d self, topic: u32, book: &'d TopicBook) -> Documents<'d>
         requires topic { topic < length (witnesses self.now) }
         requires suits { suits self.now topic book.now.docs }
-        ensures { OfRow (witnesses self.now) topic (λ w. result ≡ record { docs = book.now.docs; names = w.low }) };
+        ensures { OfRow (witnesses self.now) topic (λ w. result ≡
+            record { docs = book.now.docs; names = w.low }) };
 
     /// The list of the high completion of a topic.
     fn high<'d>(&'d self, topic: u32, book: &'d TopicBook) -> Documents<'d>
         requires topic { topic < length (witnesses self.now) }
         requires suits { suits self.now topic book.now.docs }
-        ensures { OfRow (witnesses self.now) topic (λ w. result ≡ record { docs = book.now.docs; names = w.high }) };
+        ensures { OfRow (witnesses self.now) topic (λ w. result ≡
+            record { docs = book.now.docs; names = w.high }) };
 }
 
 impl BoundRows for TopicBounds {

@@ -24,7 +24,10 @@ fn difference(own: Own, all: RelevantCounts, chosen: u32) -> Difference
     requires few { all.possible ≤ DOCUMENT_LIMIT }
     requires chosen { all.relevant + chosen ≤ all.possible }
     ensures small { IsSmallDifference result }
-    ensures lead { lead_of result ≡ pos (own.first.relevant + (chosen - (all.possible - all.relevant - (own.first.possible - own.first.relevant)))) -ℤ pos (own.second.relevant + min chosen (own.second.possible - own.second.relevant)) }
+    ensures lead { lead_of result ≡
+        pos (own.first.relevant +
+        (chosen - (all.possible - all.relevant - (own.first.possible - own.first.relevant)))) -ℤ pos
+        (own.second.relevant + min chosen (own.second.possible - own.second.relevant)) }
     ensures whole { whole_of result ≡ max 1 (all.relevant + chosen) }
 {
     let others = all.unjudged().saturating_sub(own.first.unjudged());
@@ -39,7 +42,8 @@ fn difference(own: Own, all: RelevantCounts, chosen: u32) -> Difference
 /// longer ranking has, and at least one, where the topic can have so many.
 fn steps_to_longer(all: RelevantCounts, a: &Ranking, b: &Ranking) -> u32
     requires { all.relevant ≤ all.possible }
-    ensures { result ≡ min (max 1 (max (length a.now) (length b.now)) - all.relevant) (all.possible - all.relevant) }
+    ensures { result ≡ min (max 1 (max (length a.now) (length b.now)) - all.relevant)
+        (all.possible - all.relevant) }
 {
     let longest = longer(a, b).max(1);
     all.unjudged().min(longest.saturating_sub(all.relevant))

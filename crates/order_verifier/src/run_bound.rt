@@ -18,7 +18,8 @@ use desk_model::Mark;
 fn is_beaten(high: bool, estimate: Estimate, best: u128) -> bool
     requires estimate { IsSmallEstimate estimate }
     requires best { best ≤ RANK_LIMIT * PARTS_OF_ONE }
-    ensures { (sum : ℕ) → IsNear high sum estimate.sum estimate.slack → result ≡ true → IsAsGood high best (out_of high sum estimate.documents) }
+    ensures { (sum : ℕ) → IsNear high sum estimate.sum estimate.slack → result ≡ true →
+        IsAsGood high best (out_of high sum estimate.documents) }
 {
     let documents = u128::from(estimate.documents);
     if documents == 0 {

@@ -47,7 +47,8 @@ pub fn number_near(book: &TopicBook, name: &[u8], near: usize, names: usize) -> 
 /// How the name at a place compares with another. Past the end it is greater.
 #[inline(always)]
 fn name_order(names: &[Name], place: usize, name: &[u8]) -> Ordering
-    ensures within { place < length names.now → result ≡ name_cmp (slice_index_or names.now place []) name.now }
+    ensures within { place < length names.now →
+        result ≡ name_cmp (slice_index_or names.now place []) name.now }
     ensures past { length names.now ≤ place → result ≡ Greater }
 {
     match names.get(place) {
@@ -59,7 +60,9 @@ fn name_order(names: &[Name], place: usize, name: &[u8]) -> Ordering
 /// The place of a name among names, or between those before it and those after it, from a place on before which all
 /// come before it: in steps that double, and then by halving.
 fn place_from(names: &[Name], name: &[u8], start: usize) -> Result<usize, usize>
-    requires { (place : ℕ) → place + 1 ≡ start → (place < length names.now) × (name_cmp (slice_index_or names.now place []) name.now ≡ Less) }
+    requires { (place : ℕ) → place + 1 ≡ start →
+        (place < length names.now) ×
+        (name_cmp (slice_index_or names.now place []) name.now ≡ Less) }
     ensures bound { IsSearchInRange result (length names.now) }
     ensures place { IsBinarySearchResult (λ each. name_cmp each name.now) names.now result }
 {

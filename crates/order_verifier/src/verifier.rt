@@ -81,7 +81,8 @@ impl Verifier {
 fn check(comparison: &Comparison<'_>, evidence: &Evidence) -> Result<(), Failure>
     requires form { IsWritable evidence.now }
     requires topics { length (topics_of evidence.now) ≡ length (topics_in comparison.now) }
-    ensures { MatchResult result (λ _. ShowsOf comparison.now evidence.now) (FailsBy comparison.now evidence.now) }
+    ensures { MatchResult result (λ _. ShowsOf comparison.now evidence.now)
+        (FailsBy comparison.now evidence.now) }
 {
     match evidence {
         Evidence::Above(bounds) => comparison.check_above(bounds),

@@ -44,7 +44,8 @@ fn begins_with(places: &[Placed], doc: u32) -> bool
 
 /// The places of the documents after one, by those from it on. No branch depends on which document comes first.
 pub fn after(places: &[Placed], doc: u32) -> &[Placed]
-    ensures from { (docs : List ℕ) → AreFrom doc docs places.now → AreFrom (doc + 1) docs result.now }
+    ensures from { (docs : List ℕ) → AreFrom doc docs places.now →
+        AreFrom (doc + 1) docs result.now }
     ensures shorter { length result.now ≤ length places.now }
     ensures taken { first_of places.now ≡ Some doc → length result.now < length places.now }
 {

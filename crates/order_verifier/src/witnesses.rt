@@ -30,7 +30,9 @@ impl Comparison<'_> {
     fn first_other(&self, topic: u32, documents: &Documents<'_>) -> Option<u32>
         requires topic { OfTopic (topics_in self.now) topic (λ t. documents.now.docs ≡ t.docs) }
         requires few { length documents.now.names ≤ DOCUMENT_LIMIT }
-        ensures { OfTopic (topics_in self.now) topic (λ t. MatchOption result (AreUnjudged t documents.now.names) (IsFirstOther t documents.now.names)) }
+        ensures { OfTopic (topics_in self.now) topic (λ t.
+            MatchOption result (AreUnjudged t documents.now.names)
+            (IsFirstOther t documents.now.names)) }
     {
         let marks = self.topic_marks(topic);
         let mut near = 0;
@@ -50,7 +52,9 @@ impl Comparison<'_> {
         requires row { topic < length (L.witnesses lists.now) }
         requires lists { All AreLists (L.witnesses lists.now) }
         requires suits { SuitDesk (L.suits lists.now) self.now.desk }
-        ensures { OfRow (L.witnesses lists.now) topic (λ w. OfTopic (topics_in self.now) topic (λ t. MatchOption result (AreCompletions (w, t)) (HasOther topic (w, t)))) }
+        ensures { OfRow (L.witnesses lists.now) topic (λ w.
+            OfTopic (topics_in self.now) topic (λ t.
+            MatchOption result (AreCompletions (w, t)) (HasOther topic (w, t)))) }
     {
         let book = self.topic_book(topic);
         let low = lists.low(topic, book);
@@ -83,7 +87,9 @@ impl Comparison<'_> {
         requires row { topic < length (L.witnesses lists.now) }
         requires lists { All AreLists (L.witnesses lists.now) }
         requires suits { SuitDesk (L.suits lists.now) self.now.desk }
-        ensures { OfRow (L.witnesses lists.now) topic (λ w. OfTopic (topics_in self.now) topic (λ t. MatchResult result (AreEndsOn self.now (w, t)) (HasOther topic (w, t)))) }
+        ensures { OfRow (L.witnesses lists.now) topic (λ w.
+            OfTopic (topics_in self.now) topic (λ t.
+            MatchResult result (AreEndsOn self.now (w, t)) (HasOther topic (w, t)))) }
     {
         if let Some(place) = self.first_other_on(topic, lists) {
             return Err(place);
@@ -101,7 +107,8 @@ impl Comparison<'_> {
         requires few { length (L.witnesses lists.now) ≤ TOPIC_LIMIT }
         requires lists { All AreLists (L.witnesses lists.now) }
         requires suits { SuitDesk (L.suits lists.now) self.now.desk }
-        ensures { MatchResult result (AreEndSums self.now (L.witnesses lists.now)) (HasWrongDocument self.now (O (L.witnesses lists.now))) }
+        ensures { MatchResult result (AreEndSums self.now (L.witnesses lists.now))
+            (HasWrongDocument self.now (O (L.witnesses lists.now))) }
     {
         let mut low = 0;
         let mut high = 0;
@@ -123,7 +130,8 @@ impl Comparison<'_> {
         requires few { length (L.witnesses lists.now) ≤ TOPIC_LIMIT }
         requires lists { All AreLists (L.witnesses lists.now) }
         requires suits { SuitDesk (L.suits lists.now) self.now.desk }
-        ensures { MatchResult result (λ _. ShowsOf self.now (O (L.witnesses lists.now))) (FailsBy self.now (O (L.witnesses lists.now))) }
+        ensures { MatchResult result (λ _. ShowsOf self.now (O (L.witnesses lists.now)))
+            (FailsBy self.now (O (L.witnesses lists.now))) }
     {
         match self.end_sums(lists) {
             Ok(sums) => {

@@ -45,7 +45,12 @@ impl From<Memory> for EvidenceFault {
 // upper end of the greatest.
 fn bound(alloc: Global, name: &[u8], cell: Cell, upper: bool) -> Result<TopicBound, Memory>
     requires { is_name name.now ≡ true }
-    ensures { IfOk result (λ bound. bound ≡ record { topic = name.now; low = cell.least.lo; high = if upper then cell.most.hi else pos 0 }) }
+    ensures { IfOk result (λ bound. bound ≡
+        record {
+          topic = name.now;
+          low = cell.least.lo;
+          high = if upper then cell.most.hi else pos 0;
+        }) }
 {
     Ok(TopicBound {
         topic: Name::copy_of(alloc, name)?,
@@ -62,7 +67,9 @@ fn bounds_of_cells(
     upper: bool,
 ) -> Result<TopicBounds, Memory>
     requires { length cells.now ≡ length desk.now.topics }
-    ensures { IfOk result (λ bounds. bounds ≡ bounds_of (λ (e : Ends). if upper then e.most_hi else pos 0) desk.now (map ends_of cells.now)) }
+    ensures { IfOk result (λ bounds. bounds ≡
+        bounds_of (λ (e : Ends). if upper then e.most_hi else pos 0) desk.now
+        (map ends_of cells.now)) }
 {
     let mut bounds = Vec::new(alloc);
     for topic in 0..desk.topic_count() {
@@ -86,8 +93,11 @@ fn bounds<M: Measure>(
     requires first { first < table.now.runs }
     requires second { second < table.now.runs }
     requires topics { length table.now.topics ≡ length desk.now.topics }
-    ensures { IfOk result (λ bounds. (marks : List (List OfMark)) → AreMarksOf desk.now marks → StandsFor (M.cell_of table.now.measure) (M.bounds_of table.now.measure) desk.now marks table.now →
-        bounds ≡ bounds_of (λ (e : Ends). if upper then e.most_hi else pos 0) desk.now (cell_ends (M.cell_of table.now.measure) (topics_under desk.now marks) first second)) }
+    ensures { IfOk result (λ bounds. (marks : List (List OfMark)) → AreMarksOf desk.now marks →
+        StandsFor (M.cell_of table.now.measure) (M.bounds_of table.now.measure) desk.now marks
+        table.now →
+        bounds ≡ bounds_of (λ (e : Ends). if upper then e.most_hi else pos 0) desk.now
+        (cell_ends (M.cell_of table.now.measure) (topics_under desk.now marks) first second)) }
 {
     // The laws speak of desks, and of measures that have a name.
     let measure = table.measure();
@@ -113,7 +123,8 @@ fn relevant(
 ) -> Result<NameList, Memory>
     requires marks { length marks.now ≡ length book.now.docs }
     requires truth { length truth.now ≡ length book.now.docs }
-    ensures { IfOk result (λ names. names ≡ relevant_names book.now.docs marks.now (λ doc. slice_index_or truth.now doc false)) }
+    ensures { IfOk result (λ names. names ≡
+        relevant_names book.now.docs marks.now (λ doc. slice_index_or truth.now doc false)) }
 {
     let mut names = Vec::new(alloc);
     for doc in 0..book.doc_count() {
@@ -137,7 +148,9 @@ fn least_names<M: Measure>(
 ) -> Result<NameList, Memory>
     requires met { AreMet marks.now a.now b.now }
     requires count { length marks.now ≡ length book.now.docs }
-    ensures { IfOk result (λ names. names ≡ relevant_names book.now.docs marks.now (least_truth (M.measured measure.now) marks.now a.now b.now)) }
+    ensures { IfOk result (λ names. names ≡
+        relevant_names book.now.docs marks.now
+        (least_truth (M.measured measure.now) marks.now a.now b.now)) }
 {
     let truth = measure.least_case(alloc, a, b, marks)?;
     relevant(alloc, book, marks, &truth)
@@ -154,7 +167,9 @@ fn most_names<M: Measure>(
 ) -> Result<NameList, Memory>
     requires met { AreMet marks.now a.now b.now }
     requires count { length marks.now ≡ length book.now.docs }
-    ensures { IfOk result (λ names. names ≡ relevant_names book.now.docs marks.now (least_truth (M.measured measure.now) marks.now b.now a.now)) }
+    ensures { IfOk result (λ names. names ≡
+        relevant_names book.now.docs marks.now
+        (least_truth (M.measured measure.now) marks.now b.now a.now)) }
 {
     let truth = measure.most_case(alloc, a, b, marks)?;
     relevant(alloc, book, marks, &truth)
@@ -172,8 +187,12 @@ fn witness<M: Measure>(
     requires met { AreMet marks.now a.now b.now }
     requires count { length marks.now ≡ length book.now.docs }
     ensures topic { IfOk result (λ witness. witness.topic ≡ book.now.name) }
-    ensures low { IfOk result (λ witness. witness.low ≡ relevant_names book.now.docs marks.now (least_truth (M.measured measure.now) marks.now a.now b.now)) }
-    ensures high { IfOk result (λ witness. witness.high ≡ relevant_names book.now.docs marks.now (least_truth (M.measured measure.now) marks.now b.now a.now)) }
+    ensures low { IfOk result (λ witness. witness.low ≡
+        relevant_names book.now.docs marks.now
+        (least_truth (M.measured measure.now) marks.now a.now b.now)) }
+    ensures high { IfOk result (λ witness. witness.high ≡
+        relevant_names book.now.docs marks.now
+        (least_truth (M.measured measure.now) marks.now b.now a.now)) }
 {
     let topic = Name::copy_of(alloc, book.name())?;
     let low = least_names(alloc, measure, book, a, b, marks)?;
@@ -193,7 +212,8 @@ fn witnesses<M: Measure>(
     requires marks { AreMarksOf desk.now marks.now }
     requires first { first < length desk.now.runs }
     requires second { second < length desk.now.runs }
-    ensures { IfOk result (λ witnesses. witnesses ≡ witnesses_of (M.measured measure.now) desk.now marks.now first second) }
+    ensures { IfOk result (λ witnesses. witnesses ≡
+        witnesses_of (M.measured measure.now) desk.now marks.now first second) }
 {
     let mut witnesses = Vec::new(alloc);
     for topic in 0..desk.topic_count() {
@@ -244,8 +264,11 @@ fn above<M: Measure>(
     requires second { second < table.now.runs }
     requires runs { table.now.runs ≡ length desk.now.runs }
     requires topics { length table.now.topics ≡ length desk.now.topics }
-    ensures { IfOk result (λ certificate. (marks : List (List OfMark)) → AreMarksOf desk.now marks → StandsFor (M.cell_of table.now.measure) (M.bounds_of table.now.measure) desk.now marks table.now →
-        SaysAbove (HasCellEnds (M.cell_of table.now.measure)) (M.measured table.now.measure) desk.now marks level first second certificate) }
+    ensures { IfOk result (λ certificate. (marks : List (List OfMark)) → AreMarksOf desk.now marks →
+        StandsFor (M.cell_of table.now.measure) (M.bounds_of table.now.measure) desk.now marks
+        table.now →
+        SaysAbove (HasCellEnds (M.cell_of table.now.measure)) (M.measured table.now.measure)
+        desk.now marks level first second certificate) }
 {
     let measure = table.measure();
     let bounds = bounds(alloc, table, desk, first, second, false)?;
@@ -274,8 +297,11 @@ fn equal<M: Measure>(
     requires second { second < table.now.runs }
     requires runs { table.now.runs ≡ length desk.now.runs }
     requires topics { length table.now.topics ≡ length desk.now.topics }
-    ensures { IfOk result (λ certificate. (marks : List (List OfMark)) → AreMarksOf desk.now marks → StandsFor (M.cell_of table.now.measure) (M.bounds_of table.now.measure) desk.now marks table.now →
-        SaysEqual (HasCellEnds (M.cell_of table.now.measure)) (M.measured table.now.measure) desk.now marks level first second certificate) }
+    ensures { IfOk result (λ certificate. (marks : List (List OfMark)) → AreMarksOf desk.now marks →
+        StandsFor (M.cell_of table.now.measure) (M.bounds_of table.now.measure) desk.now marks
+        table.now →
+        SaysEqual (HasCellEnds (M.cell_of table.now.measure)) (M.measured table.now.measure)
+        desk.now marks level first second certificate) }
 {
     let measure = table.measure();
     let bounds = bounds(alloc, table, desk, first, second, true)?;
@@ -303,7 +329,8 @@ fn open<M: Measure>(
     requires marks { AreMarksOf desk.now marks.now }
     requires first { first < length desk.now.runs }
     requires second { second < length desk.now.runs }
-    ensures { IfOk result (SaysOpen (M.measured measure.now) desk.now marks.now level first second) }
+    ensures { IfOk result (SaysOpen (M.measured measure.now) desk.now marks.now level first
+        second) }
 {
     let witnesses = witnesses(alloc, measure, desk, marks, first, second)?;
     certificate(
@@ -339,8 +366,10 @@ impl<M: Measure> Table<M> {
         requires second { j < self.now.runs }
         requires marks { AreMarksOf desk.now marks.now.rows }
         requires level { IsLevel level }
-        requires stands { StandsFor (M.cell_of self.now.measure) (M.bounds_of self.now.measure) desk.now marks.now.rows self.now }
-        ensures answer { IsAnswered (HasCellEnds (M.cell_of self.now.measure)) (M.measured self.now.measure) desk.now marks.now.rows level i j result }
+        requires stands { StandsFor (M.cell_of self.now.measure) (M.bounds_of self.now.measure)
+            desk.now marks.now.rows self.now }
+        ensures answer { IsAnswered (HasCellEnds (M.cell_of self.now.measure))
+            (M.measured self.now.measure) desk.now marks.now.rows level i j result }
         ensures certificate { IfOk result IsCertificate }
     {
         // The laws speak of desks, and of measures that have a name.

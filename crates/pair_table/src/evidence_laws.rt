@@ -17,8 +17,10 @@ ghost use Rattle.pair_table.specs.declared.evidence.EvidenceFault.TheVariants.{M
 
 /// An answer by the cells of a measure whose numbers are a name's is an answer by that name.
 pub fn answers_are_of_names()
-    ensures { (name : MeasureName) (cell : List Mark → List ℕ → List ℕ → Cell) (bounds : List Mark → List ℕ → Span)
-        (desk : Desk) (marks : List (List Mark)) (level a b : ℕ) (answer : Result Certificate EvidenceFault) →
+    ensures { (name : MeasureName) (cell : List Mark → List ℕ → List ℕ → Cell) (bounds : List Mark →
+        List ℕ → Span)
+        (desk : Desk) (marks : List (List Mark)) (level a b : ℕ)
+        (answer : Result Certificate EvidenceFault) →
         AreNumbersOfName name cell bounds → IsDesk desk → AreMarksOf desk marks →
         a < length desk.runs → b < length desk.runs →
         IsAnswered (HasCellEnds cell) name desk marks level a b answer →
@@ -27,11 +29,13 @@ pub fn answers_are_of_names()
 
 /// The certificate of two runs by a measure's name is evidence, and so what it claims holds.
 pub fn certificates_are_evidence()
-    ensures evidence { (name : MeasureName) (desk : Desk) (marks : List (List Mark)) (level a b : ℕ) (c : Certificate) →
+    ensures evidence { (name : MeasureName) (desk : Desk) (marks : List (List Mark)) (level a b : ℕ)
+        (c : Certificate) →
         IsMeasure name → IsDesk desk → AreMarksOf desk marks →
         a ≢ b → a < length desk.runs → b < length desk.runs →
         IsCertificateOf (HasEnds name) name desk marks level a b c → IsEvidence c desk marks }
-    ensures claim { (name : MeasureName) (desk : Desk) (marks : List (List Mark)) (level a b : ℕ) (c : Certificate) →
+    ensures claim { (name : MeasureName) (desk : Desk) (marks : List (List Mark)) (level a b : ℕ)
+        (c : Certificate) →
         IsMeasure name → IsDesk desk → AreMarksOf desk marks →
         a ≢ b → a < length desk.runs → b < length desk.runs →
         IsCertificateOf (HasEnds name) name desk marks level a b c → ClaimHolds c desk marks }

@@ -65,11 +65,15 @@ impl KeptTopic {
         requires measure { IsMeasure (M.measured measure.now) }
         requires marks { AreMarksOf desk.now marks.now }
         requires topic { topic < length desk.now.topics }
-        requires cells { length self.old.cells ≡ length (pairs_of (run_numbers (length desk.now.runs))) }
+        requires cells { length self.old.cells ≡
+            length (pairs_of (run_numbers (length desk.now.runs))) }
         requires bounds { length self.old.bounds ≡ length desk.now.runs }
-        ensures numbers { self.new ≡ numbers_on (M.cell_of measure.now) (M.bounds_of measure.now) (length desk.now.runs) (topic_at desk.now marks.now topic) }
+        ensures numbers { self.new ≡
+            numbers_on (M.cell_of measure.now) (M.bounds_of measure.now) (length desk.now.runs)
+            (topic_at desk.now marks.now topic) }
         ensures sizes { AreTopicNumbers (length desk.now.runs) self.new }
-        ensures steps { steps.new ≡ steps.old + length (pairs_of (run_numbers (length desk.now.runs))) }
+        ensures steps { steps.new ≡ steps.old +
+            length (pairs_of (run_numbers (length desk.now.runs))) }
     {
         evaluate_cells(&mut self.cells, measure, desk, marks, topic, room, steps);
         evaluate_bounds(&mut self.bounds, measure, desk, marks, topic);

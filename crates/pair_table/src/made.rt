@@ -26,8 +26,10 @@ pub fn table_on<P: Maker, L: Ledger>(
     requires measure { IsMeasure name }
     requires marks { AreMarksOf desk.now marks.now.rows }
     ensures table { IfOk result (λ table.
-        IsTableOf (P.Made.measured table.measure) (P.Made.cell_of table.measure) (P.Made.bounds_of table.measure) name desk.now marks.now.rows table) }
-    ensures steps { OnOk result (steps.new ≡ steps.old + pair_count (length desk.now.runs) * length desk.now.topics) }
+        IsTableOf (P.Made.measured table.measure) (P.Made.cell_of table.measure)
+        (P.Made.bounds_of table.measure) name desk.now marks.now.rows table) }
+    ensures steps { OnOk result (steps.new ≡ steps.old + pair_count (length desk.now.runs) *
+        length desk.now.topics) }
     ensures no_steps { OnErr result (steps.new ≡ steps.old) }
 {
     let measure = maker.make(alloc, name)?;

@@ -19,7 +19,8 @@ fn bounds_at<M: Measure>(measure: &M, desk: &Desk, marks: &Rows, run: u32, topic
     requires marks { AreMarksOf desk.now marks.now }
     requires run { run < length desk.now.runs }
     requires topic { topic < length desk.now.topics }
-    ensures bounds { let at = topic_at desk.now marks.now topic in result ≡ M.bounds_of measure.now at.marks (at.ranking run) }
+    ensures bounds { let at = topic_at desk.now marks.now topic in result ≡
+        M.bounds_of measure.now at.marks (at.ranking run) }
     ensures modest { SpanIsModest result }
 {
     measure.bounds(desk.ranking(run, topic), marks.topic(topic))
@@ -40,7 +41,9 @@ pub fn evaluate_cells<M: Measure, L: Ledger>(
     requires marks { AreMarksOf desk.now marks.now }
     requires topic { topic < length desk.now.topics }
     requires count { length cells.old ≡ length (pairs_of (run_numbers (length desk.now.runs))) }
-    ensures cells { cells.new ≡ (numbers_on (M.cell_of measure.now) (M.bounds_of measure.now) (length desk.now.runs) (topic_at desk.now marks.now topic)).cells }
+    ensures cells { cells.new ≡
+        (numbers_on (M.cell_of measure.now) (M.bounds_of measure.now) (length desk.now.runs)
+        (topic_at desk.now marks.now topic)).cells }
     ensures modest { All CellIsModest cells.new }
     ensures steps { steps.new ≡ steps.old + length cells.old }
 {
@@ -61,7 +64,9 @@ pub fn evaluate_bounds<M: Measure>(
     requires marks { AreMarksOf desk.now marks.now }
     requires topic { topic < length desk.now.topics }
     requires count { length bounds.old ≡ length desk.now.runs }
-    ensures bounds { bounds.new ≡ (numbers_on (M.cell_of measure.now) (M.bounds_of measure.now) (length desk.now.runs) (topic_at desk.now marks.now topic)).bounds }
+    ensures bounds { bounds.new ≡
+        (numbers_on (M.cell_of measure.now) (M.bounds_of measure.now) (length desk.now.runs)
+        (topic_at desk.now marks.now topic)).bounds }
     ensures modest { All SpanIsModest bounds.new }
 {
     for run in 0..desk.run_count() {

@@ -17,12 +17,16 @@ ghost use Rattle.pair_table.specs.Refined.{AreAllRefinedBy, ForRefinedPairs, For
 /// A run whose mean is always above that of another stays always above it, and two means that are
 /// always equal stay so.
 pub fn settled_orders_stay()
-    ensures above { (measure : MeasureName) (desk : Desk) (marks later : List (List Mark)) (a b : ℕ) →
+    ensures above { (measure : MeasureName) (desk : Desk) (marks later : List (List Mark))
+        (a b : ℕ) →
         AreAllRefinedBy marks later →
-        IsAlwaysAbove measure (topics_under desk marks) a b → IsAlwaysAbove measure (topics_under desk later) a b }
-    ensures equal { (measure : MeasureName) (desk : Desk) (marks later : List (List Mark)) (a b : ℕ) →
+        IsAlwaysAbove measure (topics_under desk marks) a b →
+        IsAlwaysAbove measure (topics_under desk later) a b }
+    ensures equal { (measure : MeasureName) (desk : Desk) (marks later : List (List Mark))
+        (a b : ℕ) →
         AreAllRefinedBy marks later →
-        AreAlwaysEqual measure (topics_under desk marks) a b → AreAlwaysEqual measure (topics_under desk later) a b }
+        AreAlwaysEqual measure (topics_under desk marks) a b →
+        AreAlwaysEqual measure (topics_under desk later) a b }
 {}
 
 /// The sums of two runs close in: the lower end of the least difference does not fall, and the upper
@@ -30,8 +34,10 @@ pub fn settled_orders_stay()
 pub fn numbers_close_in()
     ensures least { ForRefinedPairs (λ before after. before.least_lo ≤ℤ after.least_lo) }
     ensures most { ForRefinedPairs (λ before after. after.most_hi ≤ℤ before.most_hi) }
-    ensures topic { (name : MeasureName) (marks later : List Mark) (docs : List ℕ) (before after : Span) → IsRanking (length marks) docs →
-        AreRefinedBy marks later → HasBounds name marks docs before → HasBounds name later docs after →
+    ensures topic { (name : MeasureName) (marks later : List Mark) (docs : List ℕ)
+        (before after : Span) → IsRanking (length marks) docs →
+        AreRefinedBy marks later → HasBounds name marks docs before →
+        HasBounds name later docs after →
         (before.lo ≤ℤ after.lo) × (after.hi ≤ℤ before.hi) }
     ensures low { ForRefinedRuns (λ before after. before.lo ≤ℤ after.lo) }
     ensures high { ForRefinedRuns (λ before after. after.hi ≤ℤ before.hi) }
@@ -39,7 +45,10 @@ pub fn numbers_close_in()
 
 /// A verdict of above, below or equal stays. Nothing is said of what an open or a close pair becomes.
 pub fn settled_verdicts_stay()
-    ensures above { ForRefinedPairs (λ before after. verdict before ≡ Above → verdict after ≡ Above) }
-    ensures below { ForRefinedPairs (λ before after. verdict before ≡ Below → verdict after ≡ Below) }
-    ensures equal { ForRefinedPairs (λ before after. verdict before ≡ Equal → verdict after ≡ Equal) }
+    ensures above { ForRefinedPairs (λ before after. verdict before ≡ Above →
+        verdict after ≡ Above) }
+    ensures below { ForRefinedPairs (λ before after. verdict before ≡ Below →
+        verdict after ≡ Below) }
+    ensures equal { ForRefinedPairs (λ before after. verdict before ≡ Equal →
+        verdict after ≡ Equal) }
 {}

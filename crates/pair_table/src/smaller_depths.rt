@@ -15,17 +15,22 @@ ghost use Rattle.pair_table.specs.Refined.{AreAllRefinedBy};
 
 /// A depth refines the marks of one that is at least as deep, and so those without a depth.
 pub fn depth_refines()
-    ensures { (desk : Desk) (marks : List (List Mark)) (deep depth : Option ℕ) → IsNoDeeper depth deep →
+    ensures { (desk : Desk) (marks : List (List Mark)) (deep depth : Option ℕ) →
+        IsNoDeeper depth deep →
         AreAllRefinedBy (closed_under desk deep marks) (closed_under desk depth marks) }
 {}
 
 /// At the same judgements, what is always so without a depth is always so under each, and what is always so under a
 /// depth is so under each smaller one.
 pub fn orders_hold_under_smaller_depths()
-    ensures above { (measure : MeasureName) (desk : Desk) (marks : List (List Mark)) (deep depth : Option ℕ) (a b : ℕ) → IsNoDeeper depth deep →
-        IsAlwaysAbove measure (topics_within desk marks deep) a b → IsAlwaysAbove measure (topics_within desk marks depth) a b }
-    ensures equal { (measure : MeasureName) (desk : Desk) (marks : List (List Mark)) (deep depth : Option ℕ) (a b : ℕ) → IsNoDeeper depth deep →
-        AreAlwaysEqual measure (topics_within desk marks deep) a b → AreAlwaysEqual measure (topics_within desk marks depth) a b }
+    ensures above { (measure : MeasureName) (desk : Desk) (marks : List (List Mark))
+        (deep depth : Option ℕ) (a b : ℕ) → IsNoDeeper depth deep →
+        IsAlwaysAbove measure (topics_within desk marks deep) a b →
+        IsAlwaysAbove measure (topics_within desk marks depth) a b }
+    ensures equal { (measure : MeasureName) (desk : Desk) (marks : List (List Mark))
+        (deep depth : Option ℕ) (a b : ℕ) → IsNoDeeper depth deep →
+        AreAlwaysEqual measure (topics_within desk marks deep) a b →
+        AreAlwaysEqual measure (topics_within desk marks depth) a b }
 {}
 
 /// The ends of two runs and the bounds of a run under a depth lie within those of one that is at least as deep.
@@ -45,7 +50,10 @@ pub fn settled_words_hold_under_smaller_depths()
 
 /// Where a document that is unjudged under a depth gets a mark, the marks under the depth are refined.
 pub fn judging_open_documents_refines()
-    ensures { (desk : Desk) (depth : Option ℕ) (marks : List (List Mark)) (topic doc : ℕ) (mark : Mark) →
+    ensures { (desk : Desk) (depth : Option ℕ) (marks : List (List Mark)) (topic doc : ℕ)
+        (mark : Mark) →
         slice_get (slice_index_or (closed_under desk depth marks) topic []) doc ≡ Some Unjudged →
-        AreAllRefinedBy (closed_under desk depth marks) (closed_under desk depth (slice_set marks topic (slice_set (slice_index_or marks topic []) doc mark))) }
+        AreAllRefinedBy (closed_under desk depth marks)
+        (closed_under desk depth
+        (slice_set marks topic (slice_set (slice_index_or marks topic []) doc mark))) }
 {}

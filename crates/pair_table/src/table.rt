@@ -129,9 +129,11 @@ fn sum_rooms(
     pairs: u32,
     runs: u32,
 ) -> Result<(Vec<Totals>, Vec<Verdict>, Vec<Span>), AllocError>
-    ensures totals { IfOk result (λ rooms. (length rooms.0.items ≡ pairs) × All (λ sums. sums ≡ totals_of []) rooms.0.items) }
+    ensures totals { IfOk result (λ rooms. (length rooms.0.items ≡ pairs) ×
+        All (λ sums. sums ≡ totals_of []) rooms.0.items) }
     ensures verdicts { IfOk result (λ rooms. length rooms.1.items ≡ pairs) }
-    ensures bounds { IfOk result (λ rooms. (length rooms.2.items ≡ runs) × All (λ sums. sums ≡ record { lo = pos 0; hi = pos 0 }) rooms.2.items) }
+    ensures bounds { IfOk result (λ rooms. (length rooms.2.items ≡ runs) ×
+        All (λ sums. sums ≡ record { lo = pos 0; hi = pos 0 }) rooms.2.items) }
 {
     let totals = vec![in alloc; NO_SUMS; pairs as usize]?;
     let verdicts = vec![in alloc; Verdict::Close; pairs as usize]?;
@@ -163,11 +165,14 @@ fn evaluate_topics<M: Measure, L: Ledger>(
     requires measure { IsMeasure (M.measured measure.now) }
     requires marks { AreMarksOf desk.now marks.now }
     requires count { length topics.old ≡ length desk.now.topics }
-    requires cells { All (λ kept. length kept.cells ≡ length (pairs_of (run_numbers (length desk.now.runs)))) topics.old }
+    requires cells { All (λ kept. length kept.cells ≡
+        length (pairs_of (run_numbers (length desk.now.runs)))) topics.old }
     requires bounds { All (λ kept. length kept.bounds ≡ length desk.now.runs) topics.old }
-    ensures numbers { topics.new ≡ all_numbers (M.cell_of measure.now) (M.bounds_of measure.now) desk.now marks.now }
+    ensures numbers { topics.new ≡
+        all_numbers (M.cell_of measure.now) (M.bounds_of measure.now) desk.now marks.now }
     ensures sizes { All (AreTopicNumbers (length desk.now.runs)) topics.new }
-    ensures steps { steps.new ≡ steps.old + length (pairs_of (run_numbers (length desk.now.runs))) * length desk.now.topics }
+    ensures steps { steps.new ≡ steps.old + length (pairs_of (run_numbers (length desk.now.runs))) *
+        length desk.now.topics }
 {
     for topic in 0..desk.topic_count() {
         let kept = &mut topics[topic as usize];
@@ -210,7 +215,10 @@ fn renew_topic<M: Measure, L: Ledger>(
     requires sizes { All (AreTopicNumbers (length desk.now.runs)) topics.old }
     requires totals { totals.old ≡ kept_totals (length desk.now.runs) topics.old }
     requires bounds { bounds.old ≡ kept_bounds (length desk.now.runs) topics.old }
-    ensures topics { topics.new ≡ slice_set topics.old topic (numbers_on (M.cell_of measure.now) (M.bounds_of measure.now) (length desk.now.runs) (topic_at desk.now marks.now topic)) }
+    ensures topics { topics.new ≡
+        slice_set topics.old topic
+        (numbers_on (M.cell_of measure.now) (M.bounds_of measure.now) (length desk.now.runs)
+        (topic_at desk.now marks.now topic)) }
     ensures sizes { All (AreTopicNumbers (length desk.now.runs)) topics.new }
     ensures totals { totals.new ≡ kept_totals (length desk.now.runs) topics.new }
     ensures bounds { bounds.new ≡ kept_bounds (length desk.now.runs) topics.new }
@@ -245,11 +253,18 @@ impl<M: Measure> Table<M> {
         requires { AreMarksOf desk.now marks.now.rows }
         ensures measure { IfOk result (λ table. table.measure ≡ measure) }
         ensures runs { IfOk result (λ table. table.runs ≡ length desk.now.runs) }
-        ensures totals { IfOk result (λ table. table.totals ≡ all_pair_sums (M.cell_of measure) (topics_under desk.now marks.now.rows) (length desk.now.runs)) }
-        ensures pairs { IfOk result (λ table. length table.totals ≡ length (pairs_of desk.now.runs)) }
-        ensures bounds { IfOk result (λ table. table.bounds ≡ all_run_sums (M.bounds_of measure) (topics_under desk.now marks.now.rows) (length desk.now.runs)) }
-        ensures stands { IfOk result (StandsFor (M.cell_of measure) (M.bounds_of measure) desk.now marks.now.rows) }
-        ensures steps { OnOk result (steps.new ≡ steps.old + pair_count (length desk.now.runs) * length desk.now.topics) }
+        ensures totals { IfOk result (λ table. table.totals ≡
+            all_pair_sums (M.cell_of measure) (topics_under desk.now marks.now.rows)
+            (length desk.now.runs)) }
+        ensures pairs { IfOk result (λ table. length table.totals ≡
+            length (pairs_of desk.now.runs)) }
+        ensures bounds { IfOk result (λ table. table.bounds ≡
+            all_run_sums (M.bounds_of measure) (topics_under desk.now marks.now.rows)
+            (length desk.now.runs)) }
+        ensures stands { IfOk result
+            (StandsFor (M.cell_of measure) (M.bounds_of measure) desk.now marks.now.rows) }
+        ensures steps { OnOk result (steps.new ≡ steps.old + pair_count (length desk.now.runs) *
+            length desk.now.topics) }
         ensures no_steps { OnErr result (steps.new ≡ steps.old) }
     {
         // The laws speak of measures that have a name.
@@ -288,9 +303,11 @@ impl<M: Measure> Table<M> {
     )
         requires marks { AreMarksOf desk.now marks.now.rows }
         requires topic { topic < length desk.now.topics }
-        requires others { StandsElsewhere (M.cell_of self.old.measure) (M.bounds_of self.old.measure) desk.now marks.now.rows topic self.old }
+        requires others { StandsElsewhere (M.cell_of self.old.measure)
+            (M.bounds_of self.old.measure) desk.now marks.now.rows topic self.old }
         ensures measure { self.new.measure ≡ self.old.measure }
-        ensures stands { StandsFor (M.cell_of self.old.measure) (M.bounds_of self.old.measure) desk.now marks.now.rows self.new }
+        ensures stands { StandsFor (M.cell_of self.old.measure) (M.bounds_of self.old.measure)
+            desk.now marks.now.rows self.new }
         ensures steps { steps.new ≡ steps.old + pair_count (length desk.now.runs) }
     {
         // The laws speak of measures that have a name.
@@ -315,7 +332,8 @@ impl<M: Measure> Table<M> {
         requires different { i ≢ j }
         requires first { i < self.now.runs }
         requires second { j < self.now.runs }
-        ensures { IfOk result (λ cells. AllZip (IsCellOf self.now.runs i j) cells.items self.now.topics) }
+        ensures { IfOk result (λ cells.
+            AllZip (IsCellOf self.now.runs i j) cells.items self.now.topics) }
     {
         let mut cells = Vec::new(alloc);
         for topic in 0..self.topics.len() {
@@ -343,7 +361,8 @@ impl<M: Measure> Table<M> {
         requires different { i ≢ j }
         requires first { i < self.now.runs }
         requires second { j < self.now.runs }
-        ensures { (sums : Sums) × AreSumsOf self.now.runs self.now.totals i j sums × (result ≡ verdict sums) }
+        ensures { (sums : Sums) × AreSumsOf self.now.runs self.now.totals i j sums ×
+            (result ≡ verdict sums) }
     {
         verdict_of(&self.totals(i, j))
     }

@@ -45,7 +45,8 @@ impl Precision {
         requires positive { 1 ≤ k }
         requires limited { k ≤ DEPTH_LIMIT }
         ensures depth { result ≡ k }
-        ensures made { IsMadeFor (P k) (⟦<Precision as Measure>⟧.measured result) (⟦<Precision as Measure>⟧.cell_of result) (⟦<Precision as Measure>⟧.bounds_of result) }
+        ensures made { IsMadeFor (P k) (⟦<Precision as Measure>⟧.measured result)
+            (⟦<Precision as Measure>⟧.cell_of result) (⟦<Precision as Measure>⟧.bounds_of result) }
     {
         Precision { k }
     }

@@ -20,7 +20,8 @@ pub struct RowText<'a> {
 
 /// The row of a line, or the first fault of the line's form.
 pub fn row_text(line: &[u8]) -> Result<RowText<'_>, LineFault>
-    ensures { result_map_both row_said (λ fault. fault) result ≡ unless (form_faults line.now) (row_of line.now) }
+    ensures { result_map_both row_said (λ fault. fault) result ≡
+        unless (form_faults line.now) (row_of line.now) }
 {
     if line.len() > LONGEST_LINE {
         return Err(LineFault::LineTooLong);

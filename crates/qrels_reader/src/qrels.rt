@@ -94,7 +94,8 @@ impl Qrels {
     /// The name of document `i` of topic `t`.
     pub fn doc_name(&self, t: usize, i: usize) -> &[u8]
         requires { i < length (rows_at self.now t) }
-        ensures bytes { option_map (λ d. d.document) (slice_get (rows_at self.now t) i) ≡ Some result.now }
+        ensures bytes { option_map (λ d. d.document) (slice_get (rows_at self.now t) i) ≡
+            Some result.now }
         ensures name { is_name result.now ≡ true }
     {
         self.groups.at(t).document(i)

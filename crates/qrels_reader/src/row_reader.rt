@@ -103,7 +103,9 @@ impl RowReader {
     fn read_long(&mut self)
         requires { IsReady self.old.fault self.old }
         ensures ready { IsReady self.new.fault self.new }
-        ensures read { (before : List (List ℕ)) (line : List ℕ) → IsTooLong line → HasRead self.old.fault self.old before → HasRead self.new.fault self.new (before ++ line ∷ []) }
+        ensures read { (before : List (List ℕ)) (line : List ℕ) → IsTooLong line →
+            HasRead self.old.fault self.old before →
+            HasRead self.new.fault self.new (before ++ line ∷ []) }
     {
         match self.fault {
             Some(_) => {}
@@ -114,7 +116,8 @@ impl RowReader {
     // Reads the next line. Where there are too many to be counted, memory is said to run out.
     fn read_next(&mut self, line: &[u8]) -> Result<(), FileFault>
         requires { IsTracked self.old }
-        ensures read { (rows : List Row) → self.old.groups ≡ grouped rows → ReadsLine (self.old.lines + 1) rows line.now result self.new.groups }
+        ensures read { (rows : List Row) → self.old.groups ≡ grouped rows →
+            ReadsLine (self.old.lines + 1) rows line.now result self.new.groups }
         ensures tracked { OnOk result (IsTracked self.new) }
         ensures lines { OnOk result (self.new.lines ≡ self.old.lines + 1) }
         ensures fault { OnOk result (self.new.fault ≡ self.old.fault) }
@@ -138,13 +141,17 @@ impl RowReader {
     // A row of the line that was read last.
     fn add(&mut self, row: &RowText<'_>) -> Result<(), FileFault>
         requires { IsTracked self.old }
-        ensures right { OnOk result (checked (faults_after self.old.groups (row_said row.now)) ≡ Ok (tt {0})) }
-        ensures added { OnOk result (self.new.groups ≡ with_row_on self.old.groups (row_said row.now)) }
+        ensures right { OnOk result (checked (faults_after self.old.groups (row_said row.now)) ≡
+            Ok (tt {0})) }
+        ensures added { OnOk result (self.new.groups ≡
+            with_row_on self.old.groups (row_said row.now)) }
         ensures tracked { OnOk result (IsTracked self.new) }
         ensures lines { OnOk result (self.new.lines ≡ self.old.lines) }
         ensures fault { OnOk result (self.new.fault ≡ self.old.fault) }
         ensures wrong { IfErr result (λ e. (e ≡ FileFault.Memory)
-            ⊎ ((fault : LineFault) × (checked (faults_after self.old.groups (row_said row.now)) ≡ Err fault) × (e ≡ FileFault.Line self.old.lines fault))) }
+            ⊎ ((fault : LineFault) ×
+            (checked (faults_after self.old.groups (row_said row.now)) ≡ Err fault) ×
+            (e ≡ FileFault.Line self.old.lines fault))) }
     {
         let place = self.groups.place(row.topic);
         match self.check(place, row) {
@@ -184,7 +191,8 @@ impl RowReader {
     fn has_seen(&self, place: Option<usize>, row: &RowText<'_>) -> bool
         requires tracked { IsTracked self.now }
         requires place { place ≡ place_of row.now.topic.now self.now.groups }
-        ensures { result ≡ list_any (λ valued. bytes_eq row.now.document.now valued.document) (rows_in row.now.topic.now self.now.groups) }
+        ensures { result ≡ list_any (λ valued. bytes_eq row.now.document.now valued.document)
+            (rows_in row.now.topic.now self.now.groups) }
     {
         match place {
             Some(t) => self.seen[t].contains(row.document),
@@ -196,10 +204,12 @@ impl RowReader {
     fn put(&mut self, place: Option<usize>, row: &RowText<'_>) -> Result<(), AllocError>
         requires tracked { IsTracked self.old }
         requires place { place ≡ place_of row.now.topic.now self.old.groups }
-        requires new { list_any (λ valued. bytes_eq row.now.document.now valued.document) (rows_in row.now.topic.now self.old.groups) ≡ false }
+        requires new { list_any (λ valued. bytes_eq row.now.document.now valued.document)
+            (rows_in row.now.topic.now self.old.groups) ≡ false }
         requires rows { row_count self.old.groups + 1 < 2 ^ 32 }
         requires names { name_bytes_in self.old.groups + length row.now.document.now < 2 ^ 32 }
-        ensures added { OnOk result (self.new.groups ≡ with_row_on self.old.groups (row_said row.now)) }
+        ensures added { OnOk result (self.new.groups ≡
+            with_row_on self.old.groups (row_said row.now)) }
         ensures tracked { OnOk result (IsTracked self.new) }
         ensures lines { OnOk result (self.new.lines ≡ self.old.lines) }
         ensures fault { OnOk result (self.new.fault ≡ self.old.fault) }
@@ -219,10 +229,12 @@ impl RowReader {
     fn put_at(&mut self, t: usize, row: &RowText<'_>) -> Result<(), AllocError>
         requires tracked { IsTracked self.old }
         requires topic { t < length self.old.groups }
-        requires new { list_any (λ valued. bytes_eq row.now.document.now valued.document) (rows_at self.old.groups t) ≡ false }
+        requires new { list_any (λ valued. bytes_eq row.now.document.now valued.document)
+            (rows_at self.old.groups t) ≡ false }
         requires rows { row_count self.old.groups + 1 < 2 ^ 32 }
         requires names { name_bytes_in self.old.groups + length row.now.document.now < 2 ^ 32 }
-        ensures added { OnOk result (self.new.groups ≡ with_valued self.old.groups t (valued_of (row_said row.now))) }
+        ensures added { OnOk result (self.new.groups ≡
+            with_valued self.old.groups t (valued_of (row_said row.now))) }
         ensures tracked { OnOk result (IsTracked self.new) }
         ensures lines { OnOk result (self.new.lines ≡ self.old.lines) }
         ensures fault { OnOk result (self.new.fault ≡ self.old.fault) }
@@ -236,7 +248,8 @@ impl RowReader {
 // The rows of a file without a fault.
 fn qrels_from(alloc: Global, groups: GroupedRows<i16>) -> Result<Qrels, FileFault>
     requires { 0 < row_count groups → IsQrels groups }
-    ensures { IsUnlessMemory result (if row_count groups == 0 then Err FileFault.NoTopics else Ok groups) }
+    ensures { IsUnlessMemory result
+        (if row_count groups == 0 then Err FileFault.NoTopics else Ok groups) }
 {
     if groups.rows() == 0 {
         return Err(FileFault::NoTopics);

@@ -102,10 +102,15 @@ impl Rbp {
     fn correction(&self, x: u32, y: u32, mark: Mark) -> Shares
         requires first { IsRankWithin RANK_LIMIT (Some x) }
         requires second { IsRankWithin RANK_LIMIT (Some y) }
-        ensures least_lo { result.least.lo ≡ correction (low_share self.now.top self.now.bottom) is_in_least mark (Some x) (Some y) }
-        ensures least_hi { result.least.hi ≡ correction (high_share self.now.top self.now.bottom) is_in_least mark (Some x) (Some y) }
-        ensures most_lo { result.most.lo ≡ correction (low_share self.now.top self.now.bottom) is_in_most mark (Some x) (Some y) }
-        ensures most_hi { result.most.hi ≡ correction (high_share self.now.top self.now.bottom) is_in_most mark (Some x) (Some y) }
+        ensures least_lo { result.least.lo ≡
+            correction (low_share self.now.top self.now.bottom) is_in_least mark (Some x) (Some y) }
+        ensures least_hi { result.least.hi ≡
+            correction (high_share self.now.top self.now.bottom) is_in_least mark (Some x)
+            (Some y) }
+        ensures most_lo { result.most.lo ≡
+            correction (low_share self.now.top self.now.bottom) is_in_most mark (Some x) (Some y) }
+        ensures most_hi { result.most.hi ≡
+            correction (high_share self.now.top self.now.bottom) is_in_most mark (Some x) (Some y) }
         ensures least_short { IsShort result.least }
         ensures most_short { IsShort result.most }
     {
@@ -138,10 +143,22 @@ impl Rbp {
         requires second { IsRankWithin RANK_LIMIT (Some y.rank) }
         requires least { IsLoose sums.least }
         requires most { IsLoose sums.most }
-        ensures least_lo { result.least.lo ≡ sums.least.lo +ℤ (if nat_eq x.doc y.doc then correction (low_share self.now.top self.now.bottom) is_in_least mark (Some x.rank) (Some y.rank) else pos 0) }
-        ensures least_hi { result.least.hi ≡ sums.least.hi +ℤ (if nat_eq x.doc y.doc then correction (high_share self.now.top self.now.bottom) is_in_least mark (Some x.rank) (Some y.rank) else pos 0) }
-        ensures most_lo { result.most.lo ≡ sums.most.lo +ℤ (if nat_eq x.doc y.doc then correction (low_share self.now.top self.now.bottom) is_in_most mark (Some x.rank) (Some y.rank) else pos 0) }
-        ensures most_hi { result.most.hi ≡ sums.most.hi +ℤ (if nat_eq x.doc y.doc then correction (high_share self.now.top self.now.bottom) is_in_most mark (Some x.rank) (Some y.rank) else pos 0) }
+        ensures least_lo { result.least.lo ≡
+            sums.least.lo +ℤ (if nat_eq x.doc y.doc then correction
+            (low_share self.now.top self.now.bottom) is_in_least mark (Some x.rank) (Some y.rank)
+            else pos 0) }
+        ensures least_hi { result.least.hi ≡
+            sums.least.hi +ℤ (if nat_eq x.doc y.doc then correction
+            (high_share self.now.top self.now.bottom) is_in_least mark (Some x.rank) (Some y.rank)
+            else pos 0) }
+        ensures most_lo { result.most.lo ≡
+            sums.most.lo +ℤ (if nat_eq x.doc y.doc then correction
+            (low_share self.now.top self.now.bottom) is_in_most mark (Some x.rank) (Some y.rank)
+            else pos 0) }
+        ensures most_hi { result.most.hi ≡
+            sums.most.hi +ℤ (if nat_eq x.doc y.doc then correction
+            (high_share self.now.top self.now.bottom) is_in_most mark (Some x.rank) (Some y.rank)
+            else pos 0) }
     {
         if is_corrected(x, y, mark) {
             let more = self.correction(x.rank, y.rank, mark);

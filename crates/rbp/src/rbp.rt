@@ -97,7 +97,9 @@ impl Rbp {
         requires { IsPersistence top bottom }
         ensures top { IfOk result (λ r. r.top ≡ top) }
         ensures bottom { IfOk result (λ r. r.bottom ≡ bottom) }
-        ensures made { IfOk result (λ r. IsMadeFor (B top bottom) (⟦<Rbp as Measure>⟧.measured r) (⟦<Rbp as Measure>⟧.cell_of r) (⟦<Rbp as Measure>⟧.bounds_of r)) }
+        ensures made { IfOk result (λ r.
+            IsMadeFor (B top bottom) (⟦<Rbp as Measure>⟧.measured r) (⟦<Rbp as Measure>⟧.cell_of r)
+            (⟦<Rbp as Measure>⟧.bounds_of r)) }
     {
         let powers = Powers::new(alloc, top, bottom, 10000)?;
         let worths = low_weights(alloc, &powers)?;
@@ -123,12 +125,17 @@ impl Rbp {
     ) -> Shares
         requires met { AreMet marks.now a.now b.now }
         requires first { weights.first ≡ run_weights self.now.top self.now.bottom marks.now a.now }
-        requires second { weights.second ≡ run_weights self.now.top self.now.bottom marks.now b.now }
+        requires second { weights.second ≡
+            run_weights self.now.top self.now.bottom marks.now b.now }
         requires both { AreCorrections self.now.top self.now.bottom marks.now a.now b.now both }
-        ensures least_lo { result.least.lo ≡ share_sum (low_share self.now.top self.now.bottom) marks.now a.now b.now }
-        ensures least_hi { result.least.hi ≡ share_sum (high_share self.now.top self.now.bottom) marks.now a.now b.now }
-        ensures most_lo { result.most.lo ≡ neg_ℤ (share_sum (high_share self.now.top self.now.bottom) marks.now b.now a.now) }
-        ensures most_hi { result.most.hi ≡ neg_ℤ (share_sum (low_share self.now.top self.now.bottom) marks.now b.now a.now) }
+        ensures least_lo { result.least.lo ≡
+            share_sum (low_share self.now.top self.now.bottom) marks.now a.now b.now }
+        ensures least_hi { result.least.hi ≡
+            share_sum (high_share self.now.top self.now.bottom) marks.now a.now b.now }
+        ensures most_lo { result.most.lo ≡
+            neg_ℤ (share_sum (high_share self.now.top self.now.bottom) marks.now b.now a.now) }
+        ensures most_hi { result.most.hi ≡
+            neg_ℤ (share_sum (low_share self.now.top self.now.bottom) marks.now b.now a.now) }
         ensures least_loose { IsLoose result.least }
         ensures most_loose { IsLoose result.most }
     {
@@ -152,7 +159,8 @@ impl Rbp {
         requires shares { IsLoose shares }
         requires ranks { ranks ≤ RANK_LIMIT }
         ensures lo { result.lo ≡ shares.lo -ℤ pos (high_power self.now.top self.now.bottom ranks) }
-        ensures hi { result.hi ≡ shares.hi -ℤ pos (low_power self.now.top self.now.bottom ranks - 1) }
+        ensures hi { result.hi ≡
+            shares.hi -ℤ pos (low_power self.now.top self.now.bottom ranks - 1) }
         ensures short { IsShort result }
     {
         let most = self.tail_most(ranks);
@@ -174,7 +182,8 @@ impl Rbp {
     ) -> Cell
         requires met { AreMet marks.now a.now b.now }
         requires first { weights.first ≡ run_weights self.now.top self.now.bottom marks.now a.now }
-        requires second { weights.second ≡ run_weights self.now.top self.now.bottom marks.now b.now }
+        requires second { weights.second ≡
+            run_weights self.now.top self.now.bottom marks.now b.now }
         requires both { AreCorrections self.now.top self.now.bottom marks.now a.now b.now both }
         ensures { result ≡ biased_cell self.now.top self.now.bottom marks.now a.now b.now }
     {

@@ -128,10 +128,14 @@ impl Rbp {
     pub fn weights(&self, marks: &[Mark], docs: &[u32]) -> RankWeights
         requires known { All (λ doc. doc < length marks.now) docs.now }
         requires few { length docs.now ≤ RANK_LIMIT }
-        ensures relevant_lo { result.relevant.lo ≡ pos (low_worth self.now.top self.now.bottom false marks.now docs.now) }
-        ensures relevant_hi { result.relevant.hi ≡ pos (high_worth self.now.top self.now.bottom false marks.now docs.now) }
-        ensures possible_lo { result.possible.lo ≡ pos (low_worth self.now.top self.now.bottom true marks.now docs.now) }
-        ensures possible_hi { result.possible.hi ≡ pos (high_worth self.now.top self.now.bottom true marks.now docs.now) }
+        ensures relevant_lo { result.relevant.lo ≡
+            pos (low_worth self.now.top self.now.bottom false marks.now docs.now) }
+        ensures relevant_hi { result.relevant.hi ≡
+            pos (high_worth self.now.top self.now.bottom false marks.now docs.now) }
+        ensures possible_lo { result.possible.lo ≡
+            pos (low_worth self.now.top self.now.bottom true marks.now docs.now) }
+        ensures possible_hi { result.possible.hi ≡
+            pos (high_worth self.now.top self.now.bottom true marks.now docs.now) }
         ensures relevant_loose { IsLoose result.relevant }
         ensures possible_loose { IsLoose result.possible }
     {
@@ -186,7 +190,8 @@ impl RankWorth for LowWeights<'_> {
 pub fn low_weights(alloc: Global, powers: &Powers) -> Result<Vec<u64>, Memory>
     requires last { powers.now.last ≡ RANK_LIMIT }
     requires below { powers.now.top < powers.now.bottom }
-    ensures { IfOk result (λ worths. AreWorths (low_weight powers.now.top powers.now.bottom) worths.items) }
+    ensures { IfOk result (λ worths.
+        AreWorths (low_weight powers.now.top powers.now.bottom) worths.items) }
 {
     worths_of(alloc, &LowWeights { powers })
 }
@@ -219,7 +224,8 @@ impl RankWorth for HighWeights<'_> {
 pub fn high_weights(alloc: Global, powers: &Powers) -> Result<Vec<u64>, Memory>
     requires last { powers.now.last ≡ RANK_LIMIT }
     requires below { powers.now.top < powers.now.bottom }
-    ensures { IfOk result (λ worths. AreWorths (high_weight powers.now.top powers.now.bottom) worths.items) }
+    ensures { IfOk result (λ worths.
+        AreWorths (high_weight powers.now.top powers.now.bottom) worths.items) }
 {
     worths_of(alloc, &HighWeights { powers })
 }

@@ -58,7 +58,8 @@ impl Recall {
         requires positive { 1 ≤ k }
         requires limited { k ≤ DEPTH_LIMIT }
         ensures depth { result ≡ k }
-        ensures made { IsMadeFor (R k) (⟦<Recall as Measure>⟧.measured result) (⟦<Recall as Measure>⟧.cell_of result) (⟦<Recall as Measure>⟧.bounds_of result) }
+        ensures made { IsMadeFor (R k) (⟦<Recall as Measure>⟧.measured result)
+            (⟦<Recall as Measure>⟧.cell_of result) (⟦<Recall as Measure>⟧.bounds_of result) }
     {
         Recall { k }
     }
@@ -86,7 +87,8 @@ pub(crate) fn least_span(first: Counts, second: Counts, all: Counts) -> Span
     requires second { second.relevant + second.unjudged ≤ RANK_LIMIT }
     requires all { all.relevant + all.unjudged ≤ DOCUMENT_LIMIT }
     requires within { first.relevant + first.unjudged ≤ all.relevant + all.unjudged }
-    ensures { (k : ℕ) (marks : List M) (a b : List ℕ) → AreCounts k marks a b first second all → result ≡ exact_least (R k) marks a b }
+    ensures { (k : ℕ) (marks : List M) (a b : List ℕ) → AreCounts k marks a b first second all →
+        result ≡ exact_least (R k) marks a b }
 {
     let relevant = relevant_documents(first, second, all);
     let lead = first.least() - second.most();
@@ -119,8 +121,11 @@ fn relevant_among(k: u32, ranking: &Ranking, marks: &[Mark]) -> u32
 /// unjudged ones exactly those are relevant that the second run alone has there, `own` in number.
 fn leads(k: u32, own: usize, a: &Ranking, b: &Ranking, marks: &[Mark]) -> bool
     requires met { AreMet marks.now a.now b.now }
-    requires own { own ≡ size_of (length marks.now) (open_in marks.now (only_second k a.now b.now)) }
-    ensures { result ≡ nat_lt (true_among (with_picked marks.now (only_second k a.now b.now)) k b.now) (true_among (with_picked marks.now (only_second k a.now b.now)) k a.now) }
+    requires own { own ≡ size_of (length marks.now)
+        (open_in marks.now (only_second k a.now b.now)) }
+    ensures { result ≡
+        nat_lt (true_among (with_picked marks.now (only_second k a.now b.now)) k b.now)
+        (true_among (with_picked marks.now (only_second k a.now b.now)) k a.now) }
 {
     // Relevant documents that both have there count on both sides.
     let first = relevant_among(k, a, marks) as usize;
@@ -161,7 +166,9 @@ fn least_values(
     marks: &[Mark],
 ) -> Result<Vec<bool>, Memory>
     requires { AreMet marks.now a.now b.now }
-    ensures { IfOk result (λ values. AreValues (with_picked marks.now (recall_pick k marks.now a.now b.now)) (length marks.now) values.items) }
+    ensures { IfOk result (λ values.
+        AreValues (with_picked marks.now (recall_pick k marks.now a.now b.now)) (length marks.now)
+        values.items) }
 {
     let own = own_counts(k, a, b, marks).second.unjudged as usize;
     let leads = leads(k, own, a, b, marks);
@@ -178,7 +185,8 @@ fn push_least(
     docs: &mut Vec<u32>,
 ) -> Result<(), Memory>
     requires { AreMet marks.now a.now b.now }
-    ensures { OnOk result (docs.new.items ≡ docs.old.items ++ added_documents marks.now (with_picked marks.now (recall_pick k marks.now a.now b.now))) }
+    ensures { OnOk result (docs.new.items ≡ docs.old.items ++
+        added_documents marks.now (with_picked marks.now (recall_pick k marks.now a.now b.now))) }
 {
     let start = docs.len();
     push_own_marked(alloc, k, a, b, marks, docs)?;
@@ -235,7 +243,8 @@ fn count_case(
     requires size { length counts.old ≡ length marks.now }
     requires room { HaveRoomFor counts.old (least_documents (R k) marks.now a.now b.now) }
     ensures count { result ≡ length (least_documents (R k) marks.now a.now b.now) }
-    ensures counts { AreCounted counts.old (least_documents (R k) marks.now a.now b.now) counts.new }
+    ensures counts { AreCounted counts.old (least_documents (R k) marks.now a.now b.now)
+        counts.new }
 {
     let all = marks.len() as u32;
     let own = count_own(k, all, ranks.first, a, b, marks, counts);

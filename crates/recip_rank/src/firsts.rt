@@ -83,7 +83,8 @@ pub fn first_rank(picked: bool, docs: &[u32], marks: &[Mark]) -> Option<u32>
 pub fn span(firsts: Firsts) -> Span
     requires first { IsRankWithin RANK_LIMIT firsts.first }
     requires second { IsRankWithin RANK_LIMIT firsts.second }
-    ensures span { result ≡ difference_span PARTS_OF_ONE (reciprocal firsts.first) (reciprocal firsts.second) }
+    ensures span { result ≡ difference_span PARTS_OF_ONE (reciprocal firsts.first)
+        (reciprocal firsts.second) }
     ensures short { IsShort result }
 {
     let x = part_of(firsts.first);
@@ -117,7 +118,9 @@ fn better(c: Candidate, best: Candidate) -> Candidate
     requires c_second { IsRankWithin RANK_LIMIT c.firsts.second }
     requires best_first { IsRankWithin RANK_LIMIT best.firsts.first }
     requires best_second { IsRankWithin RANK_LIMIT best.firsts.second }
-    ensures { result ≡ (if is_smaller (scores_at c.firsts.first c.firsts.second) (scores_at best.firsts.first best.firsts.second) then c else best) }
+    ensures { result ≡
+        (if is_smaller (scores_at c.firsts.first c.firsts.second)
+        (scores_at best.firsts.first best.firsts.second) then c else best) }
 {
     if is_less(c.firsts, best.firsts) {
         c

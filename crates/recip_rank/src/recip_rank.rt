@@ -48,7 +48,8 @@ impl RecipRank {
     /// The measure, whose cells and bounds are the floors and ceilings of the extremes. It takes no memory, and divides
     /// for each weight.
     pub fn new() -> RecipRank
-        ensures { IsMadeFor R (⟦<RecipRank as Measure>⟧.measured result) (⟦<RecipRank as Measure>⟧.cell_of result) (⟦<RecipRank as Measure>⟧.bounds_of result) }
+        ensures { IsMadeFor R (⟦<RecipRank as Measure>⟧.measured result)
+            (⟦<RecipRank as Measure>⟧.cell_of result) (⟦<RecipRank as Measure>⟧.bounds_of result) }
     {
         RecipRank { worths: None }
     }
@@ -58,7 +59,9 @@ impl RecipRank {
     /// # Errors
     /// `Memory`: out of memory.
     pub fn with_worths(alloc: Global) -> Result<RecipRank, Memory>
-        ensures made { IfOk result (λ r. IsMadeFor R (⟦<RecipRank as Measure>⟧.measured r) (⟦<RecipRank as Measure>⟧.cell_of r) (⟦<RecipRank as Measure>⟧.bounds_of r)) }
+        ensures made { IfOk result (λ r.
+            IsMadeFor R (⟦<RecipRank as Measure>⟧.measured r) (⟦<RecipRank as Measure>⟧.cell_of r)
+            (⟦<RecipRank as Measure>⟧.bounds_of r)) }
         ensures kept { IfOk result (λ r. r ≡ true) }
     {
         let worths = worths_of(alloc, &RecipRank::new())?;

@@ -18,7 +18,9 @@ impl<'p> RunPair<'p> {
         requires pair { IsPair self.now }
         requires low { self.now.all.relevant < 10 * block }
         requires high { 10 * block ≤ self.now.all.relevant + steps_of self.now }
-        ensures value { result ≡ candidate (prefixes self.now (10 * block)) self.now.all (10 * block - self.now.all.relevant) }
+        ensures value { result ≡
+            candidate (prefixes self.now (10 * block)) self.now.all (10 * block -
+            self.now.all.relevant) }
         ensures near { IsShallow result }
     {
         let prefixes = self.at_block(block).unpacked();
@@ -68,7 +70,8 @@ impl<'p> RunPair<'p> {
         requires order { chosen < next }
         requires high { next ≤ steps_of self.now }
         requires best { IsShallow best }
-        ensures { result ≡ false → (place : ℕ) → chosen ≤ place → place < next → precedes (choice_at self.now place) best ≡ false }
+        ensures { result ≡ false → (place : ℕ) → chosen ≤ place → place < next →
+            precedes (choice_at self.now place) best ≡ false }
     {
         let relevant = self.all.relevant;
         let start = (relevant + chosen) / BLOCK;

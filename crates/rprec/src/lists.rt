@@ -27,7 +27,8 @@ pub fn push_chosen(
 ) -> Result<(), Memory>
     requires met { AreMet marks.now a.now b.now }
     requires wanted { AreWanted marks.now a.now b.now count wanted }
-    ensures { OnOk result (docs.new.items ≡ docs.old.items ++ added_documents marks.now (greedy_truth marks.now a.now b.now count)) }
+    ensures { OnOk result (docs.new.items ≡ docs.old.items ++
+        added_documents marks.now (greedy_truth marks.now a.now b.now count)) }
 {
     if wanted.both > 0 {
         let others = More {
@@ -85,9 +86,12 @@ pub fn count_chosen(
     requires topic { AreTopic marks.now all }
     requires low { all.relevant ≤ count }
     requires size { length counts.old ≡ length marks.now }
-    requires room { HaveRoomFor counts.old (added_documents marks.now (greedy_truth marks.now a.now b.now count)) }
-    ensures count { result ≡ length (added_documents marks.now (greedy_truth marks.now a.now b.now count)) }
-    ensures counts { AreCounted counts.old (added_documents marks.now (greedy_truth marks.now a.now b.now count)) counts.new }
+    requires room { HaveRoomFor counts.old
+        (added_documents marks.now (greedy_truth marks.now a.now b.now count)) }
+    ensures count { result ≡
+        length (added_documents marks.now (greedy_truth marks.now a.now b.now count)) }
+    ensures counts { AreCounted counts.old
+        (added_documents marks.now (greedy_truth marks.now a.now b.now count)) counts.new }
 {
     let chosen = count - all.relevant;
     let own = count_own(count, chosen, ranks.first, a, b, marks, counts);

@@ -62,11 +62,17 @@ pub fn count_cases(
     requires second { AreBlockSums marks.now b.now sums.second.now.numbers }
     requires kept { IsRoomFor marks.now a.now room.old }
     requires size { length counts.old ≡ length marks.now }
-    requires room { HaveRoomFor counts.old (added_documents marks.now (rprec_truth marks.now a.now b.now) ++ added_documents marks.now (rprec_truth marks.now b.now a.now)) }
+    requires room { HaveRoomFor counts.old
+        (added_documents marks.now (rprec_truth marks.now a.now b.now) ++
+        added_documents marks.now (rprec_truth marks.now b.now a.now)) }
     ensures kept { IsRoomFor marks.now a.now room.new }
-    ensures least { result.least ≡ length (added_documents marks.now (rprec_truth marks.now a.now b.now)) }
-    ensures most { result.most ≡ length (added_documents marks.now (rprec_truth marks.now b.now a.now)) }
-    ensures counts { AreCounted counts.old (added_documents marks.now (rprec_truth marks.now a.now b.now) ++ added_documents marks.now (rprec_truth marks.now b.now a.now)) counts.new }
+    ensures least { result.least ≡
+        length (added_documents marks.now (rprec_truth marks.now a.now b.now)) }
+    ensures most { result.most ≡
+        length (added_documents marks.now (rprec_truth marks.now b.now a.now)) }
+    ensures counts { AreCounted counts.old
+        (added_documents marks.now (rprec_truth marks.now a.now b.now) ++
+        added_documents marks.now (rprec_truth marks.now b.now a.now)) counts.new }
 {
     let all = room.all;
     let extremes = extremes_of(a, b, sums, &room.first, all, marks);
@@ -94,7 +100,8 @@ fn sums_of_runs(
     marks: &[Mark],
 ) -> Result<Vec<RunSums>, Memory>
     requires { AreAllMet marks.now rankings.now }
-    ensures each { IfOk result (λ sums. AreRunSums (AreBlockSums marks.now) rankings.now sums.items) }
+    ensures each { IfOk result (λ sums.
+        AreRunSums (AreBlockSums marks.now) rankings.now sums.items) }
     ensures count { IfOk result (λ sums. length sums.items ≡ runs_on rankings.now) }
 {
     let mut sums = vec![in alloc; RunSums::NONE; rankings.runs() as usize]?;
@@ -120,8 +127,10 @@ pub fn count_by_sums(
     requires pairs { All (IsOfRuns (runs_on rankings.now)) pairs.now }
     requires size { length counts.old ≡ length marks.now }
     requires room { HaveRoomFor counts.old (pair_documents R marks.now rankings.now pairs.now) }
-    ensures sizes { IfOk result (λ sizes. sizes.items ≡ map (sizes_on R marks.now rankings.now) pairs.now) }
-    ensures counts { OnOk result (AreCounted counts.old (pair_documents R marks.now rankings.now pairs.now) counts.new) }
+    ensures sizes { IfOk result (λ sizes. sizes.items ≡
+        map (sizes_on R marks.now rankings.now) pairs.now) }
+    ensures counts { OnOk result
+        (AreCounted counts.old (pair_documents R marks.now rankings.now pairs.now) counts.new) }
 {
     let sums = sums_of_runs(alloc, rankings, marks)?;
     let mut room = ListRoom::new(alloc, marks)?;

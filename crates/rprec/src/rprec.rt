@@ -41,7 +41,8 @@ pub struct Rprec;
 impl Rprec {
     /// The measure, whose cells and bounds are the floors and ceilings of the extremes.
     pub fn new() -> Rprec
-        ensures { IsMadeFor R (⟦<Rprec as Measure>⟧.measured result) (⟦<Rprec as Measure>⟧.cell_of result) (⟦<Rprec as Measure>⟧.bounds_of result) }
+        ensures { IsMadeFor R (⟦<Rprec as Measure>⟧.measured result)
+            (⟦<Rprec as Measure>⟧.cell_of result) (⟦<Rprec as Measure>⟧.bounds_of result) }
     {
         Rprec
     }
@@ -50,7 +51,8 @@ impl Rprec {
 /// The ends of the difference of a candidate, in units.
 fn span(c: DepthCandidate) -> Span
     requires { IsSmallCandidate c }
-    ensures { (marks : List M) (a b : List ℕ) → IsLeast marks a b c → result ≡ exact_least R marks a b }
+    ensures { (marks : List M) (a b : List ℕ) → IsLeast marks a b c →
+        result ≡ exact_least R marks a b }
 {
     span_of(
         i128::from(c.first) - i128::from(c.second),
@@ -113,7 +115,8 @@ fn least_values(
     marks: &[Mark],
 ) -> Result<Vec<bool>, Memory>
     requires { AreMet marks.now a.now b.now }
-    ensures { IfOk result (λ values. AreValues (rprec_truth marks.now a.now b.now) (length marks.now) values.items) }
+    ensures { IfOk result (λ values.
+        AreValues (rprec_truth marks.now a.now b.now) (length marks.now) values.items) }
 {
     let least = least_of(a, b, marks);
     values(alloc, least.wanted, least.count, a, b, marks)
@@ -128,7 +131,8 @@ fn push_least(
     docs: &mut Vec<u32>,
 ) -> Result<(), Memory>
     requires { AreMet marks.now a.now b.now }
-    ensures { OnOk result (docs.new.items ≡ docs.old.items ++ added_documents marks.now (rprec_truth marks.now a.now b.now)) }
+    ensures { OnOk result (docs.new.items ≡ docs.old.items ++
+        added_documents marks.now (rprec_truth marks.now a.now b.now)) }
 {
     let least = least_of(a, b, marks);
     push_chosen(alloc, least.count, least.wanted, a, b, marks, docs)
@@ -157,8 +161,10 @@ fn push_cases(
     most: &mut Vec<u32>,
 ) -> Result<(), Memory>
     requires { AreMet marks.now a.now b.now }
-    ensures least { OnOk result (least.new.items ≡ least.old.items ++ added_documents marks.now (rprec_truth marks.now a.now b.now)) }
-    ensures most { OnOk result (most.new.items ≡ most.old.items ++ added_documents marks.now (rprec_truth marks.now b.now a.now)) }
+    ensures least { OnOk result (least.new.items ≡ least.old.items ++
+        added_documents marks.now (rprec_truth marks.now a.now b.now)) }
+    ensures most { OnOk result (most.new.items ≡ most.old.items ++
+        added_documents marks.now (rprec_truth marks.now b.now a.now)) }
 {
     let cases = cases_of(a, b, marks);
     let low = cases.least;

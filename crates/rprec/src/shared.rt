@@ -22,8 +22,10 @@ fn cut(places: &[Placed], middle: u32) -> (&[Placed], &[Placed])
     requires { IsAscending places.now }
     ensures ascending_below { IsAscending result.0.now }
     ensures ascending_above { IsAscending result.1.now }
-    ensures below { (doc : ℕ) → lookup result.0.now doc ≡ (if nat_lt doc middle then lookup places.now doc else None) }
-    ensures above { (doc : ℕ) → lookup result.1.now doc ≡ (if nat_lt doc middle then None else lookup places.now doc) }
+    ensures below { (doc : ℕ) →
+        lookup result.0.now doc ≡ (if nat_lt doc middle then lookup places.now doc else None) }
+    ensures above { (doc : ℕ) →
+        lookup result.1.now doc ≡ (if nat_lt doc middle then None else lookup places.now doc) }
 {
     places.split_at(places.partition_point(|placed| placed.doc < middle))
 }
@@ -83,8 +85,13 @@ impl Shared {
     )
         requires first { from_first ≤ length first.now }
         requires second { from_second ≤ length second.now }
-        requires walk { (part : ℕ → Bool) × (elsewhere : ℕ → Bool) × (xs : List ℕ) × (ys : List ℕ) × IsCountedWalk marks.now part elsewhere xs ys (drop from_first first.now) (drop from_second second.now) self.now.counts }
-        ensures { (part elsewhere : ℕ → Bool) (xs ys : List ℕ) → IsCountedWalk marks.now part elsewhere xs ys (drop from_first first.now) (drop from_second second.now) self.old.counts → IsWalked marks.now part elsewhere xs ys self.new.counts }
+        requires walk { (part : ℕ → Bool) × (elsewhere : ℕ → Bool) × (xs : List ℕ) × (ys : List ℕ) ×
+            IsCountedWalk marks.now part elsewhere xs ys (drop from_first first.now)
+            (drop from_second second.now) self.now.counts }
+        ensures { (part elsewhere : ℕ → Bool) (xs ys : List ℕ) →
+            IsCountedWalk marks.now part elsewhere xs ys (drop from_first first.now)
+            (drop from_second second.now) self.old.counts →
+            IsWalked marks.now part elsewhere xs ys self.new.counts }
     {
         let mut i = from_first;
         let mut j = from_second;

@@ -50,8 +50,10 @@ fn with_rest(number: u32, start: u32, docs: &[u32], marks: &[Mark]) -> u32
 /// Sets the numbers of all blocks after some.
 fn set_after(numbers: &mut [u32], blocks: u32, number: u32)
     requires { blocks < length numbers.old }
-    ensures before { (block : ℕ) → block ≤ blocks → slice_index_or numbers.new block 0 ≡ slice_index_or numbers.old block 0 }
-    ensures after { (block : ℕ) → blocks < block → block < length numbers.old → slice_index_or numbers.new block 0 ≡ number }
+    ensures before { (block : ℕ) → block ≤ blocks →
+        slice_index_or numbers.new block 0 ≡ slice_index_or numbers.old block 0 }
+    ensures after { (block : ℕ) → blocks < block → block < length numbers.old →
+        slice_index_or numbers.new block 0 ≡ number }
 {
     numbers[blocks as usize + 1..].fill(number);
 }

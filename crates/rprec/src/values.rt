@@ -49,10 +49,18 @@ pub fn wanted_of(chosen: u32, first: u32, second: u32, unjudged: u32) -> Wanted
 }
 
 fn choose(left: Wanted, mark: Mark, in_first: bool, in_second: bool) -> Choice
-    ensures value { result.value ≡ picked_value (((is_unjudged mark && (in_second && not in_first)) && nat_lt 0 left.second) || (((is_unjudged mark && (not (in_second && not in_first) && not (in_first && not in_second))) && nat_lt 0 left.both) || ((is_unjudged mark && (in_first && not in_second)) && nat_lt 0 left.first))) mark }
-    ensures second { result.left.second ≡ left.second - (if is_unjudged mark && (in_second && not in_first) then 1 else 0) }
-    ensures both { result.left.both ≡ left.both - (if is_unjudged mark && (not (in_second && not in_first) && not (in_first && not in_second)) then 1 else 0) }
-    ensures first { result.left.first ≡ left.first - (if is_unjudged mark && (in_first && not in_second) then 1 else 0) }
+    ensures value { result.value ≡
+        picked_value (((is_unjudged mark && (in_second && not in_first)) && nat_lt 0 left.second) ||
+        (((is_unjudged mark && (not (in_second && not in_first) && not (in_first && not in_second)))
+        && nat_lt 0 left.both) ||
+        ((is_unjudged mark && (in_first && not in_second)) && nat_lt 0 left.first))) mark }
+    ensures second { result.left.second ≡ left.second -
+        (if is_unjudged mark && (in_second && not in_first) then 1 else 0) }
+    ensures both { result.left.both ≡ left.both -
+        (if is_unjudged mark && (not (in_second && not in_first) && not (in_first && not in_second))
+        then 1 else 0) }
+    ensures first { result.left.first ≡ left.first -
+        (if is_unjudged mark && (in_first && not in_second) then 1 else 0) }
 {
     match mark {
         Mark::Relevant => Choice { value: true, left },
@@ -62,9 +70,14 @@ fn choose(left: Wanted, mark: Mark, in_first: bool, in_second: bool) -> Choice
 }
 
 fn choose_open(left: Wanted, in_first: bool, in_second: bool) -> Choice
-    ensures value { result.value ≡ (((in_second && not in_first) && nat_lt 0 left.second) || (((not (in_second && not in_first) && not (in_first && not in_second)) && nat_lt 0 left.both) || ((in_first && not in_second) && nat_lt 0 left.first))) }
-    ensures second { result.left.second ≡ left.second - (if in_second && not in_first then 1 else 0) }
-    ensures both { result.left.both ≡ left.both - (if not (in_second && not in_first) && not (in_first && not in_second) then 1 else 0) }
+    ensures value { result.value ≡
+        (((in_second && not in_first) && nat_lt 0 left.second) ||
+        (((not (in_second && not in_first) && not (in_first && not in_second)) && nat_lt 0
+        left.both) || ((in_first && not in_second) && nat_lt 0 left.first))) }
+    ensures second { result.left.second ≡ left.second -
+        (if in_second && not in_first then 1 else 0) }
+    ensures both { result.left.both ≡ left.both -
+        (if not (in_second && not in_first) && not (in_first && not in_second) then 1 else 0) }
     ensures first { result.left.first ≡ left.first - (if in_first && not in_second then 1 else 0) }
 {
     match (in_first, in_second) {
@@ -105,7 +118,9 @@ pub fn values(
     marks: &[Mark],
 ) -> Result<Vec<bool>, Memory>
     requires { length marks.now ≤ DOCUMENT_LIMIT }
-    ensures { IfOk result (λ values. AreValues (with_picked marks.now (picks wanted marks.now a.now b.now count)) (length marks.now) values.items) }
+    ensures { IfOk result (λ values.
+        AreValues (with_picked marks.now (picks wanted marks.now a.now b.now count))
+        (length marks.now) values.items) }
 {
     let mut values = Vec::new(alloc);
     let mut left = wanted;

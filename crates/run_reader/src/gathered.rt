@@ -51,7 +51,8 @@ impl Gathered {
     // Looks a topic up among the kept ones.
     fn look_up(&mut self, topic: &[u8]) -> Result<(), AllocError>
         ensures topic { OnOk result (self.new.last_topic.items ≡ topic.now) }
-        ensures last { OnOk result (self.new.last ≡ place_of self.new.last_topic.items self.new.kept) }
+        ensures last { OnOk result (self.new.last ≡
+            place_of self.new.last_topic.items self.new.kept) }
         ensures kept { self.new.kept ≡ self.old.kept }
         ensures seen { self.new.seen ≡ self.old.seen }
     {
@@ -77,8 +78,11 @@ impl Gathered {
         requires tracked { IsTracked self.old }
         requires place { place ≡ place_of row.now.topic.now self.old.kept }
         ensures kept { OnOk result (self.new.kept ≡ self.old.kept) }
-        ensures repeated { IfOk result (λ repeated. repeated ≡ list_any (λ valued. bytes_eq row.now.document.now valued.document) (rows_in row.now.topic.now self.old.kept)) }
-        ensures noted { IfOk result (λ repeated. repeated ≡ false → IsNoted place (row_said row.now) self.new) }
+        ensures repeated { IfOk result (λ repeated. repeated ≡
+            list_any (λ valued. bytes_eq row.now.document.now valued.document)
+            (rows_in row.now.topic.now self.old.kept)) }
+        ensures noted { IfOk result (λ repeated. repeated ≡ false →
+            IsNoted place (row_said row.now) self.new) }
     {
         match place {
             Some(t) => {

@@ -28,8 +28,10 @@ pub fn read_run(
 ) -> Result<RunRows, FileFault>
     requires name { IfSome name (λ n. is_name n.now ≡ true) }
     requires within { IsWithinLimits used }
-    ensures run { IsUnlessMemory result (run_of (option_copied name.entry) qrels.now used bytes.now) }
-    ensures known { IfOk result (λ run. All (λ topic. is_topic topic qrels.now ≡ true) (names_of run.topics)) }
+    ensures run { IsUnlessMemory result
+        (run_of (option_copied name.entry) qrels.now used bytes.now) }
+    ensures known { IfOk result (λ run.
+        All (λ topic. is_topic topic qrels.now ≡ true) (names_of run.topics)) }
 {
     let mut reader = RunReader::new(alloc, name, used, qrels)?;
     reader.feed(bytes)?;

@@ -49,7 +49,8 @@ impl<'q> RunReader<'q> {
     ) -> Result<RunReader<'q>, Memory>
         requires name { IfSome name (λ n. is_name n.now ≡ true) }
         requires within { IsWithinLimits used }
-        ensures { IfOk result (λ reader. reader ≡ record { fed = []; given = option_copied name.entry; used = used; qrels = qrels.now }) }
+        ensures { IfOk result (λ reader. reader ≡
+            record { fed = []; given = option_copied name.entry; used = used; qrels = qrels.now }) }
     {
         let given = copied(alloc, name)?;
         let beside = Beside { qrels, used, given };
@@ -80,8 +81,10 @@ impl<'q> RunReader<'q> {
     /// # Errors
     /// The first refusal of these bytes; or `Memory`, which may come in the place of any answer.
     pub fn finish(self) -> Result<RunRows, FileFault>
-        ensures run { IsUnlessMemory result (run_of self.entry.given self.entry.qrels self.entry.used self.entry.fed) }
-        ensures known { IfOk result (λ run. All (λ topic. is_topic topic self.entry.qrels ≡ true) (names_of run.topics)) }
+        ensures run { IsUnlessMemory result
+            (run_of self.entry.given self.entry.qrels self.entry.used self.entry.fed) }
+        ensures known { IfOk result (λ run.
+            All (λ topic. is_topic topic self.entry.qrels ≡ true) (names_of run.topics)) }
     {
         let RunReader { fed, pieces } = self;
         pieces.end().finish(&fed)

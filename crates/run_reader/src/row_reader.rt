@@ -108,8 +108,12 @@ impl<'q> RowReader<'q> {
         requires read { HasRead self.fault self (lines fed.now.bytes) }
         requires ready { IsReady self.fault self }
         requires name { IfSome (given_in self.beside) (λ n. is_name n ≡ true) }
-        ensures run { IsUnlessMemory result (run_of (given_in self.entry.beside) self.entry.beside.qrels.now self.entry.beside.used fed.now.bytes) }
-        ensures known { IfOk result (λ run. All (λ topic. is_topic topic self.entry.beside.qrels.now ≡ true) (names_of run.topics)) }
+        ensures run { IsUnlessMemory result
+            (run_of (given_in self.entry.beside) self.entry.beside.qrels.now self.entry.beside.used
+            fed.now.bytes) }
+        ensures known { IfOk result (λ run.
+            All (λ topic. is_topic topic self.entry.beside.qrels.now ≡ true)
+            (names_of run.topics)) }
     {
         match self.fault {
             Some(fault) => Err(fault),
@@ -122,7 +126,8 @@ impl<'q> RowReader<'q> {
         requires sound { IsSound self }
         requires name { IfSome (name_in self) (λ n. is_name n ≡ true) }
         requires kept { IsRun self.gathered.kept }
-        ensures { IsUnlessMemory result (run_with (name_in self.entry) self.entry.beside.used self.entry.gathered.kept) }
+        ensures { IsUnlessMemory result
+            (run_with (name_in self.entry) self.entry.beside.used self.entry.gathered.kept) }
     {
         let RowReader {
             beside,
@@ -152,7 +157,9 @@ impl<'q> RowReader<'q> {
         requires { IsReady self.old.fault self.old }
         ensures ready { IsReady self.new.fault self.new }
         ensures beside { self.new.beside ≡ self.old.beside }
-        ensures read { (before : List (List ℕ)) (line : List ℕ) → IsTooLong line → HasRead self.old.fault self.old before → HasRead self.new.fault self.new (before ++ line ∷ []) }
+        ensures read { (before : List (List ℕ)) (line : List ℕ) → IsTooLong line →
+            HasRead self.old.fault self.old before →
+            HasRead self.new.fault self.new (before ++ line ∷ []) }
     {
         match self.fault {
             Some(_) => {}
@@ -164,7 +171,8 @@ impl<'q> RowReader<'q> {
     fn read_next(&mut self, line: &[u8]) -> Result<(), FileFault>
         requires { IsSound self.old }
         ensures read { (rows : List Row) → self.old.gathered.kept ≡ grouped rows →
-            ReadsLine self.old.beside.qrels.now self.old.beside.used (self.old.lines + 1) rows line.now result self.new.gathered.kept }
+            ReadsLine self.old.beside.qrels.now self.old.beside.used (self.old.lines + 1) rows
+            line.now result self.new.gathered.kept }
         ensures sound { OnOk result (IsSound self.new) }
         ensures lines { OnOk result (self.new.lines ≡ self.old.lines + 1) }
         ensures name { OnOk result (name_in self.new ≡ name_after (name_in self.old) line.now) }
@@ -193,7 +201,8 @@ impl<'q> RowReader<'q> {
     // The tag of the first line, where no name was given.
     fn take_name(&mut self, tag: &[u8]) -> Result<(), Memory>
         requires { is_name tag.now ≡ true }
-        ensures name { OnOk result (name_in self.new ≡ Some (unwrap_or (name_in self.old) tag.now)) }
+        ensures name { OnOk result (name_in self.new ≡
+            Some (unwrap_or (name_in self.old) tag.now)) }
         ensures beside { self.new.beside ≡ self.old.beside }
         ensures gathered { OnOk result (self.new.gathered ≡ self.old.gathered) }
         ensures lines { OnOk result (self.new.lines ≡ self.old.lines) }
@@ -208,11 +217,17 @@ impl<'q> RowReader<'q> {
     // A row of the line that was read last, which is dropped where the qrels lack its topic.
     fn add(&mut self, row: &RowText<'_>) -> Result<(), FileFault>
         requires { IsSound self.old }
-        ensures dropped { OnOk result (is_topic row.now.topic.now self.old.beside.qrels.now ≡ false → self.new.gathered.kept ≡ self.old.gathered.kept) }
-        ensures right { OnOk result (is_topic row.now.topic.now self.old.beside.qrels.now ≡ true → checked (faults_after self.old.beside.used self.old.gathered.kept (row_said row.now)) ≡ Ok (tt {0})) }
-        ensures added { OnOk result (is_topic row.now.topic.now self.old.beside.qrels.now ≡ true → self.new.gathered.kept ≡ with_row_on self.old.gathered.kept (row_said row.now)) }
+        ensures dropped { OnOk result (is_topic row.now.topic.now self.old.beside.qrels.now ≡
+            false → self.new.gathered.kept ≡ self.old.gathered.kept) }
+        ensures right { OnOk result (is_topic row.now.topic.now self.old.beside.qrels.now ≡ true →
+            checked (faults_after self.old.beside.used self.old.gathered.kept (row_said row.now)) ≡
+            Ok (tt {0})) }
+        ensures added { OnOk result (is_topic row.now.topic.now self.old.beside.qrels.now ≡ true →
+            self.new.gathered.kept ≡ with_row_on self.old.gathered.kept (row_said row.now)) }
         ensures wrong { IfErr result (λ e. (e ≡ FileFault.Memory)
-            ⊎ ((fault : LineFault) × (is_topic row.now.topic.now self.old.beside.qrels.now ≡ true) × (checked (faults_after self.old.beside.used self.old.gathered.kept (row_said row.now)) ≡ Err fault) × (e ≡ FileFault.Line self.old.lines fault))) }
+            ⊎ ((fault : LineFault) × (is_topic row.now.topic.now self.old.beside.qrels.now ≡ true) ×
+            (checked (faults_after self.old.beside.used self.old.gathered.kept (row_said row.now)) ≡
+            Err fault) × (e ≡ FileFault.Line self.old.lines fault))) }
         ensures sound { OnOk result (IsSound self.new) }
         ensures lines { OnOk result (self.new.lines ≡ self.old.lines) }
         ensures tag { self.new.tag ≡ self.old.tag }
@@ -253,9 +268,12 @@ impl<'q> RowReader<'q> {
     fn room(&self, place: Option<usize>, row: &RowText<'_>) -> Result<(), LineFault>
         requires sound { IsSound self.now }
         requires place { place ≡ place_of row.now.topic.now self.now.gathered.kept }
-        ensures fault { result ≡ checked (limits_after self.now.beside.used self.now.gathered.kept (row_said row.now)) }
-        ensures few { OnOk result (self.now.beside.used.rows + row_count self.now.gathered.kept + 1 ≤ MOST_RUN_ROWS) }
-        ensures small { OnOk result (self.now.beside.used.name_bytes + name_bytes_in self.now.gathered.kept + length row.now.document.now ≤ MOST_NAME_BYTES) }
+        ensures fault { result ≡
+            checked (limits_after self.now.beside.used self.now.gathered.kept (row_said row.now)) }
+        ensures few { OnOk result (self.now.beside.used.rows + row_count self.now.gathered.kept +
+            1 ≤ MOST_RUN_ROWS) }
+        ensures small { OnOk result (self.now.beside.used.name_bytes +
+            name_bytes_in self.now.gathered.kept + length row.now.document.now ≤ MOST_NAME_BYTES) }
     {
         if self.gathered.depth(row.topic, place) >= MOST_RANKS {
             return Err(LineFault::TooDeep);

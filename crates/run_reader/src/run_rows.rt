@@ -47,7 +47,8 @@ impl RunRows {
     /// Gives back the rows of a topic, which has none then. All else stays as it is.
     pub fn forget(&mut self, alloc: Global, topic: &[u8])
         ensures gone { rows_on_topic self.new topic.now ≡ [] }
-        ensures others { (other : List ℕ) → bytes_eq topic.now other ≡ false → rows_on_topic self.new other ≡ rows_on_topic self.old other }
+        ensures others { (other : List ℕ) → bytes_eq topic.now other ≡ false →
+            rows_on_topic self.new other ≡ rows_on_topic self.old other }
         ensures topics { names_of self.new.topics ≡ names_of self.old.topics }
         ensures rows { row_count self.new.topics ≤ row_count self.old.topics }
         ensures name { self.new.name ≡ self.old.name }
@@ -75,9 +76,12 @@ impl RunRows {
 
     /// The kept rows of a topic, in the order of the file, where there are any.
     pub fn rows_on(&self, topic: &[u8]) -> Option<&ValuedRows<Score>>
-        ensures rows { MatchOption result (rows_on_topic self.now topic.now ≡ []) (λ rows. rows.now ≡ rows_on_topic self.now topic.now) }
-        ensures distinct { IsDistinct bytes_eq (map (λ row. row.document) (rows_on_topic self.now topic.now)) }
-        ensures names { All (λ row. is_name row.document ≡ true) (rows_on_topic self.now topic.now) }
+        ensures rows { MatchOption result (rows_on_topic self.now topic.now ≡ []) (λ rows.
+            rows.now ≡ rows_on_topic self.now topic.now) }
+        ensures distinct { IsDistinct bytes_eq
+            (map (λ row. row.document) (rows_on_topic self.now topic.now)) }
+        ensures names { All (λ row. is_name row.document ≡ true)
+            (rows_on_topic self.now topic.now) }
         ensures few { length (rows_on_topic self.now topic.now) ≤ MOST_RANKS }
     {
         self.kept.rows_on(topic)
@@ -97,7 +101,8 @@ impl RunRows {
     /// The document of row `i` of a topic, counted from 0 in the order of the file.
     pub fn doc(&self, topic: &[u8], i: usize) -> &[u8]
         requires { i < length (rows_on_topic self.now topic.now) }
-        ensures { option_map (λ row. row.document) (slice_get (rows_on_topic self.now topic.now) i) ≡ Some result.now }
+        ensures { option_map (λ row. row.document) (slice_get (rows_on_topic self.now topic.now) i)
+            ≡ Some result.now }
     {
         match self.rows_on(topic) {
             Some(rows) => rows.document(i),
@@ -108,7 +113,8 @@ impl RunRows {
     /// The score of row `i` of a topic, counted from 0 in the order of the file.
     pub fn score(&self, topic: &[u8], i: usize) -> &Score
         requires { i < length (rows_on_topic self.now topic.now) }
-        ensures { option_map (λ row. row.value) (slice_get (rows_on_topic self.now topic.now) i) ≡ Some result.now }
+        ensures { option_map (λ row. row.value) (slice_get (rows_on_topic self.now topic.now) i) ≡
+            Some result.now }
     {
         match self.rows_on(topic) {
             Some(rows) => rows.value(i),

@@ -48,13 +48,21 @@ fn take_over<M: Measure, L: Ledger>(
 )
     requires marks { AreMarksOf desk.now marks.now.rows }
     requires topic { topic < length desk.now.topics }
-    requires others { IfSome table.old (λ table. StandsElsewhere (M.cell_of table.measure) (M.bounds_of table.measure) desk.now marks.now.rows topic table) }
-    requires totals { WereWeightsFor (record { name = M.measured; cell = M.cell_of; bound = M.bounds_of }) topic desk.now marks.now.rows weights.old table.old }
-    ensures table { TakesOver (record { name = M.measured; cell = M.cell_of; bound = M.bounds_of }) desk.now marks.now.rows table.old table.new }
-    ensures totals { AreWeightsFor (record { name = M.measured; cell = M.cell_of; bound = M.bounds_of }) desk.now marks.now.rows weights.new table.new }
+    requires others { IfSome table.old (λ table.
+        StandsElsewhere (M.cell_of table.measure) (M.bounds_of table.measure) desk.now
+        marks.now.rows topic table) }
+    requires totals { WereWeightsFor
+        (record { name = M.measured; cell = M.cell_of; bound = M.bounds_of }) topic desk.now
+        marks.now.rows weights.old table.old }
+    ensures table { TakesOver (record { name = M.measured; cell = M.cell_of; bound = M.bounds_of })
+        desk.now marks.now.rows table.old table.new }
+    ensures totals { AreWeightsFor
+        (record { name = M.measured; cell = M.cell_of; bound = M.bounds_of }) desk.now
+        marks.now.rows weights.new table.new }
     ensures table_kept { IsSome table.old → IsSome table.new }
     ensures totals_kept { IsSome weights.old → IsSome weights.new }
-    ensures steps { steps.new + owed desk.now table.new ≤ steps.old + owed desk.now table.old + pairs_in desk.now }
+    ensures steps { steps.new + owed desk.now table.new ≤ steps.old + owed desk.now table.old +
+        pairs_in desk.now }
 {
     if let Some(table) = table {
         table.change(desk, marks, topic, steps);
@@ -78,20 +86,34 @@ impl<M: Measure> Judging<M> {
         requires document { IsOfDesk given.now.desk.now changed.now }
         requires marks { AreMarksOf given.now.desk.now self.old.marks.rows }
         requires topic { changed.now.topic < length self.old.marks.rows }
-        requires doc { changed.now.doc < length (slice_index_or self.old.marks.rows changed.now.topic []) }
-        requires table { IfSome self.old.table (λ table. StandsFor (M.cell_of table.measure) (M.bounds_of table.measure) given.now.desk.now self.old.marks.rows table) }
-        requires totals { AreWeightsFor (record { name = M.measured; cell = M.cell_of; bound = M.bounds_of }) given.now.desk.now self.old.marks.rows self.old.weights self.old.table }
-        ensures marks { OnOk result (self.new.marks.rows ≡ slice_set self.old.marks.rows changed.now.topic
+        requires doc { changed.now.doc <
+            length (slice_index_or self.old.marks.rows changed.now.topic []) }
+        requires table { IfSome self.old.table (λ table.
+            StandsFor (M.cell_of table.measure) (M.bounds_of table.measure) given.now.desk.now
+            self.old.marks.rows table) }
+        requires totals { AreWeightsFor
+            (record { name = M.measured; cell = M.cell_of; bound = M.bounds_of }) given.now.desk.now
+            self.old.marks.rows self.old.weights self.old.table }
+        ensures marks { OnOk result (self.new.marks.rows ≡
+            slice_set self.old.marks.rows changed.now.topic
             (slice_set (slice_index_or self.old.marks.rows changed.now.topic []) changed.now.doc
-            (mark_within changed.now.grade given.now.grading.level (is_in_pools self.old.marks.pools changed.now.topic changed.now.doc)))) }
+            (mark_within changed.now.grade given.now.grading.level
+            (is_in_pools self.old.marks.pools changed.now.topic changed.now.doc)))) }
         ensures pools { self.new.marks.pools ≡ self.old.marks.pools }
-        ensures table { OnOk result (TakesOver (record { name = M.measured; cell = M.cell_of; bound = M.bounds_of }) given.now.desk.now self.new.marks.rows self.old.table self.new.table) }
-        ensures totals { AreWeightsFor (record { name = M.measured; cell = M.cell_of; bound = M.bounds_of }) given.now.desk.now self.new.marks.rows self.new.weights self.new.table }
+        ensures table { OnOk result
+            (TakesOver (record { name = M.measured; cell = M.cell_of; bound = M.bounds_of })
+            given.now.desk.now self.new.marks.rows self.old.table self.new.table) }
+        ensures totals { AreWeightsFor
+            (record { name = M.measured; cell = M.cell_of; bound = M.bounds_of }) given.now.desk.now
+            self.new.marks.rows self.new.weights self.new.table }
         ensures kept { Keeps self.old self.new }
         ensures session { self.new.session ≡ self.old.session }
         ensures line { IfOk result (λ line. line.items
-            ≡ ended (changed_line word.now (book_at given.now.desk.now changed.now.topic).name (slice_index_or (book_at given.now.desk.now changed.now.topic).docs changed.now.doc []) changed.now.grade)) }
-        ensures steps { steps.new + owed given.now.desk.now self.new.table ≤ steps.old + owed given.now.desk.now self.old.table + pairs_in given.now.desk.now }
+            ≡ ended (changed_line word.now (book_at given.now.desk.now changed.now.topic).name
+            (slice_index_or (book_at given.now.desk.now changed.now.topic).docs changed.now.doc [])
+            changed.now.grade)) }
+        ensures steps { steps.new + owed given.now.desk.now self.new.table ≤ steps.old +
+            owed given.now.desk.now self.old.table + pairs_in given.now.desk.now }
         ensures stopped { OnErr result (steps.new ≡ steps.old) }
     {
         // Where memory runs out, nothing was evaluated.
@@ -121,13 +143,20 @@ impl<M: Measure> Judging<M> {
         grade: i32,
         steps: &mut Steps<L>,
     ) -> Result<Vec<u8>, Memory>
-        requires ready { IsReadyForLine (record { name = M.measured; cell = M.cell_of; bound = M.bounds_of }) (setting_of given.now) self.old }
+        requires ready { IsReadyForLine
+            (record { name = M.measured; cell = M.cell_of; bound = M.bounds_of })
+            (setting_of given.now) self.old }
         requires named { is_name who.now ≡ true }
         requires low { negsuc 999 ≤ℤ grade }
         requires high { grade ≤ℤ pos 1000 }
-        ensures answers { IfOk result (λ text. Answers (record { name = M.measured; cell = M.cell_of; bound = M.bounds_of }) (setting_of given.now)
-            (lines.Asked (lines.Judge who.now topic.now doc.now grade)) self.old self.new text.items) }
-        ensures counts { CountsLine (setting_of given.now) (lines.Asked (lines.Judge who.now topic.now doc.now grade)) self.old self.new steps.old steps.new }
+        ensures answers { IfOk result (λ text.
+            Answers (record { name = M.measured; cell = M.cell_of; bound = M.bounds_of })
+            (setting_of given.now)
+            (lines.Asked (lines.Judge who.now topic.now doc.now grade)) self.old self.new
+            text.items) }
+        ensures counts { CountsLine (setting_of given.now)
+            (lines.Asked (lines.Judge who.now topic.now doc.now grade)) self.old self.new steps.old
+            steps.new }
         ensures kept { Keeps self.old self.new }
         // Where memory runs out, nothing was evaluated.
         ensures stopped { OnErr result (steps.new ≡ steps.old) }
@@ -150,10 +179,15 @@ impl<M: Measure> Judging<M> {
         who: &[u8],
         steps: &mut Steps<L>,
     ) -> Result<Vec<u8>, Memory>
-        requires { IsReadyForLine (record { name = M.measured; cell = M.cell_of; bound = M.bounds_of }) (setting_of given.now) self.old }
-        ensures answers { IfOk result (λ text. Answers (record { name = M.measured; cell = M.cell_of; bound = M.bounds_of }) (setting_of given.now)
+        requires { IsReadyForLine
+            (record { name = M.measured; cell = M.cell_of; bound = M.bounds_of })
+            (setting_of given.now) self.old }
+        ensures answers { IfOk result (λ text.
+            Answers (record { name = M.measured; cell = M.cell_of; bound = M.bounds_of })
+            (setting_of given.now)
             (lines.Asked (lines.Undo who.now)) self.old self.new text.items) }
-        ensures counts { CountsLine (setting_of given.now) (lines.Asked (lines.Undo who.now)) self.old self.new steps.old steps.new }
+        ensures counts { CountsLine (setting_of given.now) (lines.Asked (lines.Undo who.now))
+            self.old self.new steps.old steps.new }
         ensures kept { Keeps self.old self.new }
         // Where memory runs out, nothing was evaluated.
         ensures stopped { OnErr result (steps.new ≡ steps.old) }
@@ -173,10 +207,15 @@ impl<M: Measure> Judging<M> {
         who: &[u8],
         steps: &mut Steps<L>,
     ) -> Result<Vec<u8>, Memory>
-        requires { IsReadyForLine (record { name = M.measured; cell = M.cell_of; bound = M.bounds_of }) (setting_of given.now) self.old }
-        ensures answers { IfOk result (λ text. Answers (record { name = M.measured; cell = M.cell_of; bound = M.bounds_of }) (setting_of given.now)
+        requires { IsReadyForLine
+            (record { name = M.measured; cell = M.cell_of; bound = M.bounds_of })
+            (setting_of given.now) self.old }
+        ensures answers { IfOk result (λ text.
+            Answers (record { name = M.measured; cell = M.cell_of; bound = M.bounds_of })
+            (setting_of given.now)
             (lines.Asked (lines.Redo who.now)) self.old self.new text.items) }
-        ensures counts { CountsLine (setting_of given.now) (lines.Asked (lines.Redo who.now)) self.old self.new steps.old steps.new }
+        ensures counts { CountsLine (setting_of given.now) (lines.Asked (lines.Redo who.now))
+            self.old self.new steps.old steps.new }
         ensures kept { Keeps self.old self.new }
         // Where memory runs out, nothing was evaluated.
         ensures stopped { OnErr result (steps.new ≡ steps.old) }

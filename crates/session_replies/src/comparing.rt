@@ -40,7 +40,8 @@ pub fn find_runs(desk: &Desk, first: &[u8], second: &[u8]) -> Result<(u32, u32),
     ensures first { IfOk result (λ runs. number_of desk.now.runs first.now ≡ Some runs.0) }
     ensures second { IfOk result (λ runs. number_of desk.now.runs second.now ≡ Some runs.1) }
     ensures runs { IfOk result (λ runs. AreRuns desk.now runs.0 runs.1) }
-    ensures refused { IfErr result (λ fault. IsRunRefusal desk.now first.now second.now (word_of fault)) }
+    ensures refused { IfErr result (λ fault.
+        IsRunRefusal desk.now first.now second.now (word_of fault)) }
 {
     match (desk.find_run(first), desk.find_run(second)) {
         (Some(first), Some(second)) => {
@@ -73,12 +74,17 @@ fn prepare<P: Maker, L: Ledger>(
     steps: &mut Steps<L>,
 ) -> Result<(), Memory>
     requires setting { IsSetting (setting_of given.now) }
-    requires ready { IsReadyForLine (record { name = P.Made.measured; cell = P.Made.cell_of; bound = P.Made.bounds_of }) (setting_of given.now) judging.old }
-    ensures ready { IsReadyForLine (record { name = P.Made.measured; cell = P.Made.cell_of; bound = P.Made.bounds_of }) (setting_of given.now) judging.new }
+    requires ready { IsReadyForLine
+        (record { name = P.Made.measured; cell = P.Made.cell_of; bound = P.Made.bounds_of })
+        (setting_of given.now) judging.old }
+    ensures ready { IsReadyForLine
+        (record { name = P.Made.measured; cell = P.Made.cell_of; bound = P.Made.bounds_of })
+        (setting_of given.now) judging.new }
     ensures kept { Keeps judging.old judging.new }
     ensures session { judging.new.session ≡ judging.old.session }
     ensures table { OnOk result (IsSome judging.new.table) }
-    ensures steps { steps.new + owed given.now.desk.now judging.new.table ≤ steps.old + owed given.now.desk.now judging.old.table }
+    ensures steps { steps.new + owed given.now.desk.now judging.new.table ≤ steps.old +
+        owed given.now.desk.now judging.old.table }
 {
     given.desk.valid();
     if judging.table.is_none() {
@@ -114,10 +120,13 @@ fn report_text<M: Measure>(
     report: TableRequest,
 ) -> Result<Vec<u8>, Memory>
     requires marks { AreMarksOf given.now.desk.now marks.now.rows }
-    requires table { StandsFor (M.cell_of table.now.measure) (M.bounds_of table.now.measure) given.now.desk.now marks.now.rows table.now }
+    requires table { StandsFor (M.cell_of table.now.measure) (M.bounds_of table.now.measure)
+        given.now.desk.now marks.now.rows table.now }
     requires runs { AreReportedRuns given.now.desk.now report }
-    ensures { IfOk result (λ text. (s : Subject) → s.level ≡ given.now.grading.level → s.depth ≡ given.now.grading.depth → s.marks ≡ marks.now.rows →
-        IsSubjectOf (M.measured table.now.measure) (M.cell_of table.now.measure) (M.bounds_of table.now.measure) given.now.desk.now table.now s →
+    ensures { IfOk result (λ text. (s : Subject) → s.level ≡ given.now.grading.level →
+        s.depth ≡ given.now.grading.depth → s.marks ≡ marks.now.rows →
+        IsSubjectOf (M.measured table.now.measure) (M.cell_of table.now.measure)
+        (M.bounds_of table.now.measure) given.now.desk.now table.now s →
         IsReported s report text.items) }
 {
     let (desk, grading) = (given.desk, given.grading);
@@ -144,13 +153,19 @@ pub fn make_report<P: Maker, L: Ledger>(
     steps: &mut Steps<L>,
 ) -> Result<Vec<u8>, Memory>
     requires setting { IsSetting (setting_of given.now) }
-    requires ready { IsReadyForLine (record { name = P.Made.measured; cell = P.Made.cell_of; bound = P.Made.bounds_of }) (setting_of given.now) judging.old }
+    requires ready { IsReadyForLine
+        (record { name = P.Made.measured; cell = P.Made.cell_of; bound = P.Made.bounds_of })
+        (setting_of given.now) judging.old }
     requires runs { AreReportedRuns given.now.desk.now report }
-    ensures ready { IsReadyForLine (record { name = P.Made.measured; cell = P.Made.cell_of; bound = P.Made.bounds_of }) (setting_of given.now) judging.new }
+    ensures ready { IsReadyForLine
+        (record { name = P.Made.measured; cell = P.Made.cell_of; bound = P.Made.bounds_of })
+        (setting_of given.now) judging.new }
     ensures kept { Keeps judging.old judging.new }
     ensures session { judging.new.session ≡ judging.old.session }
-    ensures told { IfOk result (λ text. IsReported (subject_after (setting_of given.now) judging.old.session) report text.items) }
-    ensures steps { steps.new + owed given.now.desk.now judging.new.table ≤ steps.old + owed given.now.desk.now judging.old.table }
+    ensures told { IfOk result (λ text.
+        IsReported (subject_after (setting_of given.now) judging.old.session) report text.items) }
+    ensures steps { steps.new + owed given.now.desk.now judging.new.table ≤ steps.old +
+        owed given.now.desk.now judging.old.table }
 {
     given.desk.valid();
     prepare(alloc, judging, given, maker, steps)?;
@@ -169,9 +184,14 @@ fn weigh<M: Measure>(
     weights: &mut Option<Weights>,
 ) -> Result<(), Memory>
     requires marks { AreMarksOf desk.now marks.now.rows }
-    requires table { StandsFor (M.cell_of table.now.measure) (M.bounds_of table.now.measure) desk.now marks.now.rows table.now }
-    requires totals { AreWeightsFor (record { name = M.measured; cell = M.cell_of; bound = M.bounds_of }) desk.now marks.now.rows weights.old (Some table.now) }
-    ensures totals { AreWeightsFor (record { name = M.measured; cell = M.cell_of; bound = M.bounds_of }) desk.now marks.now.rows weights.new (Some table.now) }
+    requires table { StandsFor (M.cell_of table.now.measure) (M.bounds_of table.now.measure)
+        desk.now marks.now.rows table.now }
+    requires totals { AreWeightsFor
+        (record { name = M.measured; cell = M.cell_of; bound = M.bounds_of }) desk.now
+        marks.now.rows weights.old (Some table.now) }
+    ensures totals { AreWeightsFor
+        (record { name = M.measured; cell = M.cell_of; bound = M.bounds_of }) desk.now
+        marks.now.rows weights.new (Some table.now) }
     ensures kept { IsSome weights.old → IsSome weights.new }
     ensures there { OnOk result (IsSome weights.new) }
 {
@@ -191,12 +211,18 @@ fn next_text<M: Measure>(
     weights: &mut Option<Weights>,
 ) -> Result<Vec<u8>, Memory>
     requires marks { AreMarksOf desk.now marks.now.rows }
-    requires table { StandsFor (M.cell_of table.now.measure) (M.bounds_of table.now.measure) desk.now marks.now.rows table.now }
-    requires totals { AreWeightsFor (record { name = M.measured; cell = M.cell_of; bound = M.bounds_of }) desk.now marks.now.rows weights.old (Some table.now) }
-    ensures totals { AreWeightsFor (record { name = M.measured; cell = M.cell_of; bound = M.bounds_of }) desk.now marks.now.rows weights.new (Some table.now) }
+    requires table { StandsFor (M.cell_of table.now.measure) (M.bounds_of table.now.measure)
+        desk.now marks.now.rows table.now }
+    requires totals { AreWeightsFor
+        (record { name = M.measured; cell = M.cell_of; bound = M.bounds_of }) desk.now
+        marks.now.rows weights.old (Some table.now) }
+    ensures totals { AreWeightsFor
+        (record { name = M.measured; cell = M.cell_of; bound = M.bounds_of }) desk.now
+        marks.now.rows weights.new (Some table.now) }
     ensures kept { IsSome weights.old → IsSome weights.new }
     ensures text { IfOk result (λ text. (s : Subject) → s.marks ≡ marks.now.rows →
-        IsSubjectOf (M.measured table.now.measure) (M.cell_of table.now.measure) (M.bounds_of table.now.measure) desk.now table.now s →
+        IsSubjectOf (M.measured table.now.measure) (M.cell_of table.now.measure)
+        (M.bounds_of table.now.measure) desk.now table.now s →
         IsNextText s text.items) }
 {
     desk.valid();
@@ -220,12 +246,18 @@ pub fn make_next<P: Maker, L: Ledger>(
     steps: &mut Steps<L>,
 ) -> Result<Vec<u8>, Memory>
     requires setting { IsSetting (setting_of given.now) }
-    requires ready { IsReadyForLine (record { name = P.Made.measured; cell = P.Made.cell_of; bound = P.Made.bounds_of }) (setting_of given.now) judging.old }
-    ensures ready { IsReadyForLine (record { name = P.Made.measured; cell = P.Made.cell_of; bound = P.Made.bounds_of }) (setting_of given.now) judging.new }
+    requires ready { IsReadyForLine
+        (record { name = P.Made.measured; cell = P.Made.cell_of; bound = P.Made.bounds_of })
+        (setting_of given.now) judging.old }
+    ensures ready { IsReadyForLine
+        (record { name = P.Made.measured; cell = P.Made.cell_of; bound = P.Made.bounds_of })
+        (setting_of given.now) judging.new }
     ensures kept { Keeps judging.old judging.new }
     ensures session { judging.new.session ≡ judging.old.session }
-    ensures told { IfOk result (λ text. IsNextText (subject_after (setting_of given.now) judging.old.session) text.items) }
-    ensures steps { steps.new + owed given.now.desk.now judging.new.table ≤ steps.old + owed given.now.desk.now judging.old.table }
+    ensures told { IfOk result (λ text.
+        IsNextText (subject_after (setting_of given.now) judging.old.session) text.items) }
+    ensures steps { steps.new + owed given.now.desk.now judging.new.table ≤ steps.old +
+        owed given.now.desk.now judging.old.table }
 {
     given.desk.valid();
     prepare(alloc, judging, given, maker, steps)?;

@@ -34,13 +34,19 @@ fn answer<P: Maker, L: Ledger>(
     steps: &mut Steps<L>,
 ) -> Result<Vec<u8>, Memory>
     requires setting { IsSetting (setting_of given.now) }
-    requires ready { IsReadyForLine (record { name = P.Made.measured; cell = P.Made.cell_of; bound = P.Made.bounds_of }) (setting_of given.now) judging.old }
+    requires ready { IsReadyForLine
+        (record { name = P.Made.measured; cell = P.Made.cell_of; bound = P.Made.bounds_of })
+        (setting_of given.now) judging.old }
     requires within { IsWithin (request_said request) }
-    ensures answers { IfOk result (λ text. Answers (record { name = P.Made.measured; cell = P.Made.cell_of; bound = P.Made.bounds_of }) (setting_of given.now)
+    ensures answers { IfOk result (λ text.
+        Answers (record { name = P.Made.measured; cell = P.Made.cell_of; bound = P.Made.bounds_of })
+        (setting_of given.now)
         (lines.Asked (request_said request.entry)) judging.old judging.new text.items) }
-    ensures counts { CountsLine (setting_of given.now) (lines.Asked (request_said request.entry)) judging.old judging.new steps.old steps.new }
+    ensures counts { CountsLine (setting_of given.now) (lines.Asked (request_said request.entry))
+        judging.old judging.new steps.old steps.new }
     ensures kept { Keeps judging.old judging.new }
-    ensures stopped { OnErr result (steps.new ≤ steps.old + owed given.now.desk.now judging.old.table) }
+    ensures stopped { OnErr result (steps.new ≤ steps.old +
+        owed given.now.desk.now judging.old.table) }
 {
     given.desk.valid();
     match request {
@@ -101,14 +107,21 @@ pub fn reply_to<P: Maker, L: Ledger>(
     steps: &mut Steps<L>,
 ) -> Result<Reply, Memory>
     requires setting { IsSetting (setting_of given.now) }
-    requires ready { IsReadyForLine (record { name = P.Made.measured; cell = P.Made.cell_of; bound = P.Made.bounds_of }) (setting_of given.now) judging.old }
-    ensures answered { IfOk result (IsReplied (record { name = P.Made.measured; cell = P.Made.cell_of; bound = P.Made.bounds_of }) (setting_of given.now)
+    requires ready { IsReadyForLine
+        (record { name = P.Made.measured; cell = P.Made.cell_of; bound = P.Made.bounds_of })
+        (setting_of given.now) judging.old }
+    ensures answered { IfOk result
+        (IsReplied
+        (record { name = P.Made.measured; cell = P.Made.cell_of; bound = P.Made.bounds_of })
+        (setting_of given.now)
         (heard_of line.now) judging.old judging.new) }
-    ensures counts { CountsLine (setting_of given.now) (heard_of line.now) judging.old judging.new steps.old steps.new }
+    ensures counts { CountsLine (setting_of given.now) (heard_of line.now) judging.old judging.new
+        steps.old steps.new }
     // A table and totals that were there are not thrown away, to be made anew at a later line.
     ensures kept { Keeps judging.old judging.new }
     // Where memory runs out, at most the cells that were owed are evaluated.
-    ensures stopped { OnErr result (steps.new ≤ steps.old + owed given.now.desk.now judging.old.table) }
+    ensures stopped { OnErr result (steps.new ≤ steps.old +
+        owed given.now.desk.now judging.old.table) }
 {
     match hear(line) {
         Heard::Blank => Ok(Reply::Text(Vec::new(alloc))),

@@ -41,7 +41,14 @@ impl<M: Measure> Judging<M> {
         ensures session { IfOk result (λ judging. judging.session ≡ []) }
         ensures table { IfOk result (λ judging. judging.table ≡ None) }
         ensures ready { IfOk result (λ judging. (measure : N) →
-            IsReadyForLine (record { name = M.measured; cell = M.cell_of; bound = M.bounds_of }) (record { measure = measure; level = grading.level; depth = grading.depth; desk = desk.now }) judging) }
+            IsReadyForLine (record { name = M.measured; cell = M.cell_of; bound = M.bounds_of })
+            (record {
+              measure = measure;
+              level = grading.level;
+              depth = grading.depth;
+              desk =
+                  desk.now;
+            }) judging) }
     {
         desk.valid();
         let marks = Marks::of_file(alloc, desk, grading.level(), grading.depth())?;

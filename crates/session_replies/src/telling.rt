@@ -43,8 +43,11 @@ pub fn pool(
     depth: u32,
 ) -> Result<Vec<u8>, Memory>
     requires marks { AreMarksOf given.now.desk.now marks.now.rows }
-    ensures { IfOk result (λ text. (changes : List Change) → marks.now.rows ≡ marks_after (setting_of given.now) changes →
-        IsPoolReply (setting_of given.now) changes depth (number_of (map (λ (book : Book). book.name) given.now.desk.now.topics) topic.now) text.items) }
+    ensures { IfOk result (λ text. (changes : List Change) →
+        marks.now.rows ≡ marks_after (setting_of given.now) changes →
+        IsPoolReply (setting_of given.now) changes depth
+        (number_of (map (λ (book : Book). book.name) given.now.desk.now.topics) topic.now)
+        text.items) }
 {
     match given.desk.find_topic(topic) {
         Some(topic) => {
@@ -58,7 +61,8 @@ pub fn pool(
 /// The reply to `qrels`: the judgements in force on all topics, as lines of a judgements file.
 pub fn qrels(alloc: Global, desk: &Desk, session: &Session) -> Result<Vec<u8>, Memory>
     requires { IsSessionOf desk.now session.now }
-    ensures { IfOk result (λ text. text.items ≡ qrels_text desk.now (all_in_force desk.now session.now)) }
+    ensures { IfOk result (λ text. text.items ≡
+        qrels_text desk.now (all_in_force desk.now session.now)) }
 {
     let mut out = Vec::new(alloc);
     for topic in 0..desk.topic_count() {

@@ -72,13 +72,19 @@ fn answer_line<K: Sink, P: Maker, L: Ledger>(
     steps: &mut Steps<L>,
 ) -> Result<Next, Fault>
     requires setting { IsSetting (setting_of given.now) }
-    requires ready { IsReadyForLine (record { name = P.Made.measured; cell = P.Made.cell_of; bound = P.Made.bounds_of }) (setting_of given.now) judging.old }
+    requires ready { IsReadyForLine
+        (record { name = P.Made.measured; cell = P.Made.cell_of; bound = P.Made.bounds_of })
+        (setting_of given.now) judging.old }
     ensures answered { (line : List ℕ) → lines.now ≡ kept_line line →
         AnswersLine (setting_of given.now) line judging.old.session judging.new.session
         (sink (K.state out.old) (K.state out.new)) result }
-    ensures ready { OnOk result (IsReadyForLine (record { name = P.Made.measured; cell = P.Made.cell_of; bound = P.Made.bounds_of }) (setting_of given.now) judging.new) }
+    ensures ready { OnOk result
+        (IsReadyForLine
+        (record { name = P.Made.measured; cell = P.Made.cell_of; bound = P.Made.bounds_of })
+        (setting_of given.now) judging.new) }
     ensures steps { (line : List ℕ) → lines.now ≡ kept_line line →
-        TakesSteps given.now.desk.now line judging.old.session judging.old.table judging.new.table steps.old steps.new result }
+        TakesSteps given.now.desk.now line judging.old.session judging.old.table judging.new.table
+        steps.old steps.new result }
     ensures later { (K.state out.old).faults ≤ (K.state out.new).faults }
 {
     let Some(line) = lines.line() else {
@@ -103,13 +109,23 @@ fn answer_piece<K: Sink, P: Maker, L: Ledger>(
     steps: &mut Steps<L>,
 ) -> Result<Next, Fault>
     requires setting { IsSetting (setting_of given.now) }
-    requires ready { IsReadyForLine (record { name = P.Made.measured; cell = P.Made.cell_of; bound = P.Made.bounds_of }) (setting_of given.now) judging.old }
-    ensures answered { (had : Option (List ℕ)) (first : ℕ) (taken : List ℕ) → lines.old ≡ kept_line (unended taken) →
-        Talks (setting_of given.now) had (K.state out.old).received first (steps.old + owed given.now.desk.now judging.old.table) taken judging.old.session →
-        AnswersPiece (setting_of given.now) had (sink (K.state out.old) (K.state out.new)) first steps.new
-        (steps.new + owed given.now.desk.now judging.new.table) (taken ++ piece.now) judging.new.session result }
-    ensures line { (taken : List ℕ) → lines.old ≡ kept_line (unended taken) → result ≡ Ok Next.More → lines.new ≡ kept_line (unended (taken ++ piece.now)) }
-    ensures ready { result ≡ Ok Next.More → IsReadyForLine (record { name = P.Made.measured; cell = P.Made.cell_of; bound = P.Made.bounds_of }) (setting_of given.now) judging.new }
+    requires ready { IsReadyForLine
+        (record { name = P.Made.measured; cell = P.Made.cell_of; bound = P.Made.bounds_of })
+        (setting_of given.now) judging.old }
+    ensures answered { (had : Option (List ℕ)) (first : ℕ) (taken : List ℕ) →
+        lines.old ≡ kept_line (unended taken) →
+        Talks (setting_of given.now) had (K.state out.old).received first (steps.old +
+        owed given.now.desk.now judging.old.table) taken judging.old.session →
+        AnswersPiece (setting_of given.now) had (sink (K.state out.old) (K.state out.new)) first
+        steps.new
+        (steps.new + owed given.now.desk.now judging.new.table) (taken ++ piece.now)
+        judging.new.session result }
+    ensures line { (taken : List ℕ) → lines.old ≡ kept_line (unended taken) →
+        result ≡ Ok Next.More → lines.new ≡ kept_line (unended (taken ++ piece.now)) }
+    ensures ready { result ≡ Ok Next.More →
+        IsReadyForLine
+        (record { name = P.Made.measured; cell = P.Made.cell_of; bound = P.Made.bounds_of })
+        (setting_of given.now) judging.new }
     ensures later { (K.state out.old).faults ≤ (K.state out.new).faults }
 {
     let mut at = 0;
@@ -142,7 +158,9 @@ fn answer_input<S: Source, K: Sink, P: Maker, L: Ledger>(
     requires line { lines.old ≡ kept_line [] }
     requires none { judging.old.session ≡ [] }
     requires owes { owed given.now.desk.now judging.old.table ≡ cells_of given.now.desk.now }
-    requires ready { IsReadyForLine (record { name = P.Made.measured; cell = P.Made.cell_of; bound = P.Made.bounds_of }) (setting_of given.now) judging.old }
+    requires ready { IsReadyForLine
+        (record { name = P.Made.measured; cell = P.Made.cell_of; bound = P.Made.bounds_of })
+        (setting_of given.now) judging.old }
     ensures ends { EndsSession (setting_of given.now)
         (source (S.state input.old) (S.state input.new))
         (sink (K.state out.old) (K.state out.new)) result }

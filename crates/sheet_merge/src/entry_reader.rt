@@ -98,7 +98,9 @@ impl EntryReader {
 
     // Reads a line that is too long.
     fn read_long(&mut self)
-        ensures { (before : List (List ℕ)) (line : List ℕ) → IsTooLong line → HasReadEntries self.old.fault self.old before → HasReadEntries self.new.fault self.new (before ++ line ∷ []) }
+        ensures { (before : List (List ℕ)) (line : List ℕ) → IsTooLong line →
+            HasReadEntries self.old.fault self.old before →
+            HasReadEntries self.new.fault self.new (before ++ line ∷ []) }
     {
         match self.fault {
             Some(_) => {}
@@ -108,7 +110,8 @@ impl EntryReader {
 
     // Reads the next line. Where there are too many to be counted, memory is said to run out.
     fn read_next(&mut self, line: &[u8]) -> Result<(), SheetFault>
-        ensures read { (rows : List SheetRow) → HaveGreatest self.old.table rows → ReadsEntry (self.old.lines + 1) rows line.now result self.new.table }
+        ensures read { (rows : List SheetRow) → HaveGreatest self.old.table rows →
+            ReadsEntry (self.old.lines + 1) rows line.now result self.new.table }
         ensures lines { OnOk result (self.new.lines ≡ self.old.lines + 1) }
         ensures fault { OnOk result (self.new.fault ≡ self.old.fault) }
     {
@@ -131,12 +134,15 @@ impl EntryReader {
     // Adds what the line says that was read last.
     fn add(&mut self, text: &EntryText<'_>) -> Result<(), SheetFault>
         requires { IsSheetRow (entry_said text.now) }
-        ensures within { OnOk result (brings_too_many (entry_said text.now).0 self.old.table ≡ false) }
-        ensures added { OnOk result (self.new.table ≡ with_entry (entry_said text.now) self.old.table) }
+        ensures within { OnOk result (brings_too_many (entry_said text.now).0 self.old.table ≡
+            false) }
+        ensures added { OnOk result (self.new.table ≡
+            with_entry (entry_said text.now) self.old.table) }
         ensures lines { OnOk result (self.new.lines ≡ self.old.lines) }
         ensures fault { OnOk result (self.new.fault ≡ self.old.fault) }
         ensures wrong { IfErr result (λ e. (e ≡ SheetFault.Memory)
-            ⊎ ((brings_too_many (entry_said text.now).0 self.old.table ≡ true) × (e ≡ SheetFault.Line self.old.lines SheetLineFault.TooManyEntries))) }
+            ⊎ ((brings_too_many (entry_said text.now).0 self.old.table ≡ true) ×
+            (e ≡ SheetFault.Line self.old.lines SheetLineFault.TooManyEntries))) }
     {
         let place = PlaceKey::new(self.alloc, text.topic, text.document)?;
         if self.table.is_one_too_many(&place) {

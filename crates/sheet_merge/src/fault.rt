@@ -53,7 +53,8 @@ impl SheetFault {
     /// The fault of a line that is too long, after a number of lines. Where these are too many to be counted, memory is said to
     /// run out.
     pub fn too_long(lines: u64) -> SheetFault
-        ensures { (result ≡ Memory) ⊎ (result ≡ SheetFault.Line (lines + 1) SheetLineFault.LineTooLong) }
+        ensures { (result ≡ Memory) ⊎
+            (result ≡ SheetFault.Line (lines + 1) SheetLineFault.LineTooLong) }
     {
         if lines == u64::MAX {
             return SheetFault::Memory;

@@ -21,7 +21,8 @@ fn narrowed(order: Ordering, low: usize, middle: usize, high: usize) -> (usize, 
 /// The row of a place in a map, and `None` exactly where there is none.
 pub fn find<'r>(rows: &'r SheetRows, topic: &[u8], document: &[u8]) -> Option<RowRef<'r>>
     requires { IsMap rows.now }
-    ensures { MatchOption result (greatest_on (topic.now, document.now) rows.now ≡ None) (λ row. greatest_on (topic.now, document.now) rows.now ≡ Some row.1) }
+    ensures { MatchOption result (greatest_on (topic.now, document.now) rows.now ≡ None) (λ row.
+        greatest_on (topic.now, document.now) rows.now ≡ Some row.1) }
 {
     let (mut low, mut high) = (0, rows.len());
     while low < high {

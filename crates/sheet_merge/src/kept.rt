@@ -26,7 +26,8 @@ impl Model for KeptEntry {
 impl KeptEntry {
     /// The entry of these parts. It fails only where memory runs out.
     pub fn new(alloc: Global, stamp: u64, who: &[u8], grade: i16) -> Result<KeptEntry, AllocError>
-        ensures { IfOk result (λ entry. entry ≡ record { stamp = stamp; who = who.now; grade = grade }) }
+        ensures { IfOk result (λ entry. entry ≡
+            record { stamp = stamp; who = who.now; grade = grade }) }
     {
         Ok(KeptEntry {
             who: SmallVec::from_slice(alloc, who)?,

@@ -22,7 +22,8 @@ pub fn map_is_one()
 
 /// The map of lines does not depend on their order, nor on lines that come again.
 pub fn order_of_lines_is_free()
-    ensures { (lines others a b : List SheetRow) → HaveSame lines others → IsMapOf lines a → IsMapOf others b → a ≡ b }
+    ensures { (lines others a b : List SheetRow) → HaveSame lines others → IsMapOf lines a →
+        IsMapOf others b → a ≡ b }
 {}
 
 /// Lines have a map, which `map_of` computes; so have two maps a merge, which `merged` computes, and the merge is the map
@@ -35,7 +36,8 @@ pub fn maps_are_computed()
 
 /// The merge of a list of sheets is one in every order and with every repetition.
 pub fn order_of_sheets_is_free()
-    ensures { (sheets others : List (List SheetRow)) (a b : List SheetRow) → HaveSame sheets others →
+    ensures { (sheets others : List (List SheetRow)) (a b : List SheetRow) →
+        HaveSame sheets others →
         IsMergeOfAll sheets a → IsMergeOfAll others b → a ≡ b }
 {}
 
@@ -51,7 +53,8 @@ pub fn merging_is_of_all()
 /// Merging sheets one after the other comes to the same in every order and with every repetition: to the same map, or it is
 /// refused in one exactly where it is refused in every one.
 pub fn merging_is_one()
-    ensures { (limit : ℕ) (sheets others : List (List SheetRow)) (result other : Option (List SheetRow)) → HaveSame sheets others →
+    ensures { (limit : ℕ) (sheets others : List (List SheetRow))
+        (result other : Option (List SheetRow)) → HaveSame sheets others →
         MergesTo limit [] sheets result → MergesTo limit [] others other → result ≡ other }
 {}
 

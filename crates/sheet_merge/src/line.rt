@@ -40,7 +40,8 @@ fn is_any_long(first: &[u8], second: &[u8], third: &[u8]) -> bool
 
 /// The row of a line, or the first fault of the line's form.
 pub fn entry_text(line: &[u8]) -> Result<EntryText<'_>, SheetLineFault>
-    ensures said { result_map_both entry_said (λ fault. fault) result ≡ unless (entry_faults line.now) (entry_of line.now) }
+    ensures said { result_map_both entry_said (λ fault. fault) result ≡
+        unless (entry_faults line.now) (entry_of line.now) }
     ensures right { IfOk result (λ text. IsSheetRow (entry_said text)) }
 {
     if line.len() > LONGEST_LINE {

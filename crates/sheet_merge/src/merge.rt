@@ -32,7 +32,8 @@ fn take_next<'r>(a: &'r SheetRows, i: &mut usize, b: &'r SheetRows, j: &mut usiz
     requires some { (i.old < length a.now) ⊎ (j.old < length b.now) }
     requires i_in { i.old ≤ length a.now }
     requires j_in { j.old ≤ length b.now }
-    ensures next { IsTakenNext (drop i.old a.now) (drop j.old b.now) result (drop i.new a.now) (drop j.new b.now) }
+    ensures next { IsTakenNext (drop i.old a.now) (drop j.old b.now) result (drop i.new a.now)
+        (drop j.new b.now) }
     ensures moved { i.old + j.old < i.new + j.new }
     ensures i_in { i.new ≤ length a.now }
     ensures j_in { j.new ≤ length b.now }
@@ -77,7 +78,8 @@ pub fn merged(alloc: Global, a: &SheetRows, b: &SheetRows) -> Result<SheetRows, 
     requires b { IsSheet b.now }
     ensures merged { IfOk result (λ rows. rows ≡ merged a.now b.now) }
     ensures sheet { IfOk result (λ rows. IsSheet rows) }
-    ensures many { result ≡ Err MergeFault.TooManyEntries → ENTRY_LIMIT < length (merged a.now b.now) }
+    ensures many { result ≡ Err MergeFault.TooManyEntries →
+        ENTRY_LIMIT < length (merged a.now b.now) }
 {
     let mut rows = SheetRows::with_room_of(alloc, a, b)?;
     let (mut i, mut j) = (0, 0);

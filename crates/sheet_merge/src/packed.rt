@@ -27,7 +27,9 @@ impl PackedName {
     pub fn new(alloc: Global, row: &RowRef<'_>) -> Result<PackedName, AllocError>
         requires { IsSheetRow row.now }
         ensures packed { IfOk result (λ name. IsPacked name) }
-        ensures row { IfOk result (λ name. row_from (name, record { stamp = row.now.1.stamp; grade = row.now.1.grade }) ≡ row.now) }
+        ensures row { IfOk result (λ name.
+            row_from (name, record { stamp = row.now.1.stamp; grade = row.now.1.grade }) ≡
+            row.now) }
     {
         let who = row.who();
         let mut bytes = SmallVec::from_slice(alloc, &[who.len() as u8])?;

@@ -12,7 +12,8 @@ use std::alloc::{AllocError, Global};
 
 /// What the place of a row lacks in a desk, where it lacks something.
 pub fn lack<'r>(desk: &Desk, row: &RowRef<'r>) -> Option<NotPlaced<'r>>
-    ensures { MatchOption result (is_placed desk.now row.now.0 ≡ true) (λ lack. LacksPlace desk.now row.now.0 lack) }
+    ensures { MatchOption result (is_placed desk.now row.now.0 ≡ true) (λ lack.
+        LacksPlace desk.now row.now.0 lack) }
 {
     let topic = row.topic();
     let doc = row.document();

@@ -32,7 +32,8 @@ impl<'r> RowRef<'r> {
     /// A row of these parts, of which the place is a topic and a document in one.
     pub fn new(place: &'r [u8], who: &'r [u8], stamp: u64, grade: i16) -> RowRef<'r>
         requires { IsNamePair place.now }
-        ensures { result ≡ (place_from place.now, record { stamp = stamp; who = who.now; grade = grade }) }
+        ensures { result ≡
+            (place_from place.now, record { stamp = stamp; who = who.now; grade = grade }) }
     {
         RowRef {
             place,

@@ -82,7 +82,8 @@ impl Sheet {
     pub fn merge(&mut self, alloc: Global, other: &Sheet) -> Result<(), MergeFault>
         ensures merged { OnOk result (self.new ≡ merged self.old other.now) }
         ensures few { OnOk result (length (merged self.old other.now) ≤ ENTRY_LIMIT) }
-        ensures many { result ≡ Err MergeFault.TooManyEntries → ENTRY_LIMIT < length (merged self.old other.now) }
+        ensures many { result ≡ Err MergeFault.TooManyEntries →
+            ENTRY_LIMIT < length (merged self.old other.now) }
         ensures unchanged { OnErr result (self.new ≡ self.old) }
     {
         self.rows = merged(alloc, &self.rows, &other.rows)?;
@@ -96,7 +97,8 @@ impl Sheet {
     pub fn take_in(&mut self, alloc: Global, other: Sheet) -> Result<(), MergeFault>
         ensures merged { OnOk result (self.new ≡ merged self.old other) }
         ensures few { OnOk result (length (merged self.old other) ≤ ENTRY_LIMIT) }
-        ensures many { result ≡ Err MergeFault.TooManyEntries → ENTRY_LIMIT < length (merged self.old other) }
+        ensures many { result ≡ Err MergeFault.TooManyEntries →
+            ENTRY_LIMIT < length (merged self.old other) }
         ensures unchanged { OnErr result (self.new ≡ self.old) }
     {
         if self.rows.len() > 0 {
@@ -109,7 +111,8 @@ impl Sheet {
 
     /// The grade of a document's entry, as it was read, and `None` exactly where the sheet has none of it. It takes no memory.
     pub fn grade(&self, topic: &[u8], doc: &[u8]) -> Option<i32>
-        ensures { result ≡ option_map (λ entry. entry.grade) (greatest_on (topic.now, doc.now) self.now) }
+        ensures { result ≡ option_map (λ entry. entry.grade)
+            (greatest_on (topic.now, doc.now) self.now) }
     {
         match find(&self.rows, topic, doc) {
             Some(row) => Some(row.grade() as i32),
@@ -150,7 +153,8 @@ impl Sheet {
         topic: u32,
     ) -> Result<Vec<Option<i32>>, Memory>
         requires { topic < length desk.now.topics }
-        ensures { IfOk result (λ grades. grades.items ≡ grades_under (book_at desk.now topic) self.now) }
+        ensures { IfOk result (λ grades. grades.items ≡
+            grades_under (book_at desk.now topic) self.now) }
     {
         Ok(grades_over(alloc, &self.rows, desk.topic(topic))?)
     }

@@ -15,7 +15,8 @@ use std::alloc::Global;
 /// # Errors
 /// `Memory`: out of memory.
 pub fn applied_text(alloc: Global, desk: &Desk, sheet: &Sheet) -> Result<Vec<u8>, Memory>
-    ensures { IfOk result (λ text. text.items ≡ qrels_text desk.now (all_under desk.now sheet.now)) }
+    ensures { IfOk result (λ text. text.items ≡
+        qrels_text desk.now (all_under desk.now sheet.now)) }
 {
     let mut out = Vec::new(alloc);
     for topic in 0..desk.topic_count() {

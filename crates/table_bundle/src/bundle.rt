@@ -33,8 +33,10 @@ pub fn bundle_of<M: Measure>(
     requires runs { 2 ≤ length desk.now.runs }
     requires marks { AreMarksOf desk.now marks.now.rows }
     requires level { IsLevel level }
-    requires stands { StandsFor (M.cell_of table.now.measure) (M.bounds_of table.now.measure) desk.now marks.now.rows table.now }
-    ensures { IfOk result (IsBundleOf (HasCellEnds (M.cell_of table.now.measure)) (M.measured table.now.measure) desk.now marks.now.rows level) }
+    requires stands { StandsFor (M.cell_of table.now.measure) (M.bounds_of table.now.measure)
+        desk.now marks.now.rows table.now }
+    ensures { IfOk result (IsBundleOf (HasCellEnds (M.cell_of table.now.measure))
+        (M.measured table.now.measure) desk.now marks.now.rows level) }
 {
     // The laws speak of desks, and of measures that have a name.
     desk.valid();

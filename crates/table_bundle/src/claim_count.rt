@@ -35,9 +35,15 @@ fn count_settled<M: Measure>(
 ) -> Result<ClaimCount, Memory>
     requires pair { IsRunPair (length desk.now.runs) pair }
     requires marks { AreMarksOf desk.now marks.now }
-    requires stands { StandsFor (M.cell_of table.now.measure) (M.bounds_of table.now.measure) desk.now marks.now table.now }
-    requires settled { verdict (pair_sums (M.cell_of table.now.measure) (topics_under desk.now marks.now) pair.first pair.second) ≢ Undecided }
-    ensures count { IfOk result (IsCountOf (if_held (draft_on (M.cell_of table.now.measure) (M.measured table.now.measure) (topics_under desk.now marks.now) pair))) }
+    requires stands { StandsFor (M.cell_of table.now.measure) (M.bounds_of table.now.measure)
+        desk.now marks.now table.now }
+    requires settled { verdict
+        (pair_sums (M.cell_of table.now.measure) (topics_under desk.now marks.now) pair.first
+        pair.second) ≢ Undecided }
+    ensures count { IfOk result
+        (IsCountOf
+        (if_held (draft_on (M.cell_of table.now.measure) (M.measured table.now.measure)
+        (topics_under desk.now marks.now) pair))) }
     ensures few { IfOk result (λ count. (count.claims ≤ 1) × (count.bytes ≤ 23000002000200)) }
 {
     desk.valid();
@@ -64,10 +70,15 @@ fn count_pair<M: Measure>(
 ) -> Result<ClaimCount, Memory>
     requires pair { IsRunPair (length desk.now.runs) pair }
     requires marks { AreMarksOf desk.now marks.now }
-    requires stands { StandsFor (M.cell_of table.now.measure) (M.bounds_of table.now.measure) desk.now marks.now table.now }
-    ensures count { IfOk result (IsCountOf (if_held (draft_on (M.cell_of table.now.measure) (M.measured table.now.measure) (topics_under desk.now marks.now) pair))) }
+    requires stands { StandsFor (M.cell_of table.now.measure) (M.bounds_of table.now.measure)
+        desk.now marks.now table.now }
+    ensures count { IfOk result
+        (IsCountOf
+        (if_held (draft_on (M.cell_of table.now.measure) (M.measured table.now.measure)
+        (topics_under desk.now marks.now) pair))) }
     ensures few { IfOk result (λ count. (count.claims ≤ 1) × (count.bytes ≤ 23000002000200)) }
-    ensures undecided { OnOk result (undecided.new.items ≡ undecided.old.items ++ open_on (M.cell_of table.now.measure) (topics_under desk.now marks.now) pair) }
+    ensures undecided { OnOk result (undecided.new.items ≡ undecided.old.items ++
+        open_on (M.cell_of table.now.measure) (topics_under desk.now marks.now) pair) }
 {
     // The laws speak of desks, and of measures that have a name.
     let _name = table.measure().name();
@@ -96,10 +107,15 @@ pub fn count_claims<M: Measure>(
     requires pairs { All (IsRunPair (length desk.now.runs)) pairs.now }
     requires few { length pairs.now ≤ CLAIM_LIMIT }
     requires marks { AreMarksOf desk.now marks.now }
-    requires stands { StandsFor (M.cell_of table.now.measure) (M.bounds_of table.now.measure) desk.now marks.now table.now }
-    ensures count { IfOk result (λ made. IsCountOf (drafts_on (M.cell_of table.now.measure) (M.measured table.now.measure) (topics_under desk.now marks.now) pairs.now) made.0) }
-    ensures few { IfOk result (λ made. (made.0.claims ≤ CLAIM_LIMIT) × (made.0.bytes ≤ 750720065286528000)) }
-    ensures undecided { IfOk result (λ made. made.1.items ≡ open_pairs (M.cell_of table.now.measure) (topics_under desk.now marks.now) pairs.now) }
+    requires stands { StandsFor (M.cell_of table.now.measure) (M.bounds_of table.now.measure)
+        desk.now marks.now table.now }
+    ensures count { IfOk result (λ made.
+        IsCountOf (drafts_on (M.cell_of table.now.measure) (M.measured table.now.measure)
+        (topics_under desk.now marks.now) pairs.now) made.0) }
+    ensures few { IfOk result (λ made. (made.0.claims ≤ CLAIM_LIMIT) ×
+        (made.0.bytes ≤ 750720065286528000)) }
+    ensures undecided { IfOk result (λ made. made.1.items ≡
+        open_pairs (M.cell_of table.now.measure) (topics_under desk.now marks.now) pairs.now) }
 {
     let mut undecided = Vec::new(alloc);
     let mut claims = 0;

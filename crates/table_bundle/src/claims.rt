@@ -20,7 +20,8 @@ use std::alloc::Global;
 // The bound of each topic by its cell: the lower end of the least difference, and, where it is wanted, the upper end
 // of the greatest.
 fn bounds_of(alloc: Global, cells: &[Cell], upper: bool) -> Result<PairBounds, Memory>
-    ensures { IfOk result (λ bounds. bounds ≡ bounds_by (λ (e : Ends). if upper then e.most_hi else pos 0) (map ends_of cells.now)) }
+    ensures { IfOk result (λ bounds. bounds ≡
+        bounds_by (λ (e : Ends). if upper then e.most_hi else pos 0) (map ends_of cells.now)) }
 {
     let mut made = Vec::with_capacity(alloc, cells.len())?;
     for cell in cells {
@@ -44,8 +45,16 @@ fn above<M: Measure>(
     requires different { a ≢ b }
     requires first { a < table.now.runs }
     requires second { b < table.now.runs }
-    ensures { IfOk result (λ claim. (cells : List C) × AllZip (IsCellOf table.now.runs a b) cells table.now.topics
-        × (claim ≡ record { first = first; second = second; evidence = AboveBy (bounds_by (λ _. pos 0) (map ends_of cells)) })) }
+    ensures { IfOk result (λ claim. (cells : List C) ×
+        AllZip (IsCellOf table.now.runs a b) cells table.now.topics
+        ×
+        (claim ≡
+        record {
+          first = first;
+          second = second;
+          evidence = AboveBy
+              (bounds_by (λ _. pos 0) (map ends_of cells));
+        })) }
 {
     let cells = table.cells(alloc, a, b)?;
     let bounds = bounds_of(alloc, &cells, false)?;
@@ -68,8 +77,16 @@ fn equal<M: Measure>(
     requires different { a ≢ b }
     requires first { a < table.now.runs }
     requires second { b < table.now.runs }
-    ensures { IfOk result (λ claim. (cells : List C) × AllZip (IsCellOf table.now.runs a b) cells table.now.topics
-        × (claim ≡ record { first = first; second = second; evidence = EqualBy (bounds_by (λ (e : Ends). e.most_hi) (map ends_of cells)) })) }
+    ensures { IfOk result (λ claim. (cells : List C) ×
+        AllZip (IsCellOf table.now.runs a b) cells table.now.topics
+        ×
+        (claim ≡
+        record {
+          first = first;
+          second = second;
+          evidence = EqualBy
+              (bounds_by (λ (e : Ends). e.most_hi) (map ends_of cells));
+        })) }
 {
     let cells = table.cells(alloc, a, b)?;
     let bounds = bounds_of(alloc, &cells, true)?;
@@ -94,7 +111,13 @@ fn open<M: Measure>(
     requires marks { AreMarksOf desk.now marks.now }
     requires first { a < length desk.now.runs }
     requires second { b < length desk.now.runs }
-    ensures { IfOk result (λ claim. claim ≡ record { first = first; second = second; evidence = OpenBy (map (picks_on (M.measured measure.now) a b) (topics_under desk.now marks.now)) }) }
+    ensures { IfOk result (λ claim. claim ≡
+        record {
+          first = first;
+          second = second;
+          evidence = OpenBy
+              (map (picks_on (M.measured measure.now) a b) (topics_under desk.now marks.now));
+        }) }
 {
     let picks = pair_picks(alloc, measure, desk, marks, a, b)?;
     Ok(PairClaim {
@@ -118,8 +141,11 @@ pub fn claim_of_pair<M: Measure>(
     requires first { a < table.now.runs }
     requires second { b < table.now.runs }
     requires marks { AreMarksOf desk.now marks.now }
-    requires stands { StandsFor (M.cell_of table.now.measure) (M.bounds_of table.now.measure) desk.now marks.now table.now }
-    ensures { IfOk result (λ held. held ≡ draft_of (M.cell_of table.now.measure) (M.measured table.now.measure) (topics_under desk.now marks.now) (at.first, at.second) a b) }
+    requires stands { StandsFor (M.cell_of table.now.measure) (M.bounds_of table.now.measure)
+        desk.now marks.now table.now }
+    ensures { IfOk result (λ held. held ≡
+        draft_of (M.cell_of table.now.measure) (M.measured table.now.measure)
+        (topics_under desk.now marks.now) (at.first, at.second) a b) }
 {
     // The laws speak of desks, and of measures that have a name.
     let measure = table.measure();
@@ -145,8 +171,11 @@ pub fn all_claims<M: Measure>(
 ) -> Result<Vec<PairClaim>, Memory>
     requires pairs { All (IsRunPair (length desk.now.runs)) pairs.now }
     requires marks { AreMarksOf desk.now marks.now }
-    requires stands { StandsFor (M.cell_of table.now.measure) (M.bounds_of table.now.measure) desk.now marks.now table.now }
-    ensures { IfOk result (λ claims. claims.items ≡ drafts_on (M.cell_of table.now.measure) (M.measured table.now.measure) (topics_under desk.now marks.now) pairs.now) }
+    requires stands { StandsFor (M.cell_of table.now.measure) (M.bounds_of table.now.measure)
+        desk.now marks.now table.now }
+    ensures { IfOk result (λ claims. claims.items ≡
+        drafts_on (M.cell_of table.now.measure) (M.measured table.now.measure)
+        (topics_under desk.now marks.now) pairs.now) }
 {
     let mut claims = Vec::new(alloc);
     for pair in pairs {

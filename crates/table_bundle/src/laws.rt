@@ -13,7 +13,8 @@ ghost use Rattle.table_bundle.specs.Bundles.{IsBundleOf};
 
 /// A bundle by the cells of a measure whose numbers are a name's is a bundle by that name.
 pub fn bundles_are_of_names()
-    ensures { (name : MeasureName) (cell : List Mark → List ℕ → List ℕ → Cell) (bounds : List Mark → List ℕ → Span)
+    ensures { (name : MeasureName) (cell : List Mark → List ℕ → List ℕ → Cell) (bounds : List Mark →
+        List ℕ → Span)
         (desk : Desk) (marks : List (List Mark)) (level : ℕ) (b : Bundle) →
         AreNumbersOfName name cell bounds → IsDesk desk → AreMarksOf desk marks →
         IsBundleOf (HasCellEnds cell) name desk marks level b →
@@ -22,20 +23,25 @@ pub fn bundles_are_of_names()
 
 /// The bundle of a table by a measure's name is evidence, and so all its claims hold.
 pub fn bundles_are_evidence()
-    ensures evidence { (name : MeasureName) (desk : Desk) (marks : List (List Mark)) (level : ℕ) (b : Bundle) →
+    ensures evidence { (name : MeasureName) (desk : Desk) (marks : List (List Mark)) (level : ℕ)
+        (b : Bundle) →
         IsDesk desk → AreMarksOf desk marks →
         IsBundleOf (HasEnds name) name desk marks level b → IsBundleEvidence b desk marks }
-    ensures claims { (name : MeasureName) (desk : Desk) (marks : List (List Mark)) (level : ℕ) (b : Bundle) →
+    ensures claims { (name : MeasureName) (desk : Desk) (marks : List (List Mark)) (level : ℕ)
+        (b : Bundle) →
         IsDesk desk → AreMarksOf desk marks →
         IsBundleOf (HasEnds name) name desk marks level b → ClaimsHold b desk marks }
 {}
 
 /// There is one bundle at most, by a measure's name and by the cells of any measure.
 pub fn bundle_is_one()
-    ensures names { (name : MeasureName) (desk : Desk) (marks : List (List Mark)) (level : ℕ) (a b : Bundle) →
+    ensures names { (name : MeasureName) (desk : Desk) (marks : List (List Mark)) (level : ℕ)
+        (a b : Bundle) →
         IsBundleOf (HasEnds name) name desk marks level a →
         IsBundleOf (HasEnds name) name desk marks level b → a ≡ b }
-    ensures cells { (cell : List Mark → List ℕ → List ℕ → Cell) (name : MeasureName) (desk : Desk) (marks : List (List Mark)) (level : ℕ) (a b : Bundle) →
+    ensures cells { (cell : List Mark → List ℕ → List ℕ →
+        Cell) (name : MeasureName) (desk : Desk) (marks : List (List Mark)) (level : ℕ)
+        (a b : Bundle) →
         IsBundleOf (HasCellEnds cell) name desk marks level a →
         IsBundleOf (HasCellEnds cell) name desk marks level b → a ≡ b }
 {}

@@ -18,7 +18,8 @@ use std::alloc::Global;
 
 // The lines that count the runs, topics and claims, and the last line.
 fn counting_lines(runs: u64, topics: u64, claims: u64) -> u64
-    ensures bytes { result ≡ length (decimal runs) + length (decimal topics) + length (decimal claims) + 26 }
+    ensures bytes { result ≡ length (decimal runs) + length (decimal topics) +
+        length (decimal claims) + 26 }
     ensures few { result ≤ 200 }
 {
     digits(runs) + digits(topics) + digits(claims) + 26
@@ -38,8 +39,11 @@ pub fn table_bundle_length<M: Measure>(
     requires runs { 2 ≤ length desk.now.runs }
     requires marks { AreMarksOf desk.now marks.now.rows }
     requires level { IsLevel level }
-    requires stands { StandsFor (M.cell_of table.now.measure) (M.bounds_of table.now.measure) desk.now marks.now.rows table.now }
-    ensures bytes { IfOk result (IsBundleLength (HasCellEnds (M.cell_of table.now.measure)) (M.measured table.now.measure) desk.now marks.now.rows level) }
+    requires stands { StandsFor (M.cell_of table.now.measure) (M.bounds_of table.now.measure)
+        desk.now marks.now.rows table.now }
+    ensures bytes { IfOk result
+        (IsBundleLength (HasCellEnds (M.cell_of table.now.measure)) (M.measured table.now.measure)
+        desk.now marks.now.rows level) }
     ensures few { IfOk result (λ bytes. bytes ≤ 2 * 10 ^ 18) }
 {
     // The laws speak of desks, and of measures that have a name.

@@ -31,8 +31,10 @@ fn picks<M: Measure>(
     most: &mut Vec<u32>,
 ) -> Result<Picks, Memory>
     requires { AreMet marks.now a.now b.now }
-    ensures low { IfOk result (λ picks. picks.low ≡ added_documents marks.now (least_truth (M.measured measure.now) marks.now a.now b.now)) }
-    ensures high { IfOk result (λ picks. picks.high ≡ added_documents marks.now (least_truth (M.measured measure.now) marks.now b.now a.now)) }
+    ensures low { IfOk result (λ picks. picks.low ≡
+        added_documents marks.now (least_truth (M.measured measure.now) marks.now a.now b.now)) }
+    ensures high { IfOk result (λ picks. picks.high ≡
+        added_documents marks.now (least_truth (M.measured measure.now) marks.now b.now a.now)) }
 {
     least.clear();
     most.clear();
@@ -54,7 +56,8 @@ pub fn pair_picks<M: Measure>(
     requires marks { AreMarksOf desk.now marks.now }
     requires first { first < length desk.now.runs }
     requires second { second < length desk.now.runs }
-    ensures { IfOk result (λ picks. picks ≡ map (picks_on (M.measured measure.now) first second) (topics_under desk.now marks.now)) }
+    ensures { IfOk result (λ picks. picks ≡
+        map (picks_on (M.measured measure.now) first second) (topics_under desk.now marks.now)) }
 {
     let mut least = Vec::new(alloc);
     let mut most = Vec::new(alloc);

@@ -47,7 +47,9 @@ pub fn runs_by_name(alloc: Global, desk: &Desk) -> Result<Vec<u32>, Memory>
     let mut order = numbers(alloc, desk.run_count())?;
     order.sort_unstable_by(
         |x: &u32, y: &u32| -> Ordering
-            ensures { result ≡ name_cmp (name_at desk.entry.now.runs x.entry.now) (name_at desk.entry.now.runs y.entry.now) }
+            ensures { result ≡
+                name_cmp (name_at desk.entry.now.runs x.entry.now)
+                (name_at desk.entry.now.runs y.entry.now) }
         { compare(desk, *x, *y) },
     );
     Ok(order)

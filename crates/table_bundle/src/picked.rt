@@ -10,7 +10,9 @@ use std::alloc::Global;
 // Flags the documents of a list.
 fn flag_list(flags: &mut [bool], list: &[u32])
     requires { All (λ doc. doc < length flags.old) list.now }
-    ensures flags { (doc : ℕ) → doc < length flags.old → slice_index_or flags.new doc false ≡ (slice_index_or flags.old doc false || is_in list.now doc) }
+    ensures flags { (doc : ℕ) → doc < length flags.old →
+        slice_index_or flags.new doc false ≡
+        (slice_index_or flags.old doc false || is_in list.now doc) }
     ensures count { length flags.new ≡ length flags.old }
 {
     for doc in list {
@@ -21,7 +23,9 @@ fn flag_list(flags: &mut [bool], list: &[u32])
 // Flags the documents that a claim picks on a topic.
 fn flag_claim(flags: &mut [bool], claim: &PairClaim, topic: u32)
     requires { PicksBelow topic (length flags.old) claim.now.evidence }
-    ensures flags { (doc : ℕ) → doc < length flags.old → slice_index_or flags.new doc false ≡ (slice_index_or flags.old doc false || picks_document topic doc claim.now.evidence) }
+    ensures flags { (doc : ℕ) → doc < length flags.old →
+        slice_index_or flags.new doc false ≡
+        (slice_index_or flags.old doc false || picks_document topic doc claim.now.evidence) }
     ensures count { length flags.new ≡ length flags.old }
 {
     if let PairEvidence::Open(picks) = &claim.evidence {
@@ -40,7 +44,8 @@ pub fn picked(
 ) -> Result<Vec<bool>, Memory>
     requires { All (λ claim. PicksBelow topic docs claim.evidence) claims.now }
     ensures count { IfOk result (λ flags. length flags.items ≡ docs) }
-    ensures flags { IfOk result (λ flags. (doc : ℕ) → doc < docs → slice_index_or flags.items doc false ≡ is_picked_by claims.now topic doc) }
+    ensures flags { IfOk result (λ flags. (doc : ℕ) → doc < docs →
+        slice_index_or flags.items doc false ≡ is_picked_by claims.now topic doc) }
 {
     let mut flags = vec![in alloc; false; docs as usize]?;
     for claim in claims {

@@ -30,7 +30,8 @@ impl Places {
     // The places by a flag for each document: whether it is picked.
     fn new(alloc: Global, flags: &[bool]) -> Result<Places, Memory>
         requires { length flags.now ≤ DOCUMENT_LIMIT }
-        ensures { IfOk result (λ places. places ≡ places_where (λ doc. slice_index_or flags.now doc false) (length flags.now)) }
+        ensures { IfOk result (λ places. places ≡
+            places_where (λ doc. slice_index_or flags.now doc false) (length flags.now)) }
     {
         let mut places = Vec::with_capacity(alloc, flags.len())?;
         let mut before = 0;
@@ -122,7 +123,8 @@ pub fn replaced_claims(
 // The names of the flagged documents of a topic.
 fn flagged_names(alloc: Global, book: &TopicBook, flags: &[bool]) -> Result<NameList, Memory>
     requires { length flags.now ≡ length book.now.docs }
-    ensures { IfOk result (λ names. names ≡ names_where (λ doc. slice_index_or flags.now doc false) book.now.docs) }
+    ensures { IfOk result (λ names. names ≡
+        names_where (λ doc. slice_index_or flags.now doc false) book.now.docs) }
 {
     let mut names = Vec::new(alloc);
     for doc in 0..book.doc_count() {
@@ -142,9 +144,12 @@ fn picked_topic(
     topic: u32,
 ) -> Result<(TopicNames, Places), Memory>
     requires topic { topic < length desk.now.topics }
-    requires claims { All (λ claim. IsEvidenceOn (all_documents desk.now) claim.evidence) claims.now }
-    ensures names { IfOk result (λ made. slice_get (picked_topics claims.now (all_documents desk.now)) topic ≡ Some made.0) }
-    ensures places { IfOk result (λ made. slice_get (picked_places claims.now (all_documents desk.now)) topic ≡ Some made.1) }
+    requires claims { All (λ claim. IsEvidenceOn (all_documents desk.now) claim.evidence)
+        claims.now }
+    ensures names { IfOk result (λ made.
+        slice_get (picked_topics claims.now (all_documents desk.now)) topic ≡ Some made.0) }
+    ensures places { IfOk result (λ made.
+        slice_get (picked_places claims.now (all_documents desk.now)) topic ≡ Some made.1) }
 {
     let book = desk.topic(topic);
     let flags = picked(alloc, claims, topic, book.doc_count())?;
@@ -163,8 +168,10 @@ pub fn picked_documents(
     claims: &[PairClaim],
 ) -> Result<(Vec<TopicNames>, Vec<Places>), Memory>
     requires { All (λ claim. IsEvidenceOn (all_documents desk.now) claim.evidence) claims.now }
-    ensures topics { IfOk result (λ made. made.0.items ≡ picked_topics claims.now (all_documents desk.now)) }
-    ensures places { IfOk result (λ made. made.1.items ≡ picked_places claims.now (all_documents desk.now)) }
+    ensures topics { IfOk result (λ made. made.0.items ≡
+        picked_topics claims.now (all_documents desk.now)) }
+    ensures places { IfOk result (λ made. made.1.items ≡
+        picked_places claims.now (all_documents desk.now)) }
 {
     let mut topics = Vec::new(alloc);
     let mut places = Vec::new(alloc);

@@ -56,10 +56,15 @@ fn count_topic<M: Measure>(
     requires pairs { All (IsRunPair (length desk.now.runs)) pairs.now }
     requires few { length pairs.now ≤ CLAIM_LIMIT }
     requires met { AreAllMet marks.now (record { desk = desk.now; topic = topic }) }
-    ensures bytes { IfOk result (λ made. made.0 ≡ sum_by heads_length (lists_on (M.measured measure.now) pairs.now (topic_with desk.now topic marks.now))) }
+    ensures bytes { IfOk result (λ made. made.0 ≡
+        sum_by heads_length (lists_on (M.measured measure.now) pairs.now
+        (topic_with desk.now topic marks.now))) }
     ensures few { IfOk result (λ made. made.0 ≤ 100 * length pairs.now) }
     ensures size { IfOk result (λ made. length made.1.items ≡ length marks.now) }
-    ensures counts { IfOk result (λ made. (doc : ℕ) → doc < length marks.now → slice_index made.1.items doc ≡ times (all_picks (lists_on (M.measured measure.now) pairs.now (topic_with desk.now topic marks.now))) doc) }
+    ensures counts { IfOk result (λ made. (doc : ℕ) → doc < length marks.now →
+        slice_index made.1.items doc ≡
+        times (all_picks (lists_on (M.measured measure.now) pairs.now
+        (topic_with desk.now topic marks.now))) doc) }
 {
     let rankings = TopicRankings::new(desk, topic);
     let runs = runs_of_pairs(alloc, pairs)?;
@@ -71,7 +76,13 @@ fn count_topic<M: Measure>(
 // The lines of a topic with the documents that are counted.
 fn documents_length(book: &TopicBook, counts: &[u32]) -> u64
     requires { length counts.now ≡ length book.now.docs }
-    ensures bytes { result ≡ text_length (topic_lines (record { topic = book.now.name; docs = names_where (is_counted counts.now) book.now.docs })) }
+    ensures bytes { result ≡
+        text_length
+        (topic_lines
+        (record {
+          topic = book.now.name;
+          docs = names_where (is_counted counts.now) book.now.docs;
+        })) }
     ensures few { result ≤ 6650000400 }
 {
     let mut bytes = 0;
@@ -116,7 +127,9 @@ fn topic_length<M: Measure>(
     requires marks { AreMarksOf desk.now marks.now }
     requires pairs { All (IsRunPair (length desk.now.runs)) pairs.now }
     requires few { length pairs.now ≤ CLAIM_LIMIT }
-    ensures bytes { IfOk result (λ bytes. slice_get (topic_lengths (M.measured measure.now) desk.now marks.now pairs.now) topic ≡ Some bytes) }
+    ensures bytes { IfOk result (λ bytes.
+        slice_get (topic_lengths (M.measured measure.now) desk.now marks.now pairs.now) topic ≡
+        Some bytes) }
     ensures few { IfOk result (λ bytes. bytes ≤ 75078653264400) }
 {
     desk.valid();
@@ -136,7 +149,8 @@ pub fn topics_length<M: Measure>(
     requires marks { AreMarksOf desk.now marks.now }
     requires pairs { All (IsRunPair (length desk.now.runs)) pairs.now }
     requires few { length pairs.now ≤ CLAIM_LIMIT }
-    ensures bytes { IfOk result (λ bytes. bytes ≡ sum (topic_lengths (M.measured measure.now) desk.now marks.now pairs.now)) }
+    ensures bytes { IfOk result (λ bytes. bytes ≡
+        sum (topic_lengths (M.measured measure.now) desk.now marks.now pairs.now)) }
     ensures few { IfOk result (λ bytes. bytes ≤ 75078653264400 * TOPIC_LIMIT) }
 {
     desk.valid();

@@ -24,8 +24,10 @@ impl Counts {
     /// With one more document of this mark.
     pub fn with(self, mark: Mark) -> Counts
         requires { self.relevant + self.unjudged < RANK_LIMIT }
-        ensures relevant { result.relevant ≡ self.relevant + (if picked_value false mark then 1 else 0) }
-        ensures either { result.relevant + result.unjudged ≡ self.relevant + self.unjudged + (if picked_value true mark then 1 else 0) }
+        ensures relevant { result.relevant ≡ self.relevant +
+            (if picked_value false mark then 1 else 0) }
+        ensures either { result.relevant + result.unjudged ≡ self.relevant + self.unjudged +
+            (if picked_value true mark then 1 else 0) }
     {
         self.with_if(true, mark)
     }
@@ -33,8 +35,10 @@ impl Counts {
     /// With one more document of this mark if it is to be counted, without a branch.
     pub fn with_if(self, counted: bool, mark: Mark) -> Counts
         requires { self.relevant + self.unjudged ≤ RANK_LIMIT }
-        ensures relevant { result.relevant ≡ self.relevant + (if picked_value false mark && counted then 1 else 0) }
-        ensures either { result.relevant + result.unjudged ≡ self.relevant + self.unjudged + (if picked_value true mark && counted then 1 else 0) }
+        ensures relevant { result.relevant ≡ self.relevant +
+            (if picked_value false mark && counted then 1 else 0) }
+        ensures either { result.relevant + result.unjudged ≡ self.relevant + self.unjudged +
+            (if picked_value true mark && counted then 1 else 0) }
     {
         Counts {
             relevant: self.relevant + u32::from(counted & (mark == Mark::Relevant)),
@@ -119,8 +123,10 @@ pub fn prefix_documents(k: u32, ranking: &Ranking, marks: &[Mark]) -> Counts
 /// The counts of a ranking's first k documents that are not among the first k of another.
 pub fn own_documents(k: u32, ranking: &Ranking, other: &Ranking, marks: &[Mark]) -> Counts
     requires { IsRanking (length marks.now) ranking.now }
-    ensures least { result.relevant ≡ only_count false marks.now (take k ranking.now) (take k other.now) }
-    ensures most { result.relevant + result.unjudged ≡ only_count true marks.now (take k ranking.now) (take k other.now) }
+    ensures least { result.relevant ≡
+        only_count false marks.now (take k ranking.now) (take k other.now) }
+    ensures most { result.relevant + result.unjudged ≡
+        only_count true marks.now (take k ranking.now) (take k other.now) }
     ensures few { result.relevant + result.unjudged ≤ RANK_LIMIT }
 {
     let mut counts = Counts::NONE;

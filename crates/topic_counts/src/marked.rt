@@ -31,9 +31,14 @@ pub fn own_by_marks(
     ranking: &Ranking,
     seen: &[Mark],
 ) -> OwnCounts
-    requires { (marks : List M) × (a : List ℕ) × AreSeenCounts k marks a ranking.now first second seen.now }
-    ensures first { (marks : List M) (a : List ℕ) → AreSeenCounts k marks a ranking.now first second seen.now → AreOwnCounts k marks a ranking.now result.first }
-    ensures second { (marks : List M) (a : List ℕ) → AreSeenCounts k marks a ranking.now first second seen.now → AreOwnCounts k marks ranking.now a result.second }
+    requires { (marks : List M) × (a : List ℕ) ×
+        AreSeenCounts k marks a ranking.now first second seen.now }
+    ensures first { (marks : List M) (a : List ℕ) →
+        AreSeenCounts k marks a ranking.now first second seen.now →
+        AreOwnCounts k marks a ranking.now result.first }
+    ensures second { (marks : List M) (a : List ℕ) →
+        AreSeenCounts k marks a ranking.now first second seen.now →
+        AreOwnCounts k marks ranking.now a result.second }
 {
     let shared = prefix_documents(k, ranking, seen);
     OwnCounts {

@@ -99,7 +99,8 @@ impl Powers {
     pub fn low(&self, i: u32) -> i128
         requires { i ≤ self.now.last }
         ensures value { result ≡ pos (low_power self.now.top self.now.bottom i) }
-        ensures encloses { (result *ℤ pos (self.now.bottom ^ i)) ≤ℤ pos (PARTS_OF_ONE * self.now.top ^ i) }
+        ensures encloses { (result *ℤ pos (self.now.bottom ^ i)) ≤ℤ
+            pos (PARTS_OF_ONE * self.now.top ^ i) }
     {
         i128::from(self.places[i as usize].low)
     }
@@ -108,7 +109,8 @@ impl Powers {
     pub fn high(&self, i: u32) -> i128
         requires { i ≤ self.now.last }
         ensures value { result ≡ pos (high_power self.now.top self.now.bottom i) }
-        ensures encloses { pos (PARTS_OF_ONE * self.now.top ^ i) ≤ℤ (result *ℤ pos (self.now.bottom ^ i)) }
+        ensures encloses { pos (PARTS_OF_ONE * self.now.top ^ i) ≤ℤ
+            (result *ℤ pos (self.now.bottom ^ i)) }
     {
         i128::from(self.places[i as usize].high)
     }
@@ -120,8 +122,11 @@ impl Powers {
         requires last { i ≤ self.now.last }
         ensures lo { result.lo ≡ pos (low_weight self.now.top self.now.bottom (Some i)) }
         ensures hi { result.hi ≡ pos (high_weight self.now.top self.now.bottom (Some i)) }
-        ensures encloses_lo { (result.lo *ℤ pos (self.now.bottom ^ i)) ≤ℤ pos (PARTS_OF_ONE * ((self.now.bottom - self.now.top) * self.now.top ^ (i - 1))) }
-        ensures encloses_hi { pos (PARTS_OF_ONE * ((self.now.bottom - self.now.top) * self.now.top ^ (i - 1))) ≤ℤ (result.hi *ℤ pos (self.now.bottom ^ i)) }
+        ensures encloses_lo { (result.lo *ℤ pos (self.now.bottom ^ i)) ≤ℤ
+            pos (PARTS_OF_ONE * ((self.now.bottom - self.now.top) * self.now.top ^ (i - 1))) }
+        ensures encloses_hi { pos (PARTS_OF_ONE *
+            ((self.now.bottom - self.now.top) * self.now.top ^ (i - 1))) ≤ℤ
+            (result.hi *ℤ pos (self.now.bottom ^ i)) }
     {
         let place = self.places[i as usize - 1];
         Span {

@@ -19,7 +19,8 @@ pub fn shared_documents(k: u32, a: &Ranking, b: &Ranking, marks: &[Mark]) -> Cou
     requires first { IsRanking (length marks.now) a.now }
     requires second { IsRanking (length marks.now) b.now }
     ensures least { result.relevant ≡ shared_count false marks.now (take k a.now) (take k b.now) }
-    ensures most { result.relevant + result.unjudged ≡ shared_count true marks.now (take k a.now) (take k b.now) }
+    ensures most { result.relevant + result.unjudged ≡
+        shared_count true marks.now (take k a.now) (take k b.now) }
 {
     let first = a.by_doc();
     let second = b.by_doc();

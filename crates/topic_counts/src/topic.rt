@@ -38,8 +38,10 @@ fn block_documents(marks: &[Mark]) -> Counts
 /// The counts of all documents of a topic.
 pub fn all_documents(marks: &[Mark]) -> Counts
     requires { length marks.now ≤ DOCUMENT_LIMIT }
-    ensures least { result.relevant ≡ true_count (with_picked marks.now (λ _. false)) (length marks.now) }
-    ensures most { result.relevant + result.unjudged ≡ true_count (with_picked marks.now (λ _. true)) (length marks.now) }
+    ensures least { result.relevant ≡
+        true_count (with_picked marks.now (λ _. false)) (length marks.now) }
+    ensures most { result.relevant + result.unjudged ≡
+        true_count (with_picked marks.now (λ _. true)) (length marks.now) }
     ensures few { result.relevant + result.unjudged ≤ length marks.now }
 {
     let mut counts = Counts::NONE;

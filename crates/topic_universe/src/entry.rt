@@ -50,7 +50,9 @@ fn sorted(alloc: Global, rows: &ValuedRows<Score>) -> Result<Vec<Entry<'_>>, All
 fn belongs_higher(rows: &ValuedRows<Score>, i: usize) -> bool
     requires second { 0 < i }
     requires within { i < length rows.now }
-    ensures { (d : Valued) → result ≡ is_lt (trec_cmp (slice_index_or rows.now i d) (slice_index_or rows.now (i - 1) d)) }
+    ensures { (d : Valued) →
+        result ≡
+        is_lt (trec_cmp (slice_index_or rows.now i d) (slice_index_or rows.now (i - 1) d)) }
 {
     match rows.value(i - 1).cmp(rows.value(i)) {
         Ordering::Less => true,

@@ -13,7 +13,8 @@ use std::alloc::{AllocError, Global};
 
 fn numbered<'n>(alloc: Global, names: &NameIndex<'n>) -> Result<Vec<Numbered<'n>>, AllocError>
     ensures names { IfOk result (λ pairs. map (λ pair. pair.0.now) pairs.items ≡ names.now) }
-    ensures numbers { IfOk result (λ pairs. map (λ pair. pair.1) pairs.items ≡ range_with_len 0 (length names.now)) }
+    ensures numbers { IfOk result (λ pairs. map (λ pair. pair.1) pairs.items ≡
+        range_with_len 0 (length names.now)) }
 {
     let mut pairs = Vec::with_capacity(alloc, names.len())?;
     for i in 0..names.len() {
@@ -60,9 +61,11 @@ pub fn ascending(alloc: Global, names: &NameIndex<'_>) -> Result<Vec<Name>, Memo
 /// Where each number stands among pairs that have them all.
 pub fn places(alloc: Global, pairs: &[Numbered<'_>]) -> Result<Vec<u32>, AllocError>
     requires few { length pairs.now ≤ DOCUMENT_LIMIT }
-    requires all { IsPermutation (range_with_len 0 (length pairs.now)) (map (λ pair. pair.1) pairs.now) }
+    requires all { IsPermutation (range_with_len 0 (length pairs.now))
+        (map (λ pair. pair.1) pairs.now) }
     ensures count { IfOk result (λ places. length places.items ≡ length pairs.now) }
-    ensures places { IfOk result (λ places. (n : ℕ) → n < length pairs.now → IsPlaceOf pairs.now n (slice_index places.items n)) }
+    ensures places { IfOk result (λ places. (n : ℕ) → n < length pairs.now →
+        IsPlaceOf pairs.now n (slice_index places.items n)) }
 {
     let mut places = vec![in alloc; 0; pairs.len()]?;
     for i in 0..pairs.len() {

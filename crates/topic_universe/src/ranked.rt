@@ -70,5 +70,6 @@ pub fn ranking<'r>(
 
 /// The order fixes the list: two lists of names in trec_eval's order over the same rows are one.
 pub fn order_is_one()
-    ensures { (rows : List Valued) (a b : List (List ℕ)) → IsTrecOrder rows a → IsTrecOrder rows b → a ≡ b }
+    ensures { (rows : List Valued) (a b : List (List ℕ)) → IsTrecOrder rows a → IsTrecOrder rows b →
+        a ≡ b }
 {}

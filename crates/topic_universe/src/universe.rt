@@ -64,7 +64,8 @@ fn add_run<'n>(
 ) -> Result<Vec<usize>, Memory>
     requires { AreDistinctNames names.old }
     ensures names { OnOk result (AddsNames names.old (retrieved topic.now run.now) names.new) }
-    ensures numbers { IfOk result (λ numbers. AreRankedNumbers names.new (rows_on_topic run.now topic.now) numbers.items) }
+    ensures numbers { IfOk result (λ numbers.
+        AreRankedNumbers names.new (rows_on_topic run.now topic.now) numbers.items) }
 {
     // The documents of the rows are names.
     let _ = run.rows_on(topic);
@@ -80,8 +81,11 @@ fn add_runs<'n>(
     topic: &[u8],
 ) -> Result<Vec<Vec<usize>>, Memory>
     requires { AreDistinctNames names.old }
-    ensures names { OnOk result (AddsNames names.old (flat_map (retrieved topic.now) runs.now) names.new) }
-    ensures numbers { IfOk result (λ numbers. AllZip (λ run each. AreRankedNumbers names.new (rows_on_topic run topic.now) each) runs.now (map (λ each. each.items) numbers.items)) }
+    ensures names { OnOk result
+        (AddsNames names.old (flat_map (retrieved topic.now) runs.now) names.new) }
+    ensures numbers { IfOk result (λ numbers.
+        AllZip (λ run each. AreRankedNumbers names.new (rows_on_topic run topic.now) each) runs.now
+        (map (λ each. each.items) numbers.items)) }
 {
     let mut numbers = Vec::with_capacity(alloc, runs.len())?;
     for run in runs {
@@ -99,7 +103,9 @@ pub fn universe_of<'n>(
     topic: &[u8],
 ) -> Result<Universe<'n>, Memory>
     requires { t < length qrels.now }
-    ensures { IfOk result (λ universe. IsUniverseOf qrels.now t runs.now topic.now universe.pairs.items (map (λ each. each.items) universe.numbers.items)) }
+    ensures { IfOk result (λ universe.
+        IsUniverseOf qrels.now t runs.now topic.now universe.pairs.items
+        (map (λ each. each.items) universe.numbers.items)) }
 {
     let mut names = listed_names(alloc, qrels, t)?;
     let numbers = add_runs(alloc, &mut names, runs, topic)?;

@@ -41,7 +41,8 @@ fn listed_grades(
 ) -> Result<Vec<Option<i32>>, AllocError>
     requires topic { t < length qrels.now }
     requires numbers { All (λ doc. IsNumberedAfter (rows_at qrels.now t) doc.0.now doc.1) docs.now }
-    ensures { IfOk result (λ grades. grades.items ≡ map (λ doc. grade_in (rows_at qrels.now t) doc.0.now) docs.now) }
+    ensures { IfOk result (λ grades. grades.items ≡
+        map (λ doc. grade_in (rows_at qrels.now t) doc.0.now) docs.now) }
 {
     let mut grades = Vec::with_capacity(alloc, docs.len())?;
     for doc in docs {
@@ -60,9 +61,11 @@ fn graded_book(
 ) -> Result<TopicBook, Memory>
     requires topic { t < length qrels.now }
     requires names { All (λ pair. is_name pair.0.now ≡ true) pairs.now }
-    requires numbers { All (λ pair. IsNumberedAfter (rows_at qrels.now t) pair.0.now pair.1) pairs.now }
+    requires numbers { All (λ pair. IsNumberedAfter (rows_at qrels.now t) pair.0.now pair.1)
+        pairs.now }
     requires book { IsBook (book_over qrels.now t name.now (map (λ pair. pair.0.now) pairs.now)) }
-    ensures { IfOk result (λ book. book ≡ book_over qrels.now t name.now (map (λ pair. pair.0.now) pairs.now)) }
+    ensures { IfOk result (λ book. book ≡
+        book_over qrels.now t name.now (map (λ pair. pair.0.now) pairs.now)) }
 {
     let docs = copied(alloc, pairs)?;
     let grades = listed_grades(alloc, qrels, t, pairs)?;
@@ -85,7 +88,9 @@ fn topic_book(
     ensures name { IfOk result (λ book. book.name ≡ name.now) }
     ensures book { IfOk result (λ book. IsBook book) }
     ensures of_rows { IfOk result (IsBookOf qrels.now runs.now) }
-    ensures ranked { IfOk result (λ book. HaveOneMore runs.now book (map (λ each. each.items) rankings.old) (map (λ each. each.items) rankings.new)) }
+    ensures ranked { IfOk result (λ book.
+        HaveOneMore runs.now book (map (λ each. each.items) rankings.old)
+        (map (λ each. each.items) rankings.new)) }
 {
     // The number of rows is within its limit.
     let _ = qrels.rows();
@@ -124,7 +129,8 @@ fn books_of(
     ensures names { IfOk result (λ books. topic_names books.items ≡ names.now) }
     ensures books { IfOk result (λ books. All (λ book. IsBook book) books.items) }
     ensures of_rows { IfOk result (λ books. All (IsBookOf qrels.now runs.old) books.items) }
-    ensures rankings { IfOk result (λ books. AllZip (AreRankingsOf books.items) runs.old (map (λ each. each.items) rankings.new)) }
+    ensures rankings { IfOk result (λ books.
+        AllZip (AreRankingsOf books.items) runs.old (map (λ each. each.items) rankings.new)) }
 {
     let mut books = Vec::with_capacity(alloc, names.len())?;
     for name in names {
@@ -148,7 +154,8 @@ pub fn topic_books(
     requires rows { total_rows runs.old ≤ MOST_RUN_ROWS }
     requires none { AllZip (AreRankingsOf []) runs.old (map (λ each. each.items) rankings.old) }
     ensures books { IfOk result (λ books. AreBooksOf qrels.now runs.old books.items) }
-    ensures rankings { IfOk result (λ books. AllZip (AreRankingsOf books.items) runs.old (map (λ each. each.items) rankings.new)) }
+    ensures rankings { IfOk result (λ books.
+        AllZip (AreRankingsOf books.items) runs.old (map (λ each. each.items) rankings.new)) }
 {
     let topics = qrels_topics(alloc, qrels)?;
     let names = ascending(alloc, &topics)?;

@@ -42,7 +42,9 @@ fn push_ranking(
     ranking: Ranking,
 ) -> Result<(), AllocError>
     requires { run < length rankings.old }
-    ensures { OnOk result (map (λ each. each.items) rankings.new ≡ slice_set (map (λ each. each.items) rankings.old) run (slice_index_or (map (λ each. each.items) rankings.old) run [] ++ ranking ∷ [])) }
+    ensures { OnOk result (map (λ each. each.items) rankings.new ≡
+        slice_set (map (λ each. each.items) rankings.old) run
+        (slice_index_or (map (λ each. each.items) rankings.old) run [] ++ ranking ∷ [])) }
 {
     rankings[run].push(ranking)?;
     Ok(())
@@ -57,9 +59,11 @@ pub fn rank_topic(
     places: &[u32],
     rankings: &mut [Vec<Ranking>],
 ) -> Result<(), Memory>
-    requires docs { AllZip (λ run each. AreDocsOf run book.now places.now each) runs.now (map (λ each. each.items) numbers.now) }
+    requires docs { AllZip (λ run each. AreDocsOf run book.now places.now each) runs.now
+        (map (λ each. each.items) numbers.now) }
     requires each { length rankings.old ≡ length runs.now }
-    ensures { OnOk result (HaveOneMore runs.now book.now (map (λ each. each.items) rankings.old) (map (λ each. each.items) rankings.new)) }
+    ensures { OnOk result (HaveOneMore runs.now book.now (map (λ each. each.items) rankings.old)
+        (map (λ each. each.items) rankings.new)) }
 {
     for r in 0..runs.len() {
         let ranking = topic_ranking(alloc, &runs[r], book, &numbers[r], places)?;
@@ -74,7 +78,8 @@ pub fn no_rankings(
     runs: &[RunRows],
     topics: usize,
 ) -> Result<Vec<Vec<Ranking>>, AllocError>
-    ensures { IfOk result (λ rankings. AllZip (AreRankingsOf []) runs.now (map (λ each. each.items) rankings.items)) }
+    ensures { IfOk result (λ rankings.
+        AllZip (AreRankingsOf []) runs.now (map (λ each. each.items) rankings.items)) }
 {
     let mut rankings = Vec::with_capacity(alloc, runs.len())?;
     for _run in runs {
