@@ -1,7 +1,7 @@
 -- The printed tiers of runs, and that what they claim is true.
-use Rattle.std.proofs.Common.{◌≡◌, ℕ, zero, suc, ◌+◌, ◌<◌, ◌≤◌, List, [], ◌∷◌, ◌++◌, length, take, get_or, map, Option, Some, None, refl, ap, sym, subst, ◌∙◌, arith, rules, append_assoc, pos}
-use Rattle.std.specs.Prelude.{All, codes, decimal, flat_map, slice_get, slice_index_or, true}
-use Rattle.std.specs.List.{AllByRecursion, zip}
+use Rattle.std.proofs.Common.{◌≡◌, ℕ, ◌+◌, ◌<◌, ◌≤◌, List, [], ◌∷◌, ◌++◌, length, take, get_or, map, Option, Some, None, refl, ap, sym, subst, ◌∙◌, arith, rules, append_assoc, pos}
+use Rattle.std.specs.Prelude.{All, codes, decimal, flat_map, slice_index_or, true}
+use Rattle.std.specs.List.{AllByRecursion}
 use Rattle.std.proofs.lemmas.List.{take_all, length-map}
 use Rattle.std.proofs.lemmas.List.Elements.{All-from_recursion, recursion_from_All}
 use Rattle.small_lemmas.proofs.Lists.{all-append, map_there}
@@ -11,26 +11,22 @@ use Rattle.desk_model.specs.MeasureText.{IsMeasure, measure_text}
 use Rattle.desk_model.specs.Name.{is_name}
 use Rattle.desk_model.specs.declared.types.Mark.{Mark}
 use Rattle.desk_model.specs.declared.types.MeasureName.{MeasureName}
-use Rattle.desk_model.specs.declared.types.Totals.{Totals}
 use Rattle.desk_model.proofs.Nested.{take-there}
 use Rattle.desk_model.proofs.Words.{IsWord, name_word, fields_word, fields_last}
 use Rattle.topic_counts.specs.declared.span.Span.{Span}
 use Rattle.measure_core.specs.declared.cell.Cell.{Cell}
 use Rattle.order_bundle.specs.Scoped.{depth_lines}
-use Rattle.order_bundle.specs.declared.scoped.Scoped.{Scoped}
 use Rattle.pair_table.specs.Kept.{Kept}
 use Rattle.pair_table.specs.Numbers.{HasCellEnds}
-use Rattle.pair_table.specs.Sums.{all_pair_sums}
 use Rattle.order_tiers.specs.Holding.{CoverHolds}
 use Rattle.order_tiers.specs.Order.{Ordered, IsOrderBy, IsOrderIn, CoverIsWithin, compared}
 use Rattle.order_tiers.specs.declared.cover.Cover.{Cover}
 use Rattle.order_tiers.proofs.Naming.{named_order}
-use Rattle.desk_report.specs.Claims.{HoldsByNames}
 use Rattle.desk_report.specs.Reports.{Subject, IsSubjectOf}
 use Rattle.desk_report.specs.Table.{ended, head_lines}
-use Rattle.desk_report.specs.Tiers.{cover_line, line_of_cover, system_line, system_lines, tiers_lines, tiers_text, CoverSays, IsCoverLine, IsTiersText, IsTrueCoverLine, TiersTextsAreTrue}
+use Rattle.desk_report.specs.Tiers.{cover_line, line_of_cover, system_line, system_lines, tiers_lines, tiers_text, CoverSays, IsTiersText, IsTrueCoverLine, TiersTextsAreTrue}
 use Rattle.desk_report.proofs.Joins.{flat_map-push, get_or-there}
-use Rattle.desk_report.proofs.Lines.{IsSound, IsNamed, field, head_sound, named_at, named_runs, number_in_line, prefix_all, prefix_true, word, worded_line}
+use Rattle.desk_report.proofs.Lines.{IsSound, IsNamed, field, head_sound, named_at, named_runs, number_in_line, prefix_all, prefix_true, word}
 use Rattle.desk_report.proofs.Others.{first_byte, other_sound}
 use Rattle.desk_report.proofs.Pairing.{all_weaker}
 use Rattle.desk_report.proofs.Spelling.{AreInLine, ink_in_line, in_line-append, in_line-spaced}

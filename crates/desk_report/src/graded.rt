@@ -6,8 +6,8 @@ ghost use Rattle.topic_counts.specs.Ends.{IsShort};
 ghost use Rattle.desk_report.specs.ByGrades.{graded_head, graded_text};
 ghost use Rattle.desk_report.specs.Table.{AreNearTotals, ended};
 
-use crate::means::parts;
-use crate::table::{push_measure_line, push_number_line, push_pairs, push_runs};
+use crate::means::all_parts;
+use crate::table::{TableNumbers, push_measure_line, push_number_line, push_pairs, push_runs};
 use desk_model::{Desk, MeasureName, Memory, Totals};
 use std::alloc::{AllocError, Global};
 use topic_counts::Span;
@@ -62,9 +62,14 @@ pub fn graded_text(
 {
     let mut out = Vec::new(alloc);
     let topics = desk.topic_count();
-    let parts = parts(parts_of_one(greatest), topics);
+    let numbers = TableNumbers {
+        desk,
+        parts: all_parts(parts_of_one(greatest), topics),
+        bounds,
+        totals,
+    };
     push_graded_head(&mut out, name, greatest, topics, desk.run_count())?;
-    push_runs(&mut out, desk, parts, bounds)?;
-    push_pairs(&mut out, desk, parts, totals)?;
+    push_runs(&mut out, &numbers)?;
+    push_pairs(&mut out, &numbers)?;
     Ok(out)
 }

@@ -36,75 +36,76 @@ fn push_decimal(out: &mut Vec<u8>, number: i128) -> Result<(), AllocError>
     push_millionths(out, number.unsigned_abs())
 }
 
+/// How many units all topics have together: so many of a sum make a mean of 1.
+#[derive(Clone, Copy)]
+pub struct Parts {
+    pub number: u128,
+    pub ghost some: { 1 ≤ number },
+    pub ghost few: { number ≤ 10 ^ 23 },
+}
+
+// An end of a pair or a bound of a run, added up over all topics, in units.
+#[derive(Clone, Copy)]
+struct Sum {
+    units: i128,
+    ghost low: { neg_ℤ (pos (10 ^ 30)) ≤ℤ units },
+    ghost high: { units ≤ℤ pos (10 ^ 30) },
+}
+
 /// How many units all topics have together.
-pub fn parts(unit: i128, topics: u32) -> u128
+pub fn all_parts(unit: i128, topics: u32) -> Parts
     requires unit { pos 1 ≤ℤ unit }
     requires unit_small { unit ≤ℤ pos (10 ^ 19) }
     requires topics { 1 ≤ topics }
     requires topics_few { topics ≤ TOPIC_LIMIT }
-    ensures product { result ≡ unsigned_abs unit * topics }
-    ensures some { 1 ≤ result }
-    ensures small { result ≤ 10 ^ 23 }
+    ensures { result.number ≡ unsigned_abs unit * topics }
 {
-    unit.unsigned_abs() * topics as u128
+    let number = unit.unsigned_abs() * topics as u128;
+    Parts { number }
 }
 
-// The greatest number of millionths that is at most a sum over the parts.
-fn floor(parts: u128, sum: i128) -> i128
-    requires parts { 1 ≤ parts }
-    requires parts_small { parts ≤ 10 ^ 23 }
-    requires low { neg_ℤ (pos (10 ^ 30)) ≤ℤ sum }
-    requires high { sum ≤ℤ pos (10 ^ 30) }
-    ensures floor { result ≡ floor_of (sum *ℤ pos 1000000) parts }
-    ensures low { neg_ℤ (pos (10 ^ 36)) ≤ℤ result }
-    ensures high { result ≤ℤ pos (10 ^ 36) }
-{
-    (sum * MILLION).div_euclid(parts as i128)
+impl Parts {
+    // The greatest number of millionths that is at most the mean.
+    fn floor(self, sum: Sum) -> i128
+        ensures floor { result ≡ floor_of (sum.units *ℤ pos 1000000) self.number }
+        ensures low { neg_ℤ (pos (10 ^ 36)) ≤ℤ result }
+        ensures high { result ≤ℤ pos (10 ^ 36) }
+    {
+        (sum.units * MILLION).div_euclid(self.number as i128)
+    }
+
+    // The smallest number of millionths that is at least the mean.
+    fn ceiling(self, sum: Sum) -> i128
+        ensures { result ≡ ceiling_of (sum.units *ℤ pos 1000000) self.number }
+    {
+        let negated = Sum { units: -sum.units };
+        -self.floor(negated)
+    }
 }
 
-// The smallest number of millionths that is at least a sum over the parts.
-fn ceiling(parts: u128, sum: i128) -> i128
-    requires parts { 1 ≤ parts }
-    requires parts_small { parts ≤ 10 ^ 23 }
-    requires low { neg_ℤ (pos (10 ^ 30)) ≤ℤ sum }
-    requires high { sum ≤ℤ pos (10 ^ 30) }
-    ensures { result ≡ ceiling_of (sum *ℤ pos 1000000) parts }
-{
-    let negated = -sum;
-    -floor(parts, negated)
-}
-
-fn push_low(out: &mut Vec<u8>, parts: u128, sum: i128) -> Result<(), AllocError>
-    requires parts { 1 ≤ parts }
-    requires parts_small { parts ≤ 10 ^ 23 }
-    requires low { neg_ℤ (pos (10 ^ 30)) ≤ℤ sum }
-    requires high { sum ≤ℤ pos (10 ^ 30) }
+fn push_low(out: &mut Vec<u8>, parts: Parts, sum: Sum) -> Result<(), AllocError>
     ensures { OnOk result (out.new.items ≡ out.old.items ++
-        decimal_text (floor_of (sum *ℤ pos 1000000) parts)) }
+        decimal_text (floor_of (sum.units *ℤ pos 1000000) parts.number)) }
 {
-    push_decimal(out, floor(parts, sum))
+    push_decimal(out, parts.floor(sum))
 }
 
-fn push_high(out: &mut Vec<u8>, parts: u128, sum: i128) -> Result<(), AllocError>
-    requires parts { 1 ≤ parts }
-    requires parts_small { parts ≤ 10 ^ 23 }
-    requires low { neg_ℤ (pos (10 ^ 30)) ≤ℤ sum }
-    requires high { sum ≤ℤ pos (10 ^ 30) }
+fn push_high(out: &mut Vec<u8>, parts: Parts, sum: Sum) -> Result<(), AllocError>
     ensures { OnOk result (out.new.items ≡ out.old.items ++
-        decimal_text (ceiling_of (sum *ℤ pos 1000000) parts)) }
+        decimal_text (ceiling_of (sum.units *ℤ pos 1000000) parts.number)) }
 {
-    push_decimal(out, ceiling(parts, sum))
+    push_decimal(out, parts.ceiling(sum))
 }
 
 /// Puts a lower end and an upper end, each a sum over all topics in units, as means over the parts.
-pub fn push_ends(out: &mut Vec<u8>, parts: u128, ends: &Span) -> Result<(), AllocError>
-    requires parts { 1 ≤ parts }
-    requires parts_small { parts ≤ 10 ^ 23 }
-    requires ends { IsShort ends.now }
+pub fn push_ends(out: &mut Vec<u8>, parts: Parts, ends: &Span) -> Result<(), AllocError>
+    requires { IsShort ends.now }
     ensures { OnOk result (out.new.items ≡ out.old.items ++
-        ends_text parts ends.now.lo ends.now.hi) }
+        ends_text parts.number ends.now.lo ends.now.hi) }
 {
-    push_low(out, parts, ends.lo)?;
+    let low = Sum { units: ends.lo };
+    let high = Sum { units: ends.hi };
+    push_low(out, parts, low)?;
     out.extend_from_slice(b" ")?;
-    push_high(out, parts, ends.hi)
+    push_high(out, parts, high)
 }

@@ -1,4 +1,5 @@
 // The printed table.
+ghost use Rattle.std.proofs.Props.{props};
 ghost use Rattle.std.specs.Prelude.{◌≡◌, ◌<◌, ◌≤◌, ◌^◌, ◌++◌, ◌∷◌, [], All, length, codes, decimal, pos, neg_ℤ, ◌≤ℤ◌, ◌*◌, flat_map, IfOk, OnOk};
 ghost use Rattle.std.specs.Prelude.{unsigned_abs};
 ghost use Rattle.desk_model.specs.Limits.{TOPIC_LIMIT};
@@ -8,7 +9,7 @@ ghost use Rattle.order_bundle.specs.Scoped.{depth_lines};
 ghost use Rattle.topic_counts.specs.Ends.{IsShort};
 ghost use Rattle.desk_report.specs.Table.{AreNearTotals, ended, word_of, head_lines, run_line, run_lines, pair_line, pair_lines, table_text};
 
-use crate::means::{parts, push_ends};
+use crate::means::{Parts, all_parts, push_ends};
 use desk_model::{
     Desk, MeasureName, Memory, PairPlaces, Totals, Verdict, push_measure, push_number, verdict_of,
 };
@@ -67,12 +68,24 @@ pub(crate) fn push_head(
     push_number_line(out, b"runs ", runs)
 }
 
-fn push_run(out: &mut Vec<u8>, parts: u128, name: &[u8], bounds: &Span) -> Result<(), AllocError>
-    requires parts { 1 ≤ parts }
-    requires parts_small { parts ≤ 10 ^ 23 }
-    requires bounds { IsShort bounds.now }
+/// What a table prints of a desk: the bounds of each run and the sums of each pair, over all topics, in units of which so
+/// many parts make a mean of 1.
+#[derive(Clone, Copy)]
+pub struct TableNumbers<'a> {
+    pub desk: &'a Desk,
+    pub parts: Parts,
+    pub bounds: &'a [Span],
+    pub totals: &'a [Totals],
+    pub ghost each_run: { length bounds.now ≡ length desk.now.runs },
+    pub ghost each_pair: { length totals.now ≡ length (pairs_of desk.now.runs) },
+    pub ghost short: { All IsShort bounds.now } by { Prim.hlevel props },
+    pub ghost near: { All AreNearTotals totals.now } by { Prim.hlevel props },
+}
+
+fn push_run(out: &mut Vec<u8>, parts: Parts, name: &[u8], bounds: &Span) -> Result<(), AllocError>
+    requires { IsShort bounds.now }
     ensures { OnOk result (out.new.items ≡ out.old.items ++
-        ended (run_line parts name.now bounds.now)) }
+        ended (run_line parts.number name.now bounds.now)) }
 {
     out.extend_from_slice(b"run ")?;
     out.extend_from_slice(name)?;
@@ -82,19 +95,17 @@ fn push_run(out: &mut Vec<u8>, parts: u128, name: &[u8], bounds: &Span) -> Resul
 }
 
 /// A line for each run.
-pub fn push_runs(
-    out: &mut Vec<u8>,
-    desk: &Desk,
-    parts: u128,
-    bounds: &[Span],
-) -> Result<(), AllocError>
-    requires parts { 1 ≤ parts }
-    requires parts_small { parts ≤ 10 ^ 23 }
-    requires count { length bounds.now ≡ length desk.now.runs }
-    requires bounds { All IsShort bounds.now }
+pub fn push_runs(out: &mut Vec<u8>, numbers: &TableNumbers<'_>) -> Result<(), AllocError>
     ensures { OnOk result (out.new.items ≡ out.old.items ++
-        flat_map ended (run_lines parts desk.now.runs bounds.now)) }
+        flat_map ended (run_lines numbers.now.parts.number numbers.now.desk.now.runs
+        numbers.now.bounds.now)) }
 {
+    let TableNumbers {
+        desk,
+        parts,
+        bounds,
+        totals: _,
+    } = *numbers;
     for r in 0..desk.run_count() {
         push_run(out, parts, desk.run_name(r), &bounds[r as usize])?;
     }
@@ -126,16 +137,14 @@ fn push_names(out: &mut Vec<u8>, first: &[u8], word: &[u8], second: &[u8]) -> Re
 
 fn push_pair(
     out: &mut Vec<u8>,
-    parts: u128,
+    parts: Parts,
     first: &[u8],
     second: &[u8],
     totals: &Totals,
 ) -> Result<(), AllocError>
-    requires parts { 1 ≤ parts }
-    requires parts_small { parts ≤ 10 ^ 23 }
-    requires totals { AreNearTotals totals.now }
+    requires { AreNearTotals totals.now }
     ensures { OnOk result (out.new.items ≡ out.old.items ++
-        ended (pair_line parts first.now second.now totals.now)) }
+        ended (pair_line parts.number first.now second.now totals.now)) }
 {
     push_names(out, first, word(verdict_of(totals)), second)?;
     out.extend_from_slice(b" ")?;
@@ -148,19 +157,17 @@ fn push_pair(
 }
 
 /// A line for each pair.
-pub fn push_pairs(
-    out: &mut Vec<u8>,
-    desk: &Desk,
-    parts: u128,
-    totals: &[Totals],
-) -> Result<(), AllocError>
-    requires parts { 1 ≤ parts }
-    requires parts_small { parts ≤ 10 ^ 23 }
-    requires count { length totals.now ≡ length (pairs_of desk.now.runs) }
-    requires totals { All AreNearTotals totals.now }
+pub fn push_pairs(out: &mut Vec<u8>, numbers: &TableNumbers<'_>) -> Result<(), AllocError>
     ensures { OnOk result (out.new.items ≡ out.old.items ++
-        flat_map ended (pair_lines parts desk.now.runs totals.now)) }
+        flat_map ended (pair_lines numbers.now.parts.number numbers.now.desk.now.runs
+        numbers.now.totals.now)) }
 {
+    let TableNumbers {
+        desk,
+        parts,
+        bounds: _,
+        totals,
+    } = *numbers;
     let runs = desk.run_count();
     let mut at = PairPlaces::START;
     for each in totals {
@@ -195,7 +202,7 @@ pub fn pair_line(
         ended (pair_line (unsigned_abs unit * topics) first.now second.now totals.now)) }
 {
     let mut out = Vec::new(alloc);
-    push_pair(&mut out, parts(unit, topics), first, second, totals)?;
+    push_pair(&mut out, all_parts(unit, topics), first, second, totals)?;
     Ok(out)
 }
 
@@ -223,9 +230,14 @@ pub fn table_text(
 {
     let mut out = Vec::new(alloc);
     let topics = desk.topic_count();
-    let parts = parts(unit, topics);
+    let numbers = TableNumbers {
+        desk,
+        parts: all_parts(unit, topics),
+        bounds,
+        totals,
+    };
     push_head(&mut out, measure, level, depth, topics, desk.run_count())?;
-    push_runs(&mut out, desk, parts, bounds)?;
-    push_pairs(&mut out, desk, parts, totals)?;
+    push_runs(&mut out, &numbers)?;
+    push_pairs(&mut out, &numbers)?;
     Ok(out)
 }

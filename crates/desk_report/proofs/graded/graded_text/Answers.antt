@@ -18,8 +18,8 @@ returns c =
     let desk = c.args.desk.now in
     let lines = graded_head c.args.name.now c.args.greatest (length desk.topics) (length desk.runs) in
     let unit : to_z w128 (of_z w128 c.parts_of_one.result) ≡ pos (c.args.greatest * PARTS_OF_ONE) = omega (arith, ints, c.parts_of_one.ensures, c.requires.few) in
-    let parts : c.parts-parts.result ≡ c.args.greatest * PARTS_OF_ONE * length desk.topics =
-    parts_are _ c.args.greatest c.topic_count-topics.result c.parts-parts.result c.parts-parts.ensures.product unit
+    let parts : c.all_parts.result.number ≡ c.args.greatest * PARTS_OF_ONE * length desk.topics =
+    parts_are _ c.args.greatest c.topic_count-topics.result c.all_parts.result.number c.all_parts.ensures unit
     ∙ ap (λ n. c.args.greatest * PARTS_OF_ONE * n) c.topic_count-topics.ensures.count in
     let head : c.push_graded_head.new.out.items ≡ [] ++ flat_map ended lines =
     c.in_ok-push_graded_head.ensures ∙ ap (λ o. o ++ flat_map ended (graded_head c.args.name.now c.args.greatest c.topic_count-topics.result c.run_count.result)) c.new-out.ensures.items

@@ -15,11 +15,11 @@ regroup o first word second ends all e = e ∙ simp append_assoc
 
 pub returns : goal.returns
 returns c =
-    let lo : to_z w128 (of_z w128 c.args.totals.now.least_lo) ≡ c.args.totals.now.least_lo = omega (arith, ints, c.requires.totals.0) in
-    let hi : to_z w128 (of_z w128 c.args.totals.now.most_hi) ≡ c.args.totals.now.most_hi = omega (arith, ints, c.requires.totals.1) in
+    let lo : to_z w128 (of_z w128 c.args.totals.now.least_lo) ≡ c.args.totals.now.least_lo = omega (arith, ints, c.requires.0) in
+    let hi : to_z w128 (of_z w128 c.args.totals.now.most_hi) ≡ c.args.totals.now.most_hi = omega (arith, ints, c.requires.1) in
     let ends = rw (lo, hi) at c.in_ok-push_ends.ensures in
     let names = rw (c.word.ensures, c.verdict_of.ensures) at c.in_ok-push_names.ensures in
     let word = word_of (verdict c.args.totals.now) in
     on_ok_weaker c.push_line_feed.result (λ (e : c.push_line_feed.new.out.items ≡ c.push_ends.new.out.items ++ 10 ∷ []).
-    regroup c.args.out.now.items c.args.first.now word c.args.second.now (ends_text c.args.parts c.args.totals.now.least_lo c.args.totals.now.most_hi) _
+    regroup c.args.out.now.items c.args.first.now word c.args.second.now (ends_text c.args.parts.number c.args.totals.now.least_lo c.args.totals.now.most_hi) _
     (four _ _ _ _ _ _ _ _ _ names c.in_ok-extend_from_slice.ensures.items ends e)) c.push_line_feed.ensures

@@ -8,10 +8,10 @@ use Rattle.desk_model.proofs.PairPlace.{there_from}
 use Rattle.desk_report.proofs.table.push_pairs.Goals as goal
 
 pub run_name-requires-in-loop-each : goal.run_name-requires-in-loop-each
-run_name-requires-in-loop-each c = unfinished c.args.desk.now.runs c.loop-each.at c.loop-each.each-index c.loop-each.invariant.placed c.loop-each.invariant.left (omega arith)
+run_name-requires-in-loop-each c = unfinished c.args.numbers.now.desk.now.runs c.loop-each.at c.loop-each.each-index c.loop-each.invariant.placed c.loop-each.invariant.left (omega arith)
 
 pub next-at-requires-clause-within : goal.next-at-requires-clause-within
-next-at-requires-clause-within c = let lt = unfinished c.args.desk.now.runs c.loop-each.at c.loop-each.each-index c.loop-each.invariant.placed c.loop-each.invariant.left (omega arith) in omega arith
+next-at-requires-clause-within c = let lt = unfinished c.args.numbers.now.desk.now.runs c.loop-each.at c.loop-each.each-index c.loop-each.invariant.placed c.loop-each.invariant.left (omega arith) in omega arith
 
 no_totals : Totals
 no_totals = record { least_lo = pos 0; least_hi = pos 0; most_lo = pos 0; most_hi = pos 0 }
@@ -19,7 +19,7 @@ no_totals = record { least_lo = pos 0; least_hi = pos 0; most_lo = pos 0; most_h
 pub loop-each-preserved : goal.loop-each-preserved
 unfolding no_totals
 loop-each-preserved c =
-    let runs = c.args.desk.now.runs in
+    let runs = c.args.numbers.now.desk.now.runs in
     let at = c.loop-each.at in
     let i = c.loop-each.each-index in
     let x = c.run_name.result.now in
@@ -29,11 +29,11 @@ loop-each-preserved c =
     let from = pairs_from-next runs at x y placed c.run_name.ensures c.run_name-in-loop-each.ensures in
     let split = there_from (pairs_of runs) i (x, y) _ (c.loop-each.invariant.left ∙ from) in
     record {
-      text = one_more (λ pair. pair_line c.args.parts pair.0.0 pair.0.1 pair.1) (pairs_of runs) c.args.totals.now i (x, y) (get_or c.args.totals.now i no_totals) c.args.out.now.items c.loop-each.out.items c.push_pair.new.out.items
-          split.0 (get_or-there c.args.totals.now i no_totals (omega arith)) c.loop-each.invariant.text c.in_ok-push_pair.ensures;
+      text = one_more (λ pair. pair_line c.args.numbers.now.parts.number pair.0.0 pair.0.1 pair.1) (pairs_of runs) c.args.numbers.now.totals.now i (x, y) (get_or c.args.numbers.now.totals.now i no_totals) c.args.out.now.items c.loop-each.out.items c.push_pair.new.out.items
+          split.0 (get_or-there c.args.numbers.now.totals.now i no_totals (omega arith)) c.loop-each.invariant.text c.in_ok-push_pair.ensures;
       left = rw (c.next-at.ensures, c.run_count-runs.ensures.count) split.1;
       placed = rw (c.next-at.ensures, c.run_count-runs.ensures.count) (places_after-placed (length runs) at placed lt);
     }
 
 pub returns : goal.returns
-returns c = all_lines (λ pair. pair_line c.args.parts pair.0.0 pair.0.1 pair.1) (pairs_of c.args.desk.now.runs) c.args.totals.now c.loop-each.each-index c.args.out.now.items c.loop-each.out.items c.requires.count (omega arith) c.loop-each.invariant.text
+returns c = all_lines (λ pair. pair_line c.args.numbers.now.parts.number pair.0.0 pair.0.1 pair.1) (pairs_of c.args.numbers.now.desk.now.runs) c.args.numbers.now.totals.now c.loop-each.each-index c.args.out.now.items c.loop-each.out.items c.args.numbers.now.each_pair (omega arith) c.loop-each.invariant.text

@@ -12,7 +12,7 @@ returns c =
     let desk = c.args.desk.now in
     let lines = head_lines c.args.measure.now c.args.level c.args.depth (length desk.topics) (length desk.runs) in
     let unit : to_z w128 (of_z w128 c.args.unit) ≡ c.args.unit = omega (arith, ints) in
-    let parts : c.parts-parts.result ≡ unsigned_abs c.args.unit * length desk.topics = c.parts-parts.ensures.product ∙ ap (λ u. unsigned_abs u * c.topic_count-topics.result) unit ∙ ap (λ n. unsigned_abs c.args.unit * n) c.topic_count-topics.ensures.count in
+    let parts : c.all_parts.result.number ≡ unsigned_abs c.args.unit * length desk.topics = c.all_parts.ensures ∙ ap (λ u. unsigned_abs u * c.topic_count-topics.result) unit ∙ ap (λ n. unsigned_abs c.args.unit * n) c.topic_count-topics.ensures.count in
     let head : c.push_head.new.out.items ≡ [] ++ flat_map ended lines =
     c.in_ok-push_head.ensures ∙ ap (λ o. o ++ flat_map ended (head_lines c.args.measure.now c.args.level c.args.depth c.topic_count-topics.result c.run_count.result)) c.new-out.ensures.items
     ∙ ap (λ n. flat_map ended (head_lines c.args.measure.now c.args.level c.args.depth n c.run_count.result)) c.topic_count-topics.ensures.count

@@ -1,5 +1,5 @@
-use Rattle.std.proofs.Common.{◌≡◌, List, [], ◌∷◌, ◌++◌, ℕ, ap, sym, ◌∙◌, rules}
-use Rattle.std.specs.Prelude.{codes, decimal, slice_index_or}
+use Rattle.std.proofs.Common.{◌≡◌, [], ◌∷◌, ◌++◌, ap, sym, ◌∙◌, rules}
+use Rattle.std.specs.Prelude.{slice_index_or}
 use Rattle.std.proofs.lemmas.Result.{on_ok_weaker}
 use Rattle.desk_model.proofs.Nested.{get_or-there}
 use Rattle.desk_report.specs.Table.{ended}

@@ -1,4 +1,4 @@
-use Rattle.std.proofs.Common.{arith, get_or}
+use Rattle.std.proofs.Common.{arith}
 use Rattle.order_tiers.specs.declared.cover.Cover.{Cover}
 use Rattle.desk_report.specs.Tiers.{line_of_cover}
 use Rattle.desk_report.proofs.Tiered.{one_made, all_made}

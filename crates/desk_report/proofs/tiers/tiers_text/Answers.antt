@@ -1,4 +1,4 @@
-use Rattle.std.proofs.Common.{◌≡◌, ◌++◌, ◌∷◌, [], length, ap, sym, subst, ◌∙◌, append_assoc}
+use Rattle.std.proofs.Common.{◌≡◌, ◌++◌, ◌∷◌, [], length, ap, subst, ◌∙◌, append_assoc}
 use Rattle.std.specs.Prelude.{All, codes, decimal, flat_map, map}
 use Rattle.order_tiers.specs.Order.{CoverIsWithin}
 use Rattle.desk_report.specs.Table.{ended, head_lines}
