@@ -1,22 +1,17 @@
 -- The totals of a session.
-use Rattle.std.proofs.Common.{◌≡◌, ◌≢◌, inl, inr, ℕ, ◌<◌, List, [], length, map, get_or, Option, Some, None, ap, sym, subst, ◌∙◌, arith}
-use Rattle.std.specs.Prelude.{IfSome, sum, is_some, false}
+use Rattle.std.proofs.Common.{◌≡◌, ℕ, ◌<◌, List, [], length, map, get_or, Option, Some, None, ap, sym, subst, ◌∙◌}
+use Rattle.std.specs.Prelude.{IfSome, is_some, false}
 use Rattle.std.proofs.Math.ListN.{set}
-use Rattle.std.proofs.lemmas.List.{length-map, length-set, get_or-set_same, get_or-set_other}
-use Rattle.small_lemmas.proofs.Numbers.{same_or_not}
-use Rattle.desk_model.specs.Desk.{Desk, IsDesk, ranking_of, topics_under}
+use Rattle.std.proofs.lemmas.List.{length-map, length-set}
+use Rattle.desk_model.specs.Desk.{Desk, IsDesk, topics_under}
 use Rattle.desk_model.specs.Pairs.{pairs_of}
 use Rattle.desk_model.specs.Verdict.{verdict}
 use Rattle.desk_model.specs.declared.types.Mark.{Mark}
 use Rattle.desk_model.specs.declared.types.MeasureName.{MeasureName}
-use Rattle.desk_model.specs.declared.types.Verdict.{Verdict}
 use Rattle.topic_counts.specs.declared.span.Span.{Span}
 use Rattle.measure_core.specs.declared.cell.Cell.{Cell}
-use Rattle.measure_laws.specs.Weights.{weight_of}
 use Rattle.next_document.specs.Kept.{HeldTotals as Weights, AreKeptFor}
 use Rattle.next_document.proofs.Elsewhere.{were_kept}
-use Rattle.next_document.specs.Proposal.{total_weight, unsettled_pairs}
-use Rattle.next_document.specs.Total.{standing}
 use Rattle.desk_report.specs.Reports.{Subject, IsSubjectOf, AreWeightsOf}
 use Rattle.desk_report.proofs.Reporting.{table_numbers}
 use Rattle.pair_table.specs.Kept.{Kept, StandsFor}

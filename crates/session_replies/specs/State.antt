@@ -17,10 +17,11 @@ use Rattle.desk_report.specs.Reports.{Subject, AreRuns, IsTableOn, IsTableText, 
 use Rattle.desk_report.specs.declared.reports.Certified.{Certified}
 use Rattle.desk_report.specs.declared.reports.Certified.TheVariants as certified
 use Rattle.pair_table.specs.Kept.{Kept, StandsFor}
-use Rattle.judge_session.specs.Request.{Heard, Asked, Quit}
+use Rattle.judge_session.specs.Request.{Heard, Request, Asked, Judge, Quit}
 use Rattle.session_replies.specs.Replies.{Setting, marks_after, subject_after, changes_after, accepted, IsCertified, IsReply}
 use Rattle.session_replies.specs.declared.state.Judging.{Judging}
 use Rattle.session_replies.specs.declared.state.Given.{Given}
+use Rattle.session_replies.specs.declared.judgement.Judgement.{Judgement}
 use Rattle.session_replies.specs.declared.comparing.TableRequest.{TableRequest}
 use Rattle.session_replies.specs.declared.comparing.TableRequest.TheVariants as reports
 use Rattle.session_replies.specs.declared.comparing.RunFault.{RunFault}
@@ -31,6 +32,10 @@ use Rattle.session_replies.specs.declared.replies.Reply.TheVariants as replies
 -- what is given to a session
 abbrev pub setting_of : Given → Setting
 setting_of given = record { measure = given.measure.now; level = given.grading.level; depth = given.grading.depth; desk = given.desk.now }
+
+-- what a line that judges asks
+abbrev pub judgement_said : Judgement → Request
+judgement_said judgement = Judge judgement.who.now judgement.topic.now judgement.doc.now judgement.grade
 
 abbrev pub word_of : RunFault → List ℕ
 word_of UnknownRun = codes "UnknownRun"

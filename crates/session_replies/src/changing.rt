@@ -2,7 +2,6 @@
 ghost use Rattle.std.specs.Prelude.{◌≡◌, ◌≢◌, ◌+◌, ◌<◌, ◌≤◌, ◌≤ℤ◌, [], true, length, slice_index_or, slice_set, pos, negsuc, codes, IfOk, IfSome, IsSome, OnOk, OnErr};
 ghost use Rattle.desk_model.specs.Desk.{AreMarksOf};
 ghost use Rattle.desk_model.specs.Graded.{is_in_pools, mark_within};
-ghost use Rattle.desk_model.specs.Name.{is_name};
 ghost use Rattle.judge_session.specs.InForce.{IsOfDesk};
 ghost use Rattle.desk_model.specs.Named.{book_at};
 ghost use Rattle.desk_report.specs.Judging.{changed_line};
@@ -10,8 +9,9 @@ ghost use Rattle.desk_report.specs.Table.{ended};
 ghost use Rattle.pair_table.specs.Kept.{StandsFor, StandsElsewhere};
 ghost use Rattle.judge_session.specs.Request as lines;
 ghost use Rattle.session_replies.specs.Replies.{refusal, fault_word};
-ghost use Rattle.session_replies.specs.State.{setting_of, IsReadyForLine, Answers, CountsLine, Keeps, TakesOver, AreWeightsFor, WereWeightsFor, owed, pairs_in};
+ghost use Rattle.session_replies.specs.State.{setting_of, IsReadyForLine, Answers, CountsLine, Keeps, judgement_said, TakesOver, AreWeightsFor, WereWeightsFor, owed, pairs_in};
 
+use crate::judgement::Judgement;
 use crate::state::{Given, Judging};
 use crate::telling::refused;
 use desk_model::grading::mark;
@@ -137,31 +137,29 @@ impl<M: Measure> Judging<M> {
         &mut self,
         alloc: Global,
         given: &Given<'_>,
-        who: &[u8],
-        topic: &[u8],
-        doc: &[u8],
-        grade: i32,
+        judgement: &Judgement<'_>,
         steps: &mut Steps<L>,
     ) -> Result<Vec<u8>, Memory>
         requires ready { IsReadyForLine
             (record { name = M.measured; cell = M.cell_of; bound = M.bounds_of })
             (setting_of given.now) self.old }
-        requires named { is_name who.now ≡ true }
-        requires low { negsuc 999 ≤ℤ grade }
-        requires high { grade ≤ℤ pos 1000 }
         ensures answers { IfOk result (λ text.
             Answers (record { name = M.measured; cell = M.cell_of; bound = M.bounds_of })
             (setting_of given.now)
-            (lines.Asked (lines.Judge who.now topic.now doc.now grade)) self.old self.new
-            text.items) }
+            (lines.Asked (judgement_said judgement.now)) self.old self.new text.items) }
         ensures counts { CountsLine (setting_of given.now)
-            (lines.Asked (lines.Judge who.now topic.now doc.now grade)) self.old self.new steps.old
-            steps.new }
+            (lines.Asked (judgement_said judgement.now)) self.old self.new steps.old steps.new }
         ensures kept { Keeps self.old self.new }
         // Where memory runs out, nothing was evaluated.
         ensures stopped { OnErr result (steps.new ≡ steps.old) }
     {
         given.desk.valid();
+        let Judgement {
+            who,
+            topic,
+            doc,
+            grade,
+        } = *judgement;
         match self
             .session
             .judge(alloc, given.desk, who, topic, doc, grade)

@@ -3,6 +3,7 @@
 
 mod changing;
 mod comparing;
+mod judgement;
 pub mod laws;
 mod replies;
 mod state;

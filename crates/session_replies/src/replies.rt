@@ -7,6 +7,7 @@ ghost use Rattle.judge_session.specs.Said.{request_said};
 ghost use Rattle.session_replies.specs.State.{setting_of, IsSetting, IsReadyForLine, Answers, IsReplied, CountsLine, Keeps, owed};
 
 use crate::comparing::{TableRequest, find_runs, make_next, make_report, refused_runs};
+use crate::judgement::Judgement;
 use crate::state::{Given, Judging};
 use crate::telling::{pool, qrels, refused};
 use desk_model::Memory;
@@ -55,7 +56,15 @@ fn answer<P: Maker, L: Ledger>(
             topic,
             doc,
             grade,
-        } => judging.judge(alloc, given, who, topic, doc, grade, steps),
+        } => {
+            let judgement = Judgement {
+                who,
+                topic,
+                doc,
+                grade,
+            };
+            judging.judge(alloc, given, &judgement, steps)
+        }
         Request::Undo { who } => judging.undo(alloc, given, who, steps),
         Request::Redo { who } => judging.redo(alloc, given, who, steps),
         Request::Table => make_report(alloc, judging, given, TableRequest::Table, maker, steps),

@@ -161,16 +161,16 @@ pub returns-in-Quit-clause-counts : goal.returns-in-Quit-clause-counts
 returns-in-Quit-clause-counts g c =
     counts_still (setting_of c.args.given.now) (Asked (request_said c.args.request)) c.args.judging.now c.args.steps.now
 
-pub judge-requires-clause-named : goal.judge-requires-clause-named
-judge-requires-clause-named g c = (subst (λ (request : Request). IsWithin (request_said request)) c.in-Judge.is c.requires.within).0
+pub invariant_of-judgement-clause-named : goal.invariant_of-judgement-clause-named
+invariant_of-judgement-clause-named g c = (subst (λ (request : Request). IsWithin (request_said request)) c.in-Judge.is c.requires.within).0
 
-pub judge-requires-clause-low : goal.judge-requires-clause-low
-judge-requires-clause-low g c =
+pub invariant_of-judgement-clause-low : goal.invariant_of-judgement-clause-low
+invariant_of-judgement-clause-low g c =
     let grade = (subst (λ (request : Request). IsWithin (request_said request)) c.in-Judge.is c.requires.within).3 in
     subst (λ (z : ℤ). negsuc 999 ≤ℤ z) (sym (grade_kept c.in-Judge.grade grade)) grade.0
 
-pub judge-requires-clause-high : goal.judge-requires-clause-high
-judge-requires-clause-high g c =
+pub invariant_of-judgement-clause-high : goal.invariant_of-judgement-clause-high
+invariant_of-judgement-clause-high g c =
     let grade = (subst (λ (request : Request). IsWithin (request_said request)) c.in-Judge.is c.requires.within).3 in
     subst (λ (z : ℤ). z ≤ℤ pos 1000) (sym (grade_kept c.in-Judge.grade grade)) grade.1
 

@@ -1,5 +1,5 @@
-use Rattle.std.proofs.Common.{◌≡◌, ◌*◌, ap, sym, subst, ◌∙◌, arith, w32}
-use Rattle.std.proofs.lemmas.Int.{to_z-of_z}
+use Rattle.std.proofs.Common.{◌≡◌, ◌*◌, ap, sym, subst, ◌∙◌, arith}
+use Rattle.session_replies.proofs.Answering.{grade_kept}
 use Rattle.judge_session.specs.Session.{judged}
 use Rattle.std.specs.Prelude.{codes}
 use Rattle.judge_session.specs.InForce.{grade_after}
@@ -33,13 +33,13 @@ pub returns-in-Ok-clause-answers : goal.returns-in-Ok-clause-answers
 returns-in-Ok-clause-answers g c =
     let s = setting_of c.args.given.now in
     let old = c.args.self.now in
-    let who = c.args.who.now in
-    let grade = c.args.grade in
+    let who = c.args.judgement.now.who.now in
+    let grade = c.args.judgement.now.grade in
     let told = c.in-Ok.changed in
     let said = c.in-Ok.ensures.judged in
-    let heard = Asked (Judge who c.args.topic.now c.args.doc.now grade) in
+    let heard = Asked (Judge who c.args.judgement.now.topic.now c.args.judgement.now.doc.now grade) in
     let now = c.judge.new.self in
-    let list : now ≡ judged who told.topic told.doc grade old.session = said.list ∙ ap (λ z. judged who told.topic told.doc z old.session) (to_z-of_z w32 grade c.ranges.grade) in
+    let list : now ≡ judged who told.topic told.doc grade old.session = said.list ∙ ap (λ z. judged who told.topic told.doc z old.session) (grade_kept grade (c.args.judgement.now.low, c.args.judgement.now.high)) in
     let changes : now ≡ changes_after s.desk heard old.session = list ∙ sym (ap (after_judging who grade old.session) said.place) in
     ok_with c.follow.result _ _ _ _
     (λ text line marks table.
