@@ -61,36 +61,43 @@ fn put_reply<K: Sink>(out: &mut K, text: &[u8]) -> Result<Next, Fault>
     }
 }
 
+// What the lines of a session are answered by: what it is over, and what makes its measure.
+#[derive(Clone, Copy)]
+struct Terms<'a, P> {
+    given: &'a Given<'a>,
+    maker: &'a P,
+}
+
 // Answers a line that is whole.
 fn answer_line<K: Sink, P: Maker, L: Ledger>(
     alloc: Global,
     lines: &Lines,
     judging: &mut Judging<P::Made>,
-    given: &Given<'_>,
+    terms: &Terms<'_, P>,
     out: &mut K,
-    maker: &P,
     steps: &mut Steps<L>,
 ) -> Result<Next, Fault>
-    requires setting { IsSetting (setting_of given.now) }
+    requires setting { IsSetting (setting_of terms.now.given.now) }
     requires ready { IsReadyForLine
         (record { name = P.Made.measured; cell = P.Made.cell_of; bound = P.Made.bounds_of })
-        (setting_of given.now) judging.old }
+        (setting_of terms.now.given.now) judging.old }
     ensures answered { (line : List ℕ) → lines.now ≡ kept_line line →
-        AnswersLine (setting_of given.now) line judging.old.session judging.new.session
+        AnswersLine (setting_of terms.now.given.now) line judging.old.session judging.new.session
         (sink (K.state out.old) (K.state out.new)) result }
     ensures ready { OnOk result
         (IsReadyForLine
         (record { name = P.Made.measured; cell = P.Made.cell_of; bound = P.Made.bounds_of })
-        (setting_of given.now) judging.new) }
+        (setting_of terms.now.given.now) judging.new) }
     ensures steps { (line : List ℕ) → lines.now ≡ kept_line line →
-        TakesSteps given.now.desk.now line judging.old.session judging.old.table judging.new.table
+        TakesSteps terms.now.given.now.desk.now line judging.old.session judging.old.table
+        judging.new.table
         steps.old steps.new result }
     ensures later { (K.state out.old).faults ≤ (K.state out.new).faults }
 {
     let Some(line) = lines.line() else {
         return put_reply(out, TOO_LONG);
     };
-    match reply_to(alloc, judging, given, line, maker, steps) {
+    match reply_to(alloc, judging, terms.given, line, terms.maker, steps) {
         Ok(Reply::Text(text)) => put_reply(out, &text),
         Ok(Reply::Quit) => Ok(Next::Quit),
         Err(_) => Err(Fault::Memory),
@@ -103,29 +110,29 @@ fn answer_piece<K: Sink, P: Maker, L: Ledger>(
     piece: &[u8],
     lines: &mut Lines,
     judging: &mut Judging<P::Made>,
-    given: &Given<'_>,
+    terms: &Terms<'_, P>,
     out: &mut K,
-    maker: &P,
     steps: &mut Steps<L>,
 ) -> Result<Next, Fault>
-    requires setting { IsSetting (setting_of given.now) }
+    requires setting { IsSetting (setting_of terms.now.given.now) }
     requires ready { IsReadyForLine
         (record { name = P.Made.measured; cell = P.Made.cell_of; bound = P.Made.bounds_of })
-        (setting_of given.now) judging.old }
+        (setting_of terms.now.given.now) judging.old }
     ensures answered { (had : Option (List ℕ)) (first : ℕ) (taken : List ℕ) →
         lines.old ≡ kept_line (unended taken) →
-        Talks (setting_of given.now) had (K.state out.old).received first (steps.old +
-        owed given.now.desk.now judging.old.table) taken judging.old.session →
-        AnswersPiece (setting_of given.now) had (sink (K.state out.old) (K.state out.new)) first
+        Talks (setting_of terms.now.given.now) had (K.state out.old).received first (steps.old +
+        owed terms.now.given.now.desk.now judging.old.table) taken judging.old.session →
+        AnswersPiece (setting_of terms.now.given.now) had (sink (K.state out.old) (K.state out.new))
+        first
         steps.new
-        (steps.new + owed given.now.desk.now judging.new.table) (taken ++ piece.now)
+        (steps.new + owed terms.now.given.now.desk.now judging.new.table) (taken ++ piece.now)
         judging.new.session result }
     ensures line { (taken : List ℕ) → lines.old ≡ kept_line (unended taken) →
         result ≡ Ok Next.More → lines.new ≡ kept_line (unended (taken ++ piece.now)) }
     ensures ready { result ≡ Ok Next.More →
         IsReadyForLine
         (record { name = P.Made.measured; cell = P.Made.cell_of; bound = P.Made.bounds_of })
-        (setting_of given.now) judging.new }
+        (setting_of terms.now.given.now) judging.new }
     ensures later { (K.state out.old).faults ≤ (K.state out.new).faults }
 {
     let mut at = 0;
@@ -133,7 +140,7 @@ fn answer_piece<K: Sink, P: Maker, L: Ledger>(
         let pushed = lines.push(&piece[at..]);
         at += pushed.used;
         if pushed.ended {
-            match answer_line(alloc, lines, judging, given, out, maker, steps) {
+            match answer_line(alloc, lines, judging, terms, out, steps) {
                 Ok(Next::More) => lines.clear(),
                 Ok(Next::Quit) => return Ok(Next::Quit),
                 Err(fault) => return Err(fault),
@@ -150,21 +157,21 @@ fn answer_input<S: Source, K: Sink, P: Maker, L: Ledger>(
     out: &mut K,
     lines: &mut Lines,
     judging: &mut Judging<P::Made>,
-    given: &Given<'_>,
-    maker: &P,
+    terms: &Terms<'_, P>,
     steps: &mut Steps<L>,
 ) -> Result<Ended, Fault>
-    requires setting { IsSetting (setting_of given.now) }
+    requires setting { IsSetting (setting_of terms.now.given.now) }
     requires line { lines.old ≡ kept_line [] }
     requires none { judging.old.session ≡ [] }
-    requires owes { owed given.now.desk.now judging.old.table ≡ cells_of given.now.desk.now }
+    requires owes { owed terms.now.given.now.desk.now judging.old.table ≡
+        cells_of terms.now.given.now.desk.now }
     requires ready { IsReadyForLine
         (record { name = P.Made.measured; cell = P.Made.cell_of; bound = P.Made.bounds_of })
-        (setting_of given.now) judging.old }
-    ensures ends { EndsSession (setting_of given.now)
+        (setting_of terms.now.given.now) judging.old }
+    ensures ends { EndsSession (setting_of terms.now.given.now)
         (source (S.state input.old) (S.state input.new))
         (sink (K.state out.old) (K.state out.new)) result }
-    ensures cells { EvaluatesWithin (setting_of given.now)
+    ensures cells { EvaluatesWithin (setting_of terms.now.given.now)
         (source (S.state input.old) (S.state input.new)) steps.old steps.new }
     ensures heard { ReadsNoMore (source (S.state input.old) (S.state input.new)) }
 {
@@ -176,22 +183,13 @@ fn answer_input<S: Source, K: Sink, P: Maker, L: Ledger>(
             return Err(Fault::Input);
         };
         if count == 0 {
-            return match answer_line(alloc, lines, judging, given, out, maker, steps) {
+            return match answer_line(alloc, lines, judging, terms, out, steps) {
                 Ok(_) => Ok(Ended::Done),
                 Err(fault) => Err(fault),
             };
         }
         let within = count.min(LONGEST_INPUT - taken);
-        match answer_piece(
-            alloc,
-            &room[..within],
-            lines,
-            judging,
-            given,
-            out,
-            maker,
-            steps,
-        ) {
+        match answer_piece(alloc, &room[..within], lines, judging, terms, out, steps) {
             Ok(Next::More) => taken += count,
             Ok(Next::Quit) => return Ok(Ended::Done),
             Err(fault) => return Err(fault),
@@ -223,14 +221,6 @@ pub fn hold_session<S: Source, K: Sink, P: Maker, L: Ledger>(
     let Ok(mut judging) = Judging::<P::Made>::new(alloc, given.desk, given.grading) else {
         return Err(Fault::Memory);
     };
-    answer_input(
-        alloc,
-        input,
-        out,
-        &mut lines,
-        &mut judging,
-        given,
-        maker,
-        steps,
-    )
+    let terms = Terms { given, maker };
+    answer_input(alloc, input, out, &mut lines, &mut judging, &terms, steps)
 }

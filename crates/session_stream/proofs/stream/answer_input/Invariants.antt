@@ -9,9 +9,9 @@ use Rattle.session_stream.proofs.stream.answer_input.Given as goal
 abbrev pub invariant-reads : goal.invariant-reads
 invariant-reads g l = record {
   within : l.taken ≤ 1073741825;
-  held : IsHeld (setting_of l.given) (g.S.Source.state l.fn.input).rest (g.S.Source.state l.input).rest (g.K.Sink.state l.fn.out).received (g.K.Sink.state l.out).received (l.fn.steps + cells_of l.given.desk.now)
-      (l.steps + owed l.given.desk.now l.judging.table) l.lines l.judging.session l.taken;
-  ready : IsReadyForLine (record { name = g.P.Made.Measure.measured; cell = g.P.Made.Measure.cell_of; bound = g.P.Made.Measure.bounds_of }) (setting_of l.given) l.judging;
+  held : IsHeld (setting_of l.terms.given.now) (g.S.Source.state l.fn.input).rest (g.S.Source.state l.input).rest (g.K.Sink.state l.fn.out).received (g.K.Sink.state l.out).received (l.fn.steps + cells_of l.terms.given.now.desk.now)
+      (l.steps + owed l.terms.given.now.desk.now l.judging.table) l.lines l.judging.session l.taken;
+  ready : IsReadyForLine (record { name = g.P.Made.Measure.measured; cell = g.P.Made.Measure.cell_of; bound = g.P.Made.Measure.bounds_of }) (setting_of l.terms.given.now) l.judging;
   input : (g.S.Source.state l.fn.input).faults ≤ (g.S.Source.state l.input).faults;
   out : (g.K.Sink.state l.fn.out).faults ≤ (g.K.Sink.state l.out).faults;
   made : ReadSoFar (g.S.Source.state l.fn.input).reads (g.S.Source.state l.input).reads l.taken;

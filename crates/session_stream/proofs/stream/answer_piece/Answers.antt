@@ -20,12 +20,12 @@ loop-at-preserved g c =
     let push = c.push-pushed.ensures in
     let used = c.push-pushed.result in
     let state = c.loop-at.judging in
-    let s = setting_of c.args.given.now in
+    let s = setting_of c.args.terms.now.given.now in
     record {
       within = used_within piece at old new used push c.loop-at.invariant.within;
       line = λ taken held. line_on piece taken at old new used push c.if-pushed.false (c.loop-at.invariant.line taken held);
       talks = λ had first taken held before.
-          talks_on s had (g.K.Sink.state c.loop-at.out).received first (c.loop-at.steps + owed c.args.given.now.desk.now state.table) (taken ++ take at piece) push.line (taken ++ take (at + used.used) piece) state.session
+          talks_on s had (g.K.Sink.state c.loop-at.out).received first (c.loop-at.steps + owed c.args.terms.now.given.now.desk.now state.table) (taken ++ take at piece) push.line (taken ++ take (at + used.used) piece) state.session
           (taken_on piece taken at old new used push c.if-pushed.false) push.in_line (c.loop-at.invariant.talks had first taken held before);
       ready = c.loop-at.invariant.ready;
       later = c.loop-at.invariant.later;
@@ -41,7 +41,7 @@ loop-at-preserved-in-Ok-More g c =
     let used = c.push-pushed.result in
     let state = c.loop-at.judging in
     let now = c.answer_line.new.judging in
-    let s = setting_of c.args.given.now in
+    let s = setting_of c.args.terms.now.given.now in
     record {
       within = used_within piece at old new used push c.loop-at.invariant.within;
       line = λ taken held. line_cleared piece taken at old new used push c.clear.new.self c.if-pushed.true c.clear.ensures;
@@ -64,11 +64,11 @@ returns-in-Ok-Quit-clause-answered g c had first taken held before =
     let used = c.push-pushed.result in
     let state = c.loop-at.judging in
     let now = c.answer_line.new.judging in
-    let s = setting_of c.args.given.now in
+    let s = setting_of c.args.terms.now.given.now in
     let line_is = line_so_far piece taken at old new used push (c.loop-at.invariant.line taken held) in
     line_stops s had (sink (g.K.Sink.state c.loop-at.out) (g.K.Sink.state c.answer_line.new.out))
     (sink (g.K.Sink.state c.args.out.now) (g.K.Sink.state c.answer_line.new.out)) first c.loop-at.steps c.answer_line.new.steps piece taken at old new used
-    state.session now.session state.table now.table (c.answer_line.new.steps + owed c.args.given.now.desk.now now.table) push c.if-pushed.true (c.loop-at.invariant.talks had first taken held before) refl refl c.loop-at.invariant.later
+    state.session now.session state.table now.table (c.answer_line.new.steps + owed c.args.terms.now.given.now.desk.now now.table) push c.if-pushed.true (c.loop-at.invariant.talks had first taken held before) refl refl c.loop-at.invariant.later
     (Ok next.Quit) (λ e. quit_not_more e) (rw c.in-Ok-Quit.field-0-is at c.in-Ok-Quit.ensures.answered (unended (taken ++ take at piece) ++ push.line) line_is) (c.in-Ok-Quit.ensures.steps (unended (taken ++ take at piece) ++ push.line) line_is)
 
 pub returns-in-Err-clause-answered : goal.returns-in-Err-clause-answered
@@ -81,11 +81,11 @@ returns-in-Err-clause-answered g c had first taken held before =
     let used = c.push-pushed.result in
     let state = c.loop-at.judging in
     let now = c.answer_line.new.judging in
-    let s = setting_of c.args.given.now in
+    let s = setting_of c.args.terms.now.given.now in
     let line_is = line_so_far piece taken at old new used push (c.loop-at.invariant.line taken held) in
     line_stops s had (sink (g.K.Sink.state c.loop-at.out) (g.K.Sink.state c.answer_line.new.out))
     (sink (g.K.Sink.state c.args.out.now) (g.K.Sink.state c.answer_line.new.out)) first c.loop-at.steps c.answer_line.new.steps piece taken at old new used
-    state.session now.session state.table now.table (c.answer_line.new.steps + owed c.args.given.now.desk.now now.table) push c.if-pushed.true (c.loop-at.invariant.talks had first taken held before) refl refl c.loop-at.invariant.later
+    state.session now.session state.table now.table (c.answer_line.new.steps + owed c.args.terms.now.given.now.desk.now now.table) push c.if-pushed.true (c.loop-at.invariant.talks had first taken held before) refl refl c.loop-at.invariant.later
     (Err c.in-Err.fault) (λ e. err_not_more e) (c.in-Err.ensures.answered (unended (taken ++ take at piece) ++ push.line) line_is) (c.in-Err.ensures.steps (unended (taken ++ take at piece) ++ push.line) line_is)
 
 none_yet : (n : ℕ) → 0 ≤ n
@@ -93,12 +93,12 @@ none_yet n = omega arith
 
 pub loop-at-init : goal.loop-at-init
 loop-at-init g c =
-    let s = setting_of c.args.given.now in
+    let s = setting_of c.args.terms.now.given.now in
     record {
       within = none_yet (length c.args.piece.now);
       line = λ taken held. held ∙ ap (λ (xs : List ℕ). kept_line (unended xs)) (sym (append-nil taken));
       talks = λ had first taken held before.
-          subst (λ (xs : List ℕ). Talks s had (g.K.Sink.state c.args.out.now).received first (c.args.steps.now + owed c.args.given.now.desk.now c.args.judging.now.table) xs c.args.judging.now.session) (sym (append-nil taken)) before;
+          subst (λ (xs : List ℕ). Talks s had (g.K.Sink.state c.args.out.now).received first (c.args.steps.now + owed c.args.terms.now.given.now.desk.now c.args.judging.now.table) xs c.args.judging.now.session) (sym (append-nil taken)) before;
       ready = c.requires.ready;
       later = le_refl (g.K.Sink.state c.args.out.now).faults;
     }
@@ -122,9 +122,9 @@ loop-at-smaller-in-Ok-More g c =
 
 pub returns-clause-answered : goal.returns-clause-answered
 returns-clause-answered g c had first taken held before =
-    let s = setting_of c.args.given.now in
+    let s = setting_of c.args.terms.now.given.now in
     let state = c.loop-at.judging in
-    subst (λ (xs : List ℕ). Talks s had (g.K.Sink.state c.loop-at.out).received first (c.loop-at.steps + owed c.args.given.now.desk.now state.table) (taken ++ xs) state.session) (take_all c.loop-at.at c.args.piece.now c.loop-at-test.false)
+    subst (λ (xs : List ℕ). Talks s had (g.K.Sink.state c.loop-at.out).received first (c.loop-at.steps + owed c.args.terms.now.given.now.desk.now state.table) (taken ++ xs) state.session) (take_all c.loop-at.at c.args.piece.now c.loop-at-test.false)
     (c.loop-at.invariant.talks had first taken held before)
 
 pub returns-clause-line : goal.returns-clause-line

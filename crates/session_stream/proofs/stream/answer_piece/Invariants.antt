@@ -9,9 +9,9 @@ invariant-loop-at g l = record {
   within : l.at ≤ length l.piece;
   line : (taken : List ℕ) → l.fn.lines ≡ kept_line (unended taken) → l.lines ≡ kept_line (unended (taken ++ take l.at l.piece));
   talks : (had : Option (List ℕ)) (first : ℕ) (taken : List ℕ) → l.fn.lines ≡ kept_line (unended taken) →
-      Talks (setting_of l.given) had (g.K.Sink.state l.fn.out).received first (l.fn.steps + owed l.given.desk.now l.fn.judging.table) taken l.fn.judging.session →
-      Talks (setting_of l.given) had (g.K.Sink.state l.out).received first (l.steps + owed l.given.desk.now l.judging.table) (taken ++ take l.at l.piece) l.judging.session;
-  ready : IsReadyForLine (record { name = g.P.Made.Measure.measured; cell = g.P.Made.Measure.cell_of; bound = g.P.Made.Measure.bounds_of }) (setting_of l.given) l.judging;
+      Talks (setting_of l.terms.given.now) had (g.K.Sink.state l.fn.out).received first (l.fn.steps + owed l.terms.given.now.desk.now l.fn.judging.table) taken l.fn.judging.session →
+      Talks (setting_of l.terms.given.now) had (g.K.Sink.state l.out).received first (l.steps + owed l.terms.given.now.desk.now l.judging.table) (taken ++ take l.at l.piece) l.judging.session;
+  ready : IsReadyForLine (record { name = g.P.Made.Measure.measured; cell = g.P.Made.Measure.cell_of; bound = g.P.Made.Measure.bounds_of }) (setting_of l.terms.given.now) l.judging;
   later : (g.K.Sink.state l.fn.out).faults ≤ (g.K.Sink.state l.out).faults;
 }
 
