@@ -6,6 +6,7 @@ mod demo;
 mod draws;
 mod laws;
 mod lines;
+mod numbers;
 mod qrels;
 mod run;
 mod sizes;

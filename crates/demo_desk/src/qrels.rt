@@ -1,5 +1,5 @@
 // The judgements.
-ghost use Rattle.std.specs.Prelude.{◌≡◌, ◌++◌, ◌*◌, ◌<◌, ◌≤◌, flat_map, pos, IfOk, OnOk};
+ghost use Rattle.std.specs.Prelude.{◌≡◌, ◌++◌, ◌*◌, ◌≤◌, flat_map, pos, IfOk, OnOk};
 ghost use Rattle.desk_report.specs.Judging.{qrels_line};
 ghost use Rattle.desk_report.specs.Table.{ended};
 ghost use Rattle.demo_desk.specs.Draws.{state_after};
@@ -7,16 +7,20 @@ ghost use Rattle.demo_desk.specs.declared.sizes.TheConstants.{TOPICS, DOCUMENTS}
 ghost use Rattle.demo_desk.specs.Texts.{topic_text, document_text, judgement_lines, topic_judgements, judgements_on, qrels_after};
 
 use crate::draws::Generator;
+use crate::numbers::{DocumentNumber, TopicNumber};
 use crate::sizes::{DOCUMENTS, TOPICS};
 use crate::words::{push_document, push_topic};
 use desk_model::{Memory, push_number};
 use std::alloc::{AllocError, Global};
 
-fn push_line(out: &mut Vec<u8>, topic: u32, doc: u32, grade: u32) -> Result<(), AllocError>
-    requires topic { topic < TOPICS }
-    requires doc { doc < DOCUMENTS }
+fn push_line(
+    out: &mut Vec<u8>,
+    topic: TopicNumber,
+    doc: DocumentNumber,
+    grade: u32,
+) -> Result<(), AllocError>
     ensures { OnOk result (out.new.items ≡ out.old.items ++
-        ended (qrels_line (topic_text topic) (document_text doc) (pos grade))) }
+        ended (qrels_line (topic_text topic.number) (document_text doc.number) (pos grade))) }
 {
     push_topic(out, topic)?;
     out.extend_from_slice(b" 0 ")?;
@@ -27,13 +31,16 @@ fn push_line(out: &mut Vec<u8>, topic: u32, doc: u32, grade: u32) -> Result<(), 
 }
 
 // The line of a document, if it is listed.
-fn push_judgement(out: &mut Vec<u8>, topic: u32, doc: u32, value: u32) -> Result<(), AllocError>
-    requires topic { topic < TOPICS }
-    requires doc { doc < DOCUMENTS }
+fn push_judgement(
+    out: &mut Vec<u8>,
+    topic: TopicNumber,
+    doc: DocumentNumber,
+    value: u32,
+) -> Result<(), AllocError>
     ensures { OnOk result (out.new.items ≡ out.old.items ++
-        flat_map ended (judgement_lines topic doc value)) }
+        flat_map ended (judgement_lines topic.number doc.number value)) }
 {
-    if value % 10 == 0 || doc == 0 {
+    if value % 10 == 0 || doc.number == 0 {
         push_line(out, topic, doc, (value / 10) % 3)
     } else {
         Ok(())
@@ -44,18 +51,17 @@ fn push_judgement(out: &mut Vec<u8>, topic: u32, doc: u32, value: u32) -> Result
 fn push_topic_judgements(
     out: &mut Vec<u8>,
     generator: &mut Generator,
-    topic: u32,
+    topic: TopicNumber,
     documents: u32,
 ) -> Result<(), AllocError>
-    requires topic { topic < TOPICS }
-    requires documents { documents ≤ DOCUMENTS }
+    requires { documents ≤ DOCUMENTS }
     ensures text { OnOk result (out.new.items ≡ out.old.items ++
-        flat_map ended (topic_judgements generator.old topic documents)) }
+        flat_map ended (topic_judgements generator.old topic.number documents)) }
     ensures state { OnOk result (generator.new ≡ state_after generator.old documents) }
 {
     for doc in 0..documents {
         let value = generator.draw();
-        push_judgement(out, topic, doc, value)?;
+        push_judgement(out, topic, DocumentNumber { number: doc }, value)?;
     }
     Ok(())
 }
@@ -74,7 +80,7 @@ fn push_judgements(
     ensures state { OnOk result (generator.new ≡ state_after generator.old (documents * topics)) }
 {
     for topic in 0..topics {
-        push_topic_judgements(out, generator, topic, documents)?;
+        push_topic_judgements(out, generator, TopicNumber { number: topic }, documents)?;
     }
     Ok(())
 }

@@ -6,16 +6,15 @@ ghost use Rattle.demo_desk.specs.declared.sizes.TheConstants.{TOPICS, DOCUMENTS,
 ghost use Rattle.demo_desk.specs.Texts.{topic_text, document_text, score_text, tag_text, place_line, topic_places, places_on, run_after};
 
 use crate::draws::Generator;
+use crate::numbers::{DocumentNumber, RunNumber, TopicNumber};
 use crate::sizes::{DOCUMENTS, PLACES, TOPICS};
 use crate::words::{push_document, push_score, push_tag, push_topic};
 use desk_model::{Memory, push_number};
 use std::alloc::{AllocError, Global};
 
 // The topic and the document of a place.
-fn push_names(out: &mut Vec<u8>, topic: u32, doc: u32) -> Result<(), AllocError>
-    requires topic { topic < TOPICS }
-    requires doc { doc < DOCUMENTS }
-    ensures { OnOk result (out.new.items ≡ out.old.items ++ (topic_text topic ++ codes " Q0 " ++ document_text doc)) }
+fn push_names(out: &mut Vec<u8>, topic: TopicNumber, doc: DocumentNumber) -> Result<(), AllocError>
+    ensures { OnOk result (out.new.items ≡ out.old.items ++ (topic_text topic.number ++ codes " Q0 " ++ document_text doc.number)) }
 {
     push_topic(out, topic)?;
     out.extend_from_slice(b" Q0 ")?;
@@ -23,10 +22,9 @@ fn push_names(out: &mut Vec<u8>, topic: u32, doc: u32) -> Result<(), AllocError>
 }
 
 // Its place, its score and the name of the run, each after a space.
-fn push_numbers(out: &mut Vec<u8>, run: u32, place: u32, score: u32) -> Result<(), AllocError>
-    requires run { run < RUNS }
+fn push_numbers(out: &mut Vec<u8>, run: RunNumber, place: u32, score: u32) -> Result<(), AllocError>
     ensures { OnOk result (out.new.items ≡ out.old.items ++
-        (32 ∷ decimal place ++ 32 ∷ score_text score ++ 32 ∷ tag_text run)) }
+        (32 ∷ decimal place ++ 32 ∷ score_text score ++ 32 ∷ tag_text run.number)) }
 {
     out.push(b' ')?;
     push_number(out, place)?;
@@ -38,17 +36,14 @@ fn push_numbers(out: &mut Vec<u8>, run: u32, place: u32, score: u32) -> Result<(
 
 fn push_place(
     out: &mut Vec<u8>,
-    run: u32,
-    topic: u32,
-    doc: u32,
+    run: RunNumber,
+    topic: TopicNumber,
+    doc: DocumentNumber,
     place: u32,
     score: u32,
 ) -> Result<(), AllocError>
-    requires run { run < RUNS }
-    requires topic { topic < TOPICS }
-    requires doc { doc < DOCUMENTS }
     ensures { OnOk result (out.new.items ≡ out.old.items ++
-        ended (place_line run topic doc place score)) }
+        ended (place_line run.number topic.number doc.number place score)) }
 {
     push_names(out, topic, doc)?;
     push_numbers(out, run, place, score)?;
@@ -59,20 +54,20 @@ fn push_place(
 fn push_topic_places(
     out: &mut Vec<u8>,
     generator: &mut Generator,
-    run: u32,
-    topic: u32,
+    run: RunNumber,
+    topic: TopicNumber,
     places: u32,
 ) -> Result<(), AllocError>
-    requires run { run < RUNS }
-    requires topic { topic < TOPICS }
-    requires places { places ≤ PLACES }
+    requires { places ≤ PLACES }
     ensures text { OnOk result (out.new.items ≡ out.old.items ++
-        flat_map ended (topic_places generator.old run topic places)) }
+        flat_map ended (topic_places generator.old run.number topic.number places)) }
     ensures state { OnOk result (generator.new ≡ state_after generator.old (1 + places)) }
 {
     let first = generator.draw() % DOCUMENTS;
     for place in 0..places {
-        let doc = (first + 7 * place) % DOCUMENTS;
+        let doc = DocumentNumber {
+            number: (first + 7 * place) % DOCUMENTS,
+        };
         let score = generator.draw() % 100_000;
         push_place(out, run, topic, doc, place, score)?;
     }
@@ -83,20 +78,19 @@ fn push_topic_places(
 fn push_places(
     out: &mut Vec<u8>,
     generator: &mut Generator,
-    run: u32,
+    run: RunNumber,
     places: u32,
     topics: u32,
 ) -> Result<(), AllocError>
-    requires run { run < RUNS }
     requires places { places ≤ PLACES }
     requires topics { topics ≤ TOPICS }
     ensures text { OnOk result (out.new.items ≡ out.old.items ++
-        flat_map ended (places_on generator.old run places topics)) }
+        flat_map ended (places_on generator.old run.number places topics)) }
     ensures state { OnOk result (generator.new ≡
         state_after generator.old ((1 + places) * topics)) }
 {
     for topic in 0..topics {
-        push_topic_places(out, generator, run, topic, places)?;
+        push_topic_places(out, generator, run, TopicNumber { number: topic }, places)?;
     }
     Ok(())
 }
@@ -113,6 +107,12 @@ pub fn run_text(alloc: Global, generator: &mut Generator, run: u32) -> Result<Ve
         state_after generator.old ((1 + PLACES) * TOPICS)) }
 {
     let mut out = Vec::new(alloc);
-    push_places(&mut out, generator, run, PLACES, TOPICS)?;
+    push_places(
+        &mut out,
+        generator,
+        RunNumber { number: run },
+        PLACES,
+        TOPICS,
+    )?;
     Ok(out)
 }

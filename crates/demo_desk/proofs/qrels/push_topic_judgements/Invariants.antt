@@ -7,5 +7,5 @@ use Rattle.demo_desk.proofs.qrels.push_topic_judgements.Given as goal
 
 abbrev pub invariant-loop-doc : goal.invariant-loop-doc
 invariant-loop-doc l =
-    (l.out.items ≡ l.initial.out.items ++ flat_map ended (topic_judgements l.initial.generator l.topic l.doc))
+    (l.out.items ≡ l.initial.out.items ++ flat_map ended (topic_judgements l.initial.generator l.topic.number l.doc))
     × (l.generator ≡ state_after l.initial.generator l.doc)

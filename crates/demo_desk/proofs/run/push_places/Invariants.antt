@@ -7,5 +7,5 @@ use Rattle.demo_desk.proofs.run.push_places.Given as goal
 
 abbrev pub invariant-loop-topic : goal.invariant-loop-topic
 invariant-loop-topic l =
-    (l.out.items ≡ l.initial.out.items ++ flat_map ended (places_on l.initial.generator l.run l.places l.topic))
+    (l.out.items ≡ l.initial.out.items ++ flat_map ended (places_on l.initial.generator l.run.number l.places l.topic))
     × (l.generator ≡ state_after l.initial.generator ((1 + l.places) * l.topic))

@@ -7,5 +7,5 @@ use Rattle.demo_desk.proofs.run.push_topic_places.Given as goal
 
 abbrev pub invariant-loop-place : goal.invariant-loop-place
 invariant-loop-place l =
-    (l.out.items ≡ l.initial.out.items ++ flat_map ended (topic_places l.fn.generator l.run l.topic l.place))
+    (l.out.items ≡ l.initial.out.items ++ flat_map ended (topic_places l.fn.generator l.run.number l.topic.number l.place))
     × (l.generator ≡ state_after l.fn.generator (1 + l.place))
