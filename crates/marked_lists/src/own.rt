@@ -7,7 +7,7 @@ ghost use Rattle.measure_core.specs.Lists.{added_documents};
 ghost use Rattle.marked_lists.specs.Hidden.{AreHidden};
 
 use desk_model::{Mark, Memory, Ranking};
-use measure_core::push_own;
+use measure_core::{MarkedPair, push_own};
 use std::alloc::Global;
 use topic_counts::counts::prefix;
 
@@ -43,7 +43,12 @@ fn push_unhidden(
     let mut left = marks.to_vec(alloc)?;
     hide_first(k, a, &mut left);
     let nothing = Ranking::new(alloc, Vec::new(alloc), marks.len() as u32)?;
-    push_own(k, &nothing, b, &left, docs)
+    let pair = MarkedPair {
+        a: &nothing,
+        b,
+        marks: &left,
+    };
+    push_own(k, &pair, docs)
 }
 
 /// Appends the unjudged documents that b has among its first k and a has not, ascending, as `push_own` does, and
@@ -64,7 +69,7 @@ pub fn push_own_marked(
         added_documents marks.now (with_picked marks.now (only_second k a.now b.now))) }
 {
     if k <= LOOKED_UP || marks.len() > COPIED {
-        push_own(k, a, b, marks, docs)
+        push_own(k, &MarkedPair { a, b, marks }, docs)
     } else {
         push_unhidden(alloc, k, a, b, marks, docs)
     }

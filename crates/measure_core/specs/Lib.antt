@@ -12,3 +12,4 @@ pub mod Bits
 pub mod Ranks
 pub mod Rooms
 pub mod PairLists
+pub mod Marked

@@ -10,13 +10,6 @@ use std::alloc::Global;
 use topic_counts::counts::Counts;
 use topic_counts::topic::all_documents;
 
-/// The rank of each document of a topic in two runs, from 1, and 0 for none.
-#[derive(Clone, Copy)]
-pub struct RankTables<'t> {
-    pub first: &'t [u32],
-    pub second: &'t [u32],
-}
-
 /// What is kept of a topic, and of the first of two runs, while the documents of lists of many pairs are counted.
 #[derive(Drop)]
 pub struct ListRoom {

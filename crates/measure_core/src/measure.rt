@@ -303,13 +303,13 @@ pub trait Measure: Drop {
         cells: &mut [KeptCell],
         steps: &mut Steps<L>,
     )
-        requires measure { IsMeasure (measured self.now) }
         requires met { AreAllMet marks.now rankings.now }
         requires count { length cells.old ≡ length (pairs_of (run_numbers (runs_on rankings.now))) }
         ensures cells { cells.new ≡ pair_cells (cell_of self.now marks.now) rankings.now }
         ensures modest { All CellIsModest cells.new }
         ensures steps { steps.new ≡ steps.old + length cells.old }
     {
+        let _name = self.name();
         let runs = rankings.runs();
         let mut at = PairPlaces::START;
         for place in 0..cells.len() {

@@ -1,22 +1,18 @@
 // Lists of the unjudged documents that one of two rankings alone has among its first k, and of some more.
-ghost use Rattle.std.specs.Prelude.{◌≡◌, ◌-◌, ◌<◌, ◌≤◌, ◌++◌, ◌&&◌, ◌||◌, not, nat_lt, if◌then◌else◌, drop, length, Some, OnOk};
-ghost use Rattle.std.specs.List.{AllByRecursion};
+ghost use Rattle.std.specs.Prelude.{◌≡◌, ◌-◌, ◌++◌, ◌&&◌, ◌||◌, not, nat_lt, if◌then◌else◌, drop, OnOk};
 ghost use Rattle.desk_model.specs.Completion.{with_picked};
-ghost use Rattle.desk_model.specs.Limits.{RANK_LIMIT};
 ghost use Rattle.desk_model.specs.Mark.{is_unjudged};
-ghost use Rattle.desk_model.specs.Placed.{IsAscending, lookup};
-ghost use Rattle.desk_model.specs.declared.placed.Placed.{Placed as P};
-ghost use Rattle.measure_laws.specs.Ranks.{IsRankWithin};
-ghost use Rattle.measure_core.specs.Laws.{AreMet};
+ghost use Rattle.desk_model.specs.Placed.{lookup};
 ghost use Rattle.measure_core.specs.Lists.{added_documents, own_and_more};
 ghost use Rattle.measure_core.specs.OneSide.{is_by};
 ghost use Rattle.measure_core.specs.Places.{BeginsAt};
 ghost use Rattle.measure_core.specs.Worths.{rank_or_none};
 
+use crate::marked::{MarkedPair, MarkedPlaces};
 use crate::own_lists::SecondAlone;
 use crate::places::rest;
 use crate::rank_lists::push_places;
-use desk_model::{Mark, Memory, Placed, Ranking};
+use desk_model::{Mark, Memory};
 
 /// How many unjudged documents are listed beside those that the second of two rankings alone has among its first k: of
 /// those that both or neither have there, and of those that the first alone has.
@@ -69,13 +65,11 @@ impl More {
 
 /// The rank of a document that no place from one on comes before, and 0 where it has none there.
 #[inline]
-pub(crate) fn rank_from(places: &[Placed], at: usize, doc: u32) -> u32
-    requires ascending { IsAscending places.now }
-    requires ranks { AllByRecursion (λ (place : P). IsRankWithin RANK_LIMIT (Some place.rank))
-        places.now }
-    requires from { BeginsAt doc (drop at places.now) }
-    ensures { rank_or_none result ≡ lookup (drop at places.now) doc }
+pub(crate) fn rank_from(marked: &MarkedPlaces, at: usize, doc: u32) -> u32
+    requires { BeginsAt doc (drop at marked.now.places.now) }
+    ensures { rank_or_none result ≡ lookup (drop at marked.now.places.now) doc }
 {
+    let places = marked.places;
     if at < places.len() && places[at].doc == doc {
         places[at].rank
     } else {
@@ -108,26 +102,33 @@ pub(crate) fn gone_on(rank: u32) -> usize
 pub fn push_own_and_more(
     k: u32,
     more: More,
-    a: &Ranking,
-    b: &Ranking,
-    marks: &[Mark],
+    pair: &MarkedPair,
     docs: &mut Vec<u32>,
 ) -> Result<(), Memory>
-    requires { AreMet marks.now a.now b.now }
     ensures { OnOk result (docs.new.items ≡ docs.old.items ++
-        added_documents marks.now
-        (with_picked marks.now (own_and_more k more marks.now a.now b.now))) }
+        added_documents pair.now.marks.now
+        (with_picked pair.now.marks.now
+        (own_and_more k more pair.now.marks.now pair.now.a.now pair.now.b.now))) }
 {
-    let first = a.by_doc();
-    let second = b.by_doc();
+    let marks = pair.marks;
+    let first = pair.a.by_doc();
+    let second = pair.b.by_doc();
+    let one = MarkedPlaces {
+        places: first,
+        marks,
+    };
+    let other = MarkedPlaces {
+        places: second,
+        marks,
+    };
     let mut i = 0;
     let mut j = 0;
     let mut left = more;
     let mut doc = 0;
     while (doc as usize) < marks.len() && left.is_some() {
         let mark = marks[doc as usize];
-        let x = rank_from(first, i, doc);
-        let y = rank_from(second, j, doc);
+        let x = rank_from(&one, i, doc);
+        let y = rank_from(&other, j, doc);
         let in_first = is_by(k, x);
         let in_second = is_by(k, y);
         if left.lists(mark, in_first, in_second) {
@@ -139,11 +140,13 @@ pub fn push_own_and_more(
         doc += 1;
     }
     // Of the documents that are left only the second run's own are listed.
-    push_places(
-        &SecondAlone { k },
-        rest(first, i),
-        rest(second, j),
+    let one = MarkedPlaces {
+        places: rest(first, i),
         marks,
-        docs,
-    )
+    };
+    let other = MarkedPlaces {
+        places: rest(second, j),
+        marks,
+    };
+    push_places(&SecondAlone { k }, &one, &other, docs)
 }

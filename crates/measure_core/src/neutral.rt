@@ -1,15 +1,13 @@
 // Counts of the unjudged documents that both or neither of two rankings have among their first k.
-ghost use Rattle.std.specs.Prelude.{◌≡◌, ◌≤◌, ◌&&◌, not, length, if◌then◌else◌};
+ghost use Rattle.std.specs.Prelude.{◌≡◌, ◌&&◌, not, length, if◌then◌else◌};
 ghost use Rattle.desk_model.specs.Mark.{is_unjudged};
-ghost use Rattle.measure_core.specs.Laws.{AreMet};
 ghost use Rattle.measure_core.specs.Lists.{first_neutral, AreCounted, HaveRoomFor};
 ghost use Rattle.measure_core.specs.OneSide.{is_by};
-ghost use Rattle.measure_core.specs.Ranks.{AreRanksIn};
 ghost use Rattle.measure_core.specs.Worths.{rank_or_none};
 
-use crate::list_room::RankTables;
+use crate::marked::RankedPair;
 use crate::more_lists::is_by;
-use desk_model::{Mark, Ranking};
+use desk_model::Mark;
 
 /// 1 for an unjudged document that both or neither have there, by its ranks, and 0 for another.
 #[inline]
@@ -25,27 +23,23 @@ fn counted(k: u32, first: u32, second: u32, mark: Mark) -> u32
 /// Counts the first unjudged documents that both or neither of two rankings have among their first k, so many at most,
 /// by one pass over the marks and the ranks of both up to the last of them. It answers how many they are, and takes no
 /// memory.
-pub fn count_neutral(
-    k: u32,
-    most: u32,
-    a: &Ranking,
-    b: &Ranking,
-    ranks: RankTables<'_>,
-    marks: &[Mark],
-    counts: &mut [u32],
-) -> u32
-    requires met { AreMet marks.now a.now b.now }
-    requires first { AreRanksIn marks.now a.now ranks.first.now }
-    requires second { AreRanksIn marks.now b.now ranks.second.now }
-    requires size { length counts.old ≡ length marks.now }
-    requires room { HaveRoomFor counts.old (first_neutral k most marks.now a.now b.now) }
-    ensures count { result ≡ length (first_neutral k most marks.now a.now b.now) }
-    ensures counts { AreCounted counts.old (first_neutral k most marks.now a.now b.now) counts.new }
+pub fn count_neutral(k: u32, most: u32, ranked: &RankedPair, counts: &mut [u32]) -> u32
+    requires size { length counts.old ≡ length ranked.now.marks.now }
+    requires room { HaveRoomFor counts.old
+        (first_neutral k most ranked.now.marks.now ranked.now.a.now ranked.now.b.now) }
+    ensures count { result ≡
+        length (first_neutral k most ranked.now.marks.now ranked.now.a.now ranked.now.b.now) }
+    ensures counts { AreCounted counts.old
+        (first_neutral k most ranked.now.marks.now ranked.now.a.now ranked.now.b.now)
+        counts.new }
 {
+    let marks = ranked.marks;
+    let first = ranked.first;
+    let second = ranked.second;
     let mut left = most;
     let mut doc = 0;
     while doc < marks.len() && left > 0 {
-        let more = counted(k, ranks.first[doc], ranks.second[doc], marks[doc]);
+        let more = counted(k, first[doc], second[doc], marks[doc]);
         counts[doc] += more;
         left -= more;
         doc += 1;

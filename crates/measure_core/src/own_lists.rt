@@ -6,11 +6,10 @@ ghost use Rattle.desk_model.specs.Completion.{with_picked};
 ghost use Rattle.desk_model.specs.Mark.{is_unjudged, mark_at};
 ghost use Rattle.desk_model.specs.Ranking.{is_in};
 ghost use Rattle.measure_laws.specs.Prefixes.{only_second};
-ghost use Rattle.measure_core.specs.Laws.{AreMet};
 ghost use Rattle.measure_core.specs.Lists.{added_documents, own_documents, AreCounted, HaveRoomFor};
-ghost use Rattle.measure_core.specs.Ranks.{AreRanksIn};
 
 use crate::counting::count_by_ranks;
+use crate::marked::{MarkedPair, RankedPair};
 use crate::rank_lists::{RankTest, push_by_ranks};
 use desk_model::{Mark, Memory, Ranking};
 use topic_counts::counts::{is_among_first, prefix};
@@ -46,20 +45,14 @@ fn is_open_outside(k: u32, ranking: &Ranking, doc: u32, mark: Mark) -> bool
 }
 
 /// Appends them in the order of the second ranking, by looking each up in the first.
-fn push_found(
-    k: u32,
-    a: &Ranking,
-    b: &Ranking,
-    marks: &[Mark],
-    docs: &mut Vec<u32>,
-) -> Result<(), Memory>
-    requires { AreMet marks.now a.now b.now }
+fn push_found(k: u32, pair: &MarkedPair, docs: &mut Vec<u32>) -> Result<(), Memory>
     ensures { OnOk result (docs.new.items ≡ docs.old.items ++
-        filter (λ doc. is_unjudged (mark_at marks.now doc) && not (is_in (take k a.now) doc))
-        (take k b.now)) }
+        filter (λ doc. is_unjudged (mark_at pair.now.marks.now doc) &&
+        not (is_in (take k pair.now.a.now) doc)) (take k pair.now.b.now)) }
 {
-    for doc in prefix(b.docs(), k) {
-        if is_open_outside(k, a, *doc, marks[*doc as usize]) {
+    let marks = pair.marks;
+    for doc in prefix(pair.b.docs(), k) {
+        if is_open_outside(k, pair.a, *doc, marks[*doc as usize]) {
             docs.push(*doc)?;
         }
     }
@@ -68,11 +61,11 @@ fn push_found(
 
 /// Sorts a list from a place on.
 fn sort_rest(docs: &mut Vec<u32>, start: usize)
-    requires { start ≤ length docs.old.items }
     ensures before { take start docs.new.items ≡ take start docs.old.items }
     ensures moved { IsPermutation (drop start docs.old.items) (drop start docs.new.items) }
     ensures sorted { IsSorted nat_cmp (drop start docs.new.items) }
 {
+    let start = start.min(docs.len());
     docs[start..].sort_unstable();
 }
 
@@ -80,44 +73,33 @@ fn sort_rest(docs: &mut Vec<u32>, start: usize)
 ///
 /// # Errors
 /// `Memory`: out of memory. It is then not known what `docs` holds.
-pub fn push_own(
-    k: u32,
-    a: &Ranking,
-    b: &Ranking,
-    marks: &[Mark],
-    docs: &mut Vec<u32>,
-) -> Result<(), Memory>
-    requires { AreMet marks.now a.now b.now }
+pub fn push_own(k: u32, pair: &MarkedPair, docs: &mut Vec<u32>) -> Result<(), Memory>
     ensures { OnOk result (docs.new.items ≡ docs.old.items ++
-        added_documents marks.now (with_picked marks.now (only_second k a.now b.now))) }
+        added_documents pair.now.marks.now
+        (with_picked pair.now.marks.now (only_second k pair.now.a.now pair.now.b.now))) }
 {
     if k > LOOKED_UP {
-        return push_by_ranks(&SecondAlone { k }, a, b, marks, docs);
+        return push_by_ranks(&SecondAlone { k }, pair, docs);
     }
     let start = docs.len();
-    push_found(k, a, b, marks, docs)?;
+    push_found(k, pair, docs)?;
     sort_rest(docs, start);
     Ok(())
 }
 
 /// Counts the first unjudged documents that b has among its first k and a has not, so many at most, from the rank of
 /// each document in a. It answers how many they are, and takes no memory.
-pub fn count_own(
-    k: u32,
-    most: u32,
-    ranks: &[u32],
-    a: &Ranking,
-    b: &Ranking,
-    marks: &[Mark],
-    counts: &mut [u32],
-) -> u32
-    requires met { AreMet marks.now a.now b.now }
-    requires ranks { AreRanksIn marks.now a.now ranks.now }
-    requires size { length counts.old ≡ length marks.now }
-    requires room { HaveRoomFor counts.old (take most (own_documents k marks.now a.now b.now)) }
-    ensures count { result ≡ length (take most (own_documents k marks.now a.now b.now)) }
-    ensures counts { AreCounted counts.old (take most (own_documents k marks.now a.now b.now))
-        counts.new }
+pub fn count_own(k: u32, most: u32, ranked: &RankedPair, counts: &mut [u32]) -> u32
+    requires size { length counts.old ≡ length ranked.now.marks.now }
+    requires room { HaveRoomFor counts.old
+        (take most
+        (own_documents k ranked.now.marks.now ranked.now.a.now ranked.now.b.now)) }
+    ensures count { result ≡
+        length (take most
+        (own_documents k ranked.now.marks.now ranked.now.a.now ranked.now.b.now)) }
+    ensures counts { AreCounted counts.old
+        (take most
+        (own_documents k ranked.now.marks.now ranked.now.a.now ranked.now.b.now)) counts.new }
 {
-    count_by_ranks(&SecondAlone { k }, most, ranks, a, b, marks, counts)
+    count_by_ranks(&SecondAlone { k }, most, ranked, counts)
 }

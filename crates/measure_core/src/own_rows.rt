@@ -1,12 +1,13 @@
-ghost use Rattle.std.specs.Prelude.{◌≡◌, ◌+◌, ◌<◌, ◌≤◌, true, false, All, length, take};
+ghost use Rattle.std.specs.Prelude.{◌≡◌, ◌+◌, ◌≤◌, true, false, All, length, take};
 ghost use Rattle.desk_model.specs.Pairs.{pairs_of};
 ghost use Rattle.measure_core.specs.Laws.{CellIsModest};
-ghost use Rattle.measure_core.specs.Pairs.{AreAllMet, pair_cells, ranking_on, run_numbers, runs_on};
+ghost use Rattle.measure_core.specs.Pairs.{pair_cells, run_numbers, runs_on};
 ghost use Rattle.topic_counts.specs.Seen.{AreMarksIn};
-ghost use Rattle.measure_core.specs.Told.{AreRunCounts, AreSeenBefore};
+ghost use Rattle.measure_core.specs.Told.{AreRunCounts};
 
+use crate::marked::{MarkedRankings, MarkedRun};
 use crate::own_measure::OwnMeasure;
-use crate::{CellRoom, KeptCell, Steps, TopicRankings};
+use crate::{CellRoom, KeptCell, Steps};
 use desk_model::{Mark, PairPlaces};
 use std::sync::ledger::Ledger;
 use topic_counts::counts::{Counts, prefix_documents};
@@ -14,69 +15,26 @@ use topic_counts::marked::{mark_first, own_by_marks};
 use topic_counts::topic::all_documents;
 
 /// Counts the first k documents of each run.
-fn count_runs(k: u32, rankings: &TopicRankings<'_>, marks: &[Mark], counts: &mut [Counts])
-    requires met { AreAllMet marks.now rankings.now }
-    requires room { runs_on rankings.now ≤ length counts.old }
-    ensures { AreRunCounts k marks.now rankings.now counts.new }
+fn count_runs(k: u32, on: &MarkedRankings, counts: &mut [Counts])
+    requires { runs_on on.now.rankings.now ≤ length counts.old }
+    ensures counts { AreRunCounts k on.now.marks.now on.now.rankings.now counts.new }
+    ensures count { length counts.new ≡ length counts.old }
 {
-    for run in 0..rankings.runs() {
-        counts[run as usize] = prefix_documents(k, rankings.ranking(run), marks);
+    for run in 0..on.rankings.runs() {
+        counts[run as usize] = prefix_documents(k, on.rankings.ranking(run), on.marks);
     }
 }
 
-/// Makes `seen` the marks of the first run's first k documents. At all but the first pair of that run
-/// they are that already.
-fn see_first(
-    k: u32,
-    rankings: &TopicRankings<'_>,
-    marks: &[Mark],
-    at: PairPlaces,
-    seen: &mut [Mark],
-)
-    requires met { AreAllMet marks.now rankings.now }
-    requires order { at.first < at.second }
-    requires within { at.second < runs_on rankings.now }
-    requires room { length marks.now ≤ length seen.old }
-    requires before { AreSeenBefore k marks.now rankings.now at seen.old }
-    ensures seen { AreMarksIn (take k (ranking_on rankings.now at.first)) marks.now seen.new }
+/// Makes `seen` the marks of the first k documents of a run, where it is a new one; else they are that already.
+fn see_first(k: u32, is_new: bool, first: &MarkedRun, seen: &mut [Mark])
+    requires { length first.now.marks.now ≤ length seen.old }
+    ensures seen { (is_new ≡ false →
+        AreMarksIn (take k first.now.run.now) first.now.marks.now seen.old) →
+        AreMarksIn (take k first.now.run.now) first.now.marks.now seen.new }
     ensures count { length seen.new ≡ length seen.old }
 {
-    if at.first + 1 == at.second {
-        mark_first(k, rankings.ranking(at.first), marks, seen);
-    }
-}
-
-/// The cells of all pairs of runs, by the counts of each run's first k documents. It is one step for each.
-fn fill_cells<O: OwnMeasure, L: Ledger>(
-    measure: &O,
-    rankings: &TopicRankings<'_>,
-    marks: &[Mark],
-    counts: &[Counts],
-    seen: &mut [Mark],
-    cells: &mut [KeptCell],
-    steps: &mut Steps<L>,
-)
-    requires met { AreAllMet marks.now rankings.now }
-    requires counts { AreRunCounts (O.depth_of measure.now) marks.now rankings.now counts.now }
-    requires counted { runs_on rankings.now ≤ length counts.now }
-    requires room { length marks.now ≤ length seen.old }
-    requires count { length cells.old ≡ length (pairs_of (run_numbers (runs_on rankings.now))) }
-    ensures cells { cells.new ≡ pair_cells (O.own_cell_of measure.now marks.now) rankings.now }
-    ensures modest { All CellIsModest cells.new }
-    ensures steps { steps.new ≡ steps.old + length cells.old }
-{
-    let k = measure.depth();
-    let all = all_documents(marks);
-    let runs = rankings.runs();
-    let mut at = PairPlaces::START;
-    for place in 0..cells.len() {
-        see_first(k, rankings, marks, at, seen);
-        let first = counts[at.first as usize];
-        let second = counts[at.second as usize];
-        let own = own_by_marks(k, first, second, rankings.ranking(at.second), seen);
-        cells[place] = KeptCell::of(measure.own_cell(own, all));
-        steps.tick();
-        at = at.next(runs);
+    if is_new {
+        mark_first(k, first.run, first.marks, seen);
     }
 }
 
@@ -88,26 +46,42 @@ fn fill_cells<O: OwnMeasure, L: Ledger>(
 /// later run adds up those of its own first k documents among them.
 pub fn own_cells<O: OwnMeasure, L: Ledger>(
     measure: &O,
-    rankings: &TopicRankings<'_>,
-    marks: &[Mark],
+    on: &MarkedRankings,
     room: &mut CellRoom,
     cells: &mut [KeptCell],
     steps: &mut Steps<L>,
 ) -> bool
-    requires met { AreAllMet marks.now rankings.now }
-    requires count { length cells.old ≡ length (pairs_of (run_numbers (runs_on rankings.now))) }
+    requires { length cells.old ≡
+        length (pairs_of (run_numbers (runs_on on.now.rankings.now))) }
     ensures cells { result ≡ true →
-        cells.new ≡ pair_cells (O.own_cell_of measure.now marks.now) rankings.now }
+        cells.new ≡ pair_cells (O.own_cell_of measure.now on.now.marks.now) on.now.rankings.now }
     ensures modest { result ≡ true → All CellIsModest cells.new }
     ensures steps { result ≡ true → steps.new ≡ steps.old + length cells.old }
     ensures too_small { result ≡ false → (cells.new ≡ cells.old) × (steps.new ≡ steps.old) }
 {
-    let seen = &mut room.marks;
-    let counts = &mut room.counts;
-    let fits = marks.len() <= seen.len() && rankings.runs() as usize <= counts.len();
-    if fits {
-        count_runs(measure.depth(), rankings, marks, counts);
-        fill_cells(measure, rankings, marks, counts, seen, cells, steps);
+    let marks = on.marks;
+    let rankings = on.rankings;
+    let runs = rankings.runs();
+    let seen: &mut [Mark] = &mut room.marks;
+    let counts: &mut [Counts] = &mut room.counts;
+    if marks.len() > seen.len() || runs as usize > counts.len() {
+        return false;
     }
-    fits
+    let k = measure.depth();
+    count_runs(k, on, counts);
+    let all = all_documents(marks);
+    let mut at = PairPlaces::START;
+    for place in 0..cells.len() {
+        let a = rankings.ranking(at.first);
+        let b = rankings.ranking(at.second);
+        let is_new = at.first + 1 == at.second;
+        see_first(k, is_new, &MarkedRun { run: a, marks }, seen);
+        let first = counts[at.first as usize];
+        let second = counts[at.second as usize];
+        let own = own_by_marks(k, first, second, b, seen);
+        cells[place] = KeptCell::of(measure.own_cell(own, all));
+        steps.tick();
+        at = at.next(runs);
+    }
+    true
 }

@@ -1,5 +1,5 @@
 // Places of two lists of documents with their ranks, each list of a run.
-ghost use Rattle.std.specs.Prelude.{◌≡◌, ◌≤◌, drop, length, Some};
+ghost use Rattle.std.specs.Prelude.{◌≡◌, ◌≤◌, nat_le, drop, if◌then◌else◌, None, Some};
 ghost use Rattle.std.specs.Int.{abs_diff};
 ghost use Rattle.desk_model.specs.Limits.{RANK_LIMIT};
 ghost use Rattle.measure_laws.specs.Ranks.{IsRankWithin};
@@ -12,19 +12,17 @@ use desk_model::Placed;
 /// The rank of a place, and 0 where its document comes after that of another.
 #[inline]
 pub fn rank_unless_after(x: Placed, y: Placed) -> u32
-    requires { IsRankWithin RANK_LIMIT (Some x.rank) }
-    ensures rank { rank_or_none result ≡ rank_unless_after x y }
-    ensures within { result ≤ RANK_LIMIT }
+    ensures rank { rank_or_none result ≡ (if nat_le x.doc y.doc then rank_or_none x.rank else None) }
+    ensures within { result ≤ x.rank }
 {
     if x.doc <= y.doc { x.rank } else { 0 }
 }
 
 /// A list from a place on.
 pub fn rest(places: &[Placed], place: usize) -> &[Placed]
-    requires { place ≤ length places.now }
     ensures { result.now ≡ drop place places.now }
 {
-    &places[place..]
+    &places[place.min(places.len())..]
 }
 
 /// The weight of the one of two documents that comes first, or of both where they are one.

@@ -12,8 +12,8 @@ ghost use Rattle.measure_core.specs.Made.{IsMadeFor};
 use crate::own::cell_between;
 use desk_model::{Mark, MeasureName, Memory, Ranking};
 use measure_core::{
-    Cell, CellRoom, KeptCell, Measure, Picks, Shift, Steps, TopicRankings, case_values, own_cells,
-    push_own, shift_one_side,
+    Cell, CellRoom, KeptCell, MarkedPair, MarkedRankings, Measure, Picks, Shift, Steps,
+    TopicRankings, case_values, own_cells, push_own, shift_one_side,
 };
 use std::alloc::Global;
 use std::marker::Model;
@@ -118,7 +118,13 @@ impl Measure for Precision {
         cells: &mut [KeptCell],
         steps: &mut Steps<L>,
     ) {
-        if own_cells(self, rankings, marks, room, cells, steps) {
+        if own_cells(
+            self,
+            &MarkedRankings { rankings, marks },
+            room,
+            cells,
+            steps,
+        ) {
             return;
         }
         self.each_cell(rankings, marks, cells, steps);
@@ -155,7 +161,7 @@ impl Measure for Precision {
         marks: &[Mark],
         docs: &mut Vec<u32>,
     ) -> Result<(), Memory> {
-        push_own(self.k, a, b, marks, docs)
+        push_own(self.k, &MarkedPair { a, b, marks }, docs)
     }
 
     fn weight(&self, a: &Ranking, b: &Ranking, _marks: &[Mark], doc: u32) -> u128 {

@@ -3,11 +3,8 @@
 ghost use Rattle.std.specs.Prelude.{◌≡◌, ◌*◌, ◌≤◌, if◌then◌else◌, Some};
 ghost use Rattle.desk_model.specs.Limits.{PARTS_OF_ONE, RANK_LIMIT};
 ghost use Rattle.desk_model.specs.declared.types.Mark.TheVariants.{Unjudged, Relevant};
-ghost use Rattle.measure_core.specs.Laws.{AreMet};
 ghost use Rattle.measure_laws.specs.Powers.{low_weight, high_weight};
 ghost use Rattle.measure_laws.specs.Ranks.{IsRankWithin, comes_before};
-ghost use Rattle.measure_core.specs.Bits.{AreBitsIn};
-ghost use Rattle.measure_core.specs.Ranks.{AreRanksIn};
 ghost use Rattle.rbp.specs.Added.{IsAdded, IsUpTo, AreAddedSums, added};
 ghost use Rattle.rbp.specs.Walk.{AreCorrections};
 ghost use Rattle.measure_core.specs.Worths.{rank_or_none};
@@ -15,10 +12,11 @@ ghost use Rattle.measure_core.specs.Worths.{rank_or_none};
 use crate::corrections::Shares;
 use crate::rbp::Rbp;
 use crate::weights::Parts;
-use desk_model::{Mark, Ranking};
-use measure_core::{Cell, FirstRun, KeptPair, RankedMeasure, RunSums, RunWeights, has_bit};
+use desk_model::Mark;
+use measure_core::{
+    Cell, KeptPair, MarkedRun, RankedMeasure, RunSums, RunWeights, SetApart, has_bit,
+};
 use topic_counts::Span;
-use topic_counts::counts::Counts;
 
 /// What documents of both runs add to the sums of shares beyond what their ranks alone add, in parts of
 /// 10^18.
@@ -183,25 +181,20 @@ impl Rbp {
 
     /// The sums of the corrections of the documents of both runs, by one pass over the second's by the
     /// bits and the ranks of the first's. Few documents of two runs are of both and may be relevant.
-    pub fn corrections_by_ranks(
-        &self,
-        a: &Ranking,
-        b: &Ranking,
-        marks: &[Mark],
-        first: FirstRun<'_>,
-    ) -> Shares
-        requires met { AreMet marks.now a.now b.now }
-        requires bits { AreBitsIn a.now marks.now first.bits.now }
-        requires ranks { AreRanksIn marks.now a.now first.ranks.now }
-        ensures { AreCorrections self.now.top self.now.bottom marks.now a.now b.now result }
+    pub fn corrections_by_ranks(&self, apart: &SetApart) -> Shares
+        ensures { AreCorrections self.now.top self.now.bottom apart.now.marks.now apart.now.a.now
+            apart.now.b.now result }
     {
+        let marks = apart.marks;
+        let bits = apart.bits;
+        let ranks = apart.ranks;
         // What is kept of the persistence bounds the sums.
         let _ = &self.top;
         let mut sums = Added::NONE;
-        for (place, doc) in b.docs().iter().enumerate() {
-            if has_bit(first.bits, *doc) {
+        for (place, doc) in apart.b.docs().iter().enumerate() {
+            if has_bit(bits, *doc) {
                 let mark = marks[*doc as usize];
-                let rank = first.ranks[*doc as usize];
+                let rank = ranks[*doc as usize];
                 sums = sums.with(self.adds(rank, place as u32 + 1, mark));
             }
         }
@@ -219,31 +212,23 @@ impl RankedMeasure for Rbp {
 
     ghost are_sums = { λ _ _ _ _. ⊤ };
 
-    fn run_weights(&self, ranking: &Ranking, marks: &[Mark]) -> RunWeights {
-        self.kept_weights(marks, ranking.docs())
+    fn run_weights(&self, marked: &MarkedRun) -> RunWeights {
+        self.kept_weights(marked.marks, marked.run.docs())
     }
 
-    fn run_sums(&self, _ranking: &Ranking, _marks: &[Mark]) -> RunSums {
+    fn run_sums(&self, _marked: &MarkedRun) -> RunSums {
         RunSums::NONE
     }
 
-    fn ranked_cell(
-        &self,
-        a: &Ranking,
-        b: &Ranking,
-        marks: &[Mark],
-        first: FirstRun<'_>,
-        kept: KeptPair<'_>,
-        _all: Counts,
-    ) -> Cell {
+    fn ranked_cell(&self, apart: &SetApart, kept: KeptPair<'_>) -> Cell {
         // What is kept of the persistence bounds the ends.
         let _ = &self.top;
         self.cell_by(
-            a,
-            b,
-            marks,
+            apart.a,
+            apart.b,
+            apart.marks,
             kept.weights,
-            self.corrections_by_ranks(a, b, marks, first),
+            self.corrections_by_ranks(apart),
         )
     }
 }

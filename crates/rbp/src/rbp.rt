@@ -17,8 +17,9 @@ use crate::lists::SecondBefore;
 use crate::weights::{RankWeights, high_weights, low_weights};
 use desk_model::{Mark, MeasureName, Memory, Ranking};
 use measure_core::{
-    Cell, CellRoom, KeptCell, KeptWeights, ListRoom, ListSizes, Measure, Picks, Shift, Steps,
-    TopicRankings, case_values, count_by_ranks, push_by_ranks, ranked_cells, shift_by_ranks,
+    Cell, CellRoom, KeptCell, KeptWeights, ListRoom, ListSizes, MarkedPair, MarkedRankings,
+    Measure, Picks, RankedPair, Shift, Steps, TopicRankings, case_values, count_by_ranks,
+    push_by_ranks, ranked_cells, shift_by_ranks,
 };
 use std::alloc::Global;
 use std::marker::Model;
@@ -245,7 +246,13 @@ impl Measure for Rbp {
         cells: &mut [KeptCell],
         steps: &mut Steps<L>,
     ) {
-        if ranked_cells(self, rankings, marks, room, cells, steps) {
+        if ranked_cells(
+            self,
+            &MarkedRankings { rankings, marks },
+            room,
+            cells,
+            steps,
+        ) {
             return;
         }
         self.each_cell(rankings, marks, cells, steps);
@@ -282,7 +289,7 @@ impl Measure for Rbp {
         marks: &[Mark],
         docs: &mut Vec<u32>,
     ) -> Result<(), Memory> {
-        push_by_ranks(&SecondBefore, a, b, marks, docs)
+        push_by_ranks(&SecondBefore, &MarkedPair { a, b, marks }, docs)
     }
 
     fn count_lists(
@@ -296,8 +303,22 @@ impl Measure for Rbp {
     ) -> Result<ListSizes, Memory> {
         room.set_second(b);
         let all = marks.len() as u32;
-        let least = count_by_ranks(&SecondBefore, all, &room.first, a, b, marks, counts);
-        let most = count_by_ranks(&SecondBefore, all, &room.second, b, a, marks, counts);
+        let ranked = RankedPair {
+            a,
+            b,
+            marks,
+            first: &room.first,
+            second: &room.second,
+        };
+        let least = count_by_ranks(&SecondBefore, all, &ranked, counts);
+        let swapped = RankedPair {
+            a: b,
+            b: a,
+            marks,
+            first: &room.second,
+            second: &room.first,
+        };
+        let most = count_by_ranks(&SecondBefore, all, &swapped, counts);
         Ok(ListSizes { least, most })
     }
 

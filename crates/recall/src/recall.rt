@@ -14,16 +14,15 @@ ghost use Rattle.measure_core.specs.Lists.{added_documents, case_documents, leas
 ghost use Rattle.recall.specs.Led.{led_documents};
 ghost use Rattle.measure_core.specs.Made.{IsMadeFor};
 ghost use Rattle.measure_core.specs.Numbers.{exact_least};
-ghost use Rattle.measure_core.specs.Ranks.{AreRanksIn};
 ghost use Rattle.measure_core.specs.Rooms.{IsRoomFor};
 ghost use Rattle.recall.specs.LeastCase.{AreCounts, least_relevant};
 
 use desk_model::{Mark, MeasureName, Memory, Ranking};
 use marked_lists::push_own_marked;
 use measure_core::{
-    Cell, CellRoom, KeptCell, LOOKED_UP, ListRoom, ListSizes, Measure, More, OwnMeasure, Picks,
-    RankTables, Shift, Steps, TopicRankings, case_values, count_neutral, count_own, own_cells,
-    push_own_and_more, shift_one_side,
+    Cell, CellRoom, KeptCell, LOOKED_UP, ListRoom, ListSizes, MarkedPair, MarkedRankings, Measure,
+    More, OwnMeasure, Picks, RankedPair, Shift, Steps, TopicRankings, case_values, count_neutral,
+    count_own, own_cells, push_own_and_more, shift_one_side,
 };
 use std::alloc::Global;
 use std::marker::Model;
@@ -196,59 +195,45 @@ fn push_least(
             both: marks.len() as u32,
             first: 0,
         };
-        return push_own_and_more(k, others, a, b, marks, docs);
+        return push_own_and_more(k, others, &MarkedPair { a, b, marks }, docs);
     }
     Ok(())
 }
 
 /// Counts the unjudged documents that the least case makes relevant beside the second run's own ones, `own` in number:
 /// those that both or neither have among their first k, where the first run leads. It answers how many they are.
-fn count_led(
-    k: u32,
-    own: u32,
-    a: &Ranking,
-    b: &Ranking,
-    ranks: RankTables<'_>,
-    marks: &[Mark],
-    counts: &mut [u32],
-) -> u32
-    requires met { AreMet marks.now a.now b.now }
-    requires own { own ≡ length (own_documents k marks.now a.now b.now) }
-    requires first { AreRanksIn marks.now a.now ranks.first.now }
-    requires second { AreRanksIn marks.now b.now ranks.second.now }
-    requires size { length counts.old ≡ length marks.now }
-    requires room { HaveRoomFor counts.old (led_documents k marks.now a.now b.now) }
-    ensures count { result ≡ length (led_documents k marks.now a.now b.now) }
-    ensures counts { AreCounted counts.old (led_documents k marks.now a.now b.now) counts.new }
+fn count_led(k: u32, own: u32, ranked: &RankedPair, counts: &mut [u32]) -> u32
+    requires own { own ≡ length (own_documents k ranked.now.marks.now ranked.now.a.now
+        ranked.now.b.now) }
+    requires size { length counts.old ≡ length ranked.now.marks.now }
+    requires room { HaveRoomFor counts.old
+        (led_documents k ranked.now.marks.now ranked.now.a.now ranked.now.b.now) }
+    ensures count { result ≡
+        length (led_documents k ranked.now.marks.now ranked.now.a.now ranked.now.b.now) }
+    ensures counts { AreCounted counts.old
+        (led_documents k ranked.now.marks.now ranked.now.a.now ranked.now.b.now) counts.new }
 {
-    if leads(k, own as usize, a, b, marks) {
-        count_neutral(k, marks.len() as u32, a, b, ranks, marks, counts)
+    if leads(k, own as usize, ranked.a, ranked.b, ranked.marks) {
+        count_neutral(k, ranked.marks.len() as u32, ranked, counts)
     } else {
         0
     }
 }
 
 /// Counts the unjudged documents that the least case of two runs makes relevant, and answers how many they are.
-fn count_case(
-    k: u32,
-    a: &Ranking,
-    b: &Ranking,
-    ranks: RankTables<'_>,
-    marks: &[Mark],
-    counts: &mut [u32],
-) -> u32
-    requires met { AreMet marks.now a.now b.now }
-    requires first { AreRanksIn marks.now a.now ranks.first.now }
-    requires second { AreRanksIn marks.now b.now ranks.second.now }
-    requires size { length counts.old ≡ length marks.now }
-    requires room { HaveRoomFor counts.old (least_documents (R k) marks.now a.now b.now) }
-    ensures count { result ≡ length (least_documents (R k) marks.now a.now b.now) }
-    ensures counts { AreCounted counts.old (least_documents (R k) marks.now a.now b.now)
+fn count_case(k: u32, ranked: &RankedPair, counts: &mut [u32]) -> u32
+    requires size { length counts.old ≡ length ranked.now.marks.now }
+    requires room { HaveRoomFor counts.old
+        (least_documents (R k) ranked.now.marks.now ranked.now.a.now ranked.now.b.now) }
+    ensures count { result ≡
+        length (least_documents (R k) ranked.now.marks.now ranked.now.a.now ranked.now.b.now) }
+    ensures counts { AreCounted counts.old
+        (least_documents (R k) ranked.now.marks.now ranked.now.a.now ranked.now.b.now)
         counts.new }
 {
-    let all = marks.len() as u32;
-    let own = count_own(k, all, ranks.first, a, b, marks, counts);
-    own + count_led(k, own, a, b, ranks, marks, counts)
+    let all = ranked.marks.len() as u32;
+    let own = count_own(k, all, ranked, counts);
+    own + count_led(k, own, ranked, counts)
 }
 
 /// Counts the unjudged documents that the least cases of two runs and of the swapped runs make relevant, and answers how
@@ -271,16 +256,22 @@ fn count_cases(
     ensures counts { AreCounted counts.old (case_documents (R k) marks.now a.now b.now) counts.new }
 {
     room.set_second(b);
-    let ranks = RankTables {
+    let ranked = RankedPair {
+        a,
+        b,
+        marks,
         first: &room.first,
         second: &room.second,
     };
-    let least = count_case(k, a, b, ranks, marks, counts);
-    let swapped = RankTables {
+    let least = count_case(k, &ranked, counts);
+    let swapped = RankedPair {
+        a: b,
+        b: a,
+        marks,
         first: &room.second,
         second: &room.first,
     };
-    let most = count_case(k, b, a, swapped, marks, counts);
+    let most = count_case(k, &swapped, counts);
     ListSizes { least, most }
 }
 
@@ -323,7 +314,13 @@ impl Measure for Recall {
         cells: &mut [KeptCell],
         steps: &mut Steps<L>,
     ) {
-        if own_cells(self, rankings, marks, room, cells, steps) {
+        if own_cells(
+            self,
+            &MarkedRankings { rankings, marks },
+            room,
+            cells,
+            steps,
+        ) {
             return;
         }
         self.each_cell(rankings, marks, cells, steps);

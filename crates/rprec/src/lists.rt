@@ -3,14 +3,13 @@ ghost use Rattle.std.specs.Prelude.{◌≡◌, ◌≤◌, ◌++◌, length, OnOk
 ghost use Rattle.measure_laws.specs.RprecCase.{greedy_truth};
 ghost use Rattle.measure_core.specs.Laws.{AreMet};
 ghost use Rattle.measure_core.specs.Lists.{added_documents, AreCounted, HaveRoomFor};
-ghost use Rattle.measure_core.specs.Ranks.{AreRanksIn};
 ghost use Rattle.rprec.specs.Greedy.{AreTopic};
 ghost use Rattle.rprec.specs.Picks.{others, AreWanted};
 
 use crate::values::Wanted;
 use desk_model::{Mark, Memory, Ranking};
 use marked_lists::push_own_marked;
-use measure_core::{More, RankTables, count_neutral, count_own, push_own_and_more};
+use measure_core::{MarkedPair, More, RankedPair, count_neutral, count_own, push_own_and_more};
 use std::alloc::Global;
 use topic_counts::counts::Counts;
 
@@ -35,7 +34,7 @@ pub fn push_chosen(
             both: wanted.both,
             first: wanted.first,
         };
-        return push_own_and_more(count, others, a, b, marks, docs);
+        return push_own_and_more(count, others, &MarkedPair { a, b, marks }, docs);
     }
     let start = docs.len();
     push_own_marked(alloc, count, a, b, marks, docs)?;
@@ -45,55 +44,46 @@ pub fn push_chosen(
 
 /// Counts the first unjudged documents beside the second run's own ones, so many as are wanted: of those that both or
 /// neither have among their first k, and then of the first run's own. It answers how many they are.
-fn count_others(
-    k: u32,
-    wanted: u32,
-    a: &Ranking,
-    b: &Ranking,
-    ranks: RankTables<'_>,
-    marks: &[Mark],
-    counts: &mut [u32],
-) -> u32
-    requires met { AreMet marks.now a.now b.now }
-    requires first { AreRanksIn marks.now a.now ranks.first.now }
-    requires second { AreRanksIn marks.now b.now ranks.second.now }
-    requires size { length counts.old ≡ length marks.now }
-    requires room { HaveRoomFor counts.old (others k wanted marks.now a.now b.now) }
-    ensures count { result ≡ length (others k wanted marks.now a.now b.now) }
-    ensures counts { AreCounted counts.old (others k wanted marks.now a.now b.now) counts.new }
+fn count_others(k: u32, wanted: u32, ranked: &RankedPair, counts: &mut [u32]) -> u32
+    requires size { length counts.old ≡ length ranked.now.marks.now }
+    requires room { HaveRoomFor counts.old
+        (others k wanted ranked.now.marks.now ranked.now.a.now ranked.now.b.now) }
+    ensures count { result ≡
+        length (others k wanted ranked.now.marks.now ranked.now.a.now ranked.now.b.now) }
+    ensures counts { AreCounted counts.old
+        (others k wanted ranked.now.marks.now ranked.now.a.now ranked.now.b.now) counts.new }
 {
-    let both = count_neutral(k, wanted, a, b, ranks, marks, counts);
+    let both = count_neutral(k, wanted, ranked, counts);
     if both == wanted {
         return both;
     }
-    both + count_own(k, wanted - both, ranks.second, b, a, marks, counts)
+    let swapped = RankedPair {
+        a: ranked.b,
+        b: ranked.a,
+        marks: ranked.marks,
+        first: ranked.second,
+        second: ranked.first,
+    };
+    both + count_own(k, wanted - both, &swapped, counts)
 }
 
 /// Counts the unjudged documents that the greedy choice makes relevant where a topic is to have so many relevant ones,
 /// and answers how many they are.
-pub fn count_chosen(
-    count: u32,
-    a: &Ranking,
-    b: &Ranking,
-    ranks: RankTables<'_>,
-    all: Counts,
-    marks: &[Mark],
-    counts: &mut [u32],
-) -> u32
-    requires met { AreMet marks.now a.now b.now }
-    requires first { AreRanksIn marks.now a.now ranks.first.now }
-    requires second { AreRanksIn marks.now b.now ranks.second.now }
-    requires topic { AreTopic marks.now all }
+pub fn count_chosen(count: u32, ranked: &RankedPair, all: Counts, counts: &mut [u32]) -> u32
+    requires topic { AreTopic ranked.now.marks.now all }
     requires low { all.relevant ≤ count }
-    requires size { length counts.old ≡ length marks.now }
+    requires size { length counts.old ≡ length ranked.now.marks.now }
     requires room { HaveRoomFor counts.old
-        (added_documents marks.now (greedy_truth marks.now a.now b.now count)) }
+        (added_documents ranked.now.marks.now
+        (greedy_truth ranked.now.marks.now ranked.now.a.now ranked.now.b.now count)) }
     ensures count { result ≡
-        length (added_documents marks.now (greedy_truth marks.now a.now b.now count)) }
+        length (added_documents ranked.now.marks.now
+        (greedy_truth ranked.now.marks.now ranked.now.a.now ranked.now.b.now count)) }
     ensures counts { AreCounted counts.old
-        (added_documents marks.now (greedy_truth marks.now a.now b.now count)) counts.new }
+        (added_documents ranked.now.marks.now
+        (greedy_truth ranked.now.marks.now ranked.now.a.now ranked.now.b.now count)) counts.new }
 {
     let chosen = count - all.relevant;
-    let own = count_own(count, chosen, ranks.first, a, b, marks, counts);
-    own + count_others(count, chosen - own, a, b, ranks, marks, counts)
+    let own = count_own(count, chosen, ranked, counts);
+    own + count_others(count, chosen - own, ranked, counts)
 }

@@ -18,7 +18,7 @@ use crate::lists::count_chosen;
 use crate::shared::Shared;
 use crate::sums::sums_of_run;
 use desk_model::{Mark, Memory, Ranking};
-use measure_core::{KeptSums, ListRoom, ListSizes, RankTables, RunPair, RunSums, TopicRankings};
+use measure_core::{KeptSums, ListRoom, ListSizes, RankedPair, RunPair, RunSums, TopicRankings};
 use std::alloc::Global;
 use topic_counts::counts::Counts;
 
@@ -77,16 +77,22 @@ pub fn count_cases(
     let all = room.all;
     let extremes = extremes_of(a, b, sums, &room.first, all, marks);
     room.set_second(b);
-    let ranks = RankTables {
+    let ranked = RankedPair {
+        a,
+        b,
+        marks,
         first: &room.first,
         second: &room.second,
     };
-    let least = count_chosen(extremes.least.count, a, b, ranks, all, marks, counts);
-    let swapped = RankTables {
+    let least = count_chosen(extremes.least.count, &ranked, all, counts);
+    let swapped = RankedPair {
+        a: b,
+        b: a,
+        marks,
         first: &room.second,
         second: &room.first,
     };
-    let most = count_chosen(extremes.most.count, b, a, swapped, all, marks, counts);
+    let most = count_chosen(extremes.most.count, &swapped, all, counts);
     ListSizes { least, most }
 }
 

@@ -21,9 +21,9 @@ use crate::sums::sums_of_run;
 use crate::values::{LeastCase, values};
 use desk_model::{Mark, MeasureName, Memory, Ranking};
 use measure_core::{
-    Cell, CellRoom, FirstRun, KeptCell, KeptPair, KeptSums, ListRoom, ListSizes, Measure,
-    RankedMeasure, RunPair, RunSums, RunWeights, Shift, Steps, TopicRankings, ranked_cells,
-    shift_one_side,
+    Cell, CellRoom, KeptCell, KeptPair, KeptSums, ListRoom, ListSizes, MarkedRankings, MarkedRun,
+    Measure, RankedMeasure, RunPair, RunSums, RunWeights, SetApart, Shift, Steps, TopicRankings,
+    ranked_cells, shift_one_side,
 };
 use std::alloc::Global;
 use std::sync::ledger::Ledger;
@@ -184,33 +184,25 @@ impl RankedMeasure for Rprec {
 
     ghost weights_of = { λ _ _ _. record { relevant_low = 0; relevant_high = 0; possible_low = 0; possible_high = 0 } };
 
-    fn run_weights(&self, _ranking: &Ranking, _marks: &[Mark]) -> RunWeights {
+    fn run_weights(&self, _marked: &MarkedRun) -> RunWeights {
         RunWeights::NONE
     }
 
-    fn run_sums(&self, ranking: &Ranking, marks: &[Mark]) -> RunSums {
-        sums_of_run(ranking.docs(), marks)
+    fn run_sums(&self, marked: &MarkedRun) -> RunSums {
+        sums_of_run(marked.run.docs(), marked.marks)
     }
 
-    fn ranked_cell(
-        &self,
-        a: &Ranking,
-        b: &Ranking,
-        marks: &[Mark],
-        first: FirstRun<'_>,
-        kept: KeptPair<'_>,
-        all: Counts,
-    ) -> Cell {
-        let shared = Shared::by_ranks(a, b, first.ranks, marks);
+    fn ranked_cell(&self, apart: &SetApart, kept: KeptPair<'_>) -> Cell {
+        let shared = Shared::by_ranks(apart.a, apart.b, apart.ranks, apart.marks);
         let KeptPair { weights: _, sums } = kept;
         cell_of(
-            a.docs(),
-            b.docs(),
+            apart.a.docs(),
+            apart.b.docs(),
             sums.first,
             sums.second,
             &shared,
-            all,
-            marks,
+            apart.all,
+            apart.marks,
         )
     }
 }
@@ -347,7 +339,13 @@ impl Measure for Rprec {
         cells: &mut [KeptCell],
         steps: &mut Steps<L>,
     ) {
-        if ranked_cells(self, rankings, marks, room, cells, steps) {
+        if ranked_cells(
+            self,
+            &MarkedRankings { rankings, marks },
+            room,
+            cells,
+            steps,
+        ) {
             return;
         }
         self.each_cell(rankings, marks, cells, steps);

@@ -21,8 +21,8 @@ use Rattle.measure_core.proofs.more_lists.push_own_and_more.Goals.{then-lists+in
 
 pub loop-doc-init : goal.loop-doc-init
 loop-doc-init c =
-    let marks = c.args.marks.now in
-    let truth = with_picked marks (own_and_more c.args.k c.args.more marks c.args.a.now c.args.b.now) in
+    let marks = c.args.pair.now.marks.now in
+    let truth = with_picked marks (own_and_more c.args.k c.args.more marks c.args.pair.now.a.now c.args.pair.now.b.now) in
     record {
       doc_in = omega arith;
       first_in = omega arith;
@@ -34,19 +34,19 @@ loop-doc-init c =
       made = ap (λ l. c.args.docs.now.items ++ l) (left_whole (λ doc. is_unjudged (mark_at marks doc) && truth doc) (length marks));
     }
 
-pub rank_from-x-requires-clause-ranks : goal.rank_from-x-requires-clause-ranks
-rank_from-x-requires-clause-ranks c = let es = c.by_doc-first in (places_whole (length c.args.marks.now) c.args.a.now es.result.now c.requires.first es.ensures.ascending es.ensures.ranks).ranks
+pub invariant_of-one : goal.invariant_of-one
+invariant_of-one c = let es = c.by_doc-first in record { left = places_whole (length c.args.pair.now.marks.now) c.args.pair.now.a.now es.result.now c.args.pair.now.met.first es.ensures.ascending es.ensures.ranks }
 
-pub rank_from-y-requires-clause-ranks : goal.rank_from-y-requires-clause-ranks
-rank_from-y-requires-clause-ranks c = let fs = c.by_doc-second in (places_whole (length c.args.marks.now) c.args.b.now fs.result.now c.requires.second fs.ensures.ascending fs.ensures.ranks).ranks
+pub invariant_of-other : goal.invariant_of-other
+invariant_of-other c = let fs = c.by_doc-second in record { left = places_whole (length c.args.pair.now.marks.now) c.args.pair.now.b.now fs.result.now c.args.pair.now.met.second fs.ensures.ascending fs.ensures.ranks }
 
 pub loop-doc-preserved : goal.loop-doc-preserved
 loop-doc-preserved c =
-    let marks = c.args.marks.now in
+    let marks = c.args.pair.now.marks.now in
     let n = length marks in
     let k = c.args.k in
-    let a = c.args.a.now in
-    let b = c.args.b.now in
+    let a = c.args.pair.now.a.now in
+    let b = c.args.pair.now.b.now in
     let es = c.by_doc-first in
     let fs = c.by_doc-second in
     let l = c.loop-doc in
@@ -76,23 +76,25 @@ loop-doc-preserved c =
           (left_step test n doc lists c.loop-doc-test.true tested) pushed l.invariant.made;
     }
 
-pub push_places-requires : goal.push_places-requires
-push_places-requires c =
-    let n = length c.args.marks.now in
+pub invariant_of-one-2 : goal.invariant_of-one-2
+invariant_of-one-2 c =
+    let n = length c.args.pair.now.marks.now in
     let es = c.by_doc-first in
+    record { left = subst (IsLeft n) (sym c.rest.ensures) (IsLeft-drop n c.loop-doc.i es.result.now (places_whole n c.args.pair.now.a.now es.result.now c.args.pair.now.met.first es.ensures.ascending es.ensures.ranks)) }
+
+pub invariant_of-other-2 : goal.invariant_of-other-2
+invariant_of-other-2 c =
+    let n = length c.args.pair.now.marks.now in
     let fs = c.by_doc-second in
-    record {
-      first = subst (IsLeft n) (sym c.rest.ensures) (IsLeft-drop n c.loop-doc.i es.result.now (places_whole n c.args.a.now es.result.now c.requires.first es.ensures.ascending es.ensures.ranks));
-      second = subst (IsLeft n) (sym c.rest-2.ensures) (IsLeft-drop n c.loop-doc.j fs.result.now (places_whole n c.args.b.now fs.result.now c.requires.second fs.ensures.ascending fs.ensures.ranks));
-    }
+    record { left = subst (IsLeft n) (sym c.rest-2.ensures) (IsLeft-drop n c.loop-doc.j fs.result.now (places_whole n c.args.pair.now.b.now fs.result.now c.args.pair.now.met.second fs.ensures.ascending fs.ensures.ranks)) }
 
 pub returns : goal.returns
 returns c =
-    let marks = c.args.marks.now in
+    let marks = c.args.pair.now.marks.now in
     let n = length marks in
     let k = c.args.k in
-    let a = c.args.a.now in
-    let b = c.args.b.now in
+    let a = c.args.pair.now.a.now in
+    let b = c.args.pair.now.b.now in
     let es = c.by_doc-first in
     let fs = c.by_doc-second in
     let l = c.loop-doc in
@@ -104,7 +106,7 @@ returns c =
     let by_ranks : Option ℕ → Option ℕ → Bool = λ x y. is_by k y && not (is_by k x) in
     let first = drop l.i es.result.now in
     let second = drop l.j fs.result.now in
-    let right = IsLeft-drop n l.j fs.result.now (places_whole n b fs.result.now c.requires.second fs.ensures.ascending fs.ensures.ranks) in
+    let right = IsLeft-drop n l.j fs.result.now (places_whole n b fs.result.now c.args.pair.now.met.second fs.ensures.ascending fs.ensures.ranks) in
     let ended : (n ≤ doc) ⊎ ((nat_lt 0 l.left.both || nat_lt 0 l.left.first) ≡ false) = elim c.loop-doc-test.branch [
       | then-loop-doc-test+else-is_some w ↦ inr (sym w.is_some.ensures ∙ w.if-is_some.false)
       | else-loop-doc-test w ↦ inl w.loop-doc-test.false

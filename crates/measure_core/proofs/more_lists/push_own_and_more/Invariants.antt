@@ -12,15 +12,15 @@ use Rattle.measure_core.proofs.more_lists.push_own_and_more.Given as goal
 
 abbrev pub invariant-loop-doc : goal.invariant-loop-doc
 invariant-loop-doc l =
-    let truth = with_picked l.marks (own_and_more l.k l.fn.more l.marks l.a l.b) in
+    let truth = with_picked l.marks (own_and_more l.k l.fn.more l.marks l.pair.a.now l.pair.b.now) in
     record {
       doc_in : l.doc ≤ length l.marks;
       first_in : l.i ≤ length l.first;
       second_in : l.j ≤ length l.second;
       first : AreFrom l.first l.doc l.i;
       second : AreFrom l.second l.doc l.j;
-      left_both : l.left.both ≡ l.fn.more.both - count_by (open_in l.marks (neutral l.k l.a l.b)) (range_with_len 0 l.doc);
-      left_first : l.left.first ≡ l.fn.more.first - count_by (open_in l.marks (only_second l.k l.b l.a)) (range_with_len 0 l.doc);
+      left_both : l.left.both ≡ l.fn.more.both - count_by (open_in l.marks (neutral l.k l.pair.a.now l.pair.b.now)) (range_with_len 0 l.doc);
+      left_first : l.left.first ≡ l.fn.more.first - count_by (open_in l.marks (only_second l.k l.pair.b.now l.pair.a.now)) (range_with_len 0 l.doc);
       made : l.docs.items ++ left_from (λ doc. is_unjudged (mark_at l.marks doc) && truth doc) (length l.marks) l.doc ≡ l.initial.docs.items ++ added_documents l.marks truth;
     }
 

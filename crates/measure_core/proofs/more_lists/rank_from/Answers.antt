@@ -12,6 +12,6 @@ nowhere = record { doc = 0; rank = 0 }
 pub returns-else-at-places : goal.returns-else-at-places
 returns-else-at-places c =
     elim c.else-at-places.branch [
-      | else-at-places-via-then-at-places+else-places-at w ↦ sym (absent_at c.args.doc c.args.at c.args.places.now nowhere c.requires.ascending c.requires.from w.if-at-places.true w.if-places-at.false)
-      | else-at-places-via-else-at-places w ↦ sym (ap (λ ps. lookup ps c.args.doc) (drop_all c.args.at c.args.places.now w.if-at-places.false))
+      | else-at-places-via-then-at-places+else-places-at w ↦ sym (absent_at c.args.doc c.args.at c.args.marked.now.places.now nowhere c.args.marked.now.left.ascending c.requires w.if-at-places.true w.if-places-at.false)
+      | else-at-places-via-else-at-places w ↦ sym (ap (λ ps. lookup ps c.args.doc) (drop_all c.args.at c.args.marked.now.places.now w.if-at-places.false))
     ]

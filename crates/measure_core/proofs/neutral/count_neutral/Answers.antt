@@ -18,9 +18,9 @@ use Rattle.measure_core.proofs.neutral.count_neutral.Goals.{then-loop-doc-test+e
 
 pub loop-doc-init : goal.loop-doc-init
 loop-doc-init c =
-    let marks = c.args.marks.now in
+    let marks = c.args.ranked.now.marks.now in
     let n = length marks in
-    let test : ℕ → Bool = λ doc. is_unjudged (mark_at marks doc) && with_picked marks (neutral c.args.k c.args.a.now c.args.b.now) doc in
+    let test : ℕ → Bool = λ doc. is_unjudged (mark_at marks doc) && with_picked marks (neutral c.args.k c.args.ranked.now.a.now c.args.ranked.now.b.now) doc in
     let whole = ap (take c.args.most) (left_whole test n) in
     record {
       doc_in = omega arith;
@@ -30,11 +30,11 @@ loop-doc-init c =
       counted = λ doc lt. ap (λ (l : List ℕ). get_or c.args.counts.now doc 0 + times l doc) whole;
     }
 
-pub bounds-ranks-doc : goal.bounds-ranks-doc
-bounds-ranks-doc c = omega (arith, c.loop-doc-test.true, c.requires.first.long)
+pub bounds-first-doc : goal.bounds-first-doc
+bounds-first-doc c = omega (arith, c.loop-doc-test.true, c.args.ranked.now.first_ranks.long)
 
-pub bounds-ranks-doc-in-loop-doc : goal.bounds-ranks-doc-in-loop-doc
-bounds-ranks-doc-in-loop-doc c = omega (arith, c.loop-doc-test.true, c.requires.second.long)
+pub bounds-second-doc : goal.bounds-second-doc
+bounds-second-doc c = omega (arith, c.loop-doc-test.true, c.args.ranked.now.second_ranks.long)
 
 some_left : (u : Bool) (left : ℕ) → 0 < left → u ≡ (u && nat_lt 0 left)
 some_left u left h =
@@ -43,20 +43,20 @@ some_left u left h =
 
 pub overflow_add-counts : goal.overflow_add-counts
 overflow_add-counts c =
-    let marks = c.args.marks.now in
+    let marks = c.args.ranked.now.marks.now in
     let n = length marks in
     let k = c.args.k in
-    let a = c.args.a.now in
-    let b = c.args.b.now in
+    let a = c.args.ranked.now.a.now in
+    let b = c.args.ranked.now.b.now in
     let l = c.loop-doc in
     let doc = l.doc in
     let u = is_unjudged (mark_at marks doc) in
-    let x = rank_or_none (get_or c.args.ranks.first.now doc 0) in
-    let y = rank_or_none (get_or c.args.ranks.second.now doc 0) in
+    let x = rank_or_none (get_or c.args.ranked.now.first.now doc 0) in
+    let y = rank_or_none (get_or c.args.ranked.now.second.now doc 0) in
     let i = is_by k x in
     let j = is_by k y in
-    let in_first : i ≡ is_in (take k a) doc = ap (is_by k) (c.requires.first.each doc c.loop-doc-test.true) ∙ sym (rank_by k doc a) in
-    let in_second : j ≡ is_in (take k b) doc = ap (is_by k) (c.requires.second.each doc c.loop-doc-test.true) ∙ sym (rank_by k doc b) in
+    let in_first : i ≡ is_in (take k a) doc = ap (is_by k) (c.args.ranked.now.first_ranks.each doc c.loop-doc-test.true) ∙ sym (rank_by k doc a) in
+    let in_second : j ≡ is_in (take k b) doc = ap (is_by k) (c.args.ranked.now.second_ranks.each doc c.loop-doc-test.true) ∙ sym (rank_by k doc b) in
     let test : ℕ → Bool = λ d. is_unjudged (mark_at marks d) && with_picked marks (neutral k a b) d in
     let here : (u && (not (j && not i) && not (i && not j))) ≡ test doc = class_both i j (is_in (take k a) doc) (is_in (take k b) doc) u in_first in_second ∙ sym (open_picked (neutral k a b doc) (mark_at marks doc)) in
     let told = here ∙ some_left (test doc) l.left c.if-left-gt0.true in
@@ -73,20 +73,20 @@ loop-doc-smaller c = omega (arith, c.loop-doc-test.true)
 
 pub loop-doc-preserved : goal.loop-doc-preserved
 loop-doc-preserved c =
-    let marks = c.args.marks.now in
+    let marks = c.args.ranked.now.marks.now in
     let n = length marks in
     let k = c.args.k in
-    let a = c.args.a.now in
-    let b = c.args.b.now in
+    let a = c.args.ranked.now.a.now in
+    let b = c.args.ranked.now.b.now in
     let l = c.loop-doc in
     let doc = l.doc in
     let u = is_unjudged (mark_at marks doc) in
-    let x = rank_or_none (get_or c.args.ranks.first.now doc 0) in
-    let y = rank_or_none (get_or c.args.ranks.second.now doc 0) in
+    let x = rank_or_none (get_or c.args.ranked.now.first.now doc 0) in
+    let y = rank_or_none (get_or c.args.ranked.now.second.now doc 0) in
     let i = is_by k x in
     let j = is_by k y in
-    let in_first : i ≡ is_in (take k a) doc = ap (is_by k) (c.requires.first.each doc c.loop-doc-test.true) ∙ sym (rank_by k doc a) in
-    let in_second : j ≡ is_in (take k b) doc = ap (is_by k) (c.requires.second.each doc c.loop-doc-test.true) ∙ sym (rank_by k doc b) in
+    let in_first : i ≡ is_in (take k a) doc = ap (is_by k) (c.args.ranked.now.first_ranks.each doc c.loop-doc-test.true) ∙ sym (rank_by k doc a) in
+    let in_second : j ≡ is_in (take k b) doc = ap (is_by k) (c.args.ranked.now.second_ranks.each doc c.loop-doc-test.true) ∙ sym (rank_by k doc b) in
     let test : ℕ → Bool = λ d. is_unjudged (mark_at marks d) && with_picked marks (neutral k a b) d in
     let here : (u && (not (j && not i) && not (i && not j))) ≡ test doc = class_both i j (is_in (take k a) doc) (is_in (take k b) doc) u in_first in_second ∙ sym (open_picked (neutral k a b doc) (mark_at marks doc)) in
     let told = here ∙ some_left (test doc) l.left c.if-left-gt0.true in
@@ -114,18 +114,18 @@ ended test n doc left (inr none) = let zero_left : left ≡ 0 = omega (arith, no
 
 pub returns-clause-count : goal.returns-clause-count
 returns-clause-count c =
-    let marks = c.args.marks.now in
+    let marks = c.args.ranked.now.marks.now in
     let n = length marks in
     let l = c.loop-doc in
-    let test : ℕ → Bool = λ d. is_unjudged (mark_at marks d) && with_picked marks (neutral c.args.k c.args.a.now c.args.b.now) d in
+    let test : ℕ → Bool = λ d. is_unjudged (mark_at marks d) && with_picked marks (neutral c.args.k c.args.ranked.now.a.now c.args.ranked.now.b.now) d in
     let end : (n ≤ l.doc) ⊎ (l.left ≤ 0) = elim c.loop-doc-test.branch [ then-loop-doc-test+else-left-gt0 w ↦ inr w.if-left-gt0.false | else-loop-doc-test w ↦ inl w.loop-doc-test.false ] in
     omega (arith, l.invariant.left, ap (λ (ds : List ℕ). length ds) (ended test n l.doc l.left end), l.invariant.few)
 
 pub returns-clause-counts : goal.returns-clause-counts
 returns-clause-counts c = λ d lt.
-    let marks = c.args.marks.now in
+    let marks = c.args.ranked.now.marks.now in
     let n = length marks in
     let l = c.loop-doc in
-    let test : ℕ → Bool = λ d. is_unjudged (mark_at marks d) && with_picked marks (neutral c.args.k c.args.a.now c.args.b.now) d in
+    let test : ℕ → Bool = λ d. is_unjudged (mark_at marks d) && with_picked marks (neutral c.args.k c.args.ranked.now.a.now c.args.ranked.now.b.now) d in
     let end : (n ≤ l.doc) ⊎ (l.left ≤ 0) = elim c.loop-doc-test.branch [ then-loop-doc-test+else-left-gt0 w ↦ inr w.if-left-gt0.false | else-loop-doc-test w ↦ inl w.loop-doc-test.false ] in
     omega (arith, l.invariant.counted d lt, ap (λ (ds : List ℕ). times ds d) (ended test n l.doc l.left end))

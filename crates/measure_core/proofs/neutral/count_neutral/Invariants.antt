@@ -9,8 +9,8 @@ use Rattle.measure_core.proofs.neutral.count_neutral.Given as goal
 -- what is counted and what is left to count are all
 abbrev pub invariant-loop-doc : goal.invariant-loop-doc
 invariant-loop-doc l =
-    let test : ℕ → Bool = λ doc. is_unjudged (mark_at l.marks doc) && with_picked l.marks (neutral l.k l.a l.b) doc in
-    let whole = first_neutral l.k l.fn.most l.marks l.a l.b in
+    let test : ℕ → Bool = λ doc. is_unjudged (mark_at l.marks doc) && with_picked l.marks (neutral l.k l.ranked.a.now l.ranked.b.now) doc in
+    let whole = first_neutral l.k l.fn.most l.marks l.ranked.a.now l.ranked.b.now in
     let rest = take l.left (left_from test (length l.marks) l.doc) in
     record {
       doc_in : l.doc ≤ length l.marks;

@@ -19,7 +19,7 @@ loop-doc-preserved c =
     let doc = get_or items i 0 in
     let b = c.is_open_outside.result in
     let now = c.loop-doc.docs.items in
-    let keep : ℕ → Bool = λ d. is_unjudged (mark_at c.args.marks.now d) && not (is_in (take c.args.k c.args.a.now) d) in
+    let keep : ℕ → Bool = λ d. is_unjudged (mark_at c.args.pair.now.marks.now d) && not (is_in (take c.args.k c.args.pair.now.a.now) d) in
     let next : suc i ≡ i + 1 = omega arith in
     let left : filter keep (drop i items) ≡ cond b (doc ∷ filter keep (drop (i + 1) items)) (filter keep (drop (i + 1) items)) =
     ap (filter keep) (drop-cons items i 0 c.loop-doc-test.true) ∙ ap (λ m. cond (keep doc) (doc ∷ filter keep (drop m items)) (filter keep (drop m items))) next ∙ ap (λ t. cond t (doc ∷ filter keep (drop (i + 1) items)) (filter keep (drop (i + 1) items))) (sym c.is_open_outside.ensures) in
@@ -33,7 +33,7 @@ pub returns : goal.returns
 returns c =
     let items = c.prefix-doc-items in
     let i = c.loop-doc.doc-index in
-    let keep : ℕ → Bool = λ d. is_unjudged (mark_at c.args.marks.now d) && not (is_in (take c.args.k c.args.a.now) d) in
+    let keep : ℕ → Bool = λ d. is_unjudged (mark_at c.args.pair.now.marks.now d) && not (is_in (take c.args.k c.args.pair.now.a.now) d) in
     let end : length items.result.now ≤ i = omega (arith, c.loop-doc-test.false) in
     all_pushed c.loop-doc.docs.items (filter keep (drop i items.result.now)) (c.args.docs.now.items ++ filter keep items.result.now) (ap (filter keep) (drop_all i items.result.now end)) c.loop-doc.invariant.made
     ∙ ap (λ ds. c.args.docs.now.items ++ filter keep ds) (items.ensures ∙ ap (take c.args.k) c.docs.ensures.docs)

@@ -6,5 +6,5 @@ use Rattle.measure_core.proofs.own_lists.push_found.Given as goal
 
 abbrev pub invariant-loop-doc : goal.invariant-loop-doc
 invariant-loop-doc l =
-    let keep : ℕ → Bool = λ doc. is_unjudged (mark_at l.marks doc) && not (is_in (take l.k l.a) doc) in
+    let keep : ℕ → Bool = λ doc. is_unjudged (mark_at l.marks doc) && not (is_in (take l.k l.pair.a.now) doc) in
     record { made : l.docs.items ++ filter keep (drop l.doc-index l.doc-items) ≡ l.initial.docs.items ++ filter keep l.doc-items }

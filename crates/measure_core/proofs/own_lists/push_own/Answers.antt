@@ -21,10 +21,10 @@ use Rattle.measure_core.proofs.own_lists.push_own.Goals as goal
 
 pub returns-then-k-gt-LOOKED_UP : goal.returns-then-k-gt-LOOKED_UP
 returns-then-k-gt-LOOKED_UP c =
-    let marks = c.args.marks.now in
+    let marks = c.args.pair.now.marks.now in
     let k = c.args.k in
-    let a = c.args.a.now in
-    let b = c.args.b.now in
+    let a = c.args.pair.now.a.now in
+    let b = c.args.pair.now.b.now in
     let before = c.args.docs.now.items in
     let now = c.push_by_ranks.new.docs.items in
     let by_ranks = passes_by_ranks (λ x y. is_by k y && not (is_by k x)) a b in
@@ -34,11 +34,11 @@ returns-then-k-gt-LOOKED_UP c =
 
 pub returns : goal.returns
 returns c =
-    let marks = c.args.marks.now in
+    let marks = c.args.pair.now.marks.now in
     let n = length marks in
     let k = c.args.k in
-    let a = c.args.a.now in
-    let b = c.args.b.now in
+    let a = c.args.pair.now.a.now in
+    let b = c.args.pair.now.b.now in
     let before = c.args.docs.now.items in
     let now = c.sort_rest.new.docs.items in
     let keep : ℕ → Bool = λ d. is_unjudged (mark_at marks d) && not (is_in (take k a) d) in
@@ -51,5 +51,5 @@ returns c =
     let tail = drop (length before) now in
     let sorted = IsNonDecreasingBy-from_sort (λ (x : ℕ). x) tail (subst (λ m. IsSorted nat_cmp (drop m now)) start c.sort_rest.ensures.sorted) in
     let all : filter test (range_with_len 0 n) ≡ tail =
-    sorted_are keep test n (take k b) tail (IsDistinct-take k b c.requires.second.distinct) (prefix_within k n b c.requires.second) moved sorted (λ d. own_test (is_in (take k a) d) (is_in (take k b) d) (mark_at marks d)) in
+    sorted_are keep test n (take k b) tail (IsDistinct-take k b c.args.pair.now.met.second.distinct) (prefix_within k n b c.args.pair.now.met.second) moved sorted (λ d. own_test (is_in (take k a) d) (is_in (take k b) d) (mark_at marks d)) in
     sym (take-append-drop (length before) now) ∙ ap₂ (λ (x y : List ℕ). x ++ y) front (sym all)

@@ -23,7 +23,7 @@ one_more P counts i x within here before run none lt = go (nat_lt run i) refl
 
 pub loop-run-preserved : goal.loop-run-preserved
 loop-run-preserved c =
-    one_more (λ run counts. ArePrefix c.args.k c.args.marks.now (ranking_on c.args.rankings.now run) counts) c.loop-run.counts c.loop-run.run c.prefix_documents.result
-    (omega (arith, c.loop-run-test.true, c.loop-run.auto.counts, c.requires.room, c.runs-run-end.ensures.count))
-    (subst (λ (a : List ℕ). ArePrefix c.args.k c.args.marks.now a c.prefix_documents.result) c.ranking.ensures
+    one_more (λ run counts. ArePrefix c.args.k c.args.on.now.marks.now (ranking_on c.args.on.now.rankings.now run) counts) c.loop-run.counts c.loop-run.run c.prefix_documents.result
+    (omega (arith, c.loop-run-test.true, c.loop-run.auto.counts, c.requires, c.runs-run-end.ensures.count))
+    (subst (λ (a : List ℕ). ArePrefix c.args.k c.args.on.now.marks.now a c.prefix_documents.result) c.ranking.ensures
     (record { least = c.prefix_documents.ensures.least; most = c.prefix_documents.ensures.most; few = c.prefix_documents.ensures.few })) c.loop-run.invariant

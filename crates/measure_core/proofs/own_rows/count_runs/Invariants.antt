@@ -5,4 +5,4 @@ use Rattle.topic_counts.specs.declared.counts.Counts.{Counts}
 use Rattle.measure_core.proofs.own_rows.count_runs.Given as goal
 
 abbrev pub invariant-loop-run : goal.invariant-loop-run
-invariant-loop-run l = (run : ℕ) (none : Counts) → run < l.run → ArePrefix l.k l.marks (ranking_on l.rankings run) (get_or l.counts run none)
+invariant-loop-run l = (run : ℕ) (none : Counts) → run < l.run → ArePrefix l.k l.on.marks.now (ranking_on l.on.rankings.now run) (get_or l.counts run none)

@@ -1,4 +1,3 @@
-use Rattle.std.proofs.Common.{◌≡◌, ℕ, ◌+◌, Bool, true, false, cond, [], ◌∷◌, ◌++◌, take, ap, ◌∙◌, arith}
 use Rattle.measure_core.proofs.Slots.{put_first}
 use Rattle.measure_core.proofs.rank_lists.put.Goals as goal
 

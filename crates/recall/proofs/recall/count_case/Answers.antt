@@ -8,31 +8,31 @@ use Rattle.recall.proofs.recall.count_case.Goals as goal
 
 pub count_own-own-requires-clause-room : goal.count_own-own-requires-clause-room
 count_own-own-requires-clause-room c = λ d lt.
-    let marks = c.args.marks.now in
-    let own = all_taken marks (with_picked marks (only_second c.args.k c.args.a.now c.args.b.now)) (length marks) refl in
-    omega (arith, c.requires.room d lt, ap (λ (l : List ℕ). times l d) own, least_times c.args.k marks c.args.a.now c.args.b.now d)
+    let marks = c.args.ranked.now.marks.now in
+    let own = all_taken marks (with_picked marks (only_second c.args.k c.args.ranked.now.a.now c.args.ranked.now.b.now)) (length marks) refl in
+    omega (arith, c.requires.room d lt, ap (λ (l : List ℕ). times l d) own, least_times c.args.k marks c.args.ranked.now.a.now c.args.ranked.now.b.now d)
 
 pub count_led-requires-clause-own : goal.count_led-requires-clause-own
 count_led-requires-clause-own c =
-    let marks = c.args.marks.now in
-    c.count_own-own.ensures.count ∙ ap (λ (l : List ℕ). length l) (all_taken marks (with_picked marks (only_second c.args.k c.args.a.now c.args.b.now)) (length marks) refl)
+    let marks = c.args.ranked.now.marks.now in
+    c.count_own-own.ensures.count ∙ ap (λ (l : List ℕ). length l) (all_taken marks (with_picked marks (only_second c.args.k c.args.ranked.now.a.now c.args.ranked.now.b.now)) (length marks) refl)
 
 pub count_led-requires-clause-room : goal.count_led-requires-clause-room
 count_led-requires-clause-room c = λ d lt.
-    let marks = c.args.marks.now in
-    let own = all_taken marks (with_picked marks (only_second c.args.k c.args.a.now c.args.b.now)) (length marks) refl in
+    let marks = c.args.ranked.now.marks.now in
+    let own = all_taken marks (with_picked marks (only_second c.args.k c.args.ranked.now.a.now c.args.ranked.now.b.now)) (length marks) refl in
     let before : d < length c.args.counts.now = omega (arith, lt, c.count_own-own.auto.counts) in
-    omega (arith, c.requires.room d before, c.count_own-own.ensures.counts d before, ap (λ (l : List ℕ). times l d) own, least_times c.args.k marks c.args.a.now c.args.b.now d)
+    omega (arith, c.requires.room d before, c.count_own-own.ensures.counts d before, ap (λ (l : List ℕ). times l d) own, least_times c.args.k marks c.args.ranked.now.a.now c.args.ranked.now.b.now d)
 
 pub returns-clause-count : goal.returns-clause-count
 returns-clause-count c =
-    let marks = c.args.marks.now in
-    let own = all_taken marks (with_picked marks (only_second c.args.k c.args.a.now c.args.b.now)) (length marks) refl in
-    omega (arith, c.count_own-own.ensures.count, ap (λ (l : List ℕ). length l) own, c.count_led.ensures.count, least_length c.args.k marks c.args.a.now c.args.b.now)
+    let marks = c.args.ranked.now.marks.now in
+    let own = all_taken marks (with_picked marks (only_second c.args.k c.args.ranked.now.a.now c.args.ranked.now.b.now)) (length marks) refl in
+    omega (arith, c.count_own-own.ensures.count, ap (λ (l : List ℕ). length l) own, c.count_led.ensures.count, least_length c.args.k marks c.args.ranked.now.a.now c.args.ranked.now.b.now)
 
 pub returns-clause-counts : goal.returns-clause-counts
 returns-clause-counts c = λ d before.
-    let marks = c.args.marks.now in
-    let own = all_taken marks (with_picked marks (only_second c.args.k c.args.a.now c.args.b.now)) (length marks) refl in
+    let marks = c.args.ranked.now.marks.now in
+    let own = all_taken marks (with_picked marks (only_second c.args.k c.args.ranked.now.a.now c.args.ranked.now.b.now)) (length marks) refl in
     let later : d < length c.count_own-own.new.counts = omega (arith, before, c.count_own-own.auto.counts) in
-    omega (arith, c.count_own-own.ensures.counts d before, c.count_led.ensures.counts d later, ap (λ (l : List ℕ). times l d) own, least_times c.args.k marks c.args.a.now c.args.b.now d)
+    omega (arith, c.count_own-own.ensures.counts d before, c.count_led.ensures.counts d later, ap (λ (l : List ℕ). times l d) own, least_times c.args.k marks c.args.ranked.now.a.now c.args.ranked.now.b.now d)

@@ -5,17 +5,19 @@ use Rattle.measure_core.specs.Ranks.{AreRanksIn}
 use Rattle.measure_core.proofs.Tallying.{counted_after, room_of_first, room_of_second}
 use Rattle.recall.proofs.recall.count_cases.Goals as goal
 
-pub count_case-least-requires-clause-first : goal.count_case-least-requires-clause-first
-count_case-least-requires-clause-first c = subst (AreRanksIn c.args.marks.now c.args.a.now) (sym c.deref.ensures.value) (c.set_second.ensures.kept c.args.marks.now c.args.a.now c.requires.kept).ranks
+pub invariant_of-ranked : goal.invariant_of-ranked
+invariant_of-ranked c = record {
+  met = c.requires.met;
+  first_ranks = subst (AreRanksIn c.args.marks.now c.args.a.now) (sym c.deref.ensures.value) (c.set_second.ensures.kept c.args.marks.now c.args.a.now c.requires.kept).ranks;
+  second_ranks = subst (AreRanksIn c.args.marks.now c.args.b.now) (sym c.deref-2.ensures.value) (c.set_second.ensures.ranks c.args.marks.now c.requires.kept.topic);
+}
 
-pub count_case-least-requires-clause-second : goal.count_case-least-requires-clause-second
-count_case-least-requires-clause-second c = subst (AreRanksIn c.args.marks.now c.args.b.now) (sym c.deref-2.ensures.value) (c.set_second.ensures.ranks c.args.marks.now c.requires.kept.topic)
-
-pub count_case-most-requires-clause-first : goal.count_case-most-requires-clause-first
-count_case-most-requires-clause-first c = subst (AreRanksIn c.args.marks.now c.args.b.now) (sym c.deref-3.ensures.value) (c.set_second.ensures.ranks c.args.marks.now c.requires.kept.topic)
-
-pub count_case-most-requires-clause-second : goal.count_case-most-requires-clause-second
-count_case-most-requires-clause-second c = subst (AreRanksIn c.args.marks.now c.args.a.now) (sym c.deref-4.ensures.value) (c.set_second.ensures.kept c.args.marks.now c.args.a.now c.requires.kept).ranks
+pub invariant_of-swapped : goal.invariant_of-swapped
+invariant_of-swapped c = record {
+  met = record { first = c.requires.met.second; second = c.requires.met.first; small = c.requires.met.small };
+  first_ranks = subst (AreRanksIn c.args.marks.now c.args.b.now) (sym c.deref-3.ensures.value) (c.set_second.ensures.ranks c.args.marks.now c.requires.kept.topic);
+  second_ranks = subst (AreRanksIn c.args.marks.now c.args.a.now) (sym c.deref-4.ensures.value) (c.set_second.ensures.kept c.args.marks.now c.args.a.now c.requires.kept).ranks;
+}
 
 pub count_case-least-requires-clause-room : goal.count_case-least-requires-clause-room
 count_case-least-requires-clause-room c =

@@ -7,17 +7,17 @@ use Rattle.rprec.proofs.lists.count_chosen.Goals as goal
 
 pub count_own-own-requires-clause-room : goal.count_own-own-requires-clause-room
 count_own-own-requires-clause-room c = λ d lt.
-    let marks = c.args.marks.now in
+    let marks = c.args.ranked.now.marks.now in
     let count = c.args.count in
     let m = count - c.args.all.relevant in
     let is : m ≡ count - judged_count marks = omega (arith, c.requires.topic.relevant) in
-    omega (arith, c.requires.room d lt, greedy_times marks c.args.a.now c.args.b.now count m d is)
+    omega (arith, c.requires.room d lt, greedy_times marks c.args.ranked.now.a.now c.args.ranked.now.b.now count m d is)
 
 pub count_others-requires-clause-room : goal.count_others-requires-clause-room
 count_others-requires-clause-room c = λ d lt.
-    let marks = c.args.marks.now in
-    let a = c.args.a.now in
-    let b = c.args.b.now in
+    let marks = c.args.ranked.now.marks.now in
+    let a = c.args.ranked.now.a.now in
+    let b = c.args.ranked.now.b.now in
     let count = c.args.count in
     let m = count - c.args.all.relevant in
     let is : m ≡ count - judged_count marks = omega (arith, c.requires.topic.relevant) in
@@ -26,9 +26,9 @@ count_others-requires-clause-room c = λ d lt.
 
 pub returns-clause-count : goal.returns-clause-count
 returns-clause-count c =
-    let marks = c.args.marks.now in
-    let a = c.args.a.now in
-    let b = c.args.b.now in
+    let marks = c.args.ranked.now.marks.now in
+    let a = c.args.ranked.now.a.now in
+    let b = c.args.ranked.now.b.now in
     let count = c.args.count in
     let m = count - c.args.all.relevant in
     let is : m ≡ count - judged_count marks = omega (arith, c.requires.topic.relevant) in
@@ -36,9 +36,9 @@ returns-clause-count c =
 
 pub returns-clause-counts : goal.returns-clause-counts
 returns-clause-counts c = λ d before.
-    let marks = c.args.marks.now in
-    let a = c.args.a.now in
-    let b = c.args.b.now in
+    let marks = c.args.ranked.now.marks.now in
+    let a = c.args.ranked.now.a.now in
+    let b = c.args.ranked.now.b.now in
     let count = c.args.count in
     let m = count - c.args.all.relevant in
     let is : m ≡ count - judged_count marks = omega (arith, c.requires.topic.relevant) in

@@ -12,11 +12,12 @@ extremes_of-extremes-requires-clause-ranks c = subst (AreRanksIn c.args.marks.no
 pub extremes_of-extremes-requires-clause-topic : goal.extremes_of-extremes-requires-clause-topic
 extremes_of-extremes-requires-clause-topic c = let all = c.requires.kept.topic.all.topic in topic_is c.args.marks.now _ all.least all.most
 
-pub count_chosen-least-requires-clause-first : goal.count_chosen-least-requires-clause-first
-count_chosen-least-requires-clause-first c = subst (AreRanksIn c.args.marks.now c.args.a.now) (sym c.deref-2.ensures.value) (c.set_second.ensures.kept c.args.marks.now c.args.a.now c.requires.kept).ranks
-
-pub count_chosen-least-requires-clause-second : goal.count_chosen-least-requires-clause-second
-count_chosen-least-requires-clause-second c = subst (AreRanksIn c.args.marks.now c.args.b.now) (sym c.deref-3.ensures.value) (c.set_second.ensures.ranks c.args.marks.now c.requires.kept.topic)
+pub invariant_of-ranked : goal.invariant_of-ranked
+invariant_of-ranked c = record {
+  met = c.requires.met;
+  first_ranks = subst (AreRanksIn c.args.marks.now c.args.a.now) (sym c.deref-2.ensures.value) (c.set_second.ensures.kept c.args.marks.now c.args.a.now c.requires.kept).ranks;
+  second_ranks = subst (AreRanksIn c.args.marks.now c.args.b.now) (sym c.deref-3.ensures.value) (c.set_second.ensures.ranks c.args.marks.now c.requires.kept.topic);
+}
 
 pub count_chosen-least-requires-clause-topic : goal.count_chosen-least-requires-clause-topic
 count_chosen-least-requires-clause-topic c = let all = c.requires.kept.topic.all.topic in topic_is c.args.marks.now _ all.least all.most
@@ -30,11 +31,12 @@ count_chosen-least-requires-clause-room c =
     subst (λ (r : ℕ). HaveRoomFor c.args.counts.now (added_documents marks (greedy_truth marks a b r))) (sym found.least)
     (room_of_first c.args.counts.now (added_documents marks (rprec_truth marks a b)) (added_documents marks (rprec_truth marks b a)) c.requires.room)
 
-pub count_chosen-most-requires-clause-first : goal.count_chosen-most-requires-clause-first
-count_chosen-most-requires-clause-first c = subst (AreRanksIn c.args.marks.now c.args.b.now) (sym c.deref-4.ensures.value) (c.set_second.ensures.ranks c.args.marks.now c.requires.kept.topic)
-
-pub count_chosen-most-requires-clause-second : goal.count_chosen-most-requires-clause-second
-count_chosen-most-requires-clause-second c = subst (AreRanksIn c.args.marks.now c.args.a.now) (sym c.deref-5.ensures.value) (c.set_second.ensures.kept c.args.marks.now c.args.a.now c.requires.kept).ranks
+pub invariant_of-swapped : goal.invariant_of-swapped
+invariant_of-swapped c = record {
+  met = record { first = c.requires.met.second; second = c.requires.met.first; small = c.requires.met.small };
+  first_ranks = subst (AreRanksIn c.args.marks.now c.args.b.now) (sym c.deref-4.ensures.value) (c.set_second.ensures.ranks c.args.marks.now c.requires.kept.topic);
+  second_ranks = subst (AreRanksIn c.args.marks.now c.args.a.now) (sym c.deref-5.ensures.value) (c.set_second.ensures.kept c.args.marks.now c.args.a.now c.requires.kept).ranks;
+}
 
 pub count_chosen-most-requires-clause-topic : goal.count_chosen-most-requires-clause-topic
 count_chosen-most-requires-clause-topic c = let all = c.requires.kept.topic.all.topic in topic_is c.args.marks.now _ all.least all.most

@@ -23,24 +23,24 @@ adds-requires-clause-first c =
     let r = c.args.self.now in
     let l = c.loop-place in
     let i = l.place in
-    let marks = c.args.marks.now in
-    let a = c.args.a.now in
-    let b = c.args.b.now in
+    let marks = c.args.apart.now.marks.now in
+    let a = c.args.apart.now.a.now in
+    let b = c.args.apart.now.b.now in
     let docs = c.docs-doc-items in
     let d = slice_index_or docs.result.now i 0 in
     let lt : i < length b = omega (arith, c.loop-place-test.true, ap (λ (xs : List ℕ). length xs) docs.ensures.docs) in
     let is : d ≡ get_or b i 0 = ap (λ (xs : List ℕ). get_or xs i 0) docs.ensures.docs in
-    let within : d < length marks = omega (arith, is, c.requires.met.second.within i 0 lt) in
-    let ranked = c.requires.ranks.each d within in
-    kept_rank_small a d (slice_index_or c.args.first.ranks.now d 0) c.requires.met.first.short ranked
+    let within : d < length marks = omega (arith, is, c.args.apart.now.met.second.within i 0 lt) in
+    let ranked = c.args.apart.now.set_ranks.each d within in
+    kept_rank_small a d (slice_index_or c.args.apart.now.ranks.now d 0) c.args.apart.now.met.first.short ranked
 
 pub with-sums-requires-clause-sums : goal.with-sums-requires-clause-sums
 with-sums-requires-clause-sums c =
     let r = c.args.self.now in
     let l = c.loop-place in
-    let b = c.args.b.now in
+    let b = c.args.apart.now.b.now in
     let below : r.top < r.bottom = omega (arith, c.self.invariant.below, ap (λ (p : Persistence). p.top) c.self.view_is, ap (λ (p : Persistence). p.bottom) c.self.view_is) in
-    up_to_wider _ (2 * 10 ^ 18) l.sums (high_sum_small r.top r.bottom (λ _. true) (take l.place b) below (omega (arith, length-take l.place b, c.requires.met.second.short))) l.invariant.small
+    up_to_wider _ (2 * 10 ^ 18) l.sums (high_sum_small r.top r.bottom (λ _. true) (take l.place b) below (omega (arith, length-take l.place b, c.args.apart.now.met.second.short))) l.invariant.small
 
 pub with-sums-requires-clause-more : goal.with-sums-requires-clause-more
 with-sums-requires-clause-more c =
@@ -56,19 +56,19 @@ loop-place-preserved c =
     let r = c.args.self.now in
     let l = c.loop-place in
     let i = l.place in
-    let marks = c.args.marks.now in
-    let a = c.args.a.now in
-    let b = c.args.b.now in
+    let marks = c.args.apart.now.marks.now in
+    let a = c.args.apart.now.a.now in
+    let b = c.args.apart.now.b.now in
     let docs = c.docs-doc-items in
     let d = slice_index_or docs.result.now i 0 in
     let lt : i < length b = omega (arith, c.loop-place-test.true, ap (λ (xs : List ℕ). length xs) docs.ensures.docs) in
     let is : d ≡ get_or b i 0 = ap (λ (xs : List ℕ). get_or xs i 0) docs.ensures.docs in
-    let within : d < length marks = omega (arith, is, c.requires.met.second.within i 0 lt) in
-    let ranked = c.requires.ranks.each d within in
+    let within : d < length marks = omega (arith, is, c.args.apart.now.met.second.within i 0 lt) in
+    let ranked = c.args.apart.now.set_ranks.each d within in
     let below : r.top < r.bottom = omega (arith, c.self.invariant.below, ap (λ (p : Persistence). p.top) c.self.view_is, ap (λ (p : Persistence). p.bottom) c.self.view_is) in
     let high = λ (rank : ℕ). high_weight r.top r.bottom (Some rank) in
     let s = l.sums in
-    let bit = c.requires.bits.each d within in
+    let bit = c.args.apart.now.set_bits.each d within in
     let common = all_common r.top r.bottom below in
     elim c.if-has_bit.branch [
       | then-has_bit w ↦
@@ -76,10 +76,10 @@ loop-place-preserved c =
           let value : IsAdded r.top r.bottom (mark_at marks d) (rank a d) (Some (i + 1)) t = subst (λ (o : Option ℕ). IsAdded r.top r.bottom (mark_at marks d) o (Some (i + 1)) t) ranked w.adds.ensures in
           let sums : c.if-has_bit.sums ≡ added s t = w.sums-is ∙ w.with-sums.ensures in
           record {
-            least_lo = place_step _ marks a b i d (least_low t) (least_low s) _ _ common.least_lo c.requires.met.second lt is value.least_lo (ap (λ (x : Added). least_low x) sums ∙ least_low_added s t) l.invariant.least_lo;
-            least_hi = place_step _ marks a b i d (least_high t) (least_high s) _ _ common.least_hi c.requires.met.second lt is value.least_hi (ap (λ (x : Added). least_high x) sums ∙ least_high_added s t) l.invariant.least_hi;
-            most_lo = place_step _ marks a b i d (most_low t) (most_low s) _ _ common.most_lo c.requires.met.second lt is value.most_lo (ap (λ (x : Added). most_low x) sums ∙ most_low_added s t) l.invariant.most_lo;
-            most_hi = place_step _ marks a b i d (most_high t) (most_high s) _ _ common.most_hi c.requires.met.second lt is value.most_hi (ap (λ (x : Added). most_high x) sums ∙ most_high_added s t) l.invariant.most_hi;
+            least_lo = place_step _ marks a b i d (least_low t) (least_low s) _ _ common.least_lo c.args.apart.now.met.second lt is value.least_lo (ap (λ (x : Added). least_low x) sums ∙ least_low_added s t) l.invariant.least_lo;
+            least_hi = place_step _ marks a b i d (least_high t) (least_high s) _ _ common.least_hi c.args.apart.now.met.second lt is value.least_hi (ap (λ (x : Added). least_high x) sums ∙ least_high_added s t) l.invariant.least_hi;
+            most_lo = place_step _ marks a b i d (most_low t) (most_low s) _ _ common.most_lo c.args.apart.now.met.second lt is value.most_lo (ap (λ (x : Added). most_low x) sums ∙ most_low_added s t) l.invariant.most_lo;
+            most_hi = place_step _ marks a b i d (most_high t) (most_high s) _ _ common.most_hi c.args.apart.now.met.second lt is value.most_hi (ap (λ (x : Added). most_high x) sums ∙ most_high_added s t) l.invariant.most_hi;
             small = subst (λ (x : Added). IsUpTo (gained high 1 (map (λ _. true) (take (i + 1) b))) x) (sym sums)
                 (up_to_more (gained high 1 (map (λ _. true) (take i b))) (high (i + 1)) _ s t (gained_more high (λ _. true) i d b lt is) l.invariant.small value.small);
           }
@@ -87,10 +87,10 @@ loop-place-preserved c =
           let nothing = λ (share : Option ℕ → Option ℕ → ℤ) (picked : Option ℕ → Option ℕ → Bool) (h : IsCommon (correction share picked)). uncounted_adds share picked marks a d (i + 1) h (sym bit ∙ sym c.has_bit.ensures ∙ w.if-has_bit.false) in
           let same = λ (f : Added → ℤ). ap f w.sums-is ∙ add_none (f s) in
           record {
-            least_lo = place_step _ marks a b i d (pos 0) (least_low s) _ _ common.least_lo c.requires.met.second lt is (nothing (low_share r.top r.bottom) is_in_least common.least_lo) (same least_low) l.invariant.least_lo;
-            least_hi = place_step _ marks a b i d (pos 0) (least_high s) _ _ common.least_hi c.requires.met.second lt is (nothing (high_share r.top r.bottom) is_in_least common.least_hi) (same least_high) l.invariant.least_hi;
-            most_lo = place_step _ marks a b i d (pos 0) (most_low s) _ _ common.most_lo c.requires.met.second lt is (nothing (low_share r.top r.bottom) is_in_most common.most_lo) (same most_low) l.invariant.most_lo;
-            most_hi = place_step _ marks a b i d (pos 0) (most_high s) _ _ common.most_hi c.requires.met.second lt is (nothing (high_share r.top r.bottom) is_in_most common.most_hi) (same most_high) l.invariant.most_hi;
+            least_lo = place_step _ marks a b i d (pos 0) (least_low s) _ _ common.least_lo c.args.apart.now.met.second lt is (nothing (low_share r.top r.bottom) is_in_least common.least_lo) (same least_low) l.invariant.least_lo;
+            least_hi = place_step _ marks a b i d (pos 0) (least_high s) _ _ common.least_hi c.args.apart.now.met.second lt is (nothing (high_share r.top r.bottom) is_in_least common.least_hi) (same least_high) l.invariant.least_hi;
+            most_lo = place_step _ marks a b i d (pos 0) (most_low s) _ _ common.most_lo c.args.apart.now.met.second lt is (nothing (low_share r.top r.bottom) is_in_most common.most_lo) (same most_low) l.invariant.most_lo;
+            most_hi = place_step _ marks a b i d (pos 0) (most_high s) _ _ common.most_hi c.args.apart.now.met.second lt is (nothing (high_share r.top r.bottom) is_in_most common.most_hi) (same most_high) l.invariant.most_hi;
             small = subst (λ (x : Added). IsUpTo (gained high 1 (map (λ _. true) (take (i + 1) b))) x) (sym w.sums-is)
                 (up_to_wider _ _ s (omega (arith, gained_more high (λ _. true) i d b lt is)) l.invariant.small);
           }
@@ -100,9 +100,9 @@ pub returns : goal.returns
 returns c =
     let r = c.args.self.now in
     let l = c.loop-place in
-    let marks = c.args.marks.now in
-    let a = c.args.a.now in
-    let b = c.args.b.now in
+    let marks = c.args.apart.now.marks.now in
+    let a = c.args.apart.now.a.now in
+    let b = c.args.apart.now.b.now in
     let sums = c.shares.ensures in
     let end : length b ≤ l.place = omega (arith, c.loop-place-test.false, ap (λ (xs : List ℕ). length xs) c.docs-doc-items.ensures.docs) in
     let below : r.top < r.bottom = omega (arith, c.self.invariant.below, ap (λ (p : Persistence). p.top) c.self.view_is, ap (λ (p : Persistence). p.bottom) c.self.view_is) in

@@ -12,9 +12,9 @@ invariant-loop-place l =
     let low = low_share l.self.top l.self.bottom in
     let high = high_share l.self.top l.self.bottom in
     record {
-      least_lo : least_low l.sums +ℤ from_rank (correction low is_in_least) l.marks l.a (l.place + 1) (drop l.place l.b) ≡ correction_sum low is_in_least l.marks l.a l.b;
-      least_hi : least_high l.sums +ℤ from_rank (correction high is_in_least) l.marks l.a (l.place + 1) (drop l.place l.b) ≡ correction_sum high is_in_least l.marks l.a l.b;
-      most_lo : most_low l.sums +ℤ from_rank (correction low is_in_most) l.marks l.a (l.place + 1) (drop l.place l.b) ≡ correction_sum low is_in_most l.marks l.a l.b;
-      most_hi : most_high l.sums +ℤ from_rank (correction high is_in_most) l.marks l.a (l.place + 1) (drop l.place l.b) ≡ correction_sum high is_in_most l.marks l.a l.b;
-      small : IsUpTo (gained (λ rank. high_weight l.self.top l.self.bottom (Some rank)) 1 (map (λ _. true) (take l.place l.b))) l.sums;
+      least_lo : least_low l.sums +ℤ from_rank (correction low is_in_least) l.marks l.apart.a.now (l.place + 1) (drop l.place l.apart.b.now) ≡ correction_sum low is_in_least l.marks l.apart.a.now l.apart.b.now;
+      least_hi : least_high l.sums +ℤ from_rank (correction high is_in_least) l.marks l.apart.a.now (l.place + 1) (drop l.place l.apart.b.now) ≡ correction_sum high is_in_least l.marks l.apart.a.now l.apart.b.now;
+      most_lo : most_low l.sums +ℤ from_rank (correction low is_in_most) l.marks l.apart.a.now (l.place + 1) (drop l.place l.apart.b.now) ≡ correction_sum low is_in_most l.marks l.apart.a.now l.apart.b.now;
+      most_hi : most_high l.sums +ℤ from_rank (correction high is_in_most) l.marks l.apart.a.now (l.place + 1) (drop l.place l.apart.b.now) ≡ correction_sum high is_in_most l.marks l.apart.a.now l.apart.b.now;
+      small : IsUpTo (gained (λ rank. high_weight l.self.top l.self.bottom (Some rank)) 1 (map (λ _. true) (take l.place l.apart.b.now))) l.sums;
     }

@@ -11,8 +11,12 @@ use Rattle.rbp.proofs.rbp.RbpMeasure.count_lists.Goals as goal
 abbrev before : List ℕ → List ℕ → ℕ → Bool
 before a b = passes_by_ranks (λ (first second : Option ℕ). comes_before second first) a b
 
-pub count_by_ranks-least-requires-clause-ranks : goal.count_by_ranks-least-requires-clause-ranks
-count_by_ranks-least-requires-clause-ranks c = subst (AreRanksIn c.args.marks.now c.args.a.now) (sym c.deref.ensures.value) (c.set_second.ensures.kept c.args.marks.now c.args.a.now c.requires.kept).ranks
+pub invariant_of-ranked : goal.invariant_of-ranked
+invariant_of-ranked c = record {
+  met = c.requires.met;
+  first_ranks = subst (AreRanksIn c.args.marks.now c.args.a.now) (sym c.deref.ensures.value) (c.set_second.ensures.kept c.args.marks.now c.args.a.now c.requires.kept).ranks;
+  second_ranks = subst (AreRanksIn c.args.marks.now c.args.b.now) (sym c.deref-2.ensures.value) (c.set_second.ensures.ranks c.args.marks.now c.requires.kept.topic);
+}
 
 pub count_by_ranks-least-requires-clause-room : goal.count_by_ranks-least-requires-clause-room
 count_by_ranks-least-requires-clause-room c =
@@ -21,8 +25,12 @@ count_by_ranks-least-requires-clause-room c =
     let highs = added_documents marks (with_picked marks (before c.args.b.now c.args.a.now)) in
     subst (HaveRoomFor c.args.counts.now) (sym (all_taken marks (with_picked marks (before c.args.a.now c.args.b.now)) (length marks) refl)) (room_of_first c.args.counts.now lows highs c.requires.room)
 
-pub count_by_ranks-most-requires-clause-ranks : goal.count_by_ranks-most-requires-clause-ranks
-count_by_ranks-most-requires-clause-ranks c = subst (AreRanksIn c.args.marks.now c.args.b.now) (sym c.deref-2.ensures.value) (c.set_second.ensures.ranks c.args.marks.now c.requires.kept.topic)
+pub invariant_of-swapped : goal.invariant_of-swapped
+invariant_of-swapped c = record {
+  met = record { first = c.requires.met.second; second = c.requires.met.first; small = c.requires.met.small };
+  first_ranks = subst (AreRanksIn c.args.marks.now c.args.b.now) (sym c.deref-3.ensures.value) (c.set_second.ensures.ranks c.args.marks.now c.requires.kept.topic);
+  second_ranks = subst (AreRanksIn c.args.marks.now c.args.a.now) (sym c.deref-4.ensures.value) (c.set_second.ensures.kept c.args.marks.now c.args.a.now c.requires.kept).ranks;
+}
 
 pub count_by_ranks-most-requires-clause-room : goal.count_by_ranks-most-requires-clause-room
 count_by_ranks-most-requires-clause-room c =

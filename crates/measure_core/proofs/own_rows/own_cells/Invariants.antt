@@ -5,7 +5,7 @@ use Rattle.measure_core.specs.Pairs.{ranking_on, run_numbers, runs_on}
 use Rattle.measure_core.proofs.Filling.{IsFilled}
 use Rattle.measure_core.proofs.RunPairs.{IsAt}
 use Rattle.measure_core.specs.Told.{AreSeenBefore}
-use Rattle.measure_core.proofs.own_rows.fill_cells.Given as goal
+use Rattle.measure_core.proofs.own_rows.own_cells.Given as goal
 
 abbrev pub invariant-loop-place : goal.invariant-loop-place
 invariant-loop-place g l = record {
