@@ -6,3 +6,4 @@ pub mod Search
 pub mod Walk
 pub mod Packed
 pub mod Sums
+pub mod Blocks

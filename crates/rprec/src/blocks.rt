@@ -1,12 +1,12 @@
 ghost use Rattle.std.specs.Prelude.{◌≡◌, ℕ, ◌+◌, ◌-◌, ◌*◌, ◌<◌, ◌≤◌, false};
-ghost use Rattle.rprec.specs.Greedy.{IsSmallCandidate, candidate};
-ghost use Rattle.rprec.specs.Search.{IsBestOf, IsBestBetween, IsShallow, precedes};
-ghost use Rattle.rprec.specs.Sums.{IsPair, choice_at, prefixes, steps_of};
+ghost use Rattle.rprec.specs.Greedy.{candidate};
+ghost use Rattle.rprec.specs.Search.{IsBestOf, IsBestBetween, precedes};
+ghost use Rattle.rprec.specs.Sums.{choice_at, prefixes, steps_of};
 
-use crate::greedy::{DepthCandidate, greedy_choice};
+use crate::greedy::{DepthCandidate, Small, greedy_choice};
 use crate::pair::RunPair;
 use crate::prefixes::counts_in;
-use crate::search::{is_less, preferred};
+use crate::search::{Shallow, is_less, preferred};
 use measure_core::BLOCK;
 
 /// How many blocks are left out or looked into together.
@@ -14,26 +14,26 @@ const STRETCH: u32 = 5;
 
 impl<'p> RunPair<'p> {
     /// The greedy choice at the end of a block.
-    fn choice_at_block(&self, block: u32) -> DepthCandidate
-        requires pair { IsPair self.now }
+    fn choice_at_block(&self, block: u32) -> Shallow
         requires low { self.now.all.relevant < 10 * block }
         requires high { 10 * block ≤ self.now.all.relevant + steps_of self.now }
-        ensures value { result ≡
+        ensures { result.candidate ≡
             candidate (prefixes self.now (10 * block)) self.now.all (10 * block -
             self.now.all.relevant) }
-        ensures near { IsShallow result }
     {
         let prefixes = self.at_block(block).unpacked();
-        greedy_choice(prefixes, block * BLOCK - self.all.relevant, self.all)
+        let chosen = block * BLOCK - self.all.relevant;
+        let small = greedy_choice(prefixes, chosen, self.all);
+        Shallow {
+            candidate: small.candidate,
+        }
     }
 
     /// A good one of the greedy choices and an earlier candidate: the best of those at the ends of
     /// stretches.
-    fn guess(&self, earlier: DepthCandidate) -> DepthCandidate
-        requires pair { IsPair self.now }
-        requires earlier { IsShallow earlier }
-        ensures choice { IsBestBetween (choice_at self.now) 0 (steps_of self.now) earlier result }
-        ensures near { IsShallow result }
+    fn guess(&self, earlier: Shallow) -> Shallow
+        ensures { IsBestBetween (choice_at self.now) 0 (steps_of self.now) earlier.candidate
+            result.candidate }
     {
         let length = STRETCH * BLOCK;
         let first = self.all.relevant / length + 1;
@@ -52,7 +52,6 @@ impl<'p> RunPair<'p> {
         requires few { length ≤ 50 }
         requires order { chosen < end }
         requires high { end ≤ steps_of self.now }
-        requires longest { self.now.longest ≤ 10000 }
         ensures later { chosen < result }
         ensures within { result ≤ end }
     {
@@ -65,13 +64,11 @@ impl<'p> RunPair<'p> {
     /// candidate has a smaller difference than what bounds them all: the relevant documents that the
     /// first run has at the start, and for the second run all that it has at the end, less what both
     /// share at the start. At each depth before the one where it may have so many, it has one fewer.
-    fn may_precede(&self, chosen: u32, next: u32, best: DepthCandidate) -> bool
-        requires pair { IsPair self.now }
+    fn may_precede(&self, chosen: u32, next: u32, best: Shallow) -> bool
         requires order { chosen < next }
         requires high { next ≤ steps_of self.now }
-        requires best { IsShallow best }
         ensures { result ≡ false → (place : ℕ) → chosen ≤ place → place < next →
-            precedes (choice_at self.now place) best ≡ false }
+            precedes (choice_at self.now place) best.candidate ≡ false }
     {
         let relevant = self.all.relevant;
         let start = (relevant + chosen) / BLOCK;
@@ -83,45 +80,50 @@ impl<'p> RunPair<'p> {
         let most = ended.unjudged.min(next);
         let lack = relevant.max(start * BLOCK - begun.unjudged);
         let second = ended.relevant + most;
-        let high = DepthCandidate {
-            count: relevant + next,
-            first,
-            second,
+        let count = relevant + next;
+        let high = Shallow {
+            candidate: DepthCandidate {
+                count,
+                first,
+                second,
+            },
         };
-        let low = DepthCandidate {
-            count: high.count.min(most + lack),
-            first,
-            second,
+        let low = Shallow {
+            candidate: DepthCandidate {
+                count: count.min(most + lack),
+                first,
+                second,
+            },
         };
         !(is_less(best, low) && is_less(best, high))
     }
 
     /// The best of the greedy choices at some depths and an earlier candidate, one by one.
-    fn best_in(&self, chosen: u32, next: u32, earlier: DepthCandidate) -> DepthCandidate
-        requires pair { IsPair self.now }
+    fn best_in(&self, chosen: u32, next: u32, earlier: Shallow) -> Shallow
         requires order { chosen < next }
         requires high { next ≤ steps_of self.now }
-        requires earlier { IsShallow earlier }
-        ensures best { IsBestOf (choice_at self.now) chosen next earlier result }
-        ensures near { IsShallow result }
+        ensures { IsBestOf (choice_at self.now) chosen next earlier.candidate
+            result.candidate }
     {
         let mut packed = self.packed_at(self.all.relevant + chosen);
         let mut best = earlier;
         for place in chosen..next {
             packed = self.deeper(packed, self.all.relevant + place);
-            best = preferred(greedy_choice(packed.unpacked(), place + 1, self.all), best);
+            let small = greedy_choice(packed.unpacked(), place + 1, self.all);
+            let choice = Shallow {
+                candidate: small.candidate,
+            };
+            best = preferred(choice, best);
         }
         best
     }
 
     /// The same at the depths of a block.
-    fn best_in_block(&self, chosen: u32, next: u32, earlier: DepthCandidate) -> DepthCandidate
-        requires pair { IsPair self.now }
+    fn best_in_block(&self, chosen: u32, next: u32, earlier: Shallow) -> Shallow
         requires order { chosen < next }
         requires high { next ≤ steps_of self.now }
-        requires earlier { IsShallow earlier }
-        ensures best { IsBestOf (choice_at self.now) chosen next earlier result }
-        ensures near { IsShallow result }
+        ensures { IsBestOf (choice_at self.now) chosen next earlier.candidate
+            result.candidate }
     {
         if self.may_precede(chosen, next, earlier) {
             self.best_in(chosen, next, earlier)
@@ -131,13 +133,11 @@ impl<'p> RunPair<'p> {
     }
 
     /// The same at the depths of some blocks.
-    fn best_in_blocks(&self, start: u32, end: u32, earlier: DepthCandidate) -> DepthCandidate
-        requires pair { IsPair self.now }
+    fn best_in_blocks(&self, start: u32, end: u32, earlier: Shallow) -> Shallow
         requires order { start < end }
         requires high { end ≤ steps_of self.now }
-        requires earlier { IsShallow earlier }
-        ensures best { IsBestOf (choice_at self.now) start end earlier result }
-        ensures near { IsShallow result }
+        ensures { IsBestOf (choice_at self.now) start end earlier.candidate
+            result.candidate }
     {
         let mut best = earlier;
         let mut chosen = start;
@@ -150,13 +150,11 @@ impl<'p> RunPair<'p> {
     }
 
     /// The same at the depths of a stretch.
-    fn best_in_stretch(&self, start: u32, end: u32, earlier: DepthCandidate) -> DepthCandidate
-        requires pair { IsPair self.now }
+    fn best_in_stretch(&self, start: u32, end: u32, earlier: Shallow) -> Shallow
         requires order { start < end }
         requires high { end ≤ steps_of self.now }
-        requires earlier { IsShallow earlier }
-        ensures best { IsBestOf (choice_at self.now) start end earlier result }
-        ensures near { IsShallow result }
+        ensures { IsBestOf (choice_at self.now) start end earlier.candidate
+            result.candidate }
     {
         if self.may_precede(start, end, earlier) {
             self.best_in_blocks(start, end, earlier)
@@ -166,11 +164,9 @@ impl<'p> RunPair<'p> {
     }
 
     /// The same at all depths.
-    fn best_in_stretches(&self, earlier: DepthCandidate) -> DepthCandidate
-        requires pair { IsPair self.now }
-        requires earlier { IsShallow earlier }
-        ensures best { IsBestOf (choice_at self.now) 0 (steps_of self.now) earlier result }
-        ensures near { IsShallow result }
+    fn best_in_stretches(&self, earlier: Shallow) -> Shallow
+        ensures { IsBestOf (choice_at self.now) 0 (steps_of self.now) earlier.candidate
+            result.candidate }
     {
         let steps = self.steps();
         let mut best = earlier;
@@ -186,17 +182,20 @@ impl<'p> RunPair<'p> {
     /// The best of the greedy choices at all depths and the one at the number of documents judged
     /// relevant: the one with the least difference, and of these the one with the smallest number of
     /// relevant documents.
-    pub fn best(&self, judged: DepthCandidate) -> DepthCandidate
-        requires pair { IsPair self.now }
-        requires small { IsSmallCandidate judged }
-        requires count { judged.count ≡ self.now.all.relevant }
-        ensures best { IsBestOf (choice_at self.now) 0 (steps_of self.now) judged result }
-        ensures small { IsSmallCandidate result }
+    pub fn best(&self, judged: Small) -> Small
+        requires { judged.candidate.count ≡ self.now.all.relevant }
+        ensures { IsBestOf (choice_at self.now) 0 (steps_of self.now) judged.candidate
+            result.candidate }
     {
         if self.steps() == 0 {
-            judged
-        } else {
-            self.best_in_stretches(self.guess(judged))
+            return judged;
+        }
+        let earlier = Shallow {
+            candidate: judged.candidate,
+        };
+        let best = self.best_in_stretches(self.guess(earlier));
+        Small {
+            candidate: best.candidate,
         }
     }
 }

@@ -1,28 +1,23 @@
 ghost use Rattle.std.specs.Prelude.{◌≡◌, ◌+◌, ◌≤◌, length};
-ghost use Rattle.desk_model.specs.Limits.{DOCUMENT_LIMIT, RANK_LIMIT};
-ghost use Rattle.desk_model.specs.Ranking.{IsRanking};
+ghost use Rattle.desk_model.specs.Limits.{RANK_LIMIT};
 ghost use Rattle.measure_laws.specs.RprecCase.{IsSmallestAttained};
-ghost use Rattle.rprec.specs.Greedy.{AreTopic, IsLeast, IsSmallCandidate};
+ghost use Rattle.rprec.specs.Greedy.{IsLeast};
 ghost use Rattle.rprec.specs.Picks.{AreWanted, IsLeastCase};
-ghost use Rattle.rprec.specs.Shared.{AreShared};
-ghost use Rattle.rprec.specs.Sums.{AreBlockSums, IsPair, prefixes, steps_of};
+ghost use Rattle.rprec.specs.Sums.{prefixes, steps_of};
 
-use crate::greedy::{DepthCandidate, best_beyond, greedy_choice};
+use crate::greedy::{Small, best_beyond, greedy_choice};
+use crate::known::KnownPair;
 use crate::pair::RunPair;
 use crate::prefixes::Prefixes;
-use crate::shared::Shared;
 use crate::sums::sums_of_shared;
 use crate::values::{LeastCase, Wanted, wanted_of};
-use desk_model::Mark;
-use measure_core::RunSums;
-use topic_counts::counts::Counts;
 
 /// The least candidate of two runs, and that of the swapped runs, whose difference is the greatest
 /// one negated.
-#[derive(Clone, Copy, PartialEq, Eq)]
+#[derive(Clone, Copy)]
 pub struct Extremes {
-    pub least: DepthCandidate,
-    pub most: DepthCandidate,
+    pub least: Small,
+    pub most: Small,
 }
 
 /// The least case of two runs, and that of the swapped runs.
@@ -33,26 +28,22 @@ pub struct Cases {
 }
 
 /// How many documents the longer of two runs has, and at least 1.
-fn longest(a: &[u32], b: &[u32]) -> u32
-    requires first { length a.now ≤ RANK_LIMIT }
-    requires second { length b.now ≤ RANK_LIMIT }
-    ensures first { length a.now ≤ result }
-    ensures second { length b.now ≤ result }
+fn longest(known: &KnownPair) -> u32
+    ensures first { length known.now.a.now ≤ result }
+    ensures second { length known.now.b.now ≤ result }
     ensures positive { 1 ≤ result }
     ensures few { result ≤ RANK_LIMIT }
 {
-    a.len().max(b.len()).max(1) as u32
+    known.a.len().max(known.b.len()).max(1) as u32
 }
 
 impl<'p> RunPair<'p> {
     /// The least candidate of the first run against the second, from the counts at the number of
     /// documents judged relevant and at the last depth to look at.
-    fn least(&self, start: Prefixes, end: Prefixes) -> DepthCandidate
-        requires pair { IsPair self.now }
+    fn least(&self, start: Prefixes, end: Prefixes) -> Small
         requires start { start ≡ prefixes self.now self.now.all.relevant }
         requires end { end ≡ prefixes self.now (self.now.all.relevant + steps_of self.now) }
-        ensures least { IsLeast self.now.marks.now self.now.a.now self.now.b.now result }
-        ensures small { IsSmallCandidate result }
+        ensures { IsLeast self.now.marks.now self.now.a.now self.now.b.now result.candidate }
     {
         let judged = greedy_choice(start, 0, self.all);
         best_beyond(end, self.steps(), self.all, self.best(judged))
@@ -60,7 +51,6 @@ impl<'p> RunPair<'p> {
 
     /// The greedy choice where the topic is to have so many relevant documents.
     fn wanted_at(&self, count: u32) -> Wanted
-        requires { IsPair self.now }
         ensures { AreWanted self.now.marks.now self.now.a.now self.now.b.now count result }
     {
         let prefixes = self.prefixes_at(count);
@@ -72,12 +62,11 @@ impl<'p> RunPair<'p> {
 
     /// The least case of the first run against the second, from the same counts as the least candidate.
     fn least_case(&self, start: Prefixes, end: Prefixes) -> LeastCase
-        requires pair { IsPair self.now }
         requires start { start ≡ prefixes self.now self.now.all.relevant }
         requires end { end ≡ prefixes self.now (self.now.all.relevant + steps_of self.now) }
         ensures { IsLeastCase self.now.marks.now self.now.a.now self.now.b.now result }
     {
-        let least = self.least(start, end);
+        let least = self.least(start, end).candidate;
         LeastCase {
             count: least.count,
             wanted: self.wanted_at(least.count),
@@ -86,7 +75,6 @@ impl<'p> RunPair<'p> {
 
     /// The least case of the first run against the second.
     fn least_of_all(&self) -> LeastCase
-        requires { IsPair self.now }
         ensures { IsLeastCase self.now.marks.now self.now.a.now self.now.b.now result }
     {
         let start = self.prefixes_at(self.all.relevant);
@@ -96,7 +84,6 @@ impl<'p> RunPair<'p> {
 
     /// The least cases of both, and of the swapped runs.
     fn cases(&self) -> Cases
-        requires { IsPair self.now }
         ensures least { IsLeastCase self.now.marks.now self.now.a.now self.now.b.now result.least }
         ensures most { IsLeastCase self.now.marks.now self.now.b.now self.now.a.now result.most }
     {
@@ -111,11 +98,10 @@ impl<'p> RunPair<'p> {
 
     /// The least candidates of both, and of the swapped runs.
     fn extremes(&self) -> Extremes
-        requires { IsPair self.now }
-        ensures least { IsLeast self.now.marks.now self.now.a.now self.now.b.now result.least }
-        ensures most { IsLeast self.now.marks.now self.now.b.now self.now.a.now result.most }
-        ensures least_small { IsSmallCandidate result.least }
-        ensures most_small { IsSmallCandidate result.most }
+        ensures least { IsLeast self.now.marks.now self.now.a.now self.now.b.now
+            result.least.candidate }
+        ensures most { IsLeast self.now.marks.now self.now.b.now self.now.a.now
+            result.most.candidate }
     {
         let start = self.prefixes_at(self.all.relevant);
         let end = self.prefixes_at(self.all.relevant + self.steps());
@@ -129,113 +115,70 @@ impl<'p> RunPair<'p> {
 
 /// The least case of two runs: the completion with the least difference of all, and of these one with the smallest number
 /// of relevant documents. No number of relevant documents is left out.
-pub fn find_least(
-    a: &[u32],
-    b: &[u32],
-    first: &RunSums,
-    second: &RunSums,
-    shared: &Shared,
-    all: Counts,
-    marks: &[Mark],
-) -> LeastCase
-    requires a { IsRanking (length marks.now) a.now }
-    requires b { IsRanking (length marks.now) b.now }
-    requires first { AreBlockSums marks.now a.now first.now.numbers }
-    requires second { AreBlockSums marks.now b.now second.now.numbers }
-    requires shared { AreShared marks.now a.now b.now shared.now.counts }
-    requires topic { AreTopic marks.now all }
-    requires few { all.relevant + all.unjudged ≤ DOCUMENT_LIMIT }
-    ensures { IsLeastCase marks.now a.now b.now result }
+pub fn find_least(known: &KnownPair) -> LeastCase
+    ensures { IsLeastCase known.now.marks.now known.now.a.now known.now.b.now result }
 {
-    let longest = longest(a, b);
-    let both = sums_of_shared(shared, longest);
+    let longest = longest(known);
+    let both = sums_of_shared(known.shared, longest);
     let pair = RunPair {
-        a,
-        b,
-        first,
-        second,
+        a: known.a,
+        b: known.b,
+        first: known.first,
+        second: known.second,
         both: &both,
-        shared,
-        marks,
-        all,
+        shared: known.shared,
+        marks: known.marks,
+        all: known.all,
         longest,
     };
     pair.least_of_all()
 }
 
 /// The same for two runs and for the runs swapped.
-pub fn find_cases(
-    a: &[u32],
-    b: &[u32],
-    first: &RunSums,
-    second: &RunSums,
-    shared: &Shared,
-    all: Counts,
-    marks: &[Mark],
-) -> Cases
-    requires a { IsRanking (length marks.now) a.now }
-    requires b { IsRanking (length marks.now) b.now }
-    requires first { AreBlockSums marks.now a.now first.now.numbers }
-    requires second { AreBlockSums marks.now b.now second.now.numbers }
-    requires shared { AreShared marks.now a.now b.now shared.now.counts }
-    requires topic { AreTopic marks.now all }
-    requires few { all.relevant + all.unjudged ≤ DOCUMENT_LIMIT }
-    ensures least { IsLeastCase marks.now a.now b.now result.least }
-    ensures most { IsLeastCase marks.now b.now a.now result.most }
+pub fn find_cases(known: &KnownPair) -> Cases
+    ensures least { IsLeastCase known.now.marks.now known.now.a.now known.now.b.now result.least }
+    ensures most { IsLeastCase known.now.marks.now known.now.b.now known.now.a.now result.most }
 {
-    let longest = longest(a, b);
-    let both = sums_of_shared(shared, longest);
+    let longest = longest(known);
+    let both = sums_of_shared(known.shared, longest);
     let pair = RunPair {
-        a,
-        b,
-        first,
-        second,
+        a: known.a,
+        b: known.b,
+        first: known.first,
+        second: known.second,
         both: &both,
-        shared,
-        marks,
-        all,
+        shared: known.shared,
+        marks: known.marks,
+        all: known.all,
         longest,
     };
     pair.cases()
 }
 
 /// The least candidates of two runs and of the runs swapped.
-pub fn find_extremes(
-    a: &[u32],
-    b: &[u32],
-    first: &RunSums,
-    second: &RunSums,
-    shared: &Shared,
-    all: Counts,
-    marks: &[Mark],
-) -> Extremes
-    requires a { IsRanking (length marks.now) a.now }
-    requires b { IsRanking (length marks.now) b.now }
-    requires first { AreBlockSums marks.now a.now first.now.numbers }
-    requires second { AreBlockSums marks.now b.now second.now.numbers }
-    requires shared { AreShared marks.now a.now b.now shared.now.counts }
-    requires topic { AreTopic marks.now all }
-    requires few { all.relevant + all.unjudged ≤ DOCUMENT_LIMIT }
-    ensures least { IsLeast marks.now a.now b.now result.least }
-    ensures most { IsLeast marks.now b.now a.now result.most }
-    ensures least_first { IsSmallestAttained marks.now a.now b.now result.least.count }
-    ensures most_first { IsSmallestAttained marks.now b.now a.now result.most.count }
-    ensures least_small { IsSmallCandidate result.least }
-    ensures most_small { IsSmallCandidate result.most }
-    ensures low { all.relevant ≤ result.least.count }
-    ensures most_low { all.relevant ≤ result.most.count }
+pub fn find_extremes(known: &KnownPair) -> Extremes
+    ensures least { IsLeast known.now.marks.now known.now.a.now known.now.b.now
+        result.least.candidate }
+    ensures most { IsLeast known.now.marks.now known.now.b.now known.now.a.now
+        result.most.candidate }
+    ensures least_first { IsSmallestAttained known.now.marks.now known.now.a.now known.now.b.now
+        result.least.candidate.count }
+    ensures most_first { IsSmallestAttained known.now.marks.now known.now.b.now known.now.a.now
+        result.most.candidate.count }
+    ensures low { known.now.all.relevant ≤ result.least.candidate.count }
+    ensures most_low { known.now.all.relevant ≤ result.most.candidate.count }
 {
-    let longest = longest(a, b);
-    let both = sums_of_shared(shared, longest);
+    let longest = longest(known);
+    let both = sums_of_shared(known.shared, longest);
     let pair = RunPair {
-        a,
-        b,
-        first,
-        second,
+        a: known.a,
+        b: known.b,
+        first: known.first,
+        second: known.second,
         both: &both,
-        shared,
-        marks,
-        all,
+        shared: known.shared,
+        marks: known.marks,
+        all: known.all,
         longest,
     };
     pair.extremes()

@@ -13,28 +13,35 @@ pub struct DepthCandidate {
     pub second: u32,
 }
 
+/// A candidate with no more documents than a run and a topic have.
+#[derive(Clone, Copy)]
+pub struct Small {
+    pub candidate: DepthCandidate,
+    pub ghost small: { IsSmallCandidate candidate },
+}
+
 /// The greedy choice of some of the unjudged documents: the second run's own ones come first, and
 /// the first run's own ones last.
-pub fn greedy_choice(prefixes: Prefixes, chosen: u32, all: Counts) -> DepthCandidate
+pub fn greedy_choice(prefixes: Prefixes, chosen: u32, all: Counts) -> Small
     requires few { AreFew prefixes all }
     requires chosen { chosen ≤ all.unjudged }
-    ensures value { result ≡ candidate prefixes all chosen }
-    ensures small { IsSmallCandidate result }
+    ensures { result.candidate ≡ candidate prefixes all chosen }
 {
     let others = all.unjudged - prefixes.first.unjudged;
-    DepthCandidate {
+    let candidate = DepthCandidate {
         count: all.relevant + chosen,
         first: prefixes.first.relevant + chosen.saturating_sub(others),
         second: prefixes.second.relevant + chosen.min(prefixes.second.unjudged),
-    }
+    };
+    Small { candidate }
 }
 
 /// Whether the difference of one candidate is smaller than that of another.
-fn is_less(c: DepthCandidate, best: DepthCandidate) -> bool
-    requires candidate { IsSmallCandidate c }
-    requires best { IsSmallCandidate best }
-    ensures { result ≡ beats c best }
+fn is_less(c: Small, best: Small) -> bool
+    ensures { result ≡ beats c.candidate best.candidate }
 {
+    let c = c.candidate;
+    let best = best.candidate;
     let here = u64::from(c.count.max(1));
     let there = u64::from(best.count.max(1));
     u64::from(c.first) * there + u64::from(best.second) * here
@@ -42,11 +49,8 @@ fn is_less(c: DepthCandidate, best: DepthCandidate) -> bool
 }
 
 /// The one of two candidates with the smaller difference, and of equal ones the second.
-fn better(c: DepthCandidate, best: DepthCandidate) -> DepthCandidate
-    requires candidate { IsSmallCandidate c }
-    requires best { IsSmallCandidate best }
-    ensures value { result ≡ better_of c best }
-    ensures small { IsSmallCandidate result }
+fn better(c: Small, best: Small) -> Small
+    ensures { result.candidate ≡ better_of c.candidate best.candidate }
 {
     if is_less(c, best) { c } else { best }
 }
@@ -54,17 +58,10 @@ fn better(c: DepthCandidate, best: DepthCandidate) -> DepthCandidate
 /// The best of all, where the best up to some number is known and the prefixes stay as they are from
 /// there on. The difference falls or rises evenly up to where the second run's own documents are
 /// used up, and from there up to where only the first run's own ones are left; then it rises.
-pub fn best_beyond(
-    prefixes: Prefixes,
-    chosen: u32,
-    all: Counts,
-    best: DepthCandidate,
-) -> DepthCandidate
+pub fn best_beyond(prefixes: Prefixes, chosen: u32, all: Counts, best: Small) -> Small
     requires few { AreFew prefixes all }
     requires chosen { chosen ≤ all.unjudged }
-    requires best { IsSmallCandidate best }
-    ensures value { result ≡ beyond prefixes all chosen best }
-    ensures small { IsSmallCandidate result }
+    ensures { result.candidate ≡ beyond prefixes all chosen best.candidate }
 {
     let others = all.unjudged - prefixes.first.unjudged;
     let second_used = greedy_choice(prefixes, chosen.max(prefixes.second.unjudged), all);

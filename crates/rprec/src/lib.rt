@@ -5,6 +5,7 @@
 pub mod blocks;
 pub mod extremes;
 pub mod greedy;
+mod known;
 mod lists;
 pub mod pair;
 mod pair_lists;

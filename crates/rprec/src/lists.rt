@@ -1,13 +1,12 @@
 // Lists of the unjudged documents that the greedy choice makes relevant, and counts of these documents.
 ghost use Rattle.std.specs.Prelude.{◌≡◌, ◌≤◌, ◌++◌, length, OnOk};
 ghost use Rattle.measure_laws.specs.RprecCase.{greedy_truth};
-ghost use Rattle.measure_core.specs.Laws.{AreMet};
 ghost use Rattle.measure_core.specs.Lists.{added_documents, AreCounted, HaveRoomFor};
 ghost use Rattle.rprec.specs.Greedy.{AreTopic};
 ghost use Rattle.rprec.specs.Picks.{others, AreWanted};
 
 use crate::values::Wanted;
-use desk_model::{Mark, Memory, Ranking};
+use desk_model::Memory;
 use marked_lists::push_own_marked;
 use measure_core::{MarkedPair, More, RankedPair, count_neutral, count_own, push_own_and_more};
 use std::alloc::Global;
@@ -19,25 +18,23 @@ pub fn push_chosen(
     alloc: Global,
     count: u32,
     wanted: Wanted,
-    a: &Ranking,
-    b: &Ranking,
-    marks: &[Mark],
+    pair: &MarkedPair,
     docs: &mut Vec<u32>,
 ) -> Result<(), Memory>
-    requires met { AreMet marks.now a.now b.now }
-    requires wanted { AreWanted marks.now a.now b.now count wanted }
+    requires { AreWanted pair.now.marks.now pair.now.a.now pair.now.b.now count wanted }
     ensures { OnOk result (docs.new.items ≡ docs.old.items ++
-        added_documents marks.now (greedy_truth marks.now a.now b.now count)) }
+        added_documents pair.now.marks.now
+        (greedy_truth pair.now.marks.now pair.now.a.now pair.now.b.now count)) }
 {
     if wanted.both > 0 {
         let others = More {
             both: wanted.both,
             first: wanted.first,
         };
-        return push_own_and_more(count, others, &MarkedPair { a, b, marks }, docs);
+        return push_own_and_more(count, others, pair, docs);
     }
     let start = docs.len();
-    push_own_marked(alloc, count, a, b, marks, docs)?;
+    push_own_marked(alloc, count, pair.a, pair.b, pair.marks, docs)?;
     docs.truncate(start + wanted.second as usize);
     Ok(())
 }

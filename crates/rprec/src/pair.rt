@@ -1,8 +1,7 @@
-ghost use Rattle.std.specs.Prelude.{◌≡◌, ◌+◌, ◌*◌, ◌<◌, ◌≤◌};
-ghost use Rattle.rprec.specs.Packed.{packed_of};
-ghost use Rattle.rprec.specs.Sums.{IsPair, prefixes, steps_of, swapped_pair};
+ghost use Rattle.std.proofs.Props.{props};
+ghost use Rattle.rprec.specs.Blocks.{IsPairOf};
 
-use crate::prefixes::{Packed, Prefixes, next_number};
+use crate::prefixes::{MarkedDocs, Packed, Prefixes, next_number};
 use crate::shared::Shared;
 use crate::sums::SharedSums;
 use desk_model::Mark;
@@ -27,9 +26,15 @@ pub struct RunPair<'p> {
     pub all: Counts,
     /// How many documents the longer run has, and at least 1.
     pub longest: u32,
+    pub ghost is: { IsPairOf marks.now a.now b.now first.now.numbers second.now.numbers
+        both.now.numbers shared.now.counts longest all } by { Prim.hlevel props },
 }
 
 impl<'p> RunPair<'p> {
+    ghost use Rattle.std.specs.Prelude.{◌≡◌, ◌+◌, ◌*◌, ◌<◌, ◌≤◌};
+    ghost use Rattle.rprec.specs.Packed.{packed_of};
+    ghost use Rattle.rprec.specs.Sums.{prefixes, steps_of, swapped_pair};
+
     /// The same with the runs swapped.
     pub fn swapped(&self) -> RunPair<'p>
         ensures { result ≡ swapped_pair self.now }
@@ -57,8 +62,7 @@ impl<'p> RunPair<'p> {
 
     /// The counts at the end of a block.
     pub fn at_block(&self, block: u32) -> Packed
-        requires pair { IsPair self.now }
-        requires block { 10 * block ≤ self.now.longest }
+        requires { 10 * block ≤ self.now.longest }
         ensures { result ≡ packed_of (prefixes self.now (10 * block)) }
     {
         let both = self.both.numbers[block as usize];
@@ -70,14 +74,26 @@ impl<'p> RunPair<'p> {
 
     /// The counts at the depth after one.
     pub fn deeper(&self, packed: Packed, depth: u32) -> Packed
-        requires pair { IsPair self.now }
         requires packed { packed ≡ packed_of (prefixes self.now depth) }
         requires depth { depth < self.now.longest }
         ensures { result ≡ packed_of (prefixes self.now (depth + 1)) }
     {
         let both = u32::from(self.shared.counts[depth as usize]);
-        let one = next_number(self.a, depth, self.marks);
-        let two = next_number(self.b, depth, self.marks);
+        let marks = self.marks;
+        let one = next_number(
+            &MarkedDocs {
+                docs: self.a,
+                marks,
+            },
+            depth,
+        );
+        let two = next_number(
+            &MarkedDocs {
+                docs: self.b,
+                marks,
+            },
+            depth,
+        );
         Packed {
             first: packed.first + one - both,
             second: packed.second + two - both,
@@ -86,8 +102,7 @@ impl<'p> RunPair<'p> {
 
     /// The counts at a depth that a run has.
     pub fn packed_at(&self, depth: u32) -> Packed
-        requires pair { IsPair self.now }
-        requires depth { depth ≤ self.now.longest }
+        requires { depth ≤ self.now.longest }
         ensures { result ≡ packed_of (prefixes self.now depth) }
     {
         let block = depth / BLOCK;
@@ -100,7 +115,6 @@ impl<'p> RunPair<'p> {
 
     /// The counts at any depth.
     pub fn prefixes_at(&self, depth: u32) -> Prefixes
-        requires { IsPair self.now }
         ensures { result ≡ prefixes self.now depth }
     {
         self.packed_at(depth.min(self.longest)).unpacked()

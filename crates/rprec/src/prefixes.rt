@@ -1,3 +1,4 @@
+ghost use Rattle.std.proofs.Props.{props};
 ghost use Rattle.std.specs.Prelude.{◌≡◌, ◌<◌, length};
 ghost use Rattle.desk_model.specs.Ranking.{IsRanking};
 ghost use Rattle.rprec.specs.Greedy.{swapped};
@@ -5,6 +6,14 @@ ghost use Rattle.rprec.specs.Packed.{IsPackedNext, counts_for, pack, unpack, unp
 
 use desk_model::Mark;
 use topic_counts::counts::Counts;
+
+/// The documents of a run by rank, with the marks of the topic's documents.
+#[derive(Clone, Copy)]
+pub struct MarkedDocs<'d, 'm> {
+    pub docs: &'d [u32],
+    pub marks: &'m [Mark],
+    pub ghost met: { IsRanking (length marks.now) docs.now } by { Prim.hlevel props },
+}
 
 /// The counts of two runs' first documents: of all relevant ones of each, and of the unjudged ones
 /// that it alone has there.
@@ -70,21 +79,21 @@ fn number_for(mark: Mark) -> u32
 }
 
 /// The counts of the document at a place of a ranking, packed.
-pub fn number_at(docs: &[u32], place: u32, marks: &[Mark]) -> u32
-    requires docs { IsRanking (length marks.now) docs.now }
-    requires place { place < length docs.now }
-    ensures { IsPackedNext marks.now docs.now place result }
+#[inline]
+pub fn number_at(run: &MarkedDocs, place: u32) -> u32
+    requires { place < length run.now.docs.now }
+    ensures { IsPackedNext run.now.marks.now run.now.docs.now place result }
 {
-    number_for(marks[docs[place as usize] as usize])
+    number_for(run.marks[run.docs[place as usize] as usize])
 }
 
 /// The counts of the document at a place of a ranking, packed, if there is one.
-pub fn next_number(docs: &[u32], place: u32, marks: &[Mark]) -> u32
-    requires { IsRanking (length marks.now) docs.now }
-    ensures { IsPackedNext marks.now docs.now place result }
+#[inline]
+pub fn next_number(run: &MarkedDocs, place: u32) -> u32
+    ensures { IsPackedNext run.now.marks.now run.now.docs.now place result }
 {
-    if (place as usize) < docs.len() {
-        number_at(docs, place, marks)
+    if (place as usize) < run.docs.len() {
+        number_at(run, place)
     } else {
         0
     }

@@ -1,27 +1,29 @@
 ghost use Rattle.std.specs.Prelude.{◌≡◌, ℕ, ◌+◌, ◌≤◌, ◌++◌, List, length, IfOk, OnOk};
 ghost use Rattle.desk_model.specs.Limits.{DOCUMENT_LIMIT};
+ghost use Rattle.desk_model.specs.Ranking.{IsRanking};
 ghost use Rattle.desk_model.specs.declared.types.Mark.{Mark as M};
 ghost use Rattle.desk_model.specs.declared.types.MeasureName.TheVariants.{RPrecision as R};
 ghost use Rattle.measure_laws.specs.RprecCase.{rprec_truth};
-ghost use Rattle.measure_core.specs.Laws.{AreMet, AreValues};
+ghost use Rattle.measure_core.specs.Laws.{AreValues};
 ghost use Rattle.measure_core.specs.Lists.{added_documents};
 ghost use Rattle.measure_core.specs.Made.{IsMadeFor};
 ghost use Rattle.measure_core.specs.Numbers.{exact_least, exact_cell};
-ghost use Rattle.rprec.specs.Greedy.{AreTopic, IsLeast, IsSmallCandidate};
+ghost use Rattle.rprec.specs.Greedy.{AreTopic, IsLeast};
 ghost use Rattle.rprec.specs.Picks.{IsLeastCase};
-ghost use Rattle.rprec.specs.Shared.{AreShared};
-ghost use Rattle.rprec.specs.Sums.{AreBlockSums};
+ghost use Rattle.rprec.specs.Blocks.{AreBlockSums};
 
 use crate::extremes::{Cases, find_cases, find_extremes, find_least};
-use crate::greedy::DepthCandidate;
+use crate::greedy::Small;
+use crate::known::{KnownPair, SummedPair};
 use crate::lists::push_chosen;
 use crate::pair_lists::{count_by_sums, count_cases};
+use crate::prefixes::MarkedDocs;
 use crate::shared::Shared;
 use crate::sums::sums_of_run;
 use crate::values::{LeastCase, values};
 use desk_model::{Mark, MeasureName, Memory, Ranking};
 use measure_core::{
-    Cell, CellRoom, KeptCell, KeptPair, KeptSums, ListRoom, ListSizes, MarkedRankings, MarkedRun,
+    Cell, CellRoom, KeptCell, KeptPair, ListRoom, ListSizes, MarkedPair, MarkedRankings, MarkedRun,
     Measure, RankedMeasure, RunPair, RunSums, RunWeights, SetApart, Shift, Steps, TopicRankings,
     ranked_cells, shift_one_side,
 };
@@ -49,11 +51,11 @@ impl Rprec {
 }
 
 /// The ends of the difference of a candidate, in units.
-fn span(c: DepthCandidate) -> Span
-    requires { IsSmallCandidate c }
-    ensures { (marks : List M) (a b : List ℕ) → IsLeast marks a b c →
+fn span(c: Small) -> Span
+    ensures { (marks : List M) (a b : List ℕ) → IsLeast marks a b c.candidate →
         result ≡ exact_least R marks a b }
 {
+    let c = c.candidate;
     span_of(
         i128::from(c.first) - i128::from(c.second),
         i128::from(c.count.max(1)),
@@ -71,106 +73,110 @@ fn topic(marks: &[Mark]) -> Counts
 }
 
 /// The ends of the least and the greatest difference, in units.
-fn cell_of(
-    a: &[u32],
-    b: &[u32],
-    first: &RunSums,
-    second: &RunSums,
-    shared: &Shared,
-    all: Counts,
-    marks: &[Mark],
-) -> Cell
-    requires met { AreMet marks.now a.now b.now }
-    requires first { AreBlockSums marks.now a.now first.now.numbers }
-    requires second { AreBlockSums marks.now b.now second.now.numbers }
-    requires shared { AreShared marks.now a.now b.now shared.now.counts }
-    requires topic { AreTopic marks.now all }
-    requires few { all.relevant + all.unjudged ≤ DOCUMENT_LIMIT }
-    ensures { result ≡ exact_cell R marks.now a.now b.now }
+fn cell_of(known: &KnownPair) -> Cell
+    ensures { result ≡ exact_cell R known.now.marks.now known.now.a.now known.now.b.now }
 {
-    let extremes = find_extremes(a, b, first, second, shared, all, marks);
+    let extremes = find_extremes(known);
     Cell {
         least: span(extremes.least),
         most: span(extremes.most).negate(),
     }
 }
 
-/// The least case of two runs.
-fn least_of(a: &Ranking, b: &Ranking, marks: &[Mark]) -> LeastCase
-    requires { AreMet marks.now a.now b.now }
-    ensures { IsLeastCase marks.now a.now b.now result }
+/// The sums of a run.
+fn sums_of(run: &Ranking, marks: &[Mark]) -> RunSums
+    requires { IsRanking (length marks.now) run.now }
+    ensures { AreBlockSums marks.now run.now result.numbers }
 {
-    let all = topic(marks);
-    let shared = Shared::between(a, b, marks);
-    let first = sums_of_run(a.docs(), marks);
-    let second = sums_of_run(b.docs(), marks);
-    find_least(a.docs(), b.docs(), &first, &second, &shared, all, marks)
+    sums_of_run(&MarkedDocs {
+        docs: run.docs(),
+        marks,
+    })
+}
+
+/// The least case of two runs.
+fn least_of(pair: &MarkedPair) -> LeastCase
+    ensures { IsLeastCase pair.now.marks.now pair.now.a.now pair.now.b.now result }
+{
+    let marks = pair.marks;
+    let shared = Shared::between(pair);
+    let first = sums_of(pair.a, marks);
+    let second = sums_of(pair.b, marks);
+    find_least(&KnownPair {
+        a: pair.a.docs(),
+        b: pair.b.docs(),
+        marks,
+        first: &first,
+        second: &second,
+        shared: &shared,
+        all: topic(marks),
+    })
 }
 
 /// Whether each document is relevant in the least case of two runs.
-fn least_values(
-    alloc: Global,
-    a: &Ranking,
-    b: &Ranking,
-    marks: &[Mark],
-) -> Result<Vec<bool>, Memory>
-    requires { AreMet marks.now a.now b.now }
+fn least_values(alloc: Global, pair: &MarkedPair) -> Result<Vec<bool>, Memory>
     ensures { IfOk result (λ values.
-        AreValues (rprec_truth marks.now a.now b.now) (length marks.now) values.items) }
+        AreValues (rprec_truth pair.now.marks.now pair.now.a.now pair.now.b.now)
+        (length pair.now.marks.now) values.items) }
 {
-    let least = least_of(a, b, marks);
-    values(alloc, least.wanted, least.count, a, b, marks)
+    let least = least_of(pair);
+    values(alloc, least.wanted, least.count, pair.a, pair.b, pair.marks)
 }
 
 /// Appends the unjudged documents that the least case of two runs makes relevant, ascending.
-fn push_least(
-    alloc: Global,
-    a: &Ranking,
-    b: &Ranking,
-    marks: &[Mark],
-    docs: &mut Vec<u32>,
-) -> Result<(), Memory>
-    requires { AreMet marks.now a.now b.now }
+fn push_least(alloc: Global, pair: &MarkedPair, docs: &mut Vec<u32>) -> Result<(), Memory>
     ensures { OnOk result (docs.new.items ≡ docs.old.items ++
-        added_documents marks.now (rprec_truth marks.now a.now b.now)) }
+        added_documents pair.now.marks.now
+        (rprec_truth pair.now.marks.now pair.now.a.now pair.now.b.now)) }
 {
-    let least = least_of(a, b, marks);
-    push_chosen(alloc, least.count, least.wanted, a, b, marks, docs)
+    let least = least_of(pair);
+    push_chosen(alloc, least.count, least.wanted, pair, docs)
 }
 
 /// The least cases of two runs and of the swapped runs, by one walk over both runs.
-fn cases_of(a: &Ranking, b: &Ranking, marks: &[Mark]) -> Cases
-    requires { AreMet marks.now a.now b.now }
-    ensures least { IsLeastCase marks.now a.now b.now result.least }
-    ensures most { IsLeastCase marks.now b.now a.now result.most }
+fn cases_of(pair: &MarkedPair) -> Cases
+    ensures least { IsLeastCase pair.now.marks.now pair.now.a.now pair.now.b.now result.least }
+    ensures most { IsLeastCase pair.now.marks.now pair.now.b.now pair.now.a.now result.most }
 {
-    let all = topic(marks);
-    let shared = Shared::between(a, b, marks);
-    let first = sums_of_run(a.docs(), marks);
-    let second = sums_of_run(b.docs(), marks);
-    find_cases(a.docs(), b.docs(), &first, &second, &shared, all, marks)
+    let marks = pair.marks;
+    let shared = Shared::between(pair);
+    let first = sums_of(pair.a, marks);
+    let second = sums_of(pair.b, marks);
+    find_cases(&KnownPair {
+        a: pair.a.docs(),
+        b: pair.b.docs(),
+        marks,
+        first: &first,
+        second: &second,
+        shared: &shared,
+        all: topic(marks),
+    })
 }
 
 /// Appends the unjudged documents that the least cases of two runs and of the swapped runs make relevant, each ascending.
 fn push_cases(
     alloc: Global,
-    a: &Ranking,
-    b: &Ranking,
-    marks: &[Mark],
+    pair: &MarkedPair,
     least: &mut Vec<u32>,
     most: &mut Vec<u32>,
 ) -> Result<(), Memory>
-    requires { AreMet marks.now a.now b.now }
     ensures least { OnOk result (least.new.items ≡ least.old.items ++
-        added_documents marks.now (rprec_truth marks.now a.now b.now)) }
+        added_documents pair.now.marks.now
+        (rprec_truth pair.now.marks.now pair.now.a.now pair.now.b.now)) }
     ensures most { OnOk result (most.new.items ≡ most.old.items ++
-        added_documents marks.now (rprec_truth marks.now b.now a.now)) }
+        added_documents pair.now.marks.now
+        (rprec_truth pair.now.marks.now pair.now.b.now pair.now.a.now)) }
 {
-    let cases = cases_of(a, b, marks);
+    let cases = cases_of(pair);
     let low = cases.least;
-    push_chosen(alloc, low.count, low.wanted, a, b, marks, least)?;
+    push_chosen(alloc, low.count, low.wanted, pair, least)?;
     let high = cases.most;
-    push_chosen(alloc, high.count, high.wanted, b, a, marks, most)
+    let swapped = MarkedPair {
+        a: pair.b,
+        b: pair.a,
+        marks: pair.marks,
+    };
+    push_chosen(alloc, high.count, high.wanted, &swapped, most)
 }
 
 impl RankedMeasure for Rprec {
@@ -189,21 +195,26 @@ impl RankedMeasure for Rprec {
     }
 
     fn run_sums(&self, marked: &MarkedRun) -> RunSums {
-        sums_of_run(marked.run.docs(), marked.marks)
+        sums_of(marked.run, marked.marks)
     }
 
     fn ranked_cell(&self, apart: &SetApart, kept: KeptPair<'_>) -> Cell {
-        let shared = Shared::by_ranks(apart.a, apart.b, apart.ranks, apart.marks);
-        let KeptPair { weights: _, sums } = kept;
-        cell_of(
-            apart.a.docs(),
-            apart.b.docs(),
-            sums.first,
-            sums.second,
-            &shared,
-            apart.all,
-            apart.marks,
-        )
+        let marks = apart.marks;
+        let pair = MarkedPair {
+            a: apart.a,
+            b: apart.b,
+            marks,
+        };
+        let shared = Shared::by_ranks(&pair, apart.ranks);
+        cell_of(&KnownPair {
+            a: apart.a.docs(),
+            b: apart.b.docs(),
+            marks,
+            first: kept.sums.first,
+            second: kept.sums.second,
+            shared: &shared,
+            all: apart.all,
+        })
     }
 }
 
@@ -234,18 +245,37 @@ impl Measure for Rprec {
         steps: &mut Steps<L>,
     ) -> Cell {
         steps.tick();
-        let shared = Shared::between(a, b, marks);
-        let first = sums_of_run(a.docs(), marks);
-        let second = sums_of_run(b.docs(), marks);
-        let all = topic(marks);
-        cell_of(a.docs(), b.docs(), &first, &second, &shared, all, marks)
+        let shared = Shared::between(&MarkedPair { a, b, marks });
+        let first = sums_of(a, marks);
+        let second = sums_of(b, marks);
+        cell_of(&KnownPair {
+            a: a.docs(),
+            b: b.docs(),
+            marks,
+            first: &first,
+            second: &second,
+            shared: &shared,
+            all: topic(marks),
+        })
     }
 
     fn bounds(&self, a: &Ranking, marks: &[Mark]) -> Span {
+        let nothing: &[u32] = &[];
         let shared = Shared::none();
-        let first = sums_of_run(a.docs(), marks);
-        let second = sums_of_run(&[], marks);
-        let cell = cell_of(a.docs(), &[], &first, &second, &shared, topic(marks), marks);
+        let first = sums_of(a, marks);
+        let second = sums_of_run(&MarkedDocs {
+            docs: nothing,
+            marks,
+        });
+        let cell = cell_of(&KnownPair {
+            a: a.docs(),
+            b: nothing,
+            marks,
+            first: &first,
+            second: &second,
+            shared: &shared,
+            all: topic(marks),
+        });
         Span {
             lo: cell.least.lo,
             hi: cell.most.hi,
@@ -259,7 +289,7 @@ impl Measure for Rprec {
         b: &Ranking,
         marks: &[Mark],
     ) -> Result<Vec<bool>, Memory> {
-        least_values(alloc, a, b, marks)
+        least_values(alloc, &MarkedPair { a, b, marks })
     }
 
     fn push_least_docs(
@@ -270,7 +300,7 @@ impl Measure for Rprec {
         marks: &[Mark],
         docs: &mut Vec<u32>,
     ) -> Result<(), Memory> {
-        push_least(alloc, a, b, marks, docs)
+        push_least(alloc, &MarkedPair { a, b, marks }, docs)
     }
 
     fn push_both_docs(
@@ -282,7 +312,7 @@ impl Measure for Rprec {
         least: &mut Vec<u32>,
         most: &mut Vec<u32>,
     ) -> Result<(), Memory> {
-        push_cases(alloc, a, b, marks, least, most)
+        push_cases(alloc, &MarkedPair { a, b, marks }, least, most)
     }
 
     fn count_lists(
@@ -294,13 +324,16 @@ impl Measure for Rprec {
         room: &mut ListRoom,
         counts: &mut [u32],
     ) -> Result<ListSizes, Memory> {
-        let first = sums_of_run(a.docs(), marks);
-        let second = sums_of_run(b.docs(), marks);
-        let sums = KeptSums {
+        let first = sums_of(a, marks);
+        let second = sums_of(b, marks);
+        let summed = SummedPair {
+            a,
+            b,
+            marks,
             first: &first,
             second: &second,
         };
-        Ok(count_cases(a, b, sums, marks, room, counts))
+        Ok(count_cases(&summed, room, counts))
     }
 
     fn count_pairs(
@@ -311,7 +344,7 @@ impl Measure for Rprec {
         pairs: &[RunPair],
         counts: &mut [u32],
     ) -> Result<Vec<ListSizes>, Memory> {
-        count_by_sums(alloc, rankings, marks, pairs, counts)
+        count_by_sums(alloc, &MarkedRankings { rankings, marks }, pairs, counts)
     }
 
     fn weight(&self, a: &Ranking, b: &Ranking, marks: &[Mark], doc: u32) -> u128 {

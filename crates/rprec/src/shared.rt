@@ -1,12 +1,12 @@
 ghost use Rattle.std.specs.Prelude.{◌≡◌, ℕ, ◌+◌, ◌<◌, ◌≤◌, Bool, List, length, drop, nat_lt, slice_index_or, if◌then◌else◌, None};
 ghost use Rattle.desk_model.specs.Limits.{RANK_LIMIT};
 ghost use Rattle.desk_model.specs.Placed.{lookup, IsAscending};
-ghost use Rattle.desk_model.specs.Ranking.{IsRanking};
 ghost use Rattle.measure_core.specs.Ranks.{AreRanksIn};
 ghost use Rattle.rprec.specs.Shared.{AreShared, counted, entered};
 ghost use Rattle.rprec.specs.Walk.{IsCountedWalk, IsWalked};
 
-use desk_model::{Mark, Placed, Ranking};
+use desk_model::{Mark, Placed};
+use measure_core::MarkedPair;
 use topic_counts::pairs::passed;
 
 /// A document in the middle of some, and 0 for none.
@@ -107,16 +107,15 @@ impl Shared {
     /// With all documents of two runs, by two walks over the documents of both, since each step of one
     /// waits for the step before it: one over the documents below a middle one, and one over the others.
     #[inline(never)]
-    fn walk_both(&mut self, a: &Ranking, b: &Ranking, marks: &[Mark])
-        requires first { IsRanking (length marks.now) a.now }
-        requires second { IsRanking (length marks.now) b.now }
+    fn walk_both(&mut self, pair: &MarkedPair)
         requires none { (place : ℕ) → slice_index_or self.now.counts place 0 ≡ 0 }
         requires long { length self.now.counts ≡ RANK_LIMIT }
-        ensures { AreShared marks.now a.now b.now self.new.counts }
+        ensures { AreShared pair.now.marks.now pair.now.a.now pair.now.b.now self.new.counts }
     {
-        let middle = middle_document(a.by_doc());
-        let (low, high) = cut(a.by_doc(), middle);
-        let (other_low, other_high) = cut(b.by_doc(), middle);
+        let marks = pair.marks;
+        let middle = middle_document(pair.a.by_doc());
+        let (low, high) = cut(pair.a.by_doc(), middle);
+        let (other_low, other_high) = cut(pair.b.by_doc(), middle);
         let mut i = 0;
         let mut j = 0;
         let mut k = 0;
@@ -138,25 +137,22 @@ impl Shared {
     }
 
     /// That of two runs.
-    pub fn between(a: &Ranking, b: &Ranking, marks: &[Mark]) -> Shared
-        requires first { IsRanking (length marks.now) a.now }
-        requires second { IsRanking (length marks.now) b.now }
-        ensures { AreShared marks.now a.now b.now result.counts }
+    pub fn between(pair: &MarkedPair) -> Shared
+        ensures { AreShared pair.now.marks.now pair.now.a.now pair.now.b.now result.counts }
     {
         let mut shared = Shared::none();
-        shared.walk_both(a, b, marks);
+        shared.walk_both(pair);
         shared
     }
 
     /// That of two runs, by one pass over the second run's documents, from the rank of each document in
     /// the first, 0 for none.
-    pub fn by_ranks(a: &Ranking, b: &Ranking, ranks: &[u32], marks: &[Mark]) -> Shared
-        requires first { IsRanking (length marks.now) a.now }
-        requires second { IsRanking (length marks.now) b.now }
-        requires ranks { AreRanksIn marks.now a.now ranks.now }
-        ensures { AreShared marks.now a.now b.now result.counts }
+    pub fn by_ranks(pair: &MarkedPair, ranks: &[u32]) -> Shared
+        requires { AreRanksIn pair.now.marks.now pair.now.a.now ranks.now }
+        ensures { AreShared pair.now.marks.now pair.now.a.now pair.now.b.now result.counts }
     {
-        let docs = b.docs();
+        let marks = pair.marks;
+        let docs = pair.b.docs();
         let mut shared = Shared::none();
         for place in 0..docs.len() {
             let doc = docs[place];

@@ -1,12 +1,10 @@
 ghost use Rattle.std.specs.Prelude.{◌≡◌, ℕ, ◌+◌, ◌*◌, ◌<◌, ◌≤◌, length, sum, take, slice_index_or};
 ghost use Rattle.desk_model.specs.Limits.{RANK_LIMIT};
-ghost use Rattle.desk_model.specs.Ranking.{IsRanking};
 ghost use Rattle.rprec.specs.Packed.{pack};
-ghost use Rattle.rprec.specs.Sums.{AreSharedSums, AreBlockSums, counts_of};
+ghost use Rattle.rprec.specs.Blocks.{AreSharedSums, AreBlockSums, counts_of};
 
-use crate::prefixes::number_at;
+use crate::prefixes::{MarkedDocs, number_at};
 use crate::shared::Shared;
-use desk_model::Mark;
 use measure_core::{BLOCK, RunSums};
 
 /// For each number of blocks, from 0, how many unjudged documents two runs share up to there.
@@ -17,32 +15,32 @@ pub struct SharedSums {
 
 /// The counts of a run's documents up to the end of a block that they fill, from those up to its start. No test of how
 /// many there are stands between them, since each block has as many.
-fn with_whole_block(number: u32, block: u32, docs: &[u32], marks: &[Mark]) -> u32
-    requires docs { IsRanking (length marks.now) docs.now }
-    requires whole { 10 * (block + 1) ≤ length docs.now }
-    requires number { number ≡ pack (counts_of marks.now (take (10 * block) docs.now)) }
-    ensures { result ≡ pack (counts_of marks.now (take (10 * (block + 1)) docs.now)) }
+fn with_whole_block(number: u32, block: u32, run: &MarkedDocs) -> u32
+    requires whole { 10 * (block + 1) ≤ length run.now.docs.now }
+    requires number { number ≡
+        pack (counts_of run.now.marks.now (take (10 * block) run.now.docs.now)) }
+    ensures { result ≡
+        pack (counts_of run.now.marks.now (take (10 * (block + 1)) run.now.docs.now)) }
 {
     let start = block * BLOCK;
     let end = start + BLOCK;
     let mut longer = number;
     for place in start..end {
-        longer = longer + number_at(docs, place, marks);
+        longer = longer + number_at(run, place);
     }
     longer
 }
 
 /// The counts of all documents of a run, from those up to a place.
-fn with_rest(number: u32, start: u32, docs: &[u32], marks: &[Mark]) -> u32
-    requires docs { IsRanking (length marks.now) docs.now }
-    requires start { start ≤ length docs.now }
-    requires number { number ≡ pack (counts_of marks.now (take start docs.now)) }
-    ensures { result ≡ pack (counts_of marks.now docs.now) }
+fn with_rest(number: u32, start: u32, run: &MarkedDocs) -> u32
+    requires start { start ≤ length run.now.docs.now }
+    requires number { number ≡ pack (counts_of run.now.marks.now (take start run.now.docs.now)) }
+    ensures { result ≡ pack (counts_of run.now.marks.now run.now.docs.now) }
 {
-    let end = docs.len() as u32;
+    let end = run.docs.len() as u32;
     let mut longer = number;
     for place in start..end {
-        longer = longer + number_at(docs, place, marks);
+        longer = longer + number_at(run, place);
     }
     longer
 }
@@ -59,18 +57,17 @@ fn set_after(numbers: &mut [u32], blocks: u32, number: u32)
 }
 
 /// The counts of a run's documents up to the end of each block, both in one number.
-pub fn sums_of_run(docs: &[u32], marks: &[Mark]) -> RunSums
-    requires { IsRanking (length marks.now) docs.now }
-    ensures { AreBlockSums marks.now docs.now result.numbers }
+pub fn sums_of_run(run: &MarkedDocs) -> RunSums
+    ensures { AreBlockSums run.now.marks.now run.now.docs.now result.numbers }
 {
-    let whole = docs.len() as u32 / BLOCK;
+    let whole = run.docs.len() as u32 / BLOCK;
     let mut numbers = [0; 1001];
     let mut number = 0;
     for block in 0..whole {
-        number = with_whole_block(number, block, docs, marks);
+        number = with_whole_block(number, block, run);
         numbers[block as usize + 1] = number;
     }
-    let all = with_rest(number, whole * BLOCK, docs, marks);
+    let all = with_rest(number, whole * BLOCK, run);
     set_after(&mut numbers, whole, all);
     RunSums { numbers }
 }

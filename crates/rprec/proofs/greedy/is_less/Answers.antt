@@ -13,37 +13,37 @@ few m n x y e f h k =
 pub overflow_mul-result : goal.overflow_mul-result
 overflow_mul-result c =
     let there = c.from-there.ensures ∙ c.max-2.ensures in
-    omega (arith, few c.args.c.first c.args.best.count c.from.result _ c.from.ensures there c.requires.candidate.first_few c.requires.best.few)
+    omega (arith, few c.args.c.candidate.first c.args.best.candidate.count c.from.result _ c.from.ensures there c.args.c.small.first_few c.args.best.small.few)
 
 pub overflow_mul-result-2 : goal.overflow_mul-result-2
 overflow_mul-result-2 c =
     let here = c.from-here.ensures ∙ c.max.ensures in
-    omega (arith, few c.args.best.second c.args.c.count c.from-2.result _ c.from-2.ensures here c.requires.best.second_few c.requires.candidate.few)
+    omega (arith, few c.args.best.candidate.second c.args.c.candidate.count c.from-2.result _ c.from-2.ensures here c.args.best.small.second_few c.args.c.small.few)
 
 pub overflow_add-result : goal.overflow_add-result
 overflow_add-result c =
     let here = c.from-here.ensures ∙ c.max.ensures in
     let there = c.from-there.ensures ∙ c.max-2.ensures in
-    omega (arith, few c.args.c.first c.args.best.count c.from.result _ c.from.ensures there c.requires.candidate.first_few c.requires.best.few, few c.args.best.second c.args.c.count c.from-2.result _ c.from-2.ensures here c.requires.best.second_few c.requires.candidate.few)
+    omega (arith, few c.args.c.candidate.first c.args.best.candidate.count c.from.result _ c.from.ensures there c.args.c.small.first_few c.args.best.small.few, few c.args.best.candidate.second c.args.c.candidate.count c.from-2.result _ c.from-2.ensures here c.args.best.small.second_few c.args.c.small.few)
 
 pub overflow_mul-result-3 : goal.overflow_mul-result-3
 overflow_mul-result-3 c =
     let here = c.from-here.ensures ∙ c.max.ensures in
-    omega (arith, few c.args.best.first c.args.c.count c.from-3.result _ c.from-3.ensures here c.requires.best.first_few c.requires.candidate.few)
+    omega (arith, few c.args.best.candidate.first c.args.c.candidate.count c.from-3.result _ c.from-3.ensures here c.args.best.small.first_few c.args.c.small.few)
 
 pub overflow_mul-result-4 : goal.overflow_mul-result-4
 overflow_mul-result-4 c =
     let there = c.from-there.ensures ∙ c.max-2.ensures in
-    omega (arith, few c.args.c.second c.args.best.count c.from-4.result _ c.from-4.ensures there c.requires.candidate.second_few c.requires.best.few)
+    omega (arith, few c.args.c.candidate.second c.args.best.candidate.count c.from-4.result _ c.from-4.ensures there c.args.c.small.second_few c.args.best.small.few)
 
 pub overflow_add-result-2 : goal.overflow_add-result-2
 overflow_add-result-2 c =
     let here = c.from-here.ensures ∙ c.max.ensures in
     let there = c.from-there.ensures ∙ c.max-2.ensures in
-    omega (arith, few c.args.best.first c.args.c.count c.from-3.result _ c.from-3.ensures here c.requires.best.first_few c.requires.candidate.few, few c.args.c.second c.args.best.count c.from-4.result _ c.from-4.ensures there c.requires.candidate.second_few c.requires.best.few)
+    omega (arith, few c.args.best.candidate.first c.args.c.candidate.count c.from-3.result _ c.from-3.ensures here c.args.best.small.first_few c.args.c.small.few, few c.args.c.candidate.second c.args.best.candidate.count c.from-4.result _ c.from-4.ensures there c.args.c.small.second_few c.args.best.small.few)
 
 pub returns : goal.returns
 returns c =
-    let here : c.from-here.result ≡ max 1 c.args.c.count = omega (arith, c.from-here.ensures, c.max.ensures) in
-    let there : c.from-there.result ≡ max 1 c.args.best.count = omega (arith, c.from-there.ensures, c.max-2.ensures) in
+    let here : c.from-here.result ≡ max 1 c.args.c.candidate.count = omega (arith, c.from-here.ensures, c.max.ensures) in
+    let there : c.from-there.result ≡ max 1 c.args.best.candidate.count = omega (arith, c.from-there.ensures, c.max-2.ensures) in
     rw (c.from.ensures, c.from-2.ensures, c.from-3.ensures, c.from-4.ensures, here, there)

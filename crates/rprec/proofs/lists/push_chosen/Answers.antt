@@ -16,12 +16,12 @@ use Rattle.rprec.proofs.lists.push_chosen.Goals as goal
 
 pub returns-then-wanted-gt0 : goal.returns-then-wanted-gt0
 returns-then-wanted-gt0 c =
-    let marks = c.args.marks.now in
+    let marks = c.args.pair.now.marks.now in
     let r = c.args.count in
-    let a = c.args.a.now in
-    let b = c.args.b.now in
+    let a = c.args.pair.now.a.now in
+    let b = c.args.pair.now.b.now in
     let w = c.args.wanted in
-    let is = c.requires.wanted in
+    let is = c.requires in
     let more : More = record { both = w.both; first = w.first } in
     let before = c.args.docs.now.items in
     let now = c.push_own_and_more.new.docs.items in
@@ -35,13 +35,13 @@ returns-then-wanted-gt0 c =
 
 pub returns : goal.returns
 returns c =
-    let marks = c.args.marks.now in
+    let marks = c.args.pair.now.marks.now in
     let r = c.args.count in
-    let a = c.args.a.now in
-    let b = c.args.b.now in
+    let a = c.args.pair.now.a.now in
+    let b = c.args.pair.now.b.now in
     let before = c.args.docs.now.items in
     let wanted = c.args.wanted in
-    let is = c.requires.wanted in
+    let is = c.requires in
     let chosen = wanted.second in
     let w : Wanted = record { second = chosen; both = 0; first = 0 } in
     let own = added_documents marks (with_picked marks (only_second r a b)) in

@@ -11,20 +11,20 @@ use Rattle.rprec.proofs.pair_lists.count_by_sums.Goals as goal
 
 pub count_cases-requires-clause-kept : goal.count_cases-requires-clause-kept
 count_cases-requires-clause-kept c =
-    c.change_first.ensures.room c.args.marks.now c.loop-pair.invariant.topic
-    (λ is. subst (λ (l : List ℕ). AreRanksIn c.args.marks.now l c.loop-pair.room.first.items) (sym c.ranking-a.ensures) (c.loop-pair.invariant.first _ is))
+    c.change_first.ensures.room c.args.on.now.marks.now c.loop-pair.invariant.topic
+    (λ is. subst (λ (l : List ℕ). AreRanksIn c.args.on.now.marks.now l c.loop-pair.room.first.items) (sym c.ranking-a.ensures) (c.loop-pair.invariant.first _ is))
 
 pub count_cases-requires-clause-room : goal.count_cases-requires-clause-room
 count_cases-requires-clause-room c =
-    let marks = c.args.marks.now in
+    let marks = c.args.on.now.marks.now in
     let now : List ℕ = c.loop-pair.counts in
     subst (HaveRoomFor now) (ap₂ (λ (a b : List ℕ). case_documents RPrecision marks a b) (sym c.ranking-a.ensures) (sym c.ranking-b.ensures))
-    (room_for_next (documents_on RPrecision marks c.args.rankings.now) c.args.pairs.now c.loop-pair.pair-index _ c.loop-pair-test.true c.args.counts.now now (c.loop-pair.invariant.size ∙ sym c.requires.size) c.requires.room c.loop-pair.invariant.counted)
+    (room_for_next (documents_on RPrecision marks c.args.on.now.rankings.now) c.args.pairs.now c.loop-pair.pair-index _ c.loop-pair-test.true c.args.counts.now now (c.loop-pair.invariant.size ∙ sym c.requires.size) c.requires.room c.loop-pair.invariant.counted)
 
 pub loop-pair-preserved : goal.loop-pair-preserved
 loop-pair-preserved c =
-    let marks = c.args.marks.now in
-    let t = c.args.rankings.now in
+    let marks = c.args.on.now.marks.now in
+    let t = c.args.on.now.rankings.now in
     let pairs = c.args.pairs.now in
     let i = c.loop-pair.pair-index in
     let now : List ℕ = c.loop-pair.counts in
@@ -42,5 +42,5 @@ loop-pair-preserved c =
 
 pub returns-clause-counts : goal.returns-clause-counts
 returns-clause-counts c =
-    let documents = pair_documents RPrecision c.args.marks.now c.args.rankings.now in
+    let documents = pair_documents RPrecision c.args.on.now.marks.now c.args.on.now.rankings.now in
     subst (λ (l : List _). AreCounted c.args.counts.now (documents l) c.loop-pair.counts) (take_all c.loop-pair.pair-index c.args.pairs.now (omega (arith, c.loop-pair-test.false))) c.loop-pair.invariant.counted

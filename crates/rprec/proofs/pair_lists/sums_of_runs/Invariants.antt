@@ -6,6 +6,6 @@ use Rattle.rprec.proofs.pair_lists.sums_of_runs.Given as goal
 
 abbrev pub invariant-loop-run : goal.invariant-loop-run
 invariant-loop-run l = record {
-  size : length l.sums.items ≡ runs_on l.rankings;
-  each : (run : ℕ) → run < l.run → (none : RunSums) → AreBlockSums l.marks (ranking_on l.rankings run) (get_or l.sums.items run none).numbers;
+  size : length l.sums.items ≡ runs_on l.on.rankings.now;
+  each : (run : ℕ) → run < l.run → (none : RunSums) → AreBlockSums l.on.marks.now (ranking_on l.on.rankings.now run) (get_or l.sums.items run none).numbers;
 }

@@ -4,5 +4,5 @@ use Rattle.rprec.proofs.rprec.least_of.Goals as goal
 
 pub returns : goal.returns
 returns c =
-    let marks = c.args.marks.now in
-    subst (λ (xs : List ℕ). IsLeastCase marks xs c.args.b.now c.find_least.result) c.docs-3.ensures.docs (subst (λ (ys : List ℕ). IsLeastCase marks c.docs-3.result.now ys c.find_least.result) c.docs-4.ensures.docs c.find_least.ensures)
+    let marks = c.args.pair.now.marks.now in
+    subst (λ (xs : List ℕ). IsLeastCase marks xs c.args.pair.now.b.now c.find_least.result) c.docs.ensures.docs (subst (λ (ys : List ℕ). IsLeastCase marks c.docs.result.now ys c.find_least.result) c.docs-2.ensures.docs c.find_least.ensures)

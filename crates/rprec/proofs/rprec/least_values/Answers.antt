@@ -7,9 +7,9 @@ use Rattle.rprec.proofs.rprec.least_values.Goals as goal
 
 pub returns : goal.returns
 returns c =
-    let marks = c.args.marks.now in
-    let a = c.args.a.now in
-    let b = c.args.b.now in
+    let marks = c.args.pair.now.marks.now in
+    let a = c.args.pair.now.a.now in
+    let b = c.args.pair.now.b.now in
     let n = length marks in
     let least = c.least_of-least.result in
     let is = c.least_of-least.ensures in

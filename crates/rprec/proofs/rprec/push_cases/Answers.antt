@@ -7,9 +7,9 @@ use Rattle.rprec.proofs.rprec.push_cases.Goals as goal
 
 pub returns-clause-least : goal.returns-clause-least
 returns-clause-least c =
-    let marks = c.args.marks.now in
-    let a = c.args.a.now in
-    let b = c.args.b.now in
+    let marks = c.args.pair.now.marks.now in
+    let a = c.args.pair.now.a.now in
+    let b = c.args.pair.now.b.now in
     let before = c.args.least.now.items in
     let now = c.push_chosen.new.docs.items in
     let high = added_documents marks (greedy_truth marks b a c.cases_of-cases.result.most.count) in
@@ -18,7 +18,7 @@ returns-clause-least c =
 
 pub returns-clause-most : goal.returns-clause-most
 returns-clause-most c =
-    let marks = c.args.marks.now in
+    let marks = c.args.pair.now.marks.now in
     let before = c.args.most.now.items in
     let now = c.push_chosen-2.new.docs.items in
-    subst (λ (r : ℕ). OnOk c.push_chosen-2.result (now ≡ before ++ added_documents marks (greedy_truth marks c.args.b.now c.args.a.now r))) c.cases_of-cases.ensures.most.count c.push_chosen-2.ensures
+    subst (λ (r : ℕ). OnOk c.push_chosen-2.result (now ≡ before ++ added_documents marks (greedy_truth marks c.args.pair.now.b.now c.args.pair.now.a.now r))) c.cases_of-cases.ensures.most.count c.push_chosen-2.ensures

@@ -10,25 +10,25 @@ few m n y e h k =
     omega (arith, mul-le-mul_right y h, mul-le-mul_left RANK_LIMIT known)
 
 pub overflow_mul-result : goal.overflow_mul-result
-overflow_mul-result c = omega (arith, few c.args.c.first c.args.best.count _ c.max-there.ensures c.requires.candidate.first_few c.requires.best.few)
+overflow_mul-result c = omega (arith, few c.args.c.candidate.first c.args.best.candidate.count _ c.max-there.ensures c.args.c.near.first_few c.args.best.near.few)
 
 pub overflow_mul-result-2 : goal.overflow_mul-result-2
-overflow_mul-result-2 c = omega (arith, few c.args.best.second c.args.c.count _ c.max-here.ensures c.requires.best.second_few c.requires.candidate.few)
+overflow_mul-result-2 c = omega (arith, few c.args.best.candidate.second c.args.c.candidate.count _ c.max-here.ensures c.args.best.near.second_few c.args.c.near.few)
 
 pub overflow_add-result : goal.overflow_add-result
-overflow_add-result c = omega (arith, few c.args.c.first c.args.best.count _ c.max-there.ensures c.requires.candidate.first_few c.requires.best.few, few c.args.best.second c.args.c.count _ c.max-here.ensures c.requires.best.second_few c.requires.candidate.few)
+overflow_add-result c = omega (arith, few c.args.c.candidate.first c.args.best.candidate.count _ c.max-there.ensures c.args.c.near.first_few c.args.best.near.few, few c.args.best.candidate.second c.args.c.candidate.count _ c.max-here.ensures c.args.best.near.second_few c.args.c.near.few)
 
 pub overflow_mul-result-3 : goal.overflow_mul-result-3
-overflow_mul-result-3 c = omega (arith, few c.args.best.first c.args.c.count _ c.max-here.ensures c.requires.best.first_few c.requires.candidate.few)
+overflow_mul-result-3 c = omega (arith, few c.args.best.candidate.first c.args.c.candidate.count _ c.max-here.ensures c.args.best.near.first_few c.args.c.near.few)
 
 pub overflow_mul-result-4 : goal.overflow_mul-result-4
-overflow_mul-result-4 c = omega (arith, few c.args.c.second c.args.best.count _ c.max-there.ensures c.requires.candidate.second_few c.requires.best.few)
+overflow_mul-result-4 c = omega (arith, few c.args.c.candidate.second c.args.best.candidate.count _ c.max-there.ensures c.args.c.near.second_few c.args.best.near.few)
 
 pub overflow_add-result-2 : goal.overflow_add-result-2
-overflow_add-result-2 c = omega (arith, few c.args.best.first c.args.c.count _ c.max-here.ensures c.requires.best.first_few c.requires.candidate.few, few c.args.c.second c.args.best.count _ c.max-there.ensures c.requires.candidate.second_few c.requires.best.few)
+overflow_add-result-2 c = omega (arith, few c.args.best.candidate.first c.args.c.candidate.count _ c.max-here.ensures c.args.best.near.first_few c.args.c.near.few, few c.args.c.candidate.second c.args.best.candidate.count _ c.max-there.ensures c.args.c.near.second_few c.args.best.near.few)
 
 pub returns : goal.returns
 returns c =
-    let here : c.max-here.result ≡ max 1 c.args.c.count = omega (arith, c.max-here.ensures) in
-    let there : c.max-there.result ≡ max 1 c.args.best.count = omega (arith, c.max-there.ensures) in
+    let here : c.max-here.result ≡ max 1 c.args.c.candidate.count = omega (arith, c.max-here.ensures) in
+    let there : c.max-there.result ≡ max 1 c.args.best.candidate.count = omega (arith, c.max-there.ensures) in
     rw (here, there)

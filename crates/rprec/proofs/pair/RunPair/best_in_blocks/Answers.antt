@@ -5,17 +5,16 @@ use Rattle.rprec.proofs.Preferred.{best_join, best_none}
 use Rattle.rprec.proofs.pair.RunPair.best_in_blocks.Goals as goal
 
 pub loop-chosen-init : goal.loop-chosen-init
-loop-chosen-init c = record { order = omega arith; within = omega (arith, c.requires.order); best = best_none (choice_at c.args.self.now) c.args.start c.args.earlier; near = c.requires.earlier }
+loop-chosen-init c = record { order = omega arith; within = omega (arith, c.requires.order); best = best_none (choice_at c.args.self.now) c.args.start c.args.earlier.candidate }
 
 pub loop-chosen-preserved : goal.loop-chosen-preserved
 loop-chosen-preserved c = record {
   order = omega (arith, c.loop-chosen.invariant.order, c.next_end-next.ensures.later);
   within = c.next_end-next.ensures.within;
-  best = best_join (choice_at c.args.self.now) c.args.start c.loop-chosen.chosen c.next_end-next.result c.args.earlier c.loop-chosen.best c.best_in_block-best.result c.loop-chosen.invariant.order (omega (arith, c.next_end-next.ensures.later)) c.loop-chosen.invariant.best c.best_in_block-best.ensures.best;
-  near = c.best_in_block-best.ensures.near;
+  best = best_join (choice_at c.args.self.now) c.args.start c.loop-chosen.chosen c.next_end-next.result c.args.earlier.candidate c.loop-chosen.best.candidate c.best_in_block-best.result.candidate c.loop-chosen.invariant.order (omega (arith, c.next_end-next.ensures.later)) c.loop-chosen.invariant.best c.best_in_block-best.ensures;
 }
 
-pub returns-clause-best : goal.returns-clause-best
-returns-clause-best c =
+pub returns : goal.returns
+returns c =
     let ended : c.loop-chosen.chosen ≡ c.args.end = omega (arith, c.loop-chosen-test.false, c.loop-chosen.invariant.within) in
-    subst (λ (k : ℕ). IsBestOf (choice_at c.args.self.now) c.args.start k c.args.earlier c.loop-chosen.best) ended c.loop-chosen.invariant.best
+    subst (λ (k : ℕ). IsBestOf (choice_at c.args.self.now) c.args.start k c.args.earlier.candidate c.loop-chosen.best.candidate) ended c.loop-chosen.invariant.best

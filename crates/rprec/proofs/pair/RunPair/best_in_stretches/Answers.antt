@@ -5,16 +5,15 @@ use Rattle.rprec.proofs.Preferred.{best_join, best_none}
 use Rattle.rprec.proofs.pair.RunPair.best_in_stretches.Goals as goal
 
 pub loop-chosen-init : goal.loop-chosen-init
-loop-chosen-init c = record { within = omega arith; best = best_none (choice_at c.args.self.now) 0 c.args.earlier; near = c.requires.earlier }
+loop-chosen-init c = record { within = omega arith; best = best_none (choice_at c.args.self.now) 0 c.args.earlier.candidate }
 
 pub loop-chosen-preserved : goal.loop-chosen-preserved
 loop-chosen-preserved c = record {
   within = c.next_end-next.ensures.within;
-  best = best_join (choice_at c.args.self.now) 0 c.loop-chosen.chosen c.next_end-next.result c.args.earlier c.loop-chosen.best c.best_in_stretch-best.result (omega arith) (omega (arith, c.next_end-next.ensures.later)) c.loop-chosen.invariant.best c.best_in_stretch-best.ensures.best;
-  near = c.best_in_stretch-best.ensures.near;
+  best = best_join (choice_at c.args.self.now) 0 c.loop-chosen.chosen c.next_end-next.result c.args.earlier.candidate c.loop-chosen.best.candidate c.best_in_stretch-best.result.candidate (omega arith) (omega (arith, c.next_end-next.ensures.later)) c.loop-chosen.invariant.best c.best_in_stretch-best.ensures;
 }
 
-pub returns-clause-best : goal.returns-clause-best
-returns-clause-best c =
+pub returns : goal.returns
+returns c =
     let ended : c.loop-chosen.chosen ≡ steps_of c.args.self.now = omega (arith, c.loop-chosen-test.false, c.loop-chosen.invariant.within, c.steps-steps.ensures) in
-    subst (λ (k : ℕ). IsBestOf (choice_at c.args.self.now) 0 k c.args.earlier c.loop-chosen.best) ended c.loop-chosen.invariant.best
+    subst (λ (k : ℕ). IsBestOf (choice_at c.args.self.now) 0 k c.args.earlier.candidate c.loop-chosen.best.candidate) ended c.loop-chosen.invariant.best

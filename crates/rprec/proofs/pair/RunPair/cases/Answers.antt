@@ -2,15 +2,11 @@ use Rattle.std.proofs.Common.{◌+◌, ap, ◌∙◌, sym, subst}
 use Rattle.rprec.specs.declared.pair.RunPair.{RunPair}
 use Rattle.rprec.specs.Greedy.{swapped}
 use Rattle.rprec.specs.Picks.{IsLeastCase}
-use Rattle.rprec.specs.Sums.{IsPair, prefixes, steps_of}
-use Rattle.rprec.proofs.Pairs.{pair_swapped}
+use Rattle.rprec.specs.Sums.{prefixes, steps_of}
 use Rattle.rprec.proofs.pair.RunPair.cases.Goals as goal
 
 pub least_case-requires-clause-end : goal.least_case-requires-clause-end
 least_case-requires-clause-end c = let p = c.args.self.now in c.prefixes_at-end.ensures ∙ ap (λ k. prefixes p (p.all.relevant + k)) c.steps.ensures
-
-pub least_case-requires-2-clause-pair : goal.least_case-requires-2-clause-pair
-least_case-requires-2-clause-pair c = subst IsPair (sym c.swapped-swapped.ensures) (pair_swapped c.args.self.now c.requires)
 
 pub least_case-requires-2-clause-start : goal.least_case-requires-2-clause-start
 least_case-requires-2-clause-start c =

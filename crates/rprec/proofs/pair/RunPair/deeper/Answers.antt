@@ -10,28 +10,28 @@ pub overflow_add-result : goal.overflow_add-result
 overflow_add-result c =
     let p = c.args.self.now in
     let d = c.args.depth in
-    omega (arith, ap (λ (n : Packed). n.first) c.requires.packed, first_packed p d c.requires.pair (omega (arith, c.requires.pair.few, c.requires.depth)), number_adds p.marks.now p.a.now d c.next_number-one.result c.next_number-one.ensures, first_few p (d + 1) c.requires.pair)
+    omega (arith, ap (λ (n : Packed). n.first) c.requires.packed, first_packed p d c.args.self.now.is (omega (arith, c.args.self.now.is.few, c.requires.depth)), number_adds p.marks.now p.a.now d c.next_number-one.result c.next_number-one.ensures, first_few p (d + 1) c.args.self.now.is)
 
 pub overflow_add-result-2 : goal.overflow_add-result-2
 overflow_add-result-2 c =
     let p = c.args.self.now in
     let d = c.args.depth in
-    omega (arith, ap (λ (n : Packed). n.second) c.requires.packed, second_packed p d c.requires.pair (omega (arith, c.requires.pair.few, c.requires.depth)), number_adds p.marks.now p.b.now d c.next_number-two.result c.next_number-two.ensures, second_few p (d + 1) c.requires.pair)
+    omega (arith, ap (λ (n : Packed). n.second) c.requires.packed, second_packed p d c.args.self.now.is (omega (arith, c.args.self.now.is.few, c.requires.depth)), number_adds p.marks.now p.b.now d c.next_number-two.result c.next_number-two.ensures, second_few p (d + 1) c.args.self.now.is)
 
 pub overflow_sub-result : goal.overflow_sub-result
 overflow_sub-result c =
     let p = c.args.self.now in
     let d = c.args.depth in
-    let here = first_packed p d c.requires.pair (omega (arith, c.requires.pair.few, c.requires.depth)) in
-    let next = first_packed p (d + 1) c.requires.pair (omega (arith, c.requires.pair.few, c.requires.depth)) in
+    let here = first_packed p d c.args.self.now.is (omega (arith, c.args.self.now.is.few, c.requires.depth)) in
+    let next = first_packed p (d + 1) c.args.self.now.is (omega (arith, c.args.self.now.is.few, c.requires.depth)) in
     omega (arith, ap (λ (n : Packed). n.first) c.requires.packed, here, next, number_adds p.marks.now p.a.now d c.next_number-one.result c.next_number-one.ensures, sum_more p.shared.now.counts d, c.from-both.ensures)
 
 pub overflow_sub-result-2 : goal.overflow_sub-result-2
 overflow_sub-result-2 c =
     let p = c.args.self.now in
     let d = c.args.depth in
-    let here = second_packed p d c.requires.pair (omega (arith, c.requires.pair.few, c.requires.depth)) in
-    let next = second_packed p (d + 1) c.requires.pair (omega (arith, c.requires.pair.few, c.requires.depth)) in
+    let here = second_packed p d c.args.self.now.is (omega (arith, c.args.self.now.is.few, c.requires.depth)) in
+    let next = second_packed p (d + 1) c.args.self.now.is (omega (arith, c.args.self.now.is.few, c.requires.depth)) in
     omega (arith, ap (λ (n : Packed). n.second) c.requires.packed, here, next, number_adds p.marks.now p.b.now d c.next_number-two.result c.next_number-two.ensures, sum_more p.shared.now.counts d, c.from-both.ensures)
 
 pub returns : goal.returns
@@ -43,8 +43,8 @@ returns c =
     omega (
       arith,
       ap (λ (n : Packed). n.first) c.requires.packed,
-      first_packed p d c.requires.pair (omega (arith, c.requires.pair.few, c.requires.depth)),
-      first_packed p (d + 1) c.requires.pair (omega (arith, c.requires.pair.few, c.requires.depth)),
+      first_packed p d c.args.self.now.is (omega (arith, c.args.self.now.is.few, c.requires.depth)),
+      first_packed p (d + 1) c.args.self.now.is (omega (arith, c.args.self.now.is.few, c.requires.depth)),
       number_adds p.marks.now p.a.now d c.next_number-one.result c.next_number-one.ensures,
       sum_more p.shared.now.counts d,
       c.from-both.ensures,
@@ -53,8 +53,8 @@ returns c =
     omega (
       arith,
       ap (λ (n : Packed). n.second) c.requires.packed,
-      second_packed p d c.requires.pair (omega (arith, c.requires.pair.few, c.requires.depth)),
-      second_packed p (d + 1) c.requires.pair (omega (arith, c.requires.pair.few, c.requires.depth)),
+      second_packed p d c.args.self.now.is (omega (arith, c.args.self.now.is.few, c.requires.depth)),
+      second_packed p (d + 1) c.args.self.now.is (omega (arith, c.args.self.now.is.few, c.requires.depth)),
       number_adds p.marks.now p.b.now d c.next_number-two.result c.next_number-two.ensures,
       sum_more p.shared.now.counts d,
       c.from-both.ensures,

@@ -1,15 +1,11 @@
 use Rattle.std.proofs.Common.{◌+◌, ap, ◌∙◌, sym, subst}
 use Rattle.rprec.specs.declared.pair.RunPair.{RunPair}
 use Rattle.rprec.specs.Greedy.{IsLeast, swapped}
-use Rattle.rprec.specs.Sums.{IsPair, prefixes, steps_of}
-use Rattle.rprec.proofs.Pairs.{pair_swapped}
+use Rattle.rprec.specs.Sums.{prefixes, steps_of}
 use Rattle.rprec.proofs.pair.RunPair.extremes.Goals as goal
 
 pub least-requires-clause-end : goal.least-requires-clause-end
 least-requires-clause-end c = let p = c.args.self.now in c.prefixes_at-end.ensures ∙ ap (λ k. prefixes p (p.all.relevant + k)) c.steps.ensures
-
-pub least-requires-2-clause-pair : goal.least-requires-2-clause-pair
-least-requires-2-clause-pair c = subst IsPair (sym c.swapped-swapped.ensures) (pair_swapped c.args.self.now c.requires)
 
 pub least-requires-2-clause-start : goal.least-requires-2-clause-start
 least-requires-2-clause-start c =
@@ -22,4 +18,4 @@ least-requires-2-clause-end c =
     c.swapped-2.ensures ∙ ap swapped (c.prefixes_at-end.ensures ∙ ap (λ k. prefixes p (p.all.relevant + k)) c.steps.ensures) ∙ ap (λ (q : RunPair). prefixes q (q.all.relevant + steps_of q)) (sym c.swapped-swapped.ensures)
 
 pub returns-clause-most : goal.returns-clause-most
-returns-clause-most c = subst (λ (q : RunPair). IsLeast q.marks.now q.a.now q.b.now c.least-2.result) c.swapped-swapped.ensures c.least-2.ensures.least
+returns-clause-most c = subst (λ (q : RunPair). IsLeast q.marks.now q.a.now q.b.now c.least-2.result.candidate) c.swapped-swapped.ensures c.least-2.ensures

@@ -7,7 +7,7 @@ use Rattle.rprec.proofs.Preferred.{choice_join, choice_none, choice_one}
 use Rattle.rprec.proofs.pair.RunPair.guess.Goals as goal
 
 pub loop-stretch-init : goal.loop-stretch-init
-loop-stretch-init c = record { choice = choice_none (choice_at c.args.self.now) 0 (steps_of c.args.self.now) c.args.earlier; near = c.requires.earlier }
+loop-stretch-init c = record { choice = choice_none (choice_at c.args.self.now) 0 (steps_of c.args.self.now) c.args.earlier.candidate }
 
 pub choice_at_block-requires-clause-low : goal.choice_at_block-requires-clause-low
 choice_at_block-requires-clause-low c = omega (arith, c.loop-stretch.auto)
@@ -15,15 +15,12 @@ choice_at_block-requires-clause-low c = omega (arith, c.loop-stretch.auto)
 pub choice_at_block-requires-clause-high : goal.choice_at_block-requires-clause-high
 choice_at_block-requires-clause-high c = omega (arith, c.loop-stretch-test.true, c.steps.ensures)
 
-pub preferred-best-requires-clause-best : goal.preferred-best-requires-clause-best
-preferred-best-requires-clause-best c = c.loop-stretch.invariant.near
-
 pub loop-stretch-preserved : goal.loop-stretch-preserved
 loop-stretch-preserved c =
     let p = c.args.self.now in
     let choices = choice_at p in
     let steps = steps_of p in
-    let best = c.loop-stretch.best in
+    let best = c.loop-stretch.best.candidate in
     let depth = 10 * (c.loop-stretch.stretch * 5) in
     let chosen = depth - p.all.relevant in
     let place = chosen - 1 in
@@ -32,15 +29,11 @@ loop-stretch-preserved c =
     let next : place + 1 ≡ chosen = omega (arith, low) in
     let there : p.all.relevant + (place + 1) ≡ depth = omega (arith, low) in
     let is : choices place ≡ candidate (prefixes p depth) p.all chosen = ap (λ (k : ℕ). candidate (prefixes p k) p.all (place + 1)) there ∙ ap (candidate (prefixes p depth) p.all) next in
-    let after : preferred (choices place) best ≡ c.preferred-best.result = ap (λ (x : DepthCandidate). preferred x best) (is ∙ sym c.choice_at_block.ensures.value) ∙ sym c.preferred-best.ensures.value in
+    let after : preferred (choices place) best ≡ c.preferred-best.result.candidate = ap (λ (x : DepthCandidate). preferred x best) (is ∙ sym c.choice_at_block.ensures) ∙ sym c.preferred-best.ensures in
     record {
-      choice = subst (λ (x : DepthCandidate). IsBestBetween choices 0 steps c.args.earlier x) after
-          (choice_join choices 0 steps 0 steps c.args.earlier best (preferred (choices place) best) (omega arith) (omega arith) c.loop-stretch.invariant.choice (choice_one choices 0 steps place best (omega arith) (omega (arith, low, high))));
-      near = c.preferred-best.ensures.near;
+      choice = subst (λ (x : DepthCandidate). IsBestBetween choices 0 steps c.args.earlier.candidate x) after
+          (choice_join choices 0 steps 0 steps c.args.earlier.candidate best (preferred (choices place) best) (omega arith) (omega arith) c.loop-stretch.invariant.choice (choice_one choices 0 steps place best (omega arith) (omega (arith, low, high))));
     }
 
-pub returns-clause-choice : goal.returns-clause-choice
-returns-clause-choice c = c.loop-stretch.invariant.choice
-
-pub returns-clause-near : goal.returns-clause-near
-returns-clause-near c = c.loop-stretch.invariant.near
+pub returns : goal.returns
+returns c = c.loop-stretch.invariant.choice

@@ -9,10 +9,10 @@ use Rattle.rprec.proofs.Tails.{AreNext, IsBest, best_alone, best_found, beyond_i
 use Rattle.rprec.proofs.pair.RunPair.least.Goals as goal
 
 pub greedy_choice-judged-requires-clause-few : goal.greedy_choice-judged-requires-clause-few
-greedy_choice-judged-requires-clause-few c = let p = c.args.self.now in subst (λ (f : Prefixes). AreFew f p.all) (sym c.requires.start) (pair_few p p.all.relevant c.requires.pair)
+greedy_choice-judged-requires-clause-few c = let p = c.args.self.now in subst (λ (f : Prefixes). AreFew f p.all) (sym c.requires.start) (pair_few p p.all.relevant c.args.self.now.is)
 
 pub best_beyond-requires-clause-few : goal.best_beyond-requires-clause-few
-best_beyond-requires-clause-few c = let p = c.args.self.now in subst (λ (f : Prefixes). AreFew f p.all) (sym c.requires.end) (pair_few p (p.all.relevant + steps_of p) c.requires.pair)
+best_beyond-requires-clause-few c = let p = c.args.self.now in subst (λ (f : Prefixes). AreFew f p.all) (sym c.requires.end) (pair_few p (p.all.relevant + steps_of p) c.args.self.now.is)
 
 -- the choices at the depths beyond the number of documents judged relevant
 next_choices : (p : RunPair) → IsPair p → AreNext p.marks.now p.a.now p.b.now p.all.relevant 0 (steps_of p) (choice_at p)
@@ -22,22 +22,22 @@ next_choices p h = record {
   count = λ place lt. omega arith;
 }
 
-pub returns-clause-least : goal.returns-clause-least
-returns-clause-least c =
+pub returns : goal.returns
+returns c =
     let p = c.args.self.now in
-    let h = c.requires.pair in
+    let h = c.args.self.now.is in
     let marks = p.marks.now in
     let a = p.a.now in
     let b = p.b.now in
     let j = p.all.relevant in
     let judged = c.greedy_choice-judged in
-    let is : judged.result ≡ candidate (prefixes p j) p.all 0 = judged.ensures.value ∙ ap (λ (f : Prefixes). candidate f p.all 0) c.requires.start in
-    let gains : AreGains marks a b judged.result = choice_gains marks a b j 0 (prefixes p j) p.all judged.result h.a h.b (pair_prefixes p j h) h.topic (omega arith) (omega arith) is in
-    let alone : IsBest marks a b j 0 judged.result = best_alone marks a b j judged.result gains (omega (arith, ap (λ (x : DepthCandidate). x.count) is)) in
-    let found : IsBest marks a b j (0 + steps_of p) c.best.result = best_found marks a b j 0 (steps_of p) (choice_at p) judged.result c.best.result alone (next_choices p h) c.best.ensures.best in
-    let best : IsBest marks a b j (steps_of p) c.best.result = subst (λ (k : ℕ). IsBest marks a b j k c.best.result) (omega arith) found in
+    let is : judged.result.candidate ≡ candidate (prefixes p j) p.all 0 = judged.ensures ∙ ap (λ (f : Prefixes). candidate f p.all 0) c.requires.start in
+    let gains : AreGains marks a b judged.result.candidate = choice_gains marks a b j 0 (prefixes p j) p.all judged.result.candidate h.a h.b (pair_prefixes p j h) h.topic (omega arith) (omega arith) is in
+    let alone : IsBest marks a b j 0 judged.result.candidate = best_alone marks a b j judged.result.candidate gains (omega (arith, ap (λ (x : DepthCandidate). x.count) is)) in
+    let found : IsBest marks a b j (0 + steps_of p) c.best.result.candidate = best_found marks a b j 0 (steps_of p) (choice_at p) judged.result.candidate c.best.result.candidate alone (next_choices p h) c.best.ensures in
+    let best : IsBest marks a b j (steps_of p) c.best.result.candidate = subst (λ (k : ℕ). IsBest marks a b j k c.best.result.candidate) (omega arith) found in
     let end = prefixes p (j + steps_of p) in
-    let after : c.best_beyond.result ≡ best_beyond end p.all (steps_of p) c.best.result =
-    c.best_beyond.ensures.value ∙ ap (λ (f : Prefixes). best_beyond f p.all c.steps.result c.best.result) c.requires.end ∙ ap (λ (k : ℕ). best_beyond end p.all k c.best.result) c.steps.ensures in
+    let after : c.best_beyond.result.candidate ≡ best_beyond end p.all (steps_of p) c.best.result.candidate =
+    c.best_beyond.ensures ∙ ap (λ (f : Prefixes). best_beyond f p.all c.steps.result c.best.result.candidate) c.requires.end ∙ ap (λ (k : ℕ). best_beyond end p.all k c.best.result.candidate) c.steps.ensures in
     let still = settled marks a b p.all end (steps_of p) p.longest h.topic h.first_short h.second_short h.some refl (pair_prefixes p (j + steps_of p) h) in
-    beyond_is_least marks a b p.all end (steps_of p) c.best.result c.best_beyond.result h.a h.b h.topic (omega arith) still best after
+    beyond_is_least marks a b p.all end (steps_of p) c.best.result.candidate c.best_beyond.result.candidate h.a h.b h.topic (omega arith) still best after

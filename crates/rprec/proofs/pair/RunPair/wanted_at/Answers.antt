@@ -18,13 +18,13 @@ returns c =
     let r = c.args.count in
     let n = length marks in
     let f = prefixes p r in
-    let apart = pair_prefixes p r c.requires in
+    let apart = pair_prefixes p r c.args.self.now.is in
     let told = c.prefixes_at-prefixes in
     let first : told.result.first.unjudged ≡ f.first.unjudged = ap (λ (g : Prefixes). g.first.unjudged) told.ensures in
     let second : told.result.second.unjudged ≡ f.second.unjudged = ap (λ (g : Prefixes). g.second.unjudged) told.ensures in
-    let first_size : size_of n (open_in marks (only_second r b a)) ≡ f.first.unjudged = open_size marks a b r (only_count false marks (take r a) (take r b)) f.first.unjudged c.requires.a refl (omega (arith, apart.first)) in
-    let second_size : size_of n (open_in marks (only_second r a b)) ≡ f.second.unjudged = open_size marks b a r (only_count false marks (take r b) (take r a)) f.second.unjudged c.requires.b refl (omega (arith, apart.second)) in
-    let topic = c.requires.topic in
+    let first_size : size_of n (open_in marks (only_second r b a)) ≡ f.first.unjudged = open_size marks a b r (only_count false marks (take r a) (take r b)) f.first.unjudged c.args.self.now.is.a refl (omega (arith, apart.first)) in
+    let second_size : size_of n (open_in marks (only_second r a b)) ≡ f.second.unjudged = open_size marks b a r (only_count false marks (take r b) (take r a)) f.second.unjudged c.args.self.now.is.b refl (omega (arith, apart.second)) in
+    let topic = c.args.self.now.is.topic in
     let chosen = c.saturating_sub-chosen.ensures in
     let made = c.wanted_of.ensures in
     record {

@@ -6,8 +6,8 @@ use Rattle.measure_core.proofs.Exact.{exact_laws}
 use Rattle.rprec.proofs.Ends.{topic_is}
 use Rattle.rprec.proofs.rprec.RprecRankedMeasure.ranked_cell.Goals as goal
 
-pub cell_of-requires-clause-topic : goal.cell_of-requires-clause-topic
-cell_of-requires-clause-topic c = topic_is c.args.apart.now.marks.now c.args.apart.now.all c.args.apart.now.topic.topic.least c.args.apart.now.topic.topic.most
+pub invariant_of-cell_of-clause-topic : goal.invariant_of-cell_of-clause-topic
+invariant_of-cell_of-clause-topic c = topic_is c.args.apart.now.marks.now c.args.apart.now.all c.args.apart.now.topic.topic.least c.args.apart.now.topic.topic.most
 
 pub returns-clause-modest : goal.returns-clause-modest
 returns-clause-modest c =

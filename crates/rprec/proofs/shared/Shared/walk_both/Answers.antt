@@ -14,8 +14,8 @@ loop-i-init c = record {
   high_within = omega arith;
   other_high_within = omega arith;
   strands =
-      counted_strands_start c.args.marks.now c.middle_document-middle.result c.args.a.now c.args.b.now c.by_doc-2.result.now c.by_doc-3.result.now c.cut.result.0.now c.cut-2.result.0.now c.cut.result.1.now c.cut-2.result.1.now c.args.self.now.counts
-      c.requires.first c.requires.second
+      counted_strands_start c.args.pair.now.marks.now c.middle_document-middle.result c.args.pair.now.a.now c.args.pair.now.b.now c.by_doc-2.result.now c.by_doc-3.result.now c.cut.result.0.now c.cut-2.result.0.now c.cut.result.1.now c.cut-2.result.1.now c.args.self.now.counts
+      c.args.pair.now.met.first c.args.pair.now.met.second
       (record { lower = c.cut.ensures.ascending_below; upper = c.cut.ensures.ascending_above; low = c.cut.ensures.below; high = c.cut.ensures.above })
       (record { lower = c.cut-2.ensures.ascending_below; upper = c.cut-2.ensures.ascending_above; low = c.cut-2.ensures.below; high = c.cut-2.ensures.above })
       c.by_doc-2.ensures.ranks c.by_doc-3.ensures.ranks c.requires.none c.requires.long;
@@ -23,76 +23,76 @@ loop-i-init c = record {
 
 pub enter-requires-clause-first_low : goal.enter-requires-clause-first_low
 enter-requires-clause-first_low c =
-    (next_places c.args.marks.now (is_below c.middle_document-middle.result) (both_in (drop c.loop-i.k c.cut.result.1.now) (drop c.loop-i.l c.cut-2.result.1.now)) c.args.a.now c.args.b.now c.cut.result.0.now c.cut-2.result.0.now c.loop-i.i c.loop-i.j nothing c.loop-i.self.counts c.loop-i-test.true c.if-j-other_low.true (lower_walk _ _ _ _ _ _ _ _ _ _ c.loop-i.invariant.strands)).first_low
+    (next_places c.args.pair.now.marks.now (is_below c.middle_document-middle.result) (both_in (drop c.loop-i.k c.cut.result.1.now) (drop c.loop-i.l c.cut-2.result.1.now)) c.args.pair.now.a.now c.args.pair.now.b.now c.cut.result.0.now c.cut-2.result.0.now c.loop-i.i c.loop-i.j nothing c.loop-i.self.counts c.loop-i-test.true c.if-j-other_low.true (lower_walk _ _ _ _ _ _ _ _ _ _ c.loop-i.invariant.strands)).first_low
 
 pub enter-requires-clause-first_high : goal.enter-requires-clause-first_high
 enter-requires-clause-first_high c =
-    (next_places c.args.marks.now (is_below c.middle_document-middle.result) (both_in (drop c.loop-i.k c.cut.result.1.now) (drop c.loop-i.l c.cut-2.result.1.now)) c.args.a.now c.args.b.now c.cut.result.0.now c.cut-2.result.0.now c.loop-i.i c.loop-i.j nothing c.loop-i.self.counts c.loop-i-test.true c.if-j-other_low.true (lower_walk _ _ _ _ _ _ _ _ _ _ c.loop-i.invariant.strands)).first_high
+    (next_places c.args.pair.now.marks.now (is_below c.middle_document-middle.result) (both_in (drop c.loop-i.k c.cut.result.1.now) (drop c.loop-i.l c.cut-2.result.1.now)) c.args.pair.now.a.now c.args.pair.now.b.now c.cut.result.0.now c.cut-2.result.0.now c.loop-i.i c.loop-i.j nothing c.loop-i.self.counts c.loop-i-test.true c.if-j-other_low.true (lower_walk _ _ _ _ _ _ _ _ _ _ c.loop-i.invariant.strands)).first_high
 
 pub enter-requires-clause-second_low : goal.enter-requires-clause-second_low
 enter-requires-clause-second_low c =
-    (next_places c.args.marks.now (is_below c.middle_document-middle.result) (both_in (drop c.loop-i.k c.cut.result.1.now) (drop c.loop-i.l c.cut-2.result.1.now)) c.args.a.now c.args.b.now c.cut.result.0.now c.cut-2.result.0.now c.loop-i.i c.loop-i.j nothing c.loop-i.self.counts c.loop-i-test.true c.if-j-other_low.true (lower_walk _ _ _ _ _ _ _ _ _ _ c.loop-i.invariant.strands)).second_low
+    (next_places c.args.pair.now.marks.now (is_below c.middle_document-middle.result) (both_in (drop c.loop-i.k c.cut.result.1.now) (drop c.loop-i.l c.cut-2.result.1.now)) c.args.pair.now.a.now c.args.pair.now.b.now c.cut.result.0.now c.cut-2.result.0.now c.loop-i.i c.loop-i.j nothing c.loop-i.self.counts c.loop-i-test.true c.if-j-other_low.true (lower_walk _ _ _ _ _ _ _ _ _ _ c.loop-i.invariant.strands)).second_low
 
 pub enter-requires-clause-second_high : goal.enter-requires-clause-second_high
 enter-requires-clause-second_high c =
-    (next_places c.args.marks.now (is_below c.middle_document-middle.result) (both_in (drop c.loop-i.k c.cut.result.1.now) (drop c.loop-i.l c.cut-2.result.1.now)) c.args.a.now c.args.b.now c.cut.result.0.now c.cut-2.result.0.now c.loop-i.i c.loop-i.j nothing c.loop-i.self.counts c.loop-i-test.true c.if-j-other_low.true (lower_walk _ _ _ _ _ _ _ _ _ _ c.loop-i.invariant.strands)).second_high
+    (next_places c.args.pair.now.marks.now (is_below c.middle_document-middle.result) (both_in (drop c.loop-i.k c.cut.result.1.now) (drop c.loop-i.l c.cut-2.result.1.now)) c.args.pair.now.a.now c.args.pair.now.b.now c.cut.result.0.now c.cut-2.result.0.now c.loop-i.i c.loop-i.j nothing c.loop-i.self.counts c.loop-i-test.true c.if-j-other_low.true (lower_walk _ _ _ _ _ _ _ _ _ _ c.loop-i.invariant.strands)).second_high
 
 pub enter-requires-clause-known : goal.enter-requires-clause-known
 enter-requires-clause-known c =
-    (next_places c.args.marks.now (is_below c.middle_document-middle.result) (both_in (drop c.loop-i.k c.cut.result.1.now) (drop c.loop-i.l c.cut-2.result.1.now)) c.args.a.now c.args.b.now c.cut.result.0.now c.cut-2.result.0.now c.loop-i.i c.loop-i.j nothing c.loop-i.self.counts c.loop-i-test.true c.if-j-other_low.true (lower_walk _ _ _ _ _ _ _ _ _ _ c.loop-i.invariant.strands)).known
+    (next_places c.args.pair.now.marks.now (is_below c.middle_document-middle.result) (both_in (drop c.loop-i.k c.cut.result.1.now) (drop c.loop-i.l c.cut-2.result.1.now)) c.args.pair.now.a.now c.args.pair.now.b.now c.cut.result.0.now c.cut-2.result.0.now c.loop-i.i c.loop-i.j nothing c.loop-i.self.counts c.loop-i-test.true c.if-j-other_low.true (lower_walk _ _ _ _ _ _ _ _ _ _ c.loop-i.invariant.strands)).known
 
 pub enter-requires-clause-few : goal.enter-requires-clause-few
 enter-requires-clause-few c =
-    (next_places c.args.marks.now (is_below c.middle_document-middle.result) (both_in (drop c.loop-i.k c.cut.result.1.now) (drop c.loop-i.l c.cut-2.result.1.now)) c.args.a.now c.args.b.now c.cut.result.0.now c.cut-2.result.0.now c.loop-i.i c.loop-i.j nothing c.loop-i.self.counts c.loop-i-test.true c.if-j-other_low.true (lower_walk _ _ _ _ _ _ _ _ _ _ c.loop-i.invariant.strands)).few
+    (next_places c.args.pair.now.marks.now (is_below c.middle_document-middle.result) (both_in (drop c.loop-i.k c.cut.result.1.now) (drop c.loop-i.l c.cut-2.result.1.now)) c.args.pair.now.a.now c.args.pair.now.b.now c.cut.result.0.now c.cut-2.result.0.now c.loop-i.i c.loop-i.j nothing c.loop-i.self.counts c.loop-i-test.true c.if-j-other_low.true (lower_walk _ _ _ _ _ _ _ _ _ _ c.loop-i.invariant.strands)).few
 
 pub enter-requires-in-loop-i-clause-first_low : goal.enter-requires-in-loop-i-clause-first_low
 enter-requires-in-loop-i-clause-first_low c =
-    let walked = walk_stepped c.args.marks.now (is_below c.middle_document-middle.result) (both_in (drop c.loop-i.k c.cut.result.1.now) (drop c.loop-i.l c.cut-2.result.1.now)) c.args.a.now c.args.b.now c.cut.result.0.now c.cut-2.result.0.now c.loop-i.i c.loop-i.j c.passed-i.result c.passed-j.result nothing c.loop-i.self.counts c.enter.new.self.counts c.loop-i-test.true c.if-j-other_low.true
+    let walked = walk_stepped c.args.pair.now.marks.now (is_below c.middle_document-middle.result) (both_in (drop c.loop-i.k c.cut.result.1.now) (drop c.loop-i.l c.cut-2.result.1.now)) c.args.pair.now.a.now c.args.pair.now.b.now c.cut.result.0.now c.cut-2.result.0.now c.loop-i.i c.loop-i.j c.passed-i.result c.passed-j.result nothing c.loop-i.self.counts c.enter.new.self.counts c.loop-i-test.true c.if-j-other_low.true
     c.passed-i.ensures c.passed-j.ensures c.enter.ensures (lower_walk _ _ _ _ _ _ _ _ _ _ c.loop-i.invariant.strands) in
     let one = counted_swapped _ _ _ _ _ _ _ _ _ _ (strand_walked _ _ (is_above c.middle_document-middle.result) _ _ _ _ _ _ _ _ _ _ (below_apart c.middle_document-middle.result) walked c.loop-i.invariant.strands) in
-    (next_places c.args.marks.now (is_above c.middle_document-middle.result) _ c.args.a.now c.args.b.now c.cut.result.1.now c.cut-2.result.1.now c.loop-i.k c.loop-i.l nothing c.enter.new.self.counts c.if-k-high.true c.if-l-other_high.true (lower_walk _ _ _ _ _ _ _ _ _ _ one)).first_low
+    (next_places c.args.pair.now.marks.now (is_above c.middle_document-middle.result) _ c.args.pair.now.a.now c.args.pair.now.b.now c.cut.result.1.now c.cut-2.result.1.now c.loop-i.k c.loop-i.l nothing c.enter.new.self.counts c.if-k-high.true c.if-l-other_high.true (lower_walk _ _ _ _ _ _ _ _ _ _ one)).first_low
 
 pub enter-requires-in-loop-i-clause-first_high : goal.enter-requires-in-loop-i-clause-first_high
 enter-requires-in-loop-i-clause-first_high c =
-    let walked = walk_stepped c.args.marks.now (is_below c.middle_document-middle.result) (both_in (drop c.loop-i.k c.cut.result.1.now) (drop c.loop-i.l c.cut-2.result.1.now)) c.args.a.now c.args.b.now c.cut.result.0.now c.cut-2.result.0.now c.loop-i.i c.loop-i.j c.passed-i.result c.passed-j.result nothing c.loop-i.self.counts c.enter.new.self.counts c.loop-i-test.true c.if-j-other_low.true
+    let walked = walk_stepped c.args.pair.now.marks.now (is_below c.middle_document-middle.result) (both_in (drop c.loop-i.k c.cut.result.1.now) (drop c.loop-i.l c.cut-2.result.1.now)) c.args.pair.now.a.now c.args.pair.now.b.now c.cut.result.0.now c.cut-2.result.0.now c.loop-i.i c.loop-i.j c.passed-i.result c.passed-j.result nothing c.loop-i.self.counts c.enter.new.self.counts c.loop-i-test.true c.if-j-other_low.true
     c.passed-i.ensures c.passed-j.ensures c.enter.ensures (lower_walk _ _ _ _ _ _ _ _ _ _ c.loop-i.invariant.strands) in
     let one = counted_swapped _ _ _ _ _ _ _ _ _ _ (strand_walked _ _ (is_above c.middle_document-middle.result) _ _ _ _ _ _ _ _ _ _ (below_apart c.middle_document-middle.result) walked c.loop-i.invariant.strands) in
-    (next_places c.args.marks.now (is_above c.middle_document-middle.result) _ c.args.a.now c.args.b.now c.cut.result.1.now c.cut-2.result.1.now c.loop-i.k c.loop-i.l nothing c.enter.new.self.counts c.if-k-high.true c.if-l-other_high.true (lower_walk _ _ _ _ _ _ _ _ _ _ one)).first_high
+    (next_places c.args.pair.now.marks.now (is_above c.middle_document-middle.result) _ c.args.pair.now.a.now c.args.pair.now.b.now c.cut.result.1.now c.cut-2.result.1.now c.loop-i.k c.loop-i.l nothing c.enter.new.self.counts c.if-k-high.true c.if-l-other_high.true (lower_walk _ _ _ _ _ _ _ _ _ _ one)).first_high
 
 pub enter-requires-in-loop-i-clause-second_low : goal.enter-requires-in-loop-i-clause-second_low
 enter-requires-in-loop-i-clause-second_low c =
-    let walked = walk_stepped c.args.marks.now (is_below c.middle_document-middle.result) (both_in (drop c.loop-i.k c.cut.result.1.now) (drop c.loop-i.l c.cut-2.result.1.now)) c.args.a.now c.args.b.now c.cut.result.0.now c.cut-2.result.0.now c.loop-i.i c.loop-i.j c.passed-i.result c.passed-j.result nothing c.loop-i.self.counts c.enter.new.self.counts c.loop-i-test.true c.if-j-other_low.true
+    let walked = walk_stepped c.args.pair.now.marks.now (is_below c.middle_document-middle.result) (both_in (drop c.loop-i.k c.cut.result.1.now) (drop c.loop-i.l c.cut-2.result.1.now)) c.args.pair.now.a.now c.args.pair.now.b.now c.cut.result.0.now c.cut-2.result.0.now c.loop-i.i c.loop-i.j c.passed-i.result c.passed-j.result nothing c.loop-i.self.counts c.enter.new.self.counts c.loop-i-test.true c.if-j-other_low.true
     c.passed-i.ensures c.passed-j.ensures c.enter.ensures (lower_walk _ _ _ _ _ _ _ _ _ _ c.loop-i.invariant.strands) in
     let one = counted_swapped _ _ _ _ _ _ _ _ _ _ (strand_walked _ _ (is_above c.middle_document-middle.result) _ _ _ _ _ _ _ _ _ _ (below_apart c.middle_document-middle.result) walked c.loop-i.invariant.strands) in
-    (next_places c.args.marks.now (is_above c.middle_document-middle.result) _ c.args.a.now c.args.b.now c.cut.result.1.now c.cut-2.result.1.now c.loop-i.k c.loop-i.l nothing c.enter.new.self.counts c.if-k-high.true c.if-l-other_high.true (lower_walk _ _ _ _ _ _ _ _ _ _ one)).second_low
+    (next_places c.args.pair.now.marks.now (is_above c.middle_document-middle.result) _ c.args.pair.now.a.now c.args.pair.now.b.now c.cut.result.1.now c.cut-2.result.1.now c.loop-i.k c.loop-i.l nothing c.enter.new.self.counts c.if-k-high.true c.if-l-other_high.true (lower_walk _ _ _ _ _ _ _ _ _ _ one)).second_low
 
 pub enter-requires-in-loop-i-clause-second_high : goal.enter-requires-in-loop-i-clause-second_high
 enter-requires-in-loop-i-clause-second_high c =
-    let walked = walk_stepped c.args.marks.now (is_below c.middle_document-middle.result) (both_in (drop c.loop-i.k c.cut.result.1.now) (drop c.loop-i.l c.cut-2.result.1.now)) c.args.a.now c.args.b.now c.cut.result.0.now c.cut-2.result.0.now c.loop-i.i c.loop-i.j c.passed-i.result c.passed-j.result nothing c.loop-i.self.counts c.enter.new.self.counts c.loop-i-test.true c.if-j-other_low.true
+    let walked = walk_stepped c.args.pair.now.marks.now (is_below c.middle_document-middle.result) (both_in (drop c.loop-i.k c.cut.result.1.now) (drop c.loop-i.l c.cut-2.result.1.now)) c.args.pair.now.a.now c.args.pair.now.b.now c.cut.result.0.now c.cut-2.result.0.now c.loop-i.i c.loop-i.j c.passed-i.result c.passed-j.result nothing c.loop-i.self.counts c.enter.new.self.counts c.loop-i-test.true c.if-j-other_low.true
     c.passed-i.ensures c.passed-j.ensures c.enter.ensures (lower_walk _ _ _ _ _ _ _ _ _ _ c.loop-i.invariant.strands) in
     let one = counted_swapped _ _ _ _ _ _ _ _ _ _ (strand_walked _ _ (is_above c.middle_document-middle.result) _ _ _ _ _ _ _ _ _ _ (below_apart c.middle_document-middle.result) walked c.loop-i.invariant.strands) in
-    (next_places c.args.marks.now (is_above c.middle_document-middle.result) _ c.args.a.now c.args.b.now c.cut.result.1.now c.cut-2.result.1.now c.loop-i.k c.loop-i.l nothing c.enter.new.self.counts c.if-k-high.true c.if-l-other_high.true (lower_walk _ _ _ _ _ _ _ _ _ _ one)).second_high
+    (next_places c.args.pair.now.marks.now (is_above c.middle_document-middle.result) _ c.args.pair.now.a.now c.args.pair.now.b.now c.cut.result.1.now c.cut-2.result.1.now c.loop-i.k c.loop-i.l nothing c.enter.new.self.counts c.if-k-high.true c.if-l-other_high.true (lower_walk _ _ _ _ _ _ _ _ _ _ one)).second_high
 
 pub enter-requires-in-loop-i-clause-known : goal.enter-requires-in-loop-i-clause-known
 enter-requires-in-loop-i-clause-known c =
-    let walked = walk_stepped c.args.marks.now (is_below c.middle_document-middle.result) (both_in (drop c.loop-i.k c.cut.result.1.now) (drop c.loop-i.l c.cut-2.result.1.now)) c.args.a.now c.args.b.now c.cut.result.0.now c.cut-2.result.0.now c.loop-i.i c.loop-i.j c.passed-i.result c.passed-j.result nothing c.loop-i.self.counts c.enter.new.self.counts c.loop-i-test.true c.if-j-other_low.true
+    let walked = walk_stepped c.args.pair.now.marks.now (is_below c.middle_document-middle.result) (both_in (drop c.loop-i.k c.cut.result.1.now) (drop c.loop-i.l c.cut-2.result.1.now)) c.args.pair.now.a.now c.args.pair.now.b.now c.cut.result.0.now c.cut-2.result.0.now c.loop-i.i c.loop-i.j c.passed-i.result c.passed-j.result nothing c.loop-i.self.counts c.enter.new.self.counts c.loop-i-test.true c.if-j-other_low.true
     c.passed-i.ensures c.passed-j.ensures c.enter.ensures (lower_walk _ _ _ _ _ _ _ _ _ _ c.loop-i.invariant.strands) in
     let one = counted_swapped _ _ _ _ _ _ _ _ _ _ (strand_walked _ _ (is_above c.middle_document-middle.result) _ _ _ _ _ _ _ _ _ _ (below_apart c.middle_document-middle.result) walked c.loop-i.invariant.strands) in
-    (next_places c.args.marks.now (is_above c.middle_document-middle.result) _ c.args.a.now c.args.b.now c.cut.result.1.now c.cut-2.result.1.now c.loop-i.k c.loop-i.l nothing c.enter.new.self.counts c.if-k-high.true c.if-l-other_high.true (lower_walk _ _ _ _ _ _ _ _ _ _ one)).known
+    (next_places c.args.pair.now.marks.now (is_above c.middle_document-middle.result) _ c.args.pair.now.a.now c.args.pair.now.b.now c.cut.result.1.now c.cut-2.result.1.now c.loop-i.k c.loop-i.l nothing c.enter.new.self.counts c.if-k-high.true c.if-l-other_high.true (lower_walk _ _ _ _ _ _ _ _ _ _ one)).known
 
 pub enter-requires-in-loop-i-clause-few : goal.enter-requires-in-loop-i-clause-few
 enter-requires-in-loop-i-clause-few c =
-    let walked = walk_stepped c.args.marks.now (is_below c.middle_document-middle.result) (both_in (drop c.loop-i.k c.cut.result.1.now) (drop c.loop-i.l c.cut-2.result.1.now)) c.args.a.now c.args.b.now c.cut.result.0.now c.cut-2.result.0.now c.loop-i.i c.loop-i.j c.passed-i.result c.passed-j.result nothing c.loop-i.self.counts c.enter.new.self.counts c.loop-i-test.true c.if-j-other_low.true
+    let walked = walk_stepped c.args.pair.now.marks.now (is_below c.middle_document-middle.result) (both_in (drop c.loop-i.k c.cut.result.1.now) (drop c.loop-i.l c.cut-2.result.1.now)) c.args.pair.now.a.now c.args.pair.now.b.now c.cut.result.0.now c.cut-2.result.0.now c.loop-i.i c.loop-i.j c.passed-i.result c.passed-j.result nothing c.loop-i.self.counts c.enter.new.self.counts c.loop-i-test.true c.if-j-other_low.true
     c.passed-i.ensures c.passed-j.ensures c.enter.ensures (lower_walk _ _ _ _ _ _ _ _ _ _ c.loop-i.invariant.strands) in
     let one = counted_swapped _ _ _ _ _ _ _ _ _ _ (strand_walked _ _ (is_above c.middle_document-middle.result) _ _ _ _ _ _ _ _ _ _ (below_apart c.middle_document-middle.result) walked c.loop-i.invariant.strands) in
-    (next_places c.args.marks.now (is_above c.middle_document-middle.result) _ c.args.a.now c.args.b.now c.cut.result.1.now c.cut-2.result.1.now c.loop-i.k c.loop-i.l nothing c.enter.new.self.counts c.if-k-high.true c.if-l-other_high.true (lower_walk _ _ _ _ _ _ _ _ _ _ one)).few
+    (next_places c.args.pair.now.marks.now (is_above c.middle_document-middle.result) _ c.args.pair.now.a.now c.args.pair.now.b.now c.cut.result.1.now c.cut-2.result.1.now c.loop-i.k c.loop-i.l nothing c.enter.new.self.counts c.if-k-high.true c.if-l-other_high.true (lower_walk _ _ _ _ _ _ _ _ _ _ one)).few
 
 pub loop-i-preserved : goal.loop-i-preserved
 loop-i-preserved c =
-    let walked = walk_stepped c.args.marks.now (is_below c.middle_document-middle.result) (both_in (drop c.loop-i.k c.cut.result.1.now) (drop c.loop-i.l c.cut-2.result.1.now)) c.args.a.now c.args.b.now c.cut.result.0.now c.cut-2.result.0.now c.loop-i.i c.loop-i.j c.passed-i.result c.passed-j.result nothing c.loop-i.self.counts c.enter.new.self.counts c.loop-i-test.true c.if-j-other_low.true
+    let walked = walk_stepped c.args.pair.now.marks.now (is_below c.middle_document-middle.result) (both_in (drop c.loop-i.k c.cut.result.1.now) (drop c.loop-i.l c.cut-2.result.1.now)) c.args.pair.now.a.now c.args.pair.now.b.now c.cut.result.0.now c.cut-2.result.0.now c.loop-i.i c.loop-i.j c.passed-i.result c.passed-j.result nothing c.loop-i.self.counts c.enter.new.self.counts c.loop-i-test.true c.if-j-other_low.true
     c.passed-i.ensures c.passed-j.ensures c.enter.ensures (lower_walk _ _ _ _ _ _ _ _ _ _ c.loop-i.invariant.strands) in
     let one = counted_swapped _ _ _ _ _ _ _ _ _ _ (strand_walked _ _ (is_above c.middle_document-middle.result) _ _ _ _ _ _ _ _ _ _ (below_apart c.middle_document-middle.result) walked c.loop-i.invariant.strands) in
-    let walked_too = walk_stepped c.args.marks.now (is_above c.middle_document-middle.result) _ c.args.a.now c.args.b.now c.cut.result.1.now c.cut-2.result.1.now c.loop-i.k c.loop-i.l c.passed-k.result c.passed-l.result nothing c.enter.new.self.counts c.enter-in-loop-i.new.self.counts c.if-k-high.true c.if-l-other_high.true
+    let walked_too = walk_stepped c.args.pair.now.marks.now (is_above c.middle_document-middle.result) _ c.args.pair.now.a.now c.args.pair.now.b.now c.cut.result.1.now c.cut-2.result.1.now c.loop-i.k c.loop-i.l c.passed-k.result c.passed-l.result nothing c.enter.new.self.counts c.enter-in-loop-i.new.self.counts c.if-k-high.true c.if-l-other_high.true
     c.passed-k.ensures c.passed-l.ensures c.enter-in-loop-i.ensures (lower_walk _ _ _ _ _ _ _ _ _ _ one) in
     let two = counted_swapped _ _ _ _ _ _ _ _ _ _ (strand_walked _ _ (is_below c.middle_document-middle.result) _ _ _ _ _ _ _ _ _ _ (above_apart c.middle_document-middle.result) walked_too one) in
     let first_step : c.passed-i.result ≤ 1 = at_most_one _ c.passed-i.result c.passed-i.ensures in
@@ -109,18 +109,18 @@ loop-i-preserved c =
 
 pub walk-requires-clause-walk : goal.walk-requires-clause-walk
 walk-requires-clause-walk c =
-    (is_below c.middle_document-middle.result, both_in (drop c.loop-i.k c.cut.result.1.now) (drop c.loop-i.l c.cut-2.result.1.now), c.args.a.now, c.args.b.now, lower_walk _ _ _ _ _ _ _ _ _ _ c.loop-i.invariant.strands)
+    (is_below c.middle_document-middle.result, both_in (drop c.loop-i.k c.cut.result.1.now) (drop c.loop-i.l c.cut-2.result.1.now), c.args.pair.now.a.now, c.args.pair.now.b.now, lower_walk _ _ _ _ _ _ _ _ _ _ c.loop-i.invariant.strands)
 
 pub walk-requires-2-clause-walk : goal.walk-requires-2-clause-walk
 walk-requires-2-clause-walk c =
-    let first = c.walk.ensures (is_below c.middle_document-middle.result) (both_in (drop c.loop-i.k c.cut.result.1.now) (drop c.loop-i.l c.cut-2.result.1.now)) c.args.a.now c.args.b.now (lower_walk _ _ _ _ _ _ _ _ _ _ c.loop-i.invariant.strands) in
+    let first = c.walk.ensures (is_below c.middle_document-middle.result) (both_in (drop c.loop-i.k c.cut.result.1.now) (drop c.loop-i.l c.cut-2.result.1.now)) c.args.pair.now.a.now c.args.pair.now.b.now (lower_walk _ _ _ _ _ _ _ _ _ _ c.loop-i.invariant.strands) in
     let after = counted_swapped _ _ _ _ _ _ _ _ _ _ (strand_walked _ _ (is_above c.middle_document-middle.result) _ _ _ _ _ _ _ _ _ _ (below_apart c.middle_document-middle.result) first.walk c.loop-i.invariant.strands) in
-    (is_above c.middle_document-middle.result, both_in first.es first.fs, c.args.a.now, c.args.b.now, lower_walk _ _ _ _ _ _ _ _ _ _ after)
+    (is_above c.middle_document-middle.result, both_in first.es first.fs, c.args.pair.now.a.now, c.args.pair.now.b.now, lower_walk _ _ _ _ _ _ _ _ _ _ after)
 
 pub returns : goal.returns
 returns c =
-    let first = c.walk.ensures (is_below c.middle_document-middle.result) (both_in (drop c.loop-i.k c.cut.result.1.now) (drop c.loop-i.l c.cut-2.result.1.now)) c.args.a.now c.args.b.now (lower_walk _ _ _ _ _ _ _ _ _ _ c.loop-i.invariant.strands) in
+    let first = c.walk.ensures (is_below c.middle_document-middle.result) (both_in (drop c.loop-i.k c.cut.result.1.now) (drop c.loop-i.l c.cut-2.result.1.now)) c.args.pair.now.a.now c.args.pair.now.b.now (lower_walk _ _ _ _ _ _ _ _ _ _ c.loop-i.invariant.strands) in
     let after = counted_swapped _ _ _ _ _ _ _ _ _ _ (strand_walked _ _ (is_above c.middle_document-middle.result) _ _ _ _ _ _ _ _ _ _ (below_apart c.middle_document-middle.result) first.walk c.loop-i.invariant.strands) in
-    let second = c.walk-2.ensures (is_above c.middle_document-middle.result) (both_in first.es first.fs) c.args.a.now c.args.b.now (lower_walk _ _ _ _ _ _ _ _ _ _ after) in
+    let second = c.walk-2.ensures (is_above c.middle_document-middle.result) (both_in first.es first.fs) c.args.pair.now.a.now c.args.pair.now.b.now (lower_walk _ _ _ _ _ _ _ _ _ _ after) in
     let end = strand_walked _ _ (is_below c.middle_document-middle.result) _ _ _ _ _ _ _ _ _ _ (above_apart c.middle_document-middle.result) second.walk after in
     counted_strands_end _ (is_above c.middle_document-middle.result) (is_below c.middle_document-middle.result) _ _ _ _ _ _ _ (none_left second.es second.fs second.ended) (none_left first.es first.fs first.ended) end
