@@ -29,3 +29,6 @@ documents_moved marks other run docs documents e f h =
 pub both_known : (marks : List Mark) (a b : List ℕ) (first second : PairRun) (same : Bool) → IsPairRun marks a b first → IsPairRun marks b a second → same ≡ is_same_list a b →
     AreKnown marks a b same first.numbers second.numbers second.other.in_high first.other.in_low
 both_known marks a b first second same h k e = record { same_list = e; first = h.numbers; second = k.numbers; high = k.other.in_high; low = h.other.in_low }
+
+pub pair_run_moved : (marks other : List Mark) (run docs rival : List ℕ) (one : PairRun) → marks ≡ other → run ≡ docs → IsPairRun marks run rival one → IsPairRun other docs rival one
+pair_run_moved marks other run docs rival one e f h = subst (λ (ms : List Mark). IsPairRun ms docs rival one) e (subst (λ (ds : List ℕ). IsPairRun marks ds rival one) f h)

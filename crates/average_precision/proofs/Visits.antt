@@ -35,7 +35,6 @@ passed_over high marks docs n best l h =
         first = below_more (λ k. IsEarlier high k best.count → IsBetter high (number best.count) (number k)) n h.best.first (λ e. subst (λ (v : ℕ). IsBetter high v (number n)) h.value (l.1 e));
       };
       value = h.value;
-      small = h.small;
     }
 
 -- ---- how many documents are true in a candidate

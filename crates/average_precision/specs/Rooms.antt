@@ -1,14 +1,12 @@
 -- What is kept of the runs of a topic while its cells are found.
-use Rattle.std.specs.Prelude.{◌≡◌, ℕ, ◌-◌, ◌*◌, ◌≤◌, ◌<◌, List, length, slice_index_or}
+use Rattle.std.specs.Prelude.{◌≡◌, ℕ, ◌-◌, ◌<◌, List, length, slice_index_or}
 use Rattle.desk_model.specs.Score.{true_count}
 use Rattle.desk_model.specs.declared.types.Mark.{Mark}
 use Rattle.measure_laws.specs.AverageEnds.{high_case, low_case}
 use Rattle.measure_laws.specs.Candidates.{average_bound_lo, average_bound_hi, high_choice, low_choice, open_docs}
 use Rattle.measure_laws.specs.Parts.{low_average, high_average}
-use Rattle.measure_core.specs.Pairs.{AreAllMet, DeskTopic, ranking_on, runs_on}
+use Rattle.measure_core.specs.Pairs.{DeskTopic, ranking_on, runs_on}
 use Rattle.measure_core.specs.declared.room.RunCandidates.{RunCandidates}
-use Rattle.average_precision.specs.Crossed.{AreAllCrossed}
-use Rattle.average_precision.specs.declared.cells.KeptRuns.{KeptRuns}
 
 -- a run's bounds, its own numbers in its two candidates, how many documents are true in them, and how many unjudged ones the high one takes and
 -- the low one leaves out
@@ -25,11 +23,3 @@ pub record IsKept (marks : List Mark) (docs : List ℕ) (kept : RunCandidates) :
 -- the same of each run
 abbrev pub AreRunsKept : List Mark → DeskTopic → List RunCandidates → Type 0
 AreRunsKept marks t kept = (run : ℕ) → run < runs_on t → (none : RunCandidates) → IsKept marks (ranking_on t run) (slice_index_or kept run none)
-
--- what is kept of each run of a topic, and of each two
-pub record AreKept (kept : KeptRuns) : Type 0 where
-  pub met : AreAllMet kept.marks.now kept.rankings.now
-  pub runs_room : runs_on kept.rankings.now ≤ length kept.runs.now
-  pub runs : AreRunsKept kept.marks.now kept.rankings.now kept.runs.now
-  pub crossed_room : runs_on kept.rankings.now * runs_on kept.rankings.now ≤ length kept.crossed.now
-  pub crossed : AreAllCrossed kept.marks.now kept.rankings.now kept.crossed.now

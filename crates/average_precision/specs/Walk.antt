@@ -86,4 +86,3 @@ Loses high value count best = IsAsGood high best.value value × (IsEarlier high 
 pub record IsBestSoFar (high : Bool) (marks : List Mark) (docs : List ℕ) (n : ℕ) (choice : Choice) : Type 0 where
   pub best : IsBestOf high (number_of high marks docs) (length (open_docs marks docs)) n choice.count
   pub value : choice.value ≡ number_of high marks docs choice.count
-  pub small : choice.value ≤ RANK_LIMIT * PARTS_OF_ONE

@@ -1,19 +1,19 @@
-ghost use Rattle.std.specs.Prelude.{◌≡◌, ◌*◌, ◌≤◌, true, length, IfOk, pos};
-ghost use Rattle.desk_model.specs.Limits.{DOCUMENT_LIMIT, PARTS_OF_ONE, RANK_LIMIT};
+ghost use Rattle.std.specs.Prelude.{◌≡◌, ◌≤◌, true, length, IfOk, pos};
+ghost use Rattle.desk_model.specs.Limits.{DOCUMENT_LIMIT, RANK_LIMIT};
+ghost use Rattle.desk_model.specs.Ranking.{IsRanking};
 ghost use Rattle.desk_model.specs.declared.types.MeasureName.TheVariants.{AveragePrecision as A};
 ghost use Rattle.measure_laws.specs.Ranks.{IsRankWithin};
 ghost use Rattle.measure_laws.specs.Weights.{reciprocal_weight};
-ghost use Rattle.measure_core.specs.Laws.{AreMet, IsMet};
 ghost use Rattle.measure_core.specs.Made.{IsMadeFor};
-ghost use Rattle.average_precision.specs.Runs.{IsKnown};
 ghost use Rattle.average_precision.specs.Side.{AreCounts};
 
 use crate::by_rank::{RankClasses, cuts_of};
 use crate::candidate::Counts;
 use crate::cases::RankCase;
+use crate::kept::TopicRuns;
 use crate::pair::{cell_of, leasts_of};
-use crate::runs::{Run, chosen_of, known_run};
-use crate::table::Parts;
+use crate::runs::{Chosen, ChosenRun, MarkedRun, chosen_of};
+use crate::table::{Parts, Rank};
 use desk_model::{Mark, MeasureName, Memory, Ranking};
 use measure_core::{
     Cell, CellRoom, KeptCell, ListSizes, Measure, RankWorth, RunPair, Shift, Steps, TopicRankings,
@@ -76,49 +76,54 @@ pub fn counts_of(marks: &[Mark]) -> Counts
     }
 }
 
-/// The span between two bounds.
-fn span_between(lo: u128, hi: u128) -> Span
-    requires lo { lo ≤ RANK_LIMIT * PARTS_OF_ONE }
-    requires hi { hi ≤ RANK_LIMIT * PARTS_OF_ONE }
-    ensures lo { result.lo ≡ pos lo }
-    ensures hi { result.hi ≡ pos hi }
+/// The span between the numbers of two candidates.
+fn span_between(chosen: Chosen) -> Span
+    ensures lo { result.lo ≡ pos chosen.low.value }
+    ensures hi { result.hi ≡ pos chosen.high.value }
 {
     Span {
-        lo: lo as i128,
-        hi: hi as i128,
+        lo: chosen.low.value as i128,
+        hi: chosen.high.value as i128,
     }
 }
 
-/// A run with what is known of it on a topic, by the ranks of its documents.
-#[derive(Clone, Copy)]
-pub(crate) struct RankedRun<'r> {
-    pub(crate) classes: RankClasses<'r>,
-    pub(crate) known: Run,
-}
-
 impl AveragePrecision {
-    /// What is known of a run on a topic, from the counts of all documents. It takes no memory.
-    pub(crate) fn ranked_run<'r>(
+    /// A run on a topic with its chosen candidates, from the counts of all documents.
+    pub(crate) fn chosen_run<'r>(
         &self,
         run: &'r Ranking,
         marks: &'r [Mark],
         all: Counts,
-    ) -> RankedRun<'r>
-        requires met { IsMet marks.now run.now }
+    ) -> ChosenRun<'r>
+        requires met { IsRanking (length marks.now) run.now }
         requires all { AreCounts marks.now all }
-        ensures marks { result.classes.marks.now ≡ marks.now }
-        ensures run { result.classes.run.now ≡ run.now }
-        ensures known { IsKnown marks.now run.now result.known }
+        ensures marks { result.on.marks.now ≡ marks.now }
+        ensures docs { result.on.docs.now ≡ run.now }
     {
-        let docs = run.docs();
-        let chosen = chosen_of(docs, marks, all, &self.parts);
-        let classes = RankClasses {
+        let on = MarkedRun {
             run,
+            docs: run.docs(),
             marks,
-            cuts: cuts_of(docs, marks, chosen),
+            all,
         };
-        let known = known_run(docs, all, chosen, &classes, &self.parts);
-        RankedRun { classes, known }
+        ChosenRun {
+            on,
+            chosen: chosen_of(&on, &self.parts),
+        }
+    }
+
+    /// The same, which tells the class of a document by its rank. It takes no memory.
+    fn ranked_run<'r>(&self, run: &'r Ranking, marks: &'r [Mark], all: Counts) -> RankClasses<'r>
+        requires met { IsRanking (length marks.now) run.now }
+        requires all { AreCounts marks.now all }
+        ensures marks { result.run.on.marks.now ≡ marks.now }
+        ensures docs { result.run.on.docs.now ≡ run.now }
+    {
+        let run = self.chosen_run(run, marks, all);
+        RankClasses {
+            run,
+            cuts: cuts_of(&run),
+        }
     }
 
     /// What a rank is worth; nothing for an absent one.
@@ -128,7 +133,12 @@ impl AveragePrecision {
     {
         match rank {
             None => 0,
-            Some(rank) => self.parts.at(u64::from(rank)).whole,
+            Some(rank) => {
+                let at = Rank {
+                    number: u64::from(rank),
+                };
+                self.parts.at(at).whole
+            }
         }
     }
 }
@@ -177,16 +187,7 @@ impl Measure for AveragePrecision {
         let all = counts_of(marks);
         let first = self.ranked_run(a, marks, all);
         let second = self.ranked_run(b, marks, all);
-        let both = leasts_of(
-            a.docs(),
-            b.docs(),
-            &first.known,
-            &second.known,
-            &first.classes,
-            &second.classes,
-            &self.parts,
-        );
-        cell_of(both)
+        cell_of(leasts_of(&first, &second, &self.parts))
     }
 
     fn cells<L: Ledger>(
@@ -197,15 +198,20 @@ impl Measure for AveragePrecision {
         cells: &mut [KeptCell],
         steps: &mut Steps<L>,
     ) {
-        if self.room_cells(rankings, marks, room, cells, steps) {
+        let on = TopicRuns {
+            rankings,
+            marks,
+            all: counts_of(marks),
+        };
+        if self.room_cells(&on, room, cells, steps) {
             return;
         }
         self.each_cell(rankings, marks, cells, steps);
     }
 
     fn bounds(&self, a: &Ranking, marks: &[Mark]) -> Span {
-        let chosen = chosen_of(a.docs(), marks, counts_of(marks), &self.parts);
-        span_between(chosen.low.value, chosen.high.value)
+        let run = self.chosen_run(a, marks, counts_of(marks));
+        span_between(run.chosen)
     }
 
     fn least_case(
@@ -218,19 +224,11 @@ impl Measure for AveragePrecision {
         let all = counts_of(marks);
         let first = self.ranked_run(a, marks, all);
         let second = self.ranked_run(b, marks, all);
-        let both = leasts_of(
-            a.docs(),
-            b.docs(),
-            &first.known,
-            &second.known,
-            &first.classes,
-            &second.classes,
-            &self.parts,
-        );
+        let both = leasts_of(&first, &second, &self.parts);
         let case = RankCase {
             case: both.least.kind,
-            first: first.classes,
-            second: second.classes,
+            first,
+            second,
         };
         case_values(alloc, &case, marks)
     }
@@ -255,7 +253,12 @@ impl Measure for AveragePrecision {
         pairs: &[RunPair],
         counts: &mut [u32],
     ) -> Result<Vec<ListSizes>, Memory> {
-        self.listed_pairs(alloc, rankings, marks, pairs, counts)
+        let on = TopicRuns {
+            rankings,
+            marks,
+            all: counts_of(marks),
+        };
+        self.listed_pairs(alloc, &on, pairs, counts)
     }
 
     fn weight(&self, a: &Ranking, b: &Ranking, _marks: &[Mark], doc: u32) -> u128 {

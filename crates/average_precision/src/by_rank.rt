@@ -1,16 +1,14 @@
 //! The class of a document for a run by its rank there, which takes no memory.
-ghost use Rattle.std.specs.Prelude.{◌≡◌, ◌-◌, ◌&&◌, nat_lt, length, not, true, false, if◌then◌else◌};
+ghost use Rattle.std.specs.Prelude.{◌≡◌, ◌-◌, ◌&&◌, nat_lt, not, true, false, if◌then◌else◌};
 ghost use Rattle.desk_model.specs.Completion.{picked_value};
 ghost use Rattle.desk_model.specs.Mark.{is_unjudged};
-ghost use Rattle.desk_model.specs.Ranking.{IsRanking};
 ghost use Rattle.measure_core.specs.OneSide.{is_by};
 ghost use Rattle.average_precision.specs.Classes.{has};
 ghost use Rattle.average_precision.specs.Cuts.{AreCuts, last_rank};
-ghost use Rattle.average_precision.specs.Runs.{AreChosen};
 
 use crate::crossing::Classes;
-use crate::runs::Chosen;
-use desk_model::{Mark, Ranking};
+use crate::runs::{ChosenRun, MarkedRun};
+use desk_model::Mark;
 use measure_core::Class;
 
 /// The rank, from 1, of the last document of a run that its high candidate takes, and of the last one that its low
@@ -53,31 +51,28 @@ impl Last {
 }
 
 /// The rank of the last of the first so many unjudged documents, and 0 where there is none.
-fn last_rank_of(docs: &[u32], marks: &[Mark], count: u32) -> u32
-    requires { IsRanking (length marks.now) docs.now }
-    ensures { result ≡ last_rank marks.now 0 1 docs.now count }
+fn last_rank_of(run: &MarkedRun<'_>, count: u32) -> u32
+    ensures { result ≡ last_rank run.now.marks.now 0 1 run.now.docs.now count }
 {
     let mut last = Last {
         rank: 0,
         left: count,
     };
     let mut rank = 1;
-    for doc in docs {
-        last = last.with(marks[*doc as usize], rank);
+    for doc in run.docs {
+        last = last.with(run.marks[*doc as usize], rank);
         rank += 1;
     }
     last.rank
 }
 
 /// The cuts of a run, from its chosen candidates.
-pub fn cuts_of(docs: &[u32], marks: &[Mark], chosen: Chosen) -> Cuts
-    requires ranking { IsRanking (length marks.now) docs.now }
-    requires chosen { AreChosen marks.now docs.now chosen }
-    ensures { AreCuts marks.now docs.now result }
+pub fn cuts_of(run: &ChosenRun<'_>) -> Cuts
+    ensures { AreCuts run.now.on.marks.now run.now.on.docs.now result }
 {
     Cuts {
-        taken: last_rank_of(docs, marks, chosen.high.count),
-        left_out: last_rank_of(docs, marks, chosen.low.count),
+        taken: last_rank_of(&run.on, run.chosen.high.count),
+        left_out: last_rank_of(&run.on, run.chosen.low.count),
     }
 }
 
@@ -116,23 +111,25 @@ fn class_by(mark: Mark, rank: Option<u32>, cuts: Cuts) -> Class
     }
 }
 
-/// A run of a topic with its cuts.
+/// A run on a topic with its chosen candidates and its cuts. Its fact: these are its cuts.
 #[derive(Clone, Copy)]
 pub struct RankClasses<'r> {
-    pub run: &'r Ranking,
-    pub marks: &'r [Mark],
+    pub run: ChosenRun<'r>,
     pub cuts: Cuts,
-    pub ghost are: { AreCuts marks.now run.now cuts },
+    pub ghost are: { AreCuts run.on.marks.now run.on.docs.now cuts },
 }
 
 impl Classes for RankClasses<'_> {
-    ghost marks = { λ r. r.marks.now };
+    ghost marks = { λ r. r.run.on.marks.now };
 
-    ghost run = { λ r. r.run.now };
+    ghost run = { λ r. r.run.on.docs.now };
+
+    fn chosen(&self) -> &ChosenRun<'_> {
+        &self.run
+    }
 
     fn class_of(&self, doc: u32) -> Class {
-        // A ranking has no document twice.
-        let _ = self.run.docs();
-        class_by(self.marks[doc as usize], self.run.rank_of(doc), self.cuts)
+        let on = &self.run.on;
+        class_by(on.marks[doc as usize], on.run.rank_of(doc), self.cuts)
     }
 }

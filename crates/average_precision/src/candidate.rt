@@ -8,8 +8,9 @@ ghost use Rattle.desk_model.specs.Ranking.{IsRanking};
 ghost use Rattle.measure_laws.specs.Candidates.{open_docs};
 ghost use Rattle.average_precision.specs.Side.{AreCounts, along, candidate_sum, documents_of, number_of, out_of, value_at};
 
+use crate::choice::Choice;
 use crate::sums::Sum;
-use crate::table::{Parts, sum_with};
+use crate::table::{Parts, Rank, sum_with};
 use desk_model::Mark;
 
 /// Whether a document is true where so many unjudged ones are still to be taken, or left out.
@@ -32,8 +33,7 @@ pub fn left_after(left: u32, mark: Mark) -> u32
 
 /// A sum out of all true documents, rounded up or down, and 0 out of none.
 pub fn quotient(high: bool, sum: u128, count: u32) -> u128
-    requires sum { sum ≤ RANK_LIMIT * PARTS_OF_ONE }
-    requires count { count ≤ DOCUMENT_LIMIT }
+    requires { sum ≤ RANK_LIMIT * PARTS_OF_ONE }
     ensures value { result ≡ out_of high sum count }
     ensures small { result ≤ RANK_LIMIT * PARTS_OF_ONE }
 {
@@ -81,31 +81,47 @@ pub fn sum_of(side: &Side<'_>, count: u32) -> u128
     for doc in side.docs {
         let mark = side.marks[*doc as usize];
         let gain = gains(side.high, left, mark);
-        sum = sum_with(sum, side.high, gain, rank, side.parts.at(rank));
+        let at = Rank { number: rank };
+        sum = sum_with(sum, side.high, gain, at, side.parts.at(at));
         left = left_after(left, mark);
         rank += 1;
     }
     sum.parts
 }
 
-/// How many documents are true in a candidate, by how many unjudged documents it takes, or leaves out.
-pub fn documents_in(side: &Side<'_>, count: u32) -> u32
-    requires { count ≤ length (open_docs side.now.marks.now side.now.docs.now) }
-    ensures value { result ≡ documents_of side.now.high side.now.all count }
-    ensures few { result ≤ DOCUMENT_LIMIT }
-{
-    if side.high {
-        side.all.relevant + count
-    } else {
-        side.all.possible - count
-    }
+/// A candidate of a side, by how many unjudged documents it takes, or leaves out. Its fact: the ranking has so many.
+#[derive(Clone, Copy)]
+pub struct SideCandidate<'c, 's> {
+    pub side: &'c Side<'s>,
+    pub count: u32,
+    pub ghost within: { count ≤ length (open_docs side.now.marks.now side.now.docs.now) },
 }
 
-/// The number of a candidate, by how many unjudged documents it takes, or leaves out.
-pub fn number(side: &Side<'_>, count: u32) -> u128
-    requires { count ≤ length (open_docs side.now.marks.now side.now.docs.now) }
-    ensures value { result ≡ number_of side.now.high side.now.marks.now side.now.docs.now count }
-    ensures small { result ≤ RANK_LIMIT * PARTS_OF_ONE }
-{
-    quotient(side.high, sum_of(side, count), documents_in(side, count))
+impl SideCandidate<'_, '_> {
+    /// How many documents are true in it.
+    pub fn documents(self) -> u32
+        ensures value { result ≡
+            documents_of self.entry.side.now.high self.entry.side.now.all self.entry.count }
+        ensures few { result ≤ DOCUMENT_LIMIT }
+    {
+        if self.side.high {
+            self.side.all.relevant + self.count
+        } else {
+            self.side.all.possible - self.count
+        }
+    }
+
+    /// It with its number.
+    pub fn choice(self) -> Choice
+        ensures count { result.count ≡ self.entry.count }
+        ensures value { result.value ≡
+            number_of self.entry.side.now.high self.entry.side.now.marks.now
+            self.entry.side.now.docs.now self.entry.count }
+    {
+        let sum = sum_of(self.side, self.count);
+        Choice {
+            count: self.count,
+            value: quotient(self.side.high, sum, self.documents()),
+        }
+    }
 }

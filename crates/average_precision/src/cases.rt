@@ -17,13 +17,13 @@ impl Picks for RankCase<'_> {
     ghost use Rattle.desk_model.specs.Ranking.{rank};
     ghost use Rattle.average_precision.specs.RankCases.{is_picked_in};
 
-    ghost picks = { λ p doc. is_picked_in p.case p.first.cuts (rank p.first.run.now doc) p.second.cuts (rank p.second.run.now doc) };
+    ghost picks = { λ p doc. is_picked_in p.case p.first.cuts (rank p.first.run.on.run.now doc) p.second.cuts (rank p.second.run.on.run.now doc) };
 
     fn is_picked(&self, doc: u32) -> bool {
         match self.case {
             Case::OfNone => false,
-            Case::OfLow => !is_within(self.first.cuts.left_out, self.first.run.rank_of(doc)),
-            Case::OfHigh => is_within(self.second.cuts.taken, self.second.run.rank_of(doc)),
+            Case::OfLow => !is_within(self.first.cuts.left_out, self.first.run.on.run.rank_of(doc)),
+            Case::OfHigh => is_within(self.second.cuts.taken, self.second.run.on.run.rank_of(doc)),
         }
     }
 }

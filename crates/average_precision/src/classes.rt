@@ -1,10 +1,9 @@
 //! The class of each document: in which of a run's two candidates it is true.
-ghost use Rattle.std.specs.Prelude.{◌≡◌, ◌-◌, ◌≤◌, length, not, true, false, ◌&&◌, ◌||◌};
-ghost use Rattle.desk_model.specs.Ranking.{IsRanking};
-ghost use Rattle.measure_laws.specs.Candidates.{high_choice, low_choice, open_docs};
+ghost use Rattle.std.specs.Prelude.{◌≡◌, length, not, true, false, ◌&&◌, ◌||◌};
 ghost use Rattle.average_precision.specs.Classes.{AreBase, AreClasses, base_class, has};
 
 use crate::crossing::{Classes, is_in};
+use crate::runs::ChosenRun;
 use desk_model::Mark;
 use measure_core::Class;
 
@@ -37,20 +36,27 @@ fn class_after(class: Class, taken: bool, left_out: bool) -> Class
     }
 }
 
-/// Makes the classes of a topic those of a run, from how many unjudged documents its high candidate takes and
-/// its low one leaves out.
-pub fn mark_run(docs: &[u32], marks: &[Mark], taken: u32, left_out: u32, classes: &mut [Class])
-    requires ranking { IsRanking (length marks.now) docs.now }
-    requires base { AreBase marks.now classes.old }
-    requires taken { taken ≡ high_choice marks.now docs.now }
-    requires left_out { left_out ≡ length (open_docs marks.now docs.now) -
-        low_choice marks.now docs.now }
-    ensures { AreClasses marks.now docs.now classes.new }
+/// Makes classes those of a topic, of documents that no run has.
+fn set_base(marks: &[Mark], classes: &mut [Class])
+    requires { length classes.old ≡ length marks.now }
+    ensures { AreBase marks.now classes.new }
 {
-    let mut to_take = taken;
-    let mut to_leave = left_out;
-    for doc in docs {
-        if marks[*doc as usize] == Mark::Unjudged {
+    for (place, mark) in marks.iter().enumerate() {
+        classes[place] = class_for(*mark);
+    }
+}
+
+/// Makes classes those of a run, from how many unjudged documents its high candidate takes and its low one leaves out.
+pub fn mark_run(run: &ChosenRun<'_>, classes: &mut [Class])
+    requires { length classes.old ≡ length run.now.on.marks.now }
+    ensures { AreClasses run.now.on.marks.now run.now.on.docs.now classes.new }
+{
+    let on = run.on;
+    set_base(on.marks, classes);
+    let mut to_take = run.chosen.high.count;
+    let mut to_leave = run.chosen.low.count;
+    for doc in on.docs {
+        if on.marks[*doc as usize] == Mark::Unjudged {
             classes[*doc as usize] = class_after(classes[*doc as usize], to_take > 0, to_leave > 0);
             to_take = to_take.saturating_sub(1);
             to_leave = to_leave.saturating_sub(1);
@@ -58,19 +64,22 @@ pub fn mark_run(docs: &[u32], marks: &[Mark], taken: u32, left_out: u32, classes
     }
 }
 
-/// A run of a topic with the class of each document.
+/// A run on a topic with its chosen candidates and the class of each document. Its fact: these are the classes.
 #[derive(Clone, Copy)]
 pub struct KeptClasses<'k> {
-    pub run: &'k [u32],
-    pub marks: &'k [Mark],
+    pub run: ChosenRun<'k>,
     pub classes: &'k [Class],
-    pub ghost are: { AreClasses marks.now run.now classes.now },
+    pub ghost are: { AreClasses run.on.marks.now run.on.docs.now classes.now },
 }
 
 impl Classes for KeptClasses<'_> {
-    ghost marks = { λ k. k.marks.now };
+    ghost marks = { λ k. k.run.on.marks.now };
 
-    ghost run = { λ k. k.run.now };
+    ghost run = { λ k. k.run.on.docs.now };
+
+    fn chosen(&self) -> &ChosenRun<'_> {
+        &self.run
+    }
 
     fn class_of(&self, doc: u32) -> Class {
         self.classes[doc as usize]

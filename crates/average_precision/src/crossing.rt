@@ -1,6 +1,6 @@
 //! One pass over a ranking in the chosen candidates of a run.
 ghost use Rattle.std.specs.Prelude.{◌≡◌, ℕ, ◌*◌, ◌<◌, ◌≤◌, List, length, map, not};
-ghost use Rattle.desk_model.specs.Limits.{DOCUMENT_LIMIT, PARTS_OF_ONE, RANK_LIMIT};
+ghost use Rattle.desk_model.specs.Limits.{PARTS_OF_ONE, RANK_LIMIT};
 ghost use Rattle.desk_model.specs.Precisions.{true_ranks};
 ghost use Rattle.desk_model.specs.Ranking.{IsRanking};
 ghost use Rattle.desk_model.specs.declared.types.Mark.{Mark as M};
@@ -10,8 +10,9 @@ ghost use Rattle.average_precision.specs.Classes.{AreDocuments, IsClassOf, has, 
 ghost use Rattle.average_precision.specs.Sums.{worth_of};
 
 use crate::candidate::quotient;
+use crate::runs::ChosenRun;
 use crate::sums::Sum;
-use crate::table::{FoundParts, KeptParts, Parts, RankParts, sum_with};
+use crate::table::{FoundParts, KeptParts, Parts, Rank, RankParts, sum_with};
 use measure_core::{Class, CrossScores};
 
 /// Whether a document is true in the high candidate, or in the low one.
@@ -33,6 +34,11 @@ pub trait Classes {
 
     /// The ranking of the run.
     ghost run: { Self → List ℕ };
+
+    /// The run with its chosen candidates.
+    fn chosen(&self) -> &ChosenRun<'_>
+        ensures marks { result.now.on.marks.now ≡ marks self.now }
+        ensures run { result.now.on.docs.now ≡ run self.now };
 
     /// The class of a document, by its number from 0.
     fn class_of(&self, doc: u32) -> Class
@@ -70,9 +76,10 @@ pub fn sums_in<C: Classes, P: RankParts>(
     let mut rank = 1;
     for doc in docs {
         let class = classes.class_of(*doc);
-        let part = parts.part(rank);
-        in_high = sum_with(in_high, outward, is_in(true, class), rank, part);
-        in_low = sum_with(in_low, !outward, is_in(false, class), rank, part);
+        let at = Rank { number: rank };
+        let part = parts.part(at);
+        in_high = sum_with(in_high, outward, is_in(true, class), at, part);
+        in_low = sum_with(in_low, !outward, is_in(false, class), at, part);
         rank += 1;
     }
     Sums {
@@ -88,18 +95,17 @@ pub struct Documents {
     pub in_low: u32,
 }
 
+/// How many documents are true in a run's two candidates.
+fn documents_in<C: Classes>(classes: &C) -> Documents
+    ensures { AreDocuments (C.marks classes.now) (C.run classes.now) result }
+{
+    classes.chosen().documents()
+}
+
 /// A ranking's average precision in a run's two candidates: outward, rounded up in the high one and down in the
 /// low one, or inward, the other way round.
-pub fn crossed<C: Classes>(
-    outward: bool,
-    docs: &[u32],
-    classes: &C,
-    documents: Documents,
-    parts: &Parts,
-) -> CrossScores
-    requires ranking { IsRanking (length (C.marks classes.now)) docs.now }
-    requires few { length (C.marks classes.now) ≤ DOCUMENT_LIMIT }
-    requires documents { AreDocuments (C.marks classes.now) (C.run classes.now) documents }
+pub fn crossed<C: Classes>(outward: bool, docs: &[u32], classes: &C, parts: &Parts) -> CrossScores
+    requires { IsRanking (length (C.marks classes.now)) docs.now }
     ensures in_high { result.in_high ≡
         rounded outward (length (C.marks classes.now))
         (high_case (C.marks classes.now) (C.run classes.now)) docs.now }
@@ -113,6 +119,7 @@ pub fn crossed<C: Classes>(
         Some(parts) => sums_in(outward, docs, classes, &KeptParts { parts }),
         None => sums_in(outward, docs, classes, &FoundParts),
     };
+    let documents = documents_in(classes);
     CrossScores {
         in_high: quotient(outward, sums.in_high, documents.in_high),
         in_low: quotient(!outward, sums.in_low, documents.in_low),

@@ -6,7 +6,7 @@ ghost use Rattle.measure_laws.specs.AverageEnds.{is_same_list};
 ghost use Rattle.topic_counts.specs.Ends.{IsNear};
 ghost use Rattle.average_precision.specs.Classes.{AreKnown, IsLeast, case_of, smaller_of};
 
-use crate::numbers::{Case, Least, RunNumbers};
+use crate::numbers::{Case, Least, PairRun};
 
 /// One number less another.
 fn difference(x: u128, y: u128) -> i128
@@ -25,20 +25,20 @@ pub fn are_same(a: &[u32], b: &[u32]) -> bool
     a == b
 }
 
-/// The ends of the least difference of two runs that are not one list, from the first run's number in the second
-/// one's high candidate, rounded up, and the second's in the first one's low candidate, rounded down.
-fn least_apart(a: RunNumbers, b: RunNumbers, a_in_high: u128, b_in_low: u128) -> Least
-    requires a_in_high { a_in_high ≤ RANK_LIMIT * PARTS_OF_ONE }
-    requires b_in_low { b_in_low ≤ RANK_LIMIT * PARTS_OF_ONE }
-    ensures lo { result.lo ≡ pos a.lo -ℤ pos b.hi }
-    ensures hi { result.hi ≡ smaller_of (pos a.high_in_low -ℤ pos b_in_low)
-        (pos a_in_high -ℤ pos b.low_in_high) }
+/// The ends of the least difference of two runs that are not one list, from each run's numbers and its own in the
+/// other's candidates.
+fn least_apart(a: PairRun, b: PairRun) -> Least
+    ensures lo { result.lo ≡ pos a.numbers.lo -ℤ pos b.numbers.hi }
+    ensures hi { result.hi ≡
+        smaller_of (pos a.numbers.high_in_low -ℤ pos a.other.in_low)
+        (pos b.other.in_high -ℤ pos b.numbers.low_in_high) }
     ensures case { result.kind ≡
-        case_of (pos a.high_in_low -ℤ pos b_in_low) (pos a_in_high -ℤ pos b.low_in_high) }
+        case_of (pos a.numbers.high_in_low -ℤ pos a.other.in_low)
+        (pos b.other.in_high -ℤ pos b.numbers.low_in_high) }
 {
-    let low = difference(a.high_in_low, b_in_low);
-    let high = difference(a_in_high, b.low_in_high);
-    let lo = difference(a.lo, b.hi);
+    let low = difference(a.numbers.high_in_low, a.other.in_low);
+    let high = difference(b.other.in_high, b.numbers.low_in_high);
+    let lo = difference(a.numbers.lo, b.numbers.hi);
     if low < high {
         Least {
             lo,
@@ -55,11 +55,9 @@ fn least_apart(a: RunNumbers, b: RunNumbers, a_in_high: u128, b_in_low: u128) ->
 }
 
 /// The ends of the least difference of two runs.
-pub fn least_of(same: bool, a: RunNumbers, b: RunNumbers, a_in_high: u128, b_in_low: u128) -> Least
-    requires a_in_high { a_in_high ≤ RANK_LIMIT * PARTS_OF_ONE }
-    requires b_in_low { b_in_low ≤ RANK_LIMIT * PARTS_OF_ONE }
+pub fn least_of(same: bool, a: PairRun, b: PairRun) -> Least
     ensures { (marks : List M) (first second : List ℕ) →
-        AreKnown marks first second same a b a_in_high b_in_low →
+        AreKnown marks first second same a.numbers b.numbers b.other.in_high a.other.in_low →
         IsLeast marks first second result }
 {
     if same {
@@ -69,5 +67,5 @@ pub fn least_of(same: bool, a: RunNumbers, b: RunNumbers, a_in_high: u128, b_in_
             kind: Case::OfNone,
         };
     }
-    least_apart(a, b, a_in_high, b_in_low)
+    least_apart(a, b)
 }

@@ -9,6 +9,7 @@ pub mod cells;
 pub mod choice;
 pub mod classes;
 pub mod crossing;
+pub mod kept;
 pub mod least;
 pub mod listed;
 pub mod numbers;

@@ -1,17 +1,15 @@
 //! The cell of two runs from what is known of each.
-ghost use Rattle.std.specs.Prelude.{◌≡◌, ℕ, List};
+ghost use Rattle.std.specs.Prelude.{◌≡◌, ℕ, List, length};
+ghost use Rattle.desk_model.specs.Ranking.{IsRanking};
 ghost use Rattle.desk_model.specs.declared.types.Mark.{Mark as M};
-ghost use Rattle.measure_core.specs.Laws.{AreMet};
 ghost use Rattle.topic_counts.specs.Ends.{IsShort};
-ghost use Rattle.average_precision.specs.Classes.{IsLeast};
+ghost use Rattle.average_precision.specs.Classes.{AreNumbers, IsLeast};
 ghost use Rattle.average_precision.specs.Numbers.{average_cell};
 ghost use Rattle.average_precision.specs.Pairs.{IsPairRun};
-ghost use Rattle.average_precision.specs.Runs.{IsKnown};
 
 use crate::crossing::{Classes, crossed};
 use crate::least::{are_same, least_of};
-use crate::numbers::{Least, PairRun};
-use crate::runs::Run;
+use crate::numbers::{Least, PairRun, RunNumbers};
 use crate::table::Parts;
 use measure_core::Cell;
 use topic_counts::Span;
@@ -31,52 +29,47 @@ pub fn leasts_between(a: &[u32], b: &[u32], first: PairRun, second: PairRun) -> 
         IsPairRun marks b.now a.now second → IsLeast marks b.now a.now result.swapped }
 {
     Leasts {
-        least: least_of(
-            are_same(a, b),
-            first.numbers,
-            second.numbers,
-            second.other.in_high,
-            first.other.in_low,
-        ),
-        swapped: least_of(
-            are_same(b, a),
-            second.numbers,
-            first.numbers,
-            first.other.in_high,
-            second.other.in_low,
-        ),
+        least: least_of(are_same(a, b), first, second),
+        swapped: least_of(are_same(b, a), second, first),
     }
 }
 
-/// The ends of the least difference of two runs, and of the same runs swapped, from what is known of each and the
-/// class of each document for it.
-pub fn leasts_of<A: Classes, B: Classes>(
-    a: &[u32],
-    b: &[u32],
-    first: &Run,
-    second: &Run,
-    in_first: &A,
-    in_second: &B,
-    parts: &Parts,
-) -> Leasts
-    requires met { AreMet (A.marks in_first.now) a.now b.now }
-    requires marks { B.marks in_second.now ≡ A.marks in_first.now }
-    requires of_first { A.run in_first.now ≡ a.now }
-    requires of_second { B.run in_second.now ≡ b.now }
-    requires first { IsKnown (A.marks in_first.now) a.now first.now }
-    requires second { IsKnown (A.marks in_first.now) b.now second.now }
-    ensures least { IsLeast (A.marks in_first.now) a.now b.now result.least }
-    ensures swapped { IsLeast (A.marks in_first.now) b.now a.now result.swapped }
+/// The numbers of a run, from its chosen candidates and the class of each document.
+pub fn known_run<C: Classes>(classes: &C, parts: &Parts) -> RunNumbers
+    ensures { AreNumbers (C.marks classes.now) (C.run classes.now) result }
 {
-    let one = PairRun {
-        numbers: first.numbers,
-        other: crossed(true, b, in_first, first.documents, parts),
-    };
-    let two = PairRun {
-        numbers: second.numbers,
-        other: crossed(true, a, in_second, second.documents, parts),
-    };
-    leasts_between(a, b, one, two)
+    let run = classes.chosen();
+    let own = crossed(false, run.on.docs, classes, parts);
+    RunNumbers {
+        lo: run.chosen.low.value,
+        hi: run.chosen.high.value,
+        low_in_high: own.in_high,
+        high_in_low: own.in_low,
+    }
+}
+
+/// A run of a pair, by its classes and the other's documents.
+fn pair_run<C: Classes>(classes: &C, rival: &[u32], parts: &Parts) -> PairRun
+    requires { IsRanking (length (C.marks classes.now)) rival.now }
+    ensures { IsPairRun (C.marks classes.now) (C.run classes.now) rival.now result }
+{
+    PairRun {
+        numbers: known_run(classes, parts),
+        other: crossed(true, rival, classes, parts),
+    }
+}
+
+/// The ends of the least difference of two runs, and of the same runs swapped, from the class of each document for each.
+pub fn leasts_of<A: Classes, B: Classes>(first: &A, second: &B, parts: &Parts) -> Leasts
+    requires { B.marks second.now ≡ A.marks first.now }
+    ensures least { IsLeast (A.marks first.now) (A.run first.now) (B.run second.now)
+        result.least }
+    ensures swapped { IsLeast (A.marks first.now) (B.run second.now) (A.run first.now)
+        result.swapped }
+{
+    let a = first.chosen().on.docs;
+    let b = second.chosen().on.docs;
+    leasts_between(a, b, pair_run(first, b, parts), pair_run(second, a, parts))
 }
 
 /// The ends of a least difference as a span.

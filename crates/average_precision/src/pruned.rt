@@ -5,8 +5,9 @@ ghost use Rattle.measure_laws.specs.Candidates.{open_docs};
 ghost use Rattle.average_precision.specs.Side.{IsChosen, documents_of, out_of};
 ghost use Rattle.average_precision.specs.Walk.{AreTotals, IsBestSoFar, IsNear, IsPassing, Loses, estimate_of, slack_of};
 
-use crate::candidate::{Side, documents_in, number};
-use crate::choice::{Choice, is_chosen};
+use crate::candidate::{Side, SideCandidate};
+use crate::choice::Choice;
+use crate::table::Rank;
 use crate::walk::{Totals, Walk, totals_of};
 use desk_model::Mark;
 
@@ -30,16 +31,19 @@ fn estimate_at(side: &Side<'_>, walk: Walk, totals: Totals) -> Estimate
     ensures slack { result.slack ≡ slack_of walk totals }
     ensures documents { result.documents ≡ documents_of side.now.high side.now.all walk.passed }
 {
+    let candidate = SideCandidate {
+        side,
+        count: walk.passed,
+    };
     Estimate {
         sum: walk.near.parts + (totals.far - walk.far.parts),
         slack: u128::from(walk.passed) * (totals.inverses - walk.inverses),
-        documents: documents_in(side, walk.passed),
+        documents: candidate.documents(),
     }
 }
 
 /// Whether a candidate is surely not chosen before another one.
 fn is_beaten(high: bool, estimate: Estimate, count: u32, best: Choice) -> bool
-    requires { best.value ≤ RANK_LIMIT * PARTS_OF_ONE }
     ensures { (sum : ℕ) → IsNear high sum estimate.sum estimate.slack → result ≡ true →
         Loses high (out_of high sum estimate.documents) count best }
 {
@@ -68,11 +72,12 @@ fn visited(side: &Side<'_>, walk: Walk, totals: Totals, best: Choice) -> Choice
     if is_beaten(side.high, estimate, walk.passed, best) {
         return best;
     }
-    let next = Choice {
+    let candidate = SideCandidate {
+        side,
         count: walk.passed,
-        value: number(side, walk.passed),
     };
-    if is_chosen(side.high, next, best) {
+    let next = candidate.choice();
+    if Choice::is_chosen(side.high, next, best) {
         next
     } else {
         best
@@ -138,7 +143,7 @@ fn first_guess(side: &Side<'_>, totals: Totals) -> u32
         if mark == Mark::Unjudged {
             best = guessed(side, walk, totals, best);
         }
-        walk = walk.with(side, mark, rank);
+        walk = walk.with(side, mark, Rank { number: rank });
         rank += 1;
     }
     guessed(side, walk, totals, best).count
@@ -149,11 +154,11 @@ pub fn pruned(side: &Side<'_>) -> Choice
     ensures { IsChosen side.now.high side.now.marks.now side.now.docs.now result }
 {
     let totals = totals_of(side);
-    let guess = first_guess(side, totals);
-    let mut best = Choice {
-        count: guess,
-        value: number(side, guess),
+    let first = SideCandidate {
+        side,
+        count: first_guess(side, totals),
     };
+    let mut best = first.choice();
     let mut walk = Walk::START;
     let mut rank = 1;
     for doc in side.docs {
@@ -161,7 +166,7 @@ pub fn pruned(side: &Side<'_>) -> Choice
         if mark == Mark::Unjudged {
             best = visited(side, walk, totals, best);
         }
-        walk = walk.with(side, mark, rank);
+        walk = walk.with(side, mark, Rank { number: rank });
         rank += 1;
     }
     visited(side, walk, totals, best)

@@ -19,6 +19,14 @@ pub struct Part {
     pub up: u64,
 }
 
+/// A rank of a run, from 1. Its facts: a run may have it.
+#[derive(Clone, Copy)]
+pub struct Rank {
+    pub number: u64,
+    pub ghost some: { 0 < number },
+    pub ghost short: { number ≤ RANK_LIMIT },
+}
+
 /// How many parts make a precision of 1.
 const UNIT: u64 = 1_000_000_000_000_000_000;
 
@@ -29,35 +37,29 @@ const INVERSE_UNIT: u64 = 2_199_023_255_552;
 const MOST_RANKS: u32 = 10_000;
 
 /// What a division by the rank multiplies by.
-pub fn inverse(rank: u64) -> u64
-    requires some { 0 < rank }
-    requires short { rank ≤ RANK_LIMIT }
-    ensures { result ≡ inverse_of rank }
+pub fn inverse(rank: Rank) -> u64
+    ensures { result ≡ inverse_of rank.number }
 {
-    (INVERSE_UNIT + (rank - 1)) / rank
+    (INVERSE_UNIT + (rank.number - 1)) / rank.number
 }
 
 /// The part of a rank.
-pub fn part_for(rank: u64) -> Part
-    requires some { 0 < rank }
-    requires short { rank ≤ RANK_LIMIT }
-    ensures { IsPart rank result }
+pub fn part_for(rank: Rank) -> Part
+    ensures { IsPart rank.number result }
 {
     let inverse = inverse(rank);
     Part {
-        whole: UNIT / rank,
-        rest: UNIT % rank * inverse,
-        up: (rank - 1) * inverse,
+        whole: UNIT / rank.number,
+        rest: UNIT % rank.number * inverse,
+        up: (rank.number - 1) * inverse,
     }
 }
 
 /// 10^18 * j / rank, rounded up or down, by the rank's part.
-pub fn worth_at(high: bool, j: u64, rank: u64, part: Part) -> u64
-    requires some { 0 < rank }
-    requires short { rank ≤ RANK_LIMIT }
-    requires deep { j ≤ rank }
-    requires part { IsPart rank part }
-    ensures value { result ≡ worth_of high j rank }
+pub fn worth_at(high: bool, j: u64, rank: Rank, part: Part) -> u64
+    requires deep { j ≤ rank.number }
+    requires part { IsPart rank.number part }
+    ensures value { result ≡ worth_of high j rank.number }
     ensures small { result ≤ PARTS_OF_ONE }
 {
     // Whose part it is.
@@ -67,13 +69,11 @@ pub fn worth_at(high: bool, j: u64, rank: u64, part: Part) -> u64
 }
 
 /// A sum with the next place, where it is true, without a jump.
-pub fn sum_with(sum: Sum, high: bool, gain: bool, rank: u64, part: Part) -> Sum
-    requires some { 0 < rank }
-    requires short { rank ≤ RANK_LIMIT }
-    requires before { IsBefore rank sum }
-    requires part { IsPart rank part }
-    ensures value { result ≡ added (worth_of high) sum gain rank }
-    ensures before { IsBefore (rank + 1) result }
+pub fn sum_with(sum: Sum, high: bool, gain: bool, rank: Rank, part: Part) -> Sum
+    requires before { IsBefore rank.number sum }
+    requires part { IsPart rank.number part }
+    ensures value { result ≡ added (worth_of high) sum gain rank.number }
+    ensures before { IsBefore (rank.number + 1) result }
 {
     let one = u64::from(gain);
     let found = sum.found + one;
@@ -89,7 +89,10 @@ fn all_parts(alloc: Global) -> Result<Vec<Part>, Memory>
 {
     let mut parts = Vec::new(alloc);
     for place in 0..MOST_RANKS {
-        parts.push(part_for(u64::from(place) + 1))?;
+        let rank = Rank {
+            number: u64::from(place) + 1,
+        };
+        parts.push(part_for(rank))?;
     }
     Ok(parts)
 }
@@ -133,13 +136,11 @@ impl Parts {
 
     /// The part of a rank.
     #[inline]
-    pub fn at(&self, rank: u64) -> Part
-        requires some { 0 < rank }
-        requires short { rank ≤ RANK_LIMIT }
-        ensures { IsPart rank result }
+    pub fn at(&self, rank: Rank) -> Part
+        ensures { IsPart rank.number result }
     {
         match &self.kept {
-            Some(parts) => parts[rank as usize - 1],
+            Some(parts) => parts[rank.number as usize - 1],
             None => part_for(rank),
         }
     }
@@ -155,10 +156,8 @@ impl Parts {
 /// What tells the part of a rank.
 pub trait RankParts {
     /// The part of a rank.
-    fn part(&self, rank: u64) -> Part
-        requires some { 0 < rank }
-        requires short { rank ≤ RANK_LIMIT }
-        ensures { IsPart rank result };
+    fn part(&self, rank: Rank) -> Part
+        ensures { IsPart rank.number result };
 }
 
 /// Parts that are kept, that of rank 1 at place 0.
@@ -170,8 +169,8 @@ pub struct KeptParts<'p> {
 
 impl RankParts for KeptParts<'_> {
     #[inline]
-    fn part(&self, rank: u64) -> Part {
-        self.parts[rank as usize - 1]
+    fn part(&self, rank: Rank) -> Part {
+        self.parts[rank.number as usize - 1]
     }
 }
 
@@ -180,7 +179,7 @@ impl RankParts for KeptParts<'_> {
 pub struct FoundParts;
 
 impl RankParts for FoundParts {
-    fn part(&self, rank: u64) -> Part {
+    fn part(&self, rank: Rank) -> Part {
         part_for(rank)
     }
 }

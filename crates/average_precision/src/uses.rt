@@ -1,19 +1,19 @@
 //! How many lists of pairs of runs are those of each run's candidates, and how often these lists have each document.
-ghost use Rattle.std.specs.Prelude.{◌≡◌, ℕ, ◌+◌, ◌<◌, ◌≤◌, ◌^◌, ◌&&◌, List, length, slice_index, if◌then◌else◌, OnOk};
+ghost use Rattle.std.specs.Prelude.{◌≡◌, ℕ, ◌+◌, ◌≤◌, ◌^◌, ◌&&◌, List, length, slice_index, if◌then◌else◌, OnOk};
 ghost use Rattle.desk_model.specs.Mark.{is_unjudged};
 ghost use Rattle.desk_model.specs.declared.types.Mark.{Mark as M};
 ghost use Rattle.measure_core.specs.Lists.{added_documents, times};
+ghost use Rattle.measure_core.specs.PairLists.{IsOfRuns};
 ghost use Rattle.measure_core.specs.Pairs.{DeskTopic, ranking_on, runs_on};
 ghost use Rattle.average_precision.specs.Classes.{case_truth, has};
-ghost use Rattle.average_precision.specs.Rooms.{AreKept};
 ghost use Rattle.average_precision.specs.Uses.{all_shares, share, AreRaised, AreUsesUpTo, HaveRoomFor};
 
-use crate::cells::KeptRuns;
-use crate::classes::KeptClasses;
+use crate::classes::{KeptClasses, mark_run};
 use crate::crossing::is_in;
+use crate::kept::KeptRuns;
 use crate::numbers::Case;
 use desk_model::{Mark, Memory};
-use measure_core::Class;
+use measure_core::{Class, RunPair};
 use std::alloc::Global;
 
 /// How many lists are that of a run's high candidate, and that of its low one.
@@ -29,29 +29,29 @@ impl Uses {
 }
 
 /// Counts the list of a case of two runs, by their numbers.
-pub fn add_case(case: Case, a: u32, b: u32, uses: &mut [Uses])
-    requires first { a < length uses.old }
-    requires second { b < length uses.old }
+pub fn add_case(case: Case, pair: RunPair, uses: &mut [Uses])
+    requires pair { IsOfRuns (length uses.old) pair }
     requires room { AreUsesUpTo (2 ^ 63) uses.old }
     ensures uses { (marks : List M) (t : DeskTopic) (doc : ℕ) →
         all_shares marks t uses.new doc ≡ all_shares marks t uses.old doc +
-        times (added_documents marks (case_truth marks (ranking_on t a) (ranking_on t b) case))
-        doc }
+        times
+        (added_documents marks
+        (case_truth marks (ranking_on t pair.first) (ranking_on t pair.second) case)) doc }
     ensures few { (most : ℕ) → AreUsesUpTo most uses.old → AreUsesUpTo (most + 1) uses.new }
     ensures size { length uses.new ≡ length uses.old }
 {
     match case {
         Case::OfNone => {}
         Case::OfLow => {
-            let kept = uses[a as usize];
-            uses[a as usize] = Uses {
+            let kept = uses[pair.first as usize];
+            uses[pair.first as usize] = Uses {
                 low: kept.low + 1,
                 ..kept
             };
         }
         Case::OfHigh => {
-            let kept = uses[b as usize];
-            uses[b as usize] = Uses {
+            let kept = uses[pair.second as usize];
+            uses[pair.second as usize] = Uses {
                 high: kept.high + 1,
                 ..kept
             };
@@ -73,12 +73,15 @@ fn lists_with(high: bool, mark: Mark, class: Class, lists: u64) -> u64
 
 /// Counts the documents of the lists of a run's candidates.
 fn count_run(run: &KeptClasses<'_>, uses: Uses, counts: &mut [u32])
-    requires size { length counts.old ≡ length run.now.marks.now }
-    requires room { HaveRoomFor counts.old (share run.now.marks.now run.now.run.now uses) }
-    ensures { AreRaised counts.old (share run.now.marks.now run.now.run.now uses) counts.new }
+    requires size { length counts.old ≡ length run.now.run.on.marks.now }
+    requires room { HaveRoomFor counts.old
+        (share run.now.run.on.marks.now run.now.run.on.docs.now uses) }
+    ensures { AreRaised counts.old (share run.now.run.on.marks.now run.now.run.on.docs.now uses)
+        counts.new }
 {
-    for doc in 0..run.marks.len() {
-        let mark = run.marks[doc];
+    let marks = run.run.on.marks;
+    for doc in 0..marks.len() {
+        let mark = marks[doc];
         let class = run.classes[doc];
         let high = lists_with(true, mark, class, uses.high);
         let low = lists_with(false, mark, class, uses.low);
@@ -96,20 +99,19 @@ pub fn count_uses(
     uses: &[Uses],
     counts: &mut [u32],
 ) -> Result<(), Memory>
-    requires kept { AreKept kept.now }
-    requires runs { length uses.now ≡ runs_on kept.now.rankings.now }
-    requires size { length counts.old ≡ length kept.now.marks.now }
+    requires runs { length uses.now ≡ runs_on kept.now.on.rankings.now }
+    requires size { length counts.old ≡ length kept.now.on.marks.now }
     requires room { HaveRoomFor counts.old
-        (all_shares kept.now.marks.now kept.now.rankings.now uses.now) }
+        (all_shares kept.now.on.marks.now kept.now.on.rankings.now uses.now) }
     ensures { OnOk result (AreRaised counts.old
-        (all_shares kept.now.marks.now kept.now.rankings.now uses.now) counts.new) }
+        (all_shares kept.now.on.marks.now kept.now.on.rankings.now uses.now) counts.new) }
 {
-    let mut classes = vec![in alloc; Class::Neither; kept.marks.len()]?;
-    for run in 0..kept.rankings.runs() {
-        kept.set_classes(run, &mut classes);
+    let mut classes = vec![in alloc; Class::Neither; kept.on.marks.len()]?;
+    for run in 0..kept.on.rankings.runs() {
+        let chosen = kept.chosen(run);
+        mark_run(&chosen, &mut classes);
         let marked = KeptClasses {
-            run: kept.rankings.ranking(run).docs(),
-            marks: kept.marks,
+            run: chosen,
             classes: &classes,
         };
         count_run(&marked, uses[run as usize], counts);

@@ -7,7 +7,7 @@ ghost use Rattle.average_precision.specs.Walk.{AreTotals, inverse_if, walked};
 
 use crate::candidate::{Side, gains};
 use crate::sums::Sum;
-use crate::table::{Part, sum_with, worth_at};
+use crate::table::{Part, Rank, sum_with, worth_at};
 use desk_model::Mark;
 
 /// What is known of the documents that a walk has passed.
@@ -31,11 +31,9 @@ pub struct Totals {
 }
 
 /// One over a rank in parts of 10^18, rounded up, where its place is true.
-fn inverse_at(gain: bool, rank: u64, part: Part) -> u64
-    requires some { 0 < rank }
-    requires short { rank ≤ RANK_LIMIT }
-    requires part { IsPart rank part }
-    ensures value { result ≡ inverse_if gain rank }
+fn inverse_at(gain: bool, rank: Rank, part: Part) -> u64
+    requires { IsPart rank.number part }
+    ensures value { result ≡ inverse_if gain rank.number }
     ensures small { result ≤ PARTS_OF_ONE }
 {
     if gain {
@@ -55,16 +53,14 @@ impl Walk {
     };
 
     /// With the next document.
-    pub fn with(self, side: &Side<'_>, mark: Mark, rank: u64) -> Walk
-        requires some { 0 < rank }
-        requires short { rank ≤ RANK_LIMIT }
+    pub fn with(self, side: &Side<'_>, mark: Mark, rank: Rank) -> Walk
         requires passed { self.passed ≤ RANK_LIMIT }
-        requires near { IsBefore rank self.near }
-        requires far { IsBefore rank self.far }
+        requires near { IsBefore rank.number self.near }
+        requires far { IsBefore rank.number self.far }
         requires inverses { self.inverses ≤ RANK_LIMIT * PARTS_OF_ONE }
-        ensures value { result ≡ walked side.now.high self mark rank }
-        ensures near { IsBefore (rank + 1) result.near }
-        ensures far { IsBefore (rank + 1) result.far }
+        ensures value { result ≡ walked side.now.high self mark rank.number }
+        ensures near { IsBefore (rank.number + 1) result.near }
+        ensures far { IsBefore (rank.number + 1) result.far }
         ensures inverses { result.inverses ≤ self.inverses + PARTS_OF_ONE }
     {
         let part = side.parts.at(rank);
@@ -88,9 +84,10 @@ pub fn totals_of(side: &Side<'_>) -> Totals
     let mut rank = 1;
     for doc in side.docs {
         let later = gains(side.high, 0, side.marks[*doc as usize]);
-        let part = side.parts.at(rank);
-        far = sum_with(far, side.high, later, rank, part);
-        inverses += u128::from(inverse_at(later, rank, part));
+        let at = Rank { number: rank };
+        let part = side.parts.at(at);
+        far = sum_with(far, side.high, later, at, part);
+        inverses += u128::from(inverse_at(later, at, part));
         rank += 1;
     }
     Totals {

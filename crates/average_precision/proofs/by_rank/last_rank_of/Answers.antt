@@ -7,5 +7,5 @@ loop-doc-preserved c =
     let l = c.loop-doc in
     record {
       rank = omega (arith, l.invariant.rank);
-      last = last_next c.args.marks.now c.args.docs.now l.doc-index l.last.rank l.rank l.last.left _ _ _ c.loop-doc-test.true c.with-last.ensures.rank c.with-last.ensures.left l.invariant.last;
+      last = last_next c.args.run.now.marks.now c.args.run.now.docs.now l.doc-index l.last.rank l.rank l.last.left _ _ _ c.loop-doc-test.true c.with-last.ensures.rank c.with-last.ensures.left l.invariant.last;
     }

@@ -9,7 +9,7 @@ use Rattle.average_precision.proofs.cells.fill_cells.Given as goal
 
 abbrev pub invariant-loop-place : goal.invariant-loop-place
 invariant-loop-place g l = record {
-  filled : IsFilled (λ pair. average_cell l.kept.marks.now (ranking_on l.kept.rankings.now pair.0) (ranking_on l.kept.rankings.now pair.1)) CellIsModest (pairs_of (run_numbers (runs_on l.kept.rankings.now))) l.cells l.place;
-  at_pair : IsAt (runs_on l.kept.rankings.now) l.place l.at;
+  filled : IsFilled (λ pair. average_cell l.runs.kept.on.marks.now (ranking_on l.runs.kept.on.rankings.now pair.0) (ranking_on l.runs.kept.on.rankings.now pair.1)) CellIsModest (pairs_of (run_numbers (runs_on l.runs.kept.on.rankings.now))) l.cells l.place;
+  at_pair : IsAt (runs_on l.runs.kept.on.rankings.now) l.place l.at;
   steps : l.steps ≡ l.initial.steps + l.place;
 }

@@ -4,4 +4,4 @@ use Rattle.average_precision.specs.Classes.{AreMarked}
 use Rattle.average_precision.proofs.classes.mark_run.Given as goal
 
 abbrev pub invariant-loop-doc : goal.invariant-loop-doc
-invariant-loop-doc l = AreMarked l.marks (open_docs l.marks l.docs) (open_docs l.marks (drop l.doc-index l.docs)) l.taken l.left_out l.to_take l.to_leave l.classes
+invariant-loop-doc l = AreMarked l.run.on.marks.now (open_docs l.run.on.marks.now l.run.on.docs.now) (open_docs l.run.on.marks.now (drop l.doc-index l.run.on.docs.now)) l.run.chosen.high.count l.run.chosen.low.count l.to_take l.to_leave l.classes

@@ -13,8 +13,8 @@ add_case-requires-2-clause-room c = λ run lt. let few = c.add_case.ensures.few 
 
 pub returns-clause-sizes : goal.returns-clause-sizes
 returns-clause-sizes c =
-    let marks = c.args.kept.now.marks.now in
-    let t = c.args.kept.now.rankings.now in
+    let marks = c.args.runs.now.kept.on.marks.now in
+    let t = c.args.runs.now.kept.on.rankings.now in
     let a = ranking_on t c.args.pair.first in
     let b = ranking_on t c.args.pair.second in
     let both = c.leasts-both in
@@ -24,8 +24,8 @@ returns-clause-sizes c =
 
 pub returns-clause-uses : goal.returns-clause-uses
 returns-clause-uses c = λ doc.
-    let marks = c.args.kept.now.marks.now in
-    let t = c.args.kept.now.rankings.now in
+    let marks = c.args.runs.now.kept.on.marks.now in
+    let t = c.args.runs.now.kept.on.rankings.now in
     let a = ranking_on t c.args.pair.first in
     let b = ranking_on t c.args.pair.second in
     let both = c.leasts-both in

@@ -13,13 +13,13 @@ loop-pair-init c = record {
   sizes = c.in_ok-sizes.ensures.items;
   runs = c.requires.runs;
   few = c.requires.unused;
-  uses = λ doc. none_used c.args.kept.now.marks.now c.args.kept.now.rankings.now c.args.uses.now doc (length c.args.uses.now) c.requires.unused;
+  uses = λ doc. none_used c.args.runs.now.kept.on.marks.now c.args.runs.now.kept.on.rankings.now c.args.uses.now doc (length c.args.uses.now) c.requires.unused;
 }
 
 pub loop-pair-preserved : goal.loop-pair-preserved
 loop-pair-preserved c =
-    let marks = c.args.kept.now.marks.now in
-    let t = c.args.kept.now.rankings.now in
+    let marks = c.args.runs.now.kept.on.marks.now in
+    let t = c.args.runs.now.kept.on.rankings.now in
     let pairs = c.args.pairs.now in
     let i = c.loop-pair.pair-index in
     let f = documents_on AveragePrecision marks t in

@@ -8,8 +8,8 @@ use Rattle.average_precision.proofs.listed.list_pairs.Given as goal
 
 abbrev pub invariant-loop-pair : goal.invariant-loop-pair
 invariant-loop-pair l = record {
-  sizes : l.sizes.items ≡ map (sizes_on AveragePrecision l.kept.marks.now l.kept.rankings.now) (take l.pair-index l.pairs);
-  runs : length l.uses ≡ runs_on l.kept.rankings.now;
+  sizes : l.sizes.items ≡ map (sizes_on AveragePrecision l.runs.kept.on.marks.now l.runs.kept.on.rankings.now) (take l.pair-index l.pairs);
+  runs : length l.uses ≡ runs_on l.runs.kept.on.rankings.now;
   few : AreUsesUpTo (2 * l.pair-index) l.uses;
-  uses : (doc : ℕ) → all_shares l.kept.marks.now l.kept.rankings.now l.uses doc ≡ times (pair_documents AveragePrecision l.kept.marks.now l.kept.rankings.now (take l.pair-index l.pairs)) doc;
+  uses : (doc : ℕ) → all_shares l.runs.kept.on.marks.now l.runs.kept.on.rankings.now l.uses doc ≡ times (pair_documents AveragePrecision l.runs.kept.on.marks.now l.runs.kept.on.rankings.now (take l.pair-index l.pairs)) doc;
 }

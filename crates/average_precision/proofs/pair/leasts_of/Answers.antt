@@ -1,25 +1,37 @@
-use Rattle.std.proofs.Common.{refl}
-use Rattle.average_precision.proofs.Pairing.{crossed_moved, documents_moved}
+use Rattle.std.proofs.Common.{ℕ, List, length, refl, sym, subst, ◌∙◌}
+use Rattle.desk_model.specs.Ranking.{IsRanking}
+use Rattle.desk_model.specs.declared.types.Mark.{Mark}
+use Rattle.average_precision.specs.Classes.{IsLeast}
+use Rattle.average_precision.specs.Pairs.{IsPairRun}
+use Rattle.average_precision.proofs.Pairing.{pair_run_moved}
 use Rattle.average_precision.proofs.pair.leasts_of.Goals as goal
 
-pub crossed-requires-2-clause-documents : goal.crossed-requires-2-clause-documents
-crossed-requires-2-clause-documents g c =
-    documents_moved (g.B.Classes.marks c.args.in_second.now) (g.A.Classes.marks c.args.in_first.now) (g.B.Classes.run c.args.in_second.now) c.args.b.now c.args.second.now.documents c.requires.marks c.requires.of_second c.requires.second.documents
+pub pair_run-requires : goal.pair_run-requires
+pair_run-requires g c =
+    let b = c.chosen-2.result.now in
+    subst (λ (ms : List Mark). IsRanking (length ms) b.on.docs.now) (c.chosen-2.ensures.marks ∙ c.requires) b.on.ranking
+
+pub pair_run-requires-2 : goal.pair_run-requires-2
+pair_run-requires-2 g c =
+    let a = c.chosen.result.now in
+    subst (λ (ms : List Mark). IsRanking (length ms) a.on.docs.now) (c.chosen.ensures.marks ∙ sym c.requires) a.on.ranking
 
 pub returns-clause-least : goal.returns-clause-least
 returns-clause-least g c =
-    let marks = g.A.Classes.marks c.args.in_first.now in
-    let a = c.args.a.now in
-    let b = c.args.b.now in
-    c.leasts_between.ensures.least marks
-    (record { numbers = c.requires.first.numbers; other = crossed_moved marks marks (g.A.Classes.run c.args.in_first.now) a b b c.crossed.result refl c.requires.of_first refl c.crossed.ensures.in_high c.crossed.ensures.in_low })
-    (record { numbers = c.requires.second.numbers; other = crossed_moved (g.B.Classes.marks c.args.in_second.now) marks (g.B.Classes.run c.args.in_second.now) b a a c.crossed-2.result c.requires.marks c.requires.of_second refl c.crossed-2.ensures.in_high c.crossed-2.ensures.in_low })
+    let marks = g.A.Classes.marks c.args.first.now in
+    let a = c.chosen.result.now.on.docs.now in
+    let b = c.chosen-2.result.now.on.docs.now in
+    let one : IsPairRun marks a b c.pair_run.result = pair_run_moved marks marks (g.A.Classes.run c.args.first.now) a b c.pair_run.result refl (sym c.chosen.ensures.run) c.pair_run.ensures in
+    let two : IsPairRun marks b a c.pair_run-2.result = pair_run_moved (g.B.Classes.marks c.args.second.now) marks (g.B.Classes.run c.args.second.now) b a c.pair_run-2.result c.requires (sym c.chosen-2.ensures.run) c.pair_run-2.ensures in
+    subst (λ (ds : List ℕ). IsLeast marks ds (g.B.Classes.run c.args.second.now) c.leasts_between.result.least) c.chosen.ensures.run
+    (subst (λ (ds : List ℕ). IsLeast marks a ds c.leasts_between.result.least) c.chosen-2.ensures.run (c.leasts_between.ensures.least marks one two))
 
 pub returns-clause-swapped : goal.returns-clause-swapped
 returns-clause-swapped g c =
-    let marks = g.A.Classes.marks c.args.in_first.now in
-    let a = c.args.a.now in
-    let b = c.args.b.now in
-    c.leasts_between.ensures.swapped marks
-    (record { numbers = c.requires.first.numbers; other = crossed_moved marks marks (g.A.Classes.run c.args.in_first.now) a b b c.crossed.result refl c.requires.of_first refl c.crossed.ensures.in_high c.crossed.ensures.in_low })
-    (record { numbers = c.requires.second.numbers; other = crossed_moved (g.B.Classes.marks c.args.in_second.now) marks (g.B.Classes.run c.args.in_second.now) b a a c.crossed-2.result c.requires.marks c.requires.of_second refl c.crossed-2.ensures.in_high c.crossed-2.ensures.in_low })
+    let marks = g.A.Classes.marks c.args.first.now in
+    let a = c.chosen.result.now.on.docs.now in
+    let b = c.chosen-2.result.now.on.docs.now in
+    let one : IsPairRun marks a b c.pair_run.result = pair_run_moved marks marks (g.A.Classes.run c.args.first.now) a b c.pair_run.result refl (sym c.chosen.ensures.run) c.pair_run.ensures in
+    let two : IsPairRun marks b a c.pair_run-2.result = pair_run_moved (g.B.Classes.marks c.args.second.now) marks (g.B.Classes.run c.args.second.now) b a c.pair_run-2.result c.requires (sym c.chosen-2.ensures.run) c.pair_run-2.ensures in
+    subst (λ (ds : List ℕ). IsLeast marks ds (g.A.Classes.run c.args.first.now) c.leasts_between.result.swapped) c.chosen-2.ensures.run
+    (subst (λ (ds : List ℕ). IsLeast marks b ds c.leasts_between.result.swapped) c.chosen.ensures.run (c.leasts_between.ensures.swapped marks one two))

@@ -9,4 +9,4 @@ invariant_of-result c =
     let side = c.args.side.now in
     let few : c.from.result ≤ RANK_LIMIT = omega (arith, c.from.ensures, few_open side.marks.now side.docs.now c.args.walk.passed side.ranking c.requires.within) in
     let small : c.args.totals.inverses - c.args.walk.inverses ≤ RANK_LIMIT * PARTS_OF_ONE = omega (arith, c.requires.inverses_small) in
-    record { sum_small = omega (arith, c.requires.near_small, c.requires.far_small); slack_small = mul-le-mul few small; few = c.documents_in.ensures.few }
+    record { sum_small = omega (arith, c.requires.near_small, c.requires.far_small); slack_small = mul-le-mul few small; few = c.documents.ensures.few }

@@ -22,23 +22,23 @@ of_case marks a b case other is = ap (λ (x : Case). added_documents marks (case
 pub returns-in-OfNone : goal.returns-in-OfNone
 returns-in-OfNone c =
     let first = c.args.first.now in
-    let marks = first.marks.now in
+    let marks = first.run.on.marks.now in
     let docs = c.args.docs.now.items in
-    sym (append-nil docs) ∙ ap (λ l. docs ++ l) (sym (empty (added_documents marks (with_picked marks (λ _. false))) (none_added marks)) ∙ of_case marks first.run.now c.args.second.now.run.now c.args.case _ c.in-OfNone.is)
+    sym (append-nil docs) ∙ ap (λ l. docs ++ l) (sym (empty (added_documents marks (with_picked marks (λ _. false))) (none_added marks)) ∙ of_case marks first.run.on.docs.now c.args.second.now.run.on.docs.now c.args.case _ c.in-OfNone.is)
 
 pub returns-in-OfLow : goal.returns-in-OfLow
 returns-in-OfLow c =
     let first = c.args.first.now in
-    let marks = first.marks.now in
+    let marks = first.run.on.marks.now in
     let docs = c.args.docs.now.items in
-    on_ok_weaker c.push_in.result (λ e. e ∙ ap (λ l. docs ++ l) (added_same marks (class_truth false first.classes.now) (low_case marks first.run.now) first.are.low ∙ of_case marks first.run.now c.args.second.now.run.now c.args.case _ c.in-OfLow.is)) c.push_in.ensures
+    on_ok_weaker c.push_in.result (λ e. e ∙ ap (λ l. docs ++ l) (added_same marks (class_truth false first.classes.now) (low_case marks first.run.on.docs.now) first.are.low ∙ of_case marks first.run.on.docs.now c.args.second.now.run.on.docs.now c.args.case _ c.in-OfLow.is)) c.push_in.ensures
 
 pub returns-in-OfHigh : goal.returns-in-OfHigh
 returns-in-OfHigh c =
     let first = c.args.first.now in
     let second = c.args.second.now in
-    let marks = first.marks.now in
+    let marks = first.run.on.marks.now in
     let docs = c.args.docs.now.items in
-    let same : added_documents second.marks.now (high_case second.marks.now second.run.now) ≡ added_documents marks (high_case marks second.run.now) = ap (λ (ms : List Mark). added_documents ms (high_case ms second.run.now)) c.requires.marks in
+    let same : added_documents second.run.on.marks.now (high_case second.run.on.marks.now second.run.on.docs.now) ≡ added_documents marks (high_case marks second.run.on.docs.now) = ap (λ (ms : List Mark). added_documents ms (high_case ms second.run.on.docs.now)) c.requires in
     on_ok_weaker c.push_in-in-OfHigh.result
-    (λ e. e ∙ ap (λ l. docs ++ l) (added_same second.marks.now (class_truth true second.classes.now) (high_case second.marks.now second.run.now) second.are.high ∙ same ∙ of_case marks first.run.now second.run.now c.args.case _ c.in-OfHigh.is)) c.push_in-in-OfHigh.ensures
+    (λ e. e ∙ ap (λ l. docs ++ l) (added_same second.run.on.marks.now (class_truth true second.classes.now) (high_case second.run.on.marks.now second.run.on.docs.now) second.are.high ∙ same ∙ of_case marks first.run.on.docs.now second.run.on.docs.now c.args.case _ c.in-OfHigh.is)) c.push_in-in-OfHigh.ensures

@@ -14,11 +14,11 @@ abbrev test : List Mark → Bool → List Class → ℕ → Bool
 test marks high classes doc = is_unjudged (mark_at marks doc) && class_truth high classes doc
 
 pub loop-doc-init : goal.loop-doc-init
-loop-doc-init c = record { made = ap (λ l. c.args.docs.now.items ++ l) (left_whole (test c.args.run.now.marks.now c.args.high c.args.run.now.classes.now) (length c.args.run.now.marks.now)) }
+loop-doc-init c = record { made = ap (λ l. c.args.docs.now.items ++ l) (left_whole (test c.args.run.now.run.on.marks.now c.args.high c.args.run.now.classes.now) (length c.args.run.now.run.on.marks.now)) }
 
 pub loop-doc-preserved : goal.loop-doc-preserved
 loop-doc-preserved c =
-    let marks = c.args.run.now.marks.now in
+    let marks = c.args.run.now.run.on.marks.now in
     let classes = c.args.run.now.classes.now in
     let doc = c.loop-doc.doc in
     let n = length marks in
@@ -39,7 +39,7 @@ loop-doc-preserved c =
 
 pub returns : goal.returns
 returns c =
-    let marks = c.args.run.now.marks.now in
+    let marks = c.args.run.now.run.on.marks.now in
     let classes = c.args.run.now.classes.now in
     let p = test marks c.args.high classes in
     let n = length marks in

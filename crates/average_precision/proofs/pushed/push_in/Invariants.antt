@@ -8,5 +8,5 @@ use Rattle.average_precision.proofs.pushed.push_in.Given as goal
 
 abbrev pub invariant-loop-doc : goal.invariant-loop-doc
 invariant-loop-doc l = record {
-  made : l.docs.items ++ left_from (λ doc. is_unjudged (mark_at l.run.marks.now doc) && class_truth l.high l.run.classes.now doc) (length l.run.marks.now) l.doc ≡ l.initial.docs.items ++ added_documents l.run.marks.now (class_truth l.high l.run.classes.now);
+  made : l.docs.items ++ left_from (λ doc. is_unjudged (mark_at l.run.run.on.marks.now doc) && class_truth l.high l.run.classes.now doc) (length l.run.run.on.marks.now) l.doc ≡ l.initial.docs.items ++ added_documents l.run.run.on.marks.now (class_truth l.high l.run.classes.now);
 }

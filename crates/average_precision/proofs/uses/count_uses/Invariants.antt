@@ -4,6 +4,6 @@ use Rattle.average_precision.proofs.uses.count_uses.Given as goal
 
 abbrev pub invariant-loop-run : goal.invariant-loop-run
 invariant-loop-run l = record {
-  long : length l.classes.items ≡ length l.kept.marks.now;
-  raised : AreRaised l.initial.counts (shares l.kept.marks.now l.kept.rankings.now l.uses l.run) l.counts;
+  long : length l.classes.items ≡ length l.kept.on.marks.now;
+  raised : AreRaised l.initial.counts (shares l.kept.on.marks.now l.kept.on.rankings.now l.uses l.run) l.counts;
 }

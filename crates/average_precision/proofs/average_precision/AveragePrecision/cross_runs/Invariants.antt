@@ -4,6 +4,6 @@ use Rattle.average_precision.proofs.average_precision.AveragePrecision.cross_run
 
 abbrev pub invariant-loop-run : goal.invariant-loop-run
 invariant-loop-run l = record {
-  long : length l.classes ≡ length l.marks;
-  crossed : AreCrossedTo l.marks l.rankings (place_of l.rankings l.run 0) l.scores;
+  long : length l.classes ≡ length l.runs.on.marks.now;
+  crossed : AreCrossedTo l.runs.on.marks.now l.runs.on.rankings.now (place_of l.runs.on.rankings.now l.run 0) l.scores;
 }

@@ -6,6 +6,6 @@ use Rattle.average_precision.proofs.average_precision.AveragePrecision.keep_runs
 
 abbrev pub invariant-loop-run : goal.invariant-loop-run
 invariant-loop-run l = record {
-  long : length l.classes ≡ length l.marks;
-  kept : (run : ℕ) → run < l.run → (none : RunCandidates) → IsKept l.marks (ranking_on l.rankings run) (get_or l.kept run none);
+  long : length l.classes ≡ length l.on.marks.now;
+  kept : (run : ℕ) → run < l.run → (none : RunCandidates) → IsKept l.on.marks.now (ranking_on l.on.rankings.now run) (get_or l.kept run none);
 }
