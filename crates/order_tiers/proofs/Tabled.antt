@@ -17,7 +17,7 @@ use Rattle.pair_table.specs.Kept.{Kept, StandsFor}
 use Rattle.pair_table.specs.Numbers.{HaveEnds}
 use Rattle.pair_table.specs.Sums.{run_numbers, pair_sums}
 use Rattle.order_tiers.specs.Chains.{IsCertifiedAbove}
-use Rattle.order_tiers.specs.Tables.{AreChainRows, IsTableFor, AreRowsFor}
+use Rattle.order_tiers.specs.Tables.{AreChainRows, IsTableFor}
 use Rattle.order_tiers.specs.Order.{ComparedRuns, compared, IsAbovePair, IsCertifiedIn, IsOrderBy, AreCovers, CoverIsWithin}
 use Rattle.order_tiers.specs.Rows.{is_above, AboveBy, IsSquare}
 use Rattle.order_tiers.specs.Tiers.{AreTiers, IsGreatestTier, tier_in}
@@ -40,10 +40,6 @@ order_made Has t rows tiers greatest covers chain long each most listed = record
   greatest = most;
   covers = same_covers (AboveBy rows) (IsCertifiedIn t) Has t covers (λ a b. (chain.certified a b).0) (λ a b. (chain.certified a b).1) listed;
 }
-
--- chain rows of the runs of a desk
-pub rows_for : (desk : Desk) (marks : List (List Mark)) (totals : List Totals) (rows : List (List Bool)) → AreChainRows (compared desk marks totals) rows → AreRowsFor desk rows
-rows_for desk marks totals rows chain = record { count = chain.square.count; square = chain.strict.square; never = chain.strict.never }
 
 -- covering pairs are of the runs of the rows
 pub covers_within : (Has : HaveEnds) (t : ComparedRuns) (rows : List (List Bool)) (n : ℕ) (covers : List Cover) → AreChainRows t rows → n ≡ t.runs → AreCovers (AboveBy rows) Has t covers → All (CoverIsWithin n) covers

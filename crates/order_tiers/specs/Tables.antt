@@ -10,7 +10,6 @@ use Rattle.pair_table.specs.Kept.{Kept, StandsFor}
 use Rattle.pair_table.specs.Numbers.{HaveEnds}
 use Rattle.order_tiers.specs.Order.{ComparedRuns, AreEarlier, IsCertifiedIn, IsCover, IsEarlierCover, HasCoverOf}
 use Rattle.order_tiers.specs.Rows.{has, is_above, AboveBy, IsSquare, IsStrictOrder}
-use Rattle.order_tiers.specs.Chains.{IsIrreflexive}
 use Rattle.order_tiers.specs.Tiers.{IsCovering}
 use Rattle.order_tiers.specs.declared.cover.Cover.{Cover}
 
@@ -31,12 +30,6 @@ pub record AreChainRows (t : ComparedRuns) (rows : List (List Bool)) : Type 0 wh
   pub square : IsSquare t.runs rows
   pub certified : (a b : ℕ) → (is_above rows a b ≡ true) ↔ IsCertifiedIn t a b
   pub strict : IsStrictOrder rows
-
--- rows of the runs of a desk, none above itself
-pub record AreRowsFor (desk : Desk) (rows : List (List Bool)) : Type 0 where
-  pub count : length rows ≡ length desk.runs
-  pub square : IsSquare (length rows) rows
-  pub never : IsIrreflexive (AboveBy rows)
 
 -- all covering pairs before two runs and no others, ascending
 pub record HaveCoversBefore (Over : ℕ → ℕ → Type 0) (Has : HaveEnds) (t : ComparedRuns) (covers : List Cover) (first second : ℕ) : Type 0 where

@@ -1,15 +1,11 @@
 // From pairs to chains.
-ghost use Rattle.std.specs.Prelude.{◌≡◌, ◌↔◌, ◌<◌, ◌≤◌, ◌||◌, ◌&&◌, ℕ, true, length, IfOk};
-ghost use Rattle.desk_model.specs.Limits.{RUN_LIMIT};
-ghost use Rattle.desk_model.specs.Pairs.{pairs_of};
-ghost use Rattle.pair_table.specs.Sums.{run_numbers};
+ghost use Rattle.std.specs.Prelude.{◌≡◌, ◌↔◌, ◌<◌, ◌||◌, ◌&&◌, ℕ, true, length, IfOk};
 ghost use Rattle.order_tiers.specs.Chains.{IsCertifiedAbove};
 ghost use Rattle.order_tiers.specs.Order.{IsAbovePair};
 ghost use Rattle.order_tiers.specs.Rows.{has, is_above, AboveBy, IsSquare};
 
-use crate::direct::direct_rows;
+use crate::direct::{PairVerdicts, direct_rows};
 use crate::run_set::RunSet;
-use desk_model::Verdict;
 use std::alloc::{AllocError, Global};
 
 // Where a run is above one run, makes it above all that this one is above.
@@ -43,21 +39,18 @@ fn close(rows: &mut [RunSet], leads: &mut RunSet)
     }
 }
 
-/// Which of so many runs are certified above which, by the verdicts of their pairs in pair order.
+/// Which of the runs are certified above which, by the verdicts of their pairs.
 pub(crate) fn certified_rows(
     alloc: Global,
-    verdicts: &[Verdict],
-    runs: u32,
+    pairs: &PairVerdicts<'_>,
 ) -> Result<Vec<RunSet>, AllocError>
-    requires some { 0 < runs }
-    requires few { runs ≤ RUN_LIMIT }
-    requires count { length verdicts.now ≡ length (pairs_of (run_numbers runs)) }
-    ensures square { IfOk result (λ rows. IsSquare runs rows.items) }
+    ensures square { IfOk result (λ rows. IsSquare pairs.now.runs rows.items) }
     ensures certified { IfOk result (λ rows. (a b : ℕ) →
-        (is_above rows.items a b ≡ true) ↔ IsCertifiedAbove (IsAbovePair runs verdicts.now) a b) }
+        (is_above rows.items a b ≡ true) ↔
+        IsCertifiedAbove (IsAbovePair pairs.now.runs pairs.now.verdicts.now) a b) }
 {
-    let mut rows = direct_rows(alloc, verdicts, runs)?;
-    let mut leads = RunSet::new(runs);
+    let mut rows = direct_rows(alloc, pairs)?;
+    let mut leads = RunSet::new(pairs.runs);
     close(&mut rows, &mut leads);
     Ok(rows)
 }

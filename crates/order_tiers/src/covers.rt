@@ -1,43 +1,20 @@
 // The covering pairs of a table, with the topics that they win and lose.
-ghost use Rattle.std.specs.Prelude.{◌≡◌, ◌≢◌, ◌↔◌, ◌+◌, ◌<◌, true, length, pos, int_lt, IfOk, OnOk};
+ghost use Rattle.std.specs.Prelude.{◌≡◌, ◌↔◌, ◌+◌, ◌<◌, true, length, pos, int_lt, IfOk, OnOk};
 ghost use Rattle.desk_model.specs.Desk.{topics_under};
-ghost use Rattle.measure_core.specs.Made.{ends_of};
-ghost use Rattle.pair_table.specs.Kept.{topic_at};
 ghost use Rattle.pair_table.specs.Numbers.{HasCellEnds};
 ghost use Rattle.pair_table.specs.Sums.{cell_ends};
-ghost use Rattle.order_tiers.specs.Tables.{IsTableFor, AreRowsFor, IsBelowBelow, HaveCoversBefore};
+ghost use Rattle.order_tiers.specs.Tables.{IsTableFor, IsBelowBelow, HaveCoversBefore};
 ghost use Rattle.order_tiers.specs.Order.{wins_in, losses_in, compared, AreCovers};
-ghost use Rattle.order_tiers.specs.Rows.{AboveBy, IsSquare};
+ghost use Rattle.order_tiers.specs.Rows.{AboveBy};
 ghost use Rattle.order_tiers.specs.Tiers.{IsCovering};
 
 use crate::cover::Cover;
+use crate::desk_rows::{DeskRow, DeskRows, TwoRuns};
 use crate::run_set::RunSet;
-use desk_model::{Desk, Rows};
+use desk_model::Rows;
 use measure_core::{Cell, Measure};
 use pair_table::Table;
 use std::alloc::{AllocError, Global};
-
-// The kept cell of two different runs on a topic, by their numbers: it has the ends of the measure's cell.
-fn cell_on<M: Measure>(
-    table: &Table<M>,
-    desk: &Desk,
-    marks: &Rows,
-    first: u32,
-    second: u32,
-    topic: u32,
-) -> Cell
-    requires table { IsTableFor (M.measured table.now.measure) (M.cell_of table.now.measure)
-        (M.bounds_of table.now.measure) desk.now marks.now table.now }
-    requires different { first ≢ second }
-    requires first { first < length desk.now.runs }
-    requires second { second < length desk.now.runs }
-    requires topic { topic < length desk.now.topics }
-    ensures { let at = topic_at desk.now marks.now topic in
-        ends_of result ≡
-        ends_of (M.cell_of table.now.measure at.marks (at.ranking first) (at.ranking second)) }
-{
-    table.cell(first, second, topic)
-}
 
 // Whether the first run's score is greater by the least difference.
 fn is_won(cell: Cell) -> bool
@@ -54,31 +31,24 @@ fn is_lost(cell: Cell) -> bool
 }
 
 // The covering pair of two different runs, with the topics that it wins and loses.
-fn cover_of<M: Measure>(
-    table: &Table<M>,
-    desk: &Desk,
-    marks: &Rows,
-    first: u32,
-    second: u32,
-) -> Cover
-    requires table { IsTableFor (M.measured table.now.measure) (M.cell_of table.now.measure)
-        (M.bounds_of table.now.measure) desk.now marks.now table.now }
-    requires different { first ≢ second }
-    requires first { first < length desk.now.runs }
-    requires second { second < length desk.now.runs }
-    ensures first { result.first ≡ first }
-    ensures second { result.second ≡ second }
+fn cover_of<M: Measure>(table: &Table<M>, marks: &Rows, pair: &TwoRuns<'_>) -> Cover
+    requires { IsTableFor (M.measured table.now.measure) (M.cell_of table.now.measure)
+        (M.bounds_of table.now.measure) pair.now.desk.now marks.now table.now }
+    ensures first { result.first ≡ pair.now.first }
+    ensures second { result.second ≡ pair.now.second }
     ensures wins { result.wins ≡
-        wins_in (cell_ends (M.cell_of table.now.measure) (topics_under desk.now marks.now) first
-        second) }
+        wins_in (cell_ends (M.cell_of table.now.measure)
+        (topics_under pair.now.desk.now marks.now) pair.now.first pair.now.second) }
     ensures losses { result.losses ≡
-        losses_in (cell_ends (M.cell_of table.now.measure) (topics_under desk.now marks.now) first
-        second) }
+        losses_in (cell_ends (M.cell_of table.now.measure)
+        (topics_under pair.now.desk.now marks.now) pair.now.first pair.now.second) }
 {
+    // Whose cells these are.
+    let _ = marks;
     let mut wins = 0;
     let mut losses = 0;
-    for topic in 0..desk.topic_count() {
-        let cell = cell_on(table, desk, marks, first, second, topic);
+    for topic in 0..pair.desk.topic_count() {
+        let cell = table.cell(pair.first, pair.second, topic);
         if is_won(cell) {
             wins += 1;
         }
@@ -87,89 +57,90 @@ fn cover_of<M: Measure>(
         }
     }
     Cover {
-        first,
-        second,
+        first: pair.first,
+        second: pair.second,
         wins,
         losses,
     }
 }
 
 // Makes `between` the runs that are below a run below the first one.
-fn find_between(rows: &[RunSet], between: &mut RunSet, first: u32)
-    requires square { IsSquare (length rows.now) rows.now }
-    requires room { length between.old ≡ length rows.now }
-    requires first { first < length rows.now }
-    ensures { IsBelowBelow rows.now first between.new }
+fn find_between(first: &DeskRow<'_>, between: &mut RunSet)
+    requires { length between.old ≡ length first.now.of.rows.now }
+    ensures { IsBelowBelow first.now.of.rows.now first.now.run between.new }
 {
+    let rows = first.of.rows;
     between.clear();
     for run in 0..rows.len() {
-        if rows[first as usize].has(run as u32) {
+        if rows[first.run as usize].has(run as u32) {
             between.add_all(&rows[run]);
         }
     }
 }
 
 // Whether a run covers another, by the runs that are below a run below it.
-fn is_covering(rows: &[RunSet], between: &RunSet, first: u32, second: u32) -> bool
-    requires square { IsSquare (length rows.now) rows.now }
-    requires between { IsBelowBelow rows.now first between.now }
-    requires first { first < length rows.now }
-    requires second { second < length rows.now }
-    ensures { (result ≡ true) ↔ IsCovering (AboveBy rows.now) (length rows.now) first second }
+fn is_covering(first: &DeskRow<'_>, between: &RunSet, second: u32) -> bool
+    requires between { IsBelowBelow first.now.of.rows.now first.now.run between.now }
+    requires second { second < length first.now.of.rows.now }
+    ensures { (result ≡ true) ↔
+        IsCovering (AboveBy first.now.of.rows.now) (length first.now.of.rows.now) first.now.run
+        second }
 {
-    rows[first as usize].has(second) && !between.has(second)
+    first.of.rows[first.run as usize].has(second) && !between.has(second)
 }
 
 // Adds the covering pairs of a first run to those before it.
 fn push_covers<M: Measure>(
     list: &mut Vec<Cover>,
     table: &Table<M>,
-    desk: &Desk,
     marks: &Rows,
-    rows: &[RunSet],
+    first: &DeskRow<'_>,
     between: &RunSet,
-    first: u32,
 ) -> Result<(), AllocError>
     requires table { IsTableFor (M.measured table.now.measure) (M.cell_of table.now.measure)
-        (M.bounds_of table.now.measure) desk.now marks.now table.now }
-    requires rows { AreRowsFor desk.now rows.now }
-    requires between { IsBelowBelow rows.now first between.now }
-    requires first { first < length desk.now.runs }
-    requires before { HaveCoversBefore (AboveBy rows.now)
-        (HasCellEnds (M.cell_of table.now.measure)) (compared desk.now marks.now table.now.totals)
-        list.old.items first 0 }
-    ensures { OnOk result (HaveCoversBefore (AboveBy rows.now)
-        (HasCellEnds (M.cell_of table.now.measure)) (compared desk.now marks.now table.now.totals)
-        list.new.items (first + 1) 0) }
+        (M.bounds_of table.now.measure) first.now.of.desk.now marks.now table.now }
+    requires between { IsBelowBelow first.now.of.rows.now first.now.run between.now }
+    requires before { HaveCoversBefore (AboveBy first.now.of.rows.now)
+        (HasCellEnds (M.cell_of table.now.measure))
+        (compared first.now.of.desk.now marks.now table.now.totals) list.old.items first.now.run
+        0 }
+    ensures { OnOk result (HaveCoversBefore (AboveBy first.now.of.rows.now)
+        (HasCellEnds (M.cell_of table.now.measure))
+        (compared first.now.of.desk.now marks.now table.now.totals) list.new.items
+        (first.now.run + 1) 0) }
 {
-    for second in 0..desk.run_count() {
-        if is_covering(rows, between, first, second) {
-            list.push(cover_of(table, desk, marks, first, second))?;
+    for second in 0..first.of.desk.run_count() {
+        if is_covering(first, between, second) {
+            let pair = TwoRuns {
+                desk: first.of.desk,
+                first: first.run,
+                second,
+            };
+            list.push(cover_of(table, marks, &pair))?;
         }
     }
     Ok(())
 }
 
-/// The covering pairs of a table, ascending, by rows that say which runs are certified above which.
+/// The covering pairs of a table, ascending, by the runs that are certified above which.
 pub(crate) fn covers_of<M: Measure>(
     alloc: Global,
     table: &Table<M>,
-    desk: &Desk,
     marks: &Rows,
-    rows: &[RunSet],
+    of: &DeskRows<'_>,
 ) -> Result<Vec<Cover>, AllocError>
-    requires table { IsTableFor (M.measured table.now.measure) (M.cell_of table.now.measure)
-        (M.bounds_of table.now.measure) desk.now marks.now table.now }
-    requires rows { AreRowsFor desk.now rows.now }
+    requires { IsTableFor (M.measured table.now.measure) (M.cell_of table.now.measure)
+        (M.bounds_of table.now.measure) of.now.desk.now marks.now table.now }
     ensures { IfOk result (λ covers.
-        AreCovers (AboveBy rows.now) (HasCellEnds (M.cell_of table.now.measure))
-        (compared desk.now marks.now table.now.totals) covers.items) }
+        AreCovers (AboveBy of.now.rows.now) (HasCellEnds (M.cell_of table.now.measure))
+        (compared of.now.desk.now marks.now table.now.totals) covers.items) }
 {
-    let mut between = RunSet::new(rows.len() as u32);
+    let mut between = RunSet::new(of.rows.len() as u32);
     let mut list = Vec::new(alloc);
-    for first in 0..desk.run_count() {
-        find_between(rows, &mut between, first);
-        push_covers(&mut list, table, desk, marks, rows, &between, first)?;
+    for run in 0..of.desk.run_count() {
+        let first = DeskRow { of: *of, run };
+        find_between(&first, &mut between);
+        push_covers(&mut list, table, marks, &first, &between)?;
     }
     Ok(list)
 }

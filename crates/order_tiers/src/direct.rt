@@ -10,15 +10,25 @@ use crate::run_set::RunSet;
 use desk_model::{PairPlaces, Verdict};
 use std::alloc::{AllocError, Global};
 
-// A row for each of so many runs, in which no run is above another.
-fn empty_rows(alloc: Global, runs: u32) -> Result<Vec<RunSet>, AllocError>
-    requires { runs ≤ RUN_LIMIT }
-    ensures count { IfOk result (λ rows. length rows.items ≡ runs) }
-    ensures empty { IfOk result (λ rows. All (IsEmptyRow runs) rows.items) }
+/// The verdicts of the pairs of so many runs, in pair order. Its facts: a desk may have so many runs, and each pair has
+/// a verdict.
+#[derive(Clone, Copy)]
+pub(crate) struct PairVerdicts<'v> {
+    pub runs: u32,
+    pub verdicts: &'v [Verdict],
+    pub ghost some: { 0 < runs },
+    pub ghost few: { runs ≤ RUN_LIMIT },
+    pub ghost each: { length verdicts.now ≡ length (pairs_of (run_numbers runs)) },
+}
+
+// A row for each of the runs, in which no run is above another.
+fn empty_rows(alloc: Global, pairs: &PairVerdicts<'_>) -> Result<Vec<RunSet>, AllocError>
+    ensures count { IfOk result (λ rows. length rows.items ≡ pairs.now.runs) }
+    ensures empty { IfOk result (λ rows. All (IsEmptyRow pairs.now.runs) rows.items) }
 {
-    let mut rows = Vec::with_capacity(alloc, runs as usize)?;
-    for _run in 0..runs {
-        rows.push(RunSet::new(runs))?;
+    let mut rows = Vec::with_capacity(alloc, pairs.runs as usize)?;
+    for _run in 0..pairs.runs {
+        rows.push(RunSet::new(pairs.runs))?;
     }
     Ok(rows)
 }
@@ -46,37 +56,31 @@ fn add_pair(rows: &mut [RunSet], at: PairPlaces, verdict: Verdict)
 }
 
 // Puts each run above those that it is above by the verdicts of all pairs, in pair order.
-fn add_pairs(rows: &mut [RunSet], verdicts: &[Verdict])
-    requires some { 0 < length rows.old }
-    requires square { IsSquare (length rows.old) rows.old }
+fn add_pairs(rows: &mut [RunSet], pairs: &PairVerdicts<'_>)
+    requires square { IsSquare pairs.now.runs rows.old }
     requires none { (a b : ℕ) → is_above rows.old a b ≡ false }
-    requires count { length verdicts.now ≡ length (pairs_of (run_numbers (length rows.old))) }
-    ensures square { IsSquare (length rows.old) rows.new }
+    ensures square { IsSquare pairs.now.runs rows.new }
     ensures above { (a b : ℕ) → (is_above rows.new a b ≡ true) ↔
-        IsAbovePair (length rows.old) verdicts.now a b }
+        IsAbovePair pairs.now.runs pairs.now.verdicts.now a b }
 {
-    let runs = rows.len() as u32;
     let mut at = PairPlaces::START;
-    for place in 0..verdicts.len() {
-        add_pair(rows, at, verdicts[place]);
-        at = at.next(runs);
+    for place in 0..pairs.verdicts.len() {
+        add_pair(rows, at, pairs.verdicts[place]);
+        at = at.next(pairs.runs);
     }
 }
 
 /// Which of so many runs are above which by the verdicts of their pairs, in pair order.
 pub(crate) fn direct_rows(
     alloc: Global,
-    verdicts: &[Verdict],
-    runs: u32,
+    pairs: &PairVerdicts<'_>,
 ) -> Result<Vec<RunSet>, AllocError>
-    requires some { 0 < runs }
-    requires few { runs ≤ RUN_LIMIT }
-    requires count { length verdicts.now ≡ length (pairs_of (run_numbers runs)) }
-    ensures square { IfOk result (λ rows. IsSquare runs rows.items) }
+    ensures square { IfOk result (λ rows. IsSquare pairs.now.runs rows.items) }
     ensures above { IfOk result (λ rows. (a b : ℕ) →
-        (is_above rows.items a b ≡ true) ↔ IsAbovePair runs verdicts.now a b) }
+        (is_above rows.items a b ≡ true) ↔
+        IsAbovePair pairs.now.runs pairs.now.verdicts.now a b) }
 {
-    let mut rows = empty_rows(alloc, runs)?;
-    add_pairs(&mut rows, verdicts);
+    let mut rows = empty_rows(alloc, pairs)?;
+    add_pairs(&mut rows, pairs);
     Ok(rows)
 }

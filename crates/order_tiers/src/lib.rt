@@ -2,10 +2,10 @@
 //! pairs of runs with no run between, by how many topics each wins.
 #![tactic(auto)]
 
-mod chains;
 mod closing;
 pub mod cover;
 mod covers;
+mod desk_rows;
 mod direct;
 pub mod laws;
 mod order;

@@ -7,9 +7,11 @@ ghost use Rattle.order_tiers.specs.Order.{compared, IsOrderBy, CoverIsWithin};
 ghost use Rattle.order_tiers.specs.Rows.{is_above};
 ghost use Rattle.order_tiers.specs.Tiers.{tier_in};
 
-use crate::chains::chain_rows;
+use crate::closing::certified_rows;
 use crate::cover::Cover;
 use crate::covers::covers_of;
+use crate::desk_rows::DeskRows;
+use crate::direct::PairVerdicts;
 use crate::run_set::RunSet;
 use crate::tiers::{greatest_tier, tiers_of};
 use desk_model::{Desk, Marks, Memory, Rows};
@@ -50,10 +52,15 @@ fn order_of<M: Measure>(
     ensures { IfOk result (IsOrderBy (HasCellEnds (M.cell_of table.now.measure))
         (compared desk.now marks.now table.now.totals)) }
 {
-    let rows = chain_rows(alloc, table, desk, marks)?;
-    let tiers = tiers_of(alloc, &rows)?;
+    let pairs = PairVerdicts {
+        runs: desk.run_count(),
+        verdicts: table.verdicts(),
+    };
+    let rows = certified_rows(alloc, &pairs)?;
+    let of = DeskRows { desk, rows: &rows };
+    let tiers = tiers_of(alloc, &of)?;
     let greatest = greatest_tier(&tiers);
-    let covers = covers_of(alloc, table, desk, marks, &rows)?;
+    let covers = covers_of(alloc, table, marks, &of)?;
     Ok(Order {
         rows,
         tiers,

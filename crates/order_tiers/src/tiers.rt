@@ -1,21 +1,20 @@
 // Tiers by rows that say which runs are certified above which.
-ghost use Rattle.std.specs.Prelude.{◌≡◌, ℕ, ◌+◌, ◌^◌, ◌<◌, ◌≤◌, max, All, length, IfOk};
-ghost use Rattle.order_tiers.specs.Rows.{AboveBy, IsSquare, IsStrictOrder, AreCountsAbove, HaveTiersBelow, count_above};
+ghost use Rattle.std.specs.Prelude.{◌≡◌, ◌+◌, ◌<◌, ◌≤◌, All, length, IfOk};
+ghost use Rattle.order_tiers.specs.Rows.{AboveBy, AreCountsAbove, HaveTiersBelow, count_above};
 ghost use Rattle.order_tiers.specs.Tiers.{IsTierOf, AreTiers, IsGreatestTier, tier_in};
 
-use crate::run_set::RunSet;
+use crate::desk_rows::{DeskRow, DeskRows};
 use std::alloc::{AllocError, Global};
 
 // How many runs are above a run.
-fn count_above(rows: &[RunSet], run: u32) -> u32
-    requires square { IsSquare (length rows.now) rows.now }
-    requires run { run < length rows.now }
-    ensures count { result ≡ count_above rows.now run }
-    ensures within { result ≤ length rows.now }
+fn count_above(row: &DeskRow<'_>) -> u32
+    ensures count { result ≡ count_above row.now.of.rows.now row.now.run }
+    ensures within { result ≤ length row.now.of.rows.now }
 {
+    let rows = row.of.rows;
     let mut count = 0;
     for other in 0..rows.len() {
-        if rows[other].has(run) {
+        if rows[other].has(row.run) {
             count += 1;
         }
     }
@@ -23,68 +22,65 @@ fn count_above(rows: &[RunSet], run: u32) -> u32
 }
 
 // How many runs are above each run.
-fn counts_above(alloc: Global, rows: &[RunSet]) -> Result<Vec<u32>, AllocError>
-    requires { IsSquare (length rows.now) rows.now }
-    ensures { IfOk result (λ counts. AreCountsAbove rows.now counts.items) }
+fn counts_above(alloc: Global, of: &DeskRows<'_>) -> Result<Vec<u32>, AllocError>
+    ensures { IfOk result (λ counts. AreCountsAbove of.now.rows.now counts.items) }
 {
-    let mut counts = Vec::with_capacity(alloc, rows.len())?;
-    for run in 0..rows.len() {
-        counts.push(count_above(rows, run as u32))?;
+    let mut counts = Vec::with_capacity(alloc, of.rows.len())?;
+    for run in 0..of.rows.len() {
+        let row = DeskRow {
+            of: *of,
+            run: run as u32,
+        };
+        counts.push(count_above(&row))?;
     }
     Ok(counts)
 }
 
-// A tier, raised to 1 more than that of a run above.
-fn raised(tier: u32, above: u32) -> u32
-    requires { above + 1 < 2 ^ 32 }
-    ensures { result ≡ max tier (above + 1) }
-{
-    tier.max(above + 1)
-}
-
 // The tier of a run by the tiers of the runs above it.
-fn tier_by(rows: &[RunSet], tiers: &[u32], run: u32) -> u32
-    requires square { IsSquare (length rows.now) rows.now }
-    requires run { run < length rows.now }
-    requires count { length tiers.now ≡ length rows.now }
-    requires small { All (λ tier. tier ≤ length rows.now + 1) tiers.now }
-    ensures { IsTierOf (AboveBy rows.now) (length rows.now) (tier_in tiers.now) run result }
+fn tier_by(row: &DeskRow<'_>, tiers: &[u32]) -> u32
+    requires count { length tiers.now ≡ length row.now.of.rows.now }
+    requires small { All (λ tier. tier ≤ length row.now.of.rows.now + 1) tiers.now }
+    ensures { IsTierOf (AboveBy row.now.of.rows.now) (length row.now.of.rows.now)
+        (tier_in tiers.now) row.now.run result }
 {
-    let mut tier = 1;
+    let rows = row.of.rows;
+    let mut tier: u32 = 1;
     for above in 0..rows.len() {
-        if rows[above].has(run) {
-            tier = raised(tier, tiers[above]);
+        if rows[above].has(row.run) {
+            tier = tier.max(tiers[above] + 1);
         }
     }
     tier
 }
 
 // Gives each run with so many runs above it its tier, where each run with fewer has its tier.
-fn fill_tiers(rows: &[RunSet], counts: &[u32], tiers: &mut [u32], count: u32)
-    requires order { IsStrictOrder rows.now }
-    requires counts { AreCountsAbove rows.now counts.now }
-    requires fewer { HaveTiersBelow rows.now tiers.old count }
-    ensures { HaveTiersBelow rows.now tiers.new (count + 1) }
+fn fill_tiers(of: &DeskRows<'_>, counts: &[u32], tiers: &mut [u32], count: u32)
+    requires counts { AreCountsAbove of.now.rows.now counts.now }
+    requires fewer { HaveTiersBelow of.now.rows.now tiers.old count }
+    ensures { HaveTiersBelow of.now.rows.now tiers.new (count + 1) }
 {
-    for run in 0..rows.len() {
+    for run in 0..of.rows.len() {
         if counts[run] == count {
-            tiers[run] = tier_by(rows, tiers, run as u32);
+            let row = DeskRow {
+                of: *of,
+                run: run as u32,
+            };
+            tiers[run] = tier_by(&row, tiers);
         }
     }
 }
 
 /// The tier of each run by the runs above it.
-pub(crate) fn tiers_of(alloc: Global, rows: &[RunSet]) -> Result<Vec<u32>, AllocError>
-    requires { IsStrictOrder rows.now }
-    ensures count { IfOk result (λ tiers. length tiers.items ≡ length rows.now) }
+pub(crate) fn tiers_of(alloc: Global, of: &DeskRows<'_>) -> Result<Vec<u32>, AllocError>
+    ensures count { IfOk result (λ tiers. length tiers.items ≡ length of.now.rows.now) }
     ensures tiers { IfOk result (λ tiers.
-        AreTiers (AboveBy rows.now) (length rows.now) (tier_in tiers.items)) }
+        AreTiers (AboveBy of.now.rows.now) (length of.now.rows.now) (tier_in tiers.items)) }
 {
-    let counts = counts_above(alloc, rows)?;
-    let mut tiers = vec![in alloc; 0; rows.len()]?;
+    let counts = counts_above(alloc, of)?;
+    let mut tiers = vec![in alloc; 0; of.rows.len()]?;
     // A run has at most as many runs above it as there are.
-    for count in 0..rows.len() as u32 + 1 {
-        fill_tiers(rows, &counts, &mut tiers, count);
+    for count in 0..of.rows.len() as u32 + 1 {
+        fill_tiers(of, &counts, &mut tiers, count);
     }
     Ok(tiers)
 }

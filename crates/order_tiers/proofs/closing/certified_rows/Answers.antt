@@ -8,8 +8,8 @@ use Rattle.order_tiers.proofs.closing.certified_rows.Goals as goal
 
 pub returns-clause-certified : goal.returns-clause-certified
 returns-clause-certified c =
-    let Above = IsAbovePair c.args.runs c.args.verdicts.now in
+    let Above = IsAbovePair c.args.pairs.now.runs c.args.pairs.now.verdicts.now in
     let new : List (List Bool) = c.close.new.rows in
     let is = with_items_is c.in_ok-rows.rows new (omega (arith, c.close.auto.rows, ap length c.deref_mut.ensures.value, c.in_ok-rows.rows.ok.0)) in
-    let pairs = subst (λ (rows : List (List Bool)). (a b : ℕ) → (is_above rows a b ≡ true) ↔ Above a b) (sym c.deref_mut.ensures.value) c.in_ok-rows.ensures.above in
-    subst (λ (rows : List (List Bool)). (a b : ℕ) → (is_above rows a b ≡ true) ↔ IsCertifiedAbove Above a b) (sym is) (closed_over Above c.deref_mut.result.now new pairs c.close.ensures.chains)
+    let direct = subst (λ (rows : List (List Bool)). (a b : ℕ) → (is_above rows a b ≡ true) ↔ Above a b) (sym c.deref_mut.ensures.value) c.in_ok-rows.ensures.above in
+    subst (λ (rows : List (List Bool)). (a b : ℕ) → (is_above rows a b ≡ true) ↔ IsCertifiedAbove Above a b) (sym is) (closed_over Above c.deref_mut.result.now new direct c.close.ensures.chains)

@@ -6,8 +6,8 @@ use Rattle.order_tiers.proofs.covers.cover_of.Given as goal
 
 abbrev pub invariant-loop-topic : goal.invariant-loop-topic
 invariant-loop-topic g l = record {
-  wins : l.wins ≡ wins_in (take l.topic (cell_ends (g.M.Measure.cell_of l.table.measure) (topics_under l.desk l.marks) l.first l.second));
-  losses : l.losses ≡ losses_in (take l.topic (cell_ends (g.M.Measure.cell_of l.table.measure) (topics_under l.desk l.marks) l.first l.second));
+  wins : l.wins ≡ wins_in (take l.topic (cell_ends (g.M.Measure.cell_of l.table.measure) (topics_under l.pair.desk.now l.marks) l.pair.first l.pair.second));
+  losses : l.losses ≡ losses_in (take l.topic (cell_ends (g.M.Measure.cell_of l.table.measure) (topics_under l.pair.desk.now l.marks) l.pair.first l.pair.second));
   few_wins : l.wins ≤ l.topic;
   few_losses : l.losses ≤ l.topic;
 }

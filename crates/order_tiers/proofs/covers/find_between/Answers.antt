@@ -7,18 +7,18 @@ use Rattle.order_tiers.proofs.covers.find_between.Goals as goal
 use Rattle.order_tiers.proofs.covers.find_between.Goals.{then-has, else-has}
 
 pub loop-run-init : goal.loop-run-init
-loop-run-init c = record { long = c.clear.ensures.count ∙ c.requires.room; each = below_none c.args.rows.now c.args.first c.clear.new.self c.clear.ensures.none }
+loop-run-init c = record { long = c.clear.ensures.count ∙ c.requires; each = below_none c.args.first.now.of.rows.now c.args.first.now.run c.clear.new.self c.clear.ensures.none }
 
 pub loop-run-preserved : goal.loop-run-preserved
 loop-run-preserved c =
-    let rows = c.args.rows.now in
-    let first = c.args.first in
+    let rows = c.args.first.now.of.rows.now in
+    let first = c.args.first.now.run in
     let run = c.loop-run.run in
     let between : List Bool = c.loop-run.between in
     let inv = c.loop-run.invariant in
     let lt = c.loop-run-test.true in
     let row = c.index-rows-first.result in
-    let there : has row run ≡ is_above rows first run = ap (λ r. has r run) (c.index-rows-first.is ∙ get_or_default rows first row [] c.requires.first) in
+    let there : has row run ≡ is_above rows first run = ap (λ r. has r run) (c.index-rows-first.is ∙ get_or_default rows first row [] c.args.first.now.within) in
     elim c.if-has.branch [
       | then-has w ↦
           let next : List Bool = w.add_all.new.self in
@@ -36,4 +36,4 @@ loop-run-preserved c =
     ]
 
 pub returns : goal.returns
-returns c = below_all c.args.rows.now c.args.first c.loop-run.run c.loop-run.between c.loop-run.invariant.each c.loop-run.invariant.long c.loop-run-test.false
+returns c = below_all c.args.first.now.of.rows.now c.args.first.now.run c.loop-run.run c.loop-run.between c.loop-run.invariant.each c.loop-run.invariant.long c.loop-run-test.false

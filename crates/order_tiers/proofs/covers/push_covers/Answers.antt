@@ -17,13 +17,13 @@ use Rattle.order_tiers.proofs.covers.push_covers.Goals.{then-is_covering+in_ok-p
 pub loop-second-preserved : goal.loop-second-preserved
 loop-second-preserved g c =
     let cell = g.M.Measure.cell_of c.args.table.now.measure in
-    let desk = c.args.desk.now in
+    let desk = c.args.first.now.of.desk.now in
     let marks = c.args.marks.now in
-    let rows = c.args.rows.now in
-    let i = c.args.first in
+    let rows = c.args.first.now.of.rows.now in
+    let i = c.args.first.now.run in
     let j = c.loop-second.second in
     let t = compared desk marks c.args.table.now.totals in
-    let count : length rows ≡ length desk.runs = c.requires.rows.count in
+    let count : length rows ≡ length desk.runs = c.args.first.now.of.count in
     let Has = HasCellEnds cell in
     let list : List Cover = c.loop-second.list.items in
     elim c.if-is_covering.branch [
@@ -50,8 +50,8 @@ loop-second-preserved g c =
 pub returns : goal.returns
 returns g c =
     let cell = g.M.Measure.cell_of c.args.table.now.measure in
-    let desk = c.args.desk.now in
-    let rows = c.args.rows.now in
-    let within = in_row (length desk.runs) rows (subst (λ n. IsSquare n rows) c.requires.rows.count c.requires.rows.square) in
-    covers_row (AboveBy rows) (HasCellEnds cell) (compared desk c.args.marks.now c.args.table.now.totals) c.loop-second.list.items c.args.first c.loop-second.second c.loop-second.invariant within
+    let desk = c.args.first.now.of.desk.now in
+    let rows = c.args.first.now.of.rows.now in
+    let within = in_row (length desk.runs) rows (subst (λ n. IsSquare n rows) c.args.first.now.of.count c.args.first.now.of.strict.square) in
+    covers_row (AboveBy rows) (HasCellEnds cell) (compared desk c.args.marks.now c.args.table.now.totals) c.loop-second.list.items c.args.first.now.run c.loop-second.second c.loop-second.invariant within
     (omega (arith, c.loop-second-test.false, c.run_count-second-end.ensures.count))

@@ -6,5 +6,5 @@ use Rattle.order_tiers.proofs.tiers.counts_above.Given as goal
 abbrev pub invariant-loop-run : goal.invariant-loop-run
 invariant-loop-run l = record {
   long : length l.counts.items ≡ l.run;
-  each : (k : ℕ) → k < l.run → tier_in l.counts.items k ≡ count_above l.rows k;
+  each : (k : ℕ) → k < l.run → tier_in l.counts.items k ≡ count_above l.of.rows.now k;
 }

@@ -9,7 +9,7 @@ use Rattle.order_tiers.proofs.tiers.fill_tiers.Goals.{then-counts-run, else-coun
 
 pub tier_by-requires-clause-small : goal.tier_by-requires-clause-small
 tier_by-requires-clause-small c k d within =
-    let rows = c.args.rows.now in
+    let rows = c.args.of.now.rows.now in
     let tiers = c.loop-run.tiers in
     let long = c.loop-run.invariant.long in
     let low = c.loop-run.invariant.small k (omega (arith, within, long)) in
@@ -19,7 +19,7 @@ tier_by-requires-clause-small c k d within =
 
 pub loop-run-preserved : goal.loop-run-preserved
 loop-run-preserved c =
-    let rows = c.args.rows.now in
+    let rows = c.args.of.now.rows.now in
     let tiers = c.loop-run.tiers in
     let count = c.args.count in
     let run = c.loop-run.run in
@@ -28,8 +28,8 @@ loop-run-preserved c =
     elim c.if-counts-run.branch [
       | then-counts-run w ↦
           subst (λ (l : List ℕ). IsFilling rows l count (run + 1)) (sym w.tiers-is)
-          (filling_more rows tiers count run c.requires.order lt c.loop-run.invariant w.tier_by.result (sym counted ∙ w.if-counts-run.true) w.tier_by.ensures)
+          (filling_more rows tiers count run c.args.of.now.strict lt c.loop-run.invariant w.tier_by.result (sym counted ∙ w.if-counts-run.true) w.tier_by.ensures)
       | else-counts-run w ↦
           subst (λ (l : List ℕ). IsFilling rows l count (run + 1)) (sym w.tiers-is)
-          (filling_kept rows tiers count run c.requires.order lt c.loop-run.invariant (λ e. w.if-counts-run.false (counted ∙ e)))
+          (filling_kept rows tiers count run c.args.of.now.strict lt c.loop-run.invariant (λ e. w.if-counts-run.false (counted ∙ e)))
     ]

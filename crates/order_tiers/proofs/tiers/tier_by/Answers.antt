@@ -8,13 +8,13 @@ use Rattle.order_tiers.proofs.tiers.tier_by.Goals as goal
 use Rattle.order_tiers.proofs.tiers.tier_by.Goals.{then-has, else-has}
 
 pub loop-above-init : goal.loop-above-init
-loop-above-init c = record { tier = tier_none (AboveBy c.args.rows.now) (tier_in c.args.tiers.now) c.args.run; small = omega arith }
+loop-above-init c = record { tier = tier_none (AboveBy c.args.row.now.of.rows.now) (tier_in c.args.tiers.now) c.args.row.now.run; small = omega arith }
 
 pub loop-above-preserved : goal.loop-above-preserved
 loop-above-preserved c =
-    let rows = c.args.rows.now in
+    let rows = c.args.row.now.of.rows.now in
     let tiers = c.args.tiers.now in
-    let run = c.args.run in
+    let run = c.args.row.now.run in
     let above = c.loop-above.above in
     let tier = c.loop-above.tier in
     let inv = c.loop-above.invariant in
@@ -25,11 +25,11 @@ loop-above-preserved c =
     let small = inv.small in
     elim c.if-has.branch [
       | then-has w ↦
-          let is : w.raised-tier.result ≡ max tier (tier_in tiers above + 1) = w.raised-tier.ensures in
+          let is : w.max-tier.result ≡ max tier (tier_in tiers above + 1) = w.max-tier.ensures in
           let same = w.tier-is in
           record {
             tier = subst (IsTierOf (AboveBy rows) (above + 1) (tier_in tiers) run) (sym same)
-                (tier_raised (AboveBy rows) above (tier_in tiers) run tier inv.tier w.raised-tier.result is (sym (c.has.ensures ∙ there) ∙ w.if-has.true));
+                (tier_raised (AboveBy rows) above (tier_in tiers) run tier inv.tier w.max-tier.result is (sym (c.has.ensures ∙ there) ∙ w.if-has.true));
             small = omega (arith, same, is, low, small);
           }
       | else-has w ↦
@@ -42,4 +42,4 @@ loop-above-preserved c =
     ]
 
 pub returns : goal.returns
-returns c = tier_of_rows c.args.rows.now (tier_in c.args.tiers.now) c.loop-above.above c.args.run c.loop-above.tier c.loop-above-test.false c.loop-above.invariant.tier
+returns c = tier_of_rows c.args.row.now.of.rows.now (tier_in c.args.tiers.now) c.loop-above.above c.args.row.now.run c.loop-above.tier c.loop-above-test.false c.loop-above.invariant.tier
