@@ -1,12 +1,13 @@
 -- What the walk through every completion says.
-use Rattle.std.specs.Prelude.{◌<◌, ◌≤◌}
+use Rattle.std.specs.Coded.{×_prop, Unit-prop, le_prop}
+use Rattle.std.specs.Prelude.{◌≤◌}
 use Rattle.std.specs.Int.{int_min, int_max}
-use Rattle.desk_model.specs.Limits.{DEPTH_LIMIT, DOCUMENT_LIMIT, RANK_LIMIT}
+use Rattle.desk_model.specs.Limits.{DEPTH_LIMIT}
 use Rattle.desk_model.specs.Fraction as model
 use Rattle.desk_model.specs.Extremes as extremes
 use Rattle.desk_model.specs.declared.types.MeasureName.{MeasureName}
 use Rattle.desk_model.specs.declared.types.MeasureName.TheVariants.{Precision, Recall, RPrecision, Reciprocal, Biased, AveragePrecision}
-use Rattle.every_completion.specs.declared.scores.ScoreFraction.{ScoreFraction}
+use Rattle.every_completion.specs.declared.fraction.ScoreFraction.{ScoreFraction}
 use Rattle.every_completion.specs.declared.ends.ExtremeEnds.{ExtremeEnds}
 
 -- a measure that looks at no place past a run's end, with a k from 1 to 10,000 where it has one
@@ -18,15 +19,18 @@ LooksAtNoTail Reciprocal = Unit {0}
 LooksAtNoTail (Biased top bottom) = ⊥
 LooksAtNoTail AveragePrecision = ⊥
 
+-- that it looks at none is one fact
+pub LooksAtNoTail-prop : (measure : MeasureName) → IsProp (LooksAtNoTail measure)
+LooksAtNoTail-prop (Precision k) = ×_prop le_prop le_prop
+LooksAtNoTail-prop (Recall k) = ×_prop le_prop le_prop
+LooksAtNoTail-prop RPrecision = Unit-prop
+LooksAtNoTail-prop Reciprocal = Unit-prop
+LooksAtNoTail-prop (Biased top bottom) = λ x y. absurd x
+LooksAtNoTail-prop AveragePrecision = λ x y. absurd x
+
 -- a computed fraction as the fraction that it is
 abbrev pub value_of : ScoreFraction → model.Fraction
 value_of x = record { num = x.num; den = x.den }
-
--- the sizes of a score: at most 10,000 parts, and a universe of at most 25,000,000 documents
-pub record IsSmallFraction (x : ScoreFraction) : Type 0 where
-  pub num : x.num ≤ RANK_LIMIT
-  pub positive : 0 < x.den
-  pub den : x.den ≤ DOCUMENT_LIMIT
 
 -- computed ends as whole numbers
 abbrev pub ends_of : ExtremeEnds → extremes.Ends

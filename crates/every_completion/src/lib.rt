@@ -3,8 +3,10 @@
 #![tactic(auto)]
 
 pub mod ends;
+pub mod fraction;
 pub mod rankings;
 pub mod rounding;
+pub mod scale;
 pub mod scores;
 pub mod walk;
 

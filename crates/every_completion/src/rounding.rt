@@ -1,25 +1,34 @@
 ghost use Rattle.std.specs.Prelude.{◌^◌, ◌≤ℤ◌, ◌<ℤ◌, pos, neg_ℤ};
 ghost use Rattle.desk_model.specs.Floors.{IsFloor, IsCeiling};
 
-/// The floor of n over d.
-pub fn floor(n: i128, d: i128) -> i128
-    requires positive { pos 0 <ℤ d }
-    requires low { neg_ℤ (pos (10 ^ 30)) ≤ℤ n }
-    requires high { n ≤ℤ pos (10 ^ 30) }
-    ensures floor { IsFloor n d result }
-    ensures low { neg_ℤ (pos (10 ^ 30)) ≤ℤ result }
-    ensures high { result ≤ℤ pos (10 ^ 30) }
-{
-    n.div_euclid(d)
+/// One number over another. Its facts: the second is positive, and the first from -10^30 to 10^30.
+#[derive(Clone, Copy)]
+pub struct Quotient {
+    pub n: i128,
+    pub d: i128,
+    pub ghost positive: { pos 0 <ℤ d },
+    pub ghost low: { neg_ℤ (pos (10 ^ 30)) ≤ℤ n },
+    pub ghost high: { n ≤ℤ pos (10 ^ 30) },
 }
 
-/// The ceiling of n over d.
-pub fn ceiling(n: i128, d: i128) -> i128
-    requires positive { pos 0 <ℤ d }
-    requires low { neg_ℤ (pos (10 ^ 30)) ≤ℤ n }
-    requires high { n ≤ℤ pos (10 ^ 30) }
-    ensures { IsCeiling n d result }
-{
-    let swapped = -n;
-    -floor(swapped, d)
+impl Quotient {
+    /// Its floor.
+    pub fn floor(self) -> i128
+        ensures floor { IsFloor self.n self.d result }
+        ensures low { neg_ℤ (pos (10 ^ 30)) ≤ℤ result }
+        ensures high { result ≤ℤ pos (10 ^ 30) }
+    {
+        self.n.div_euclid(self.d)
+    }
+
+    /// Its ceiling.
+    pub fn ceiling(self) -> i128
+        ensures { IsCeiling self.n self.d result }
+    {
+        let swapped = Quotient {
+            n: -self.n,
+            d: self.d,
+        };
+        -swapped.floor()
+    }
 }

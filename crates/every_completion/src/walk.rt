@@ -1,14 +1,17 @@
-ghost use Rattle.std.specs.Prelude.{◌≡◌, ◌↔◌, ◌^◌, ◌≤◌, ◌<◌, ℕ, length, count_by, false, true, not, Err, IfOk, IfSome, IfNone, pos, neg_ℤ, ◌*ℤ◌, ◌-ℤ◌, ◌≤ℤ◌};
+ghost use Rattle.std.proofs.Props.{props};
+ghost use Rattle.std.specs.Prelude.{◌≡◌, ◌↔◌, ◌*◌, ◌^◌, ◌≤◌, ◌<◌, ℕ, length, count_by, false, true, not, Err, IfOk, IfSome, IfNone, pos, neg_ℤ, ◌*ℤ◌, ◌-ℤ◌, ◌≤ℤ◌};
 ghost use Rattle.desk_model.specs.Limits.{DOCUMENT_LIMIT, PARTS_OF_ONE};
 ghost use Rattle.desk_model.specs.Mark.{is_unjudged, mark_at};
 ghost use Rattle.desk_model.specs.Ranking.{IsRanking};
 ghost use Rattle.desk_model.specs.Fraction.{IsAtMost, IsAtLeast};
 ghost use Rattle.desk_model.specs.Extremes.{IsGreatest, IsSmallest, AreExtremes};
-ghost use Rattle.every_completion.specs.Walk.{LooksAtNoTail, IsSmallFraction, value_of, ends_of};
+ghost use Rattle.every_completion.specs.Walk.{LooksAtNoTail, value_of, ends_of};
 
 use crate::ends::{EndsFault, ExtremeEnds};
-use crate::rounding::{ceiling, floor};
-use crate::scores::{ScoreFraction, score_of};
+use crate::fraction::ScoreFraction;
+use crate::rounding::Quotient;
+use crate::scale::Scale;
+use crate::scores::{MarkedDocs, score_of};
 use desk_model::{Mark, MeasureName, Ranking};
 use std::alloc::Global;
 
@@ -36,7 +39,6 @@ fn is_unjudged_mark(mark: Mark) -> bool
 
 /// The first unjudged document from a number on.
 fn first_unjudged(marks: &[Mark], from: usize) -> Option<usize>
-    requires { from ≤ length marks.now }
     ensures here { IfSome result (λ doc. (from ≤ doc) × (doc < length marks.now) ×
         (is_unjudged (mark_at marks.now doc) ≡ true)) }
     ensures before { IfSome result (λ doc. (d : ℕ) → from ≤ d → d < doc →
@@ -52,52 +54,63 @@ fn first_unjudged(marks: &[Mark], from: usize) -> Option<usize>
     None
 }
 
-/// Unit times (more minus less).
-fn scaled(unit: u64, more: u64, less: u64) -> i128
-    requires unit { unit ≤ PARTS_OF_ONE }
-    requires more { more ≤ 10 ^ 12 }
-    requires less { less ≤ 10 ^ 12 }
-    ensures value { result ≡ pos unit *ℤ (pos more -ℤ pos less) }
+/// Unit times (x minus y), in parts of both denominators.
+fn scaled(scale: &Scale, x: ScoreFraction, y: ScoreFraction) -> i128
+    ensures value { result ≡
+        pos scale.now.unit *ℤ (pos (x.num * y.den) -ℤ pos (y.num * x.den)) }
     ensures low { neg_ℤ (pos (10 ^ 30)) ≤ℤ result }
     ensures high { result ≤ℤ pos (10 ^ 30) }
 {
+    let more = x.num * y.den;
+    let less = y.num * x.den;
     let difference = more as i128 - less as i128;
-    unit as i128 * difference
+    scale.unit as i128 * difference
 }
 
 /// The floor and the ceiling of unit times (x minus y).
-fn rounded(unit: u64, x: ScoreFraction, y: ScoreFraction) -> (i128, i128)
-    requires unit { unit ≤ PARTS_OF_ONE }
-    requires first { IsSmallFraction x }
-    requires second { IsSmallFraction y }
-    ensures low { IsGreatest (λ z. IsAtMost z unit (value_of x) (value_of y)) result.0 }
-    ensures high { IsSmallest (λ z. IsAtLeast z unit (value_of x) (value_of y)) result.1 }
+fn rounded(scale: &Scale, x: ScoreFraction, y: ScoreFraction) -> (i128, i128)
+    ensures low { IsGreatest (λ z. IsAtMost z scale.now.unit (value_of x) (value_of y)) result.0 }
+    ensures high { IsSmallest (λ z. IsAtLeast z scale.now.unit (value_of x) (value_of y)) result.1 }
 {
-    let difference = scaled(unit, x.num * y.den, y.num * x.den);
-    let whole = (x.den * y.den) as i128;
-    (floor(difference, whole), ceiling(difference, whole))
+    let difference = Quotient {
+        n: scaled(scale, x, y),
+        d: (x.den * y.den) as i128,
+    };
+    (difference.floor(), difference.ceiling())
+}
+
+/// Two rankings over a universe of so many documents, and what they are measured by. Its facts: they are rankings over
+/// it, and it has at most 25,000,000 documents.
+#[derive(Clone, Copy)]
+pub struct TwoRankings<'r> {
+    pub scale: Scale,
+    pub first: &'r [u32],
+    pub second: &'r [u32],
+    pub universe: usize,
+    pub ghost ranking: { IsRanking universe first.now } by { Prim.hlevel props },
+    pub ghost other: { IsRanking universe second.now } by { Prim.hlevel props },
+    pub ghost small: { universe ≤ DOCUMENT_LIMIT },
 }
 
 /// The ends where every document is judged, so that there is one difference.
-fn judged_ends(
-    measure: MeasureName,
-    unit: u64,
-    first: &[u32],
-    second: &[u32],
-    marks: &[Mark],
-) -> ExtremeEnds
-    requires measure { LooksAtNoTail measure }
-    requires unit { unit ≤ PARTS_OF_ONE }
-    requires first { IsRanking (length marks.now) first.now }
-    requires second { IsRanking (length marks.now) second.now }
-    requires universe { length marks.now ≤ DOCUMENT_LIMIT }
+fn judged_ends(of: &TwoRankings<'_>, marks: &[Mark]) -> ExtremeEnds
+    requires size { length marks.now ≡ of.now.universe }
     requires judged { (doc : ℕ) → doc < length marks.now →
         is_unjudged (mark_at marks.now doc) ≡ false }
-    ensures { AreExtremes measure unit marks.now first.now second.now (ends_of result) }
+    ensures { AreExtremes of.now.scale.measure of.now.scale.unit marks.now of.now.first.now
+        of.now.second.now (ends_of result) }
 {
-    let x = score_of(measure, first, marks);
-    let y = score_of(measure, second, marks);
-    let (lo, hi) = rounded(unit, x, y);
+    let first = MarkedDocs {
+        docs: of.first,
+        marks,
+    };
+    let second = MarkedDocs {
+        docs: of.second,
+        marks,
+    };
+    let x = score_of(&of.scale, &first);
+    let y = score_of(&of.scale, &second);
+    let (lo, hi) = rounded(&of.scale, x, y);
     ExtremeEnds {
         least_lo: lo,
         least_hi: hi,
@@ -107,31 +120,20 @@ fn judged_ends(
 }
 
 /// The ends over every completion, where the documents before a number are judged.
-fn walk(
-    measure: MeasureName,
-    unit: u64,
-    first: &[u32],
-    second: &[u32],
-    marks: &mut [Mark],
-    from: usize,
-) -> ExtremeEnds
-    requires measure { LooksAtNoTail measure }
-    requires unit { unit ≤ PARTS_OF_ONE }
-    requires first { IsRanking (length marks.old) first.now }
-    requires second { IsRanking (length marks.old) second.now }
-    requires universe { length marks.old ≤ DOCUMENT_LIMIT }
-    requires from { from ≤ length marks.old }
+fn walk(of: &TwoRankings<'_>, marks: &mut [Mark], from: usize) -> ExtremeEnds
+    requires size { length marks.old ≡ of.now.universe }
     requires judged { (doc : ℕ) → doc < from → is_unjudged (mark_at marks.old doc) ≡ false }
     ensures same { marks.new ≡ marks.old }
-    ensures ends { AreExtremes measure unit marks.old first.now second.now (ends_of result) }
+    ensures ends { AreExtremes of.now.scale.measure of.now.scale.unit marks.old of.now.first.now
+        of.now.second.now (ends_of result) }
 {
     match first_unjudged(marks, from) {
-        None => judged_ends(measure, unit, first, second, marks),
+        None => judged_ends(of, marks),
         Some(doc) => {
             marks[doc] = Mark::Relevant;
-            let relevant = walk(measure, unit, first, second, marks, doc + 1);
+            let relevant = walk(of, marks, doc + 1);
             marks[doc] = Mark::Other;
-            let other = walk(measure, unit, first, second, marks, doc + 1);
+            let other = walk(of, marks, doc + 1);
             marks[doc] = Mark::Unjudged;
             relevant.join(other)
         }
@@ -162,8 +164,14 @@ pub fn extremes(
     if unjudged_count(marks) > 16 {
         return Err(EndsFault::TooManyUnjudged);
     }
+    let of = TwoRankings {
+        scale: Scale { measure, unit },
+        first: first.docs(),
+        second: second.docs(),
+        universe: marks.len(),
+    };
     match marks.to_vec(alloc) {
-        Ok(mut walked) => Ok(walk(measure, unit, first.docs(), second.docs(), &mut walked, 0)),
+        Ok(mut walked) => Ok(walk(&of, &mut walked, 0)),
         Err(_) => Err(EndsFault::Memory),
     }
 }
