@@ -17,6 +17,7 @@ pub mod OnLists
 pub mod Numbered
 pub mod NearPlaces
 pub mod FirstFailing
+pub mod EightBytes
 pub mod EndSums
 pub mod NumbersOnTopics
 pub mod SameNames

@@ -17,6 +17,11 @@ highest o Less le e = absurd (let bad : 2 ≤ 0 = subst (λ q. ordering_index q 
 highest o Equal le e = absurd (let bad : 2 ≤ 1 = subst (λ q. ordering_index q ≤ 1) e le in omega (arith, bad))
 highest o Greater le e = refl
 
+pub equal_is : (o : Ordering) → is_eq o ≡ true → o ≡ Equal
+equal_is Less e = absurd (cc)
+equal_is Equal e = refl
+equal_is Greater e = absurd (cc)
+
 pub less_is : (o : Ordering) → is_lt o ≡ true → o ≡ Less
 less_is Less e = refl
 less_is Equal e = absurd (cc)

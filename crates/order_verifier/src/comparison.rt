@@ -13,11 +13,13 @@ ghost use Rattle.order_verifier.specs.RunBounds.{AreBoundsOf as BoundsOf};
 use crate::TopicEnds;
 use crate::completion::CompletionEnds;
 use crate::counted::DeskMarks;
-use crate::documents::{Documents, FoundNear};
+use crate::documents::Documents;
 use crate::listed::Listed;
 use crate::names::RunNumbers;
 use crate::ranked::{BoundsOnTopic, known_ranking};
-use desk_model::{Desk, Mark, TopicBook};
+use crate::search::Near;
+use desk_model::{Desk, Mark, Placed, TopicBook};
+use order_certificate::WitnessList;
 use std::marker::Model;
 
 /// Two runs of a desk under its marks, what their ends are computed by, and bounds of runs where they are known.
@@ -49,6 +51,13 @@ pub struct OuterEnds {
     pub least_low: i128,
     /// The upper end of the greatest.
     pub most_high: i128,
+}
+
+/// Whether an unjudged document is found, and where the search for the next one begins.
+#[derive(Clone, Copy)]
+pub struct FoundUnjudged {
+    pub is_found: bool,
+    pub near: Near,
 }
 
 /// Whether a mark leaves the document unjudged.
@@ -132,8 +141,21 @@ impl<'a> Comparison<'a> {
         self.marks.of_topic(topic)
     }
 
-    /// Whether a list names an unjudged document of a topic with these marks at a place, and the number after that
-    /// document's. It is looked for first from a number on, which changes nothing but how soon it is found.
+    /// The documents that the run ranks of which a list of a topic is likely to name most: the second one in the low
+    /// completion, and the first one in the high one.
+    pub fn likely(&self, topic: u32, list: WitnessList) -> &[Placed]
+        requires { topic < length (topics_in self.now) }
+    {
+        let run = match list {
+            WitnessList::Low => self.runs.second,
+            WitnessList::High => self.runs.first,
+        };
+        self.desk.ranking(run, topic).by_doc()
+    }
+
+    /// Whether a list names an unjudged document of a topic with these marks at a place, and where the search for the
+    /// next one begins. It is looked for first at a number and among ranked documents, which changes nothing but how
+    /// soon it is found.
     #[inline(always)]
     pub fn find_unjudged(
         &self,
@@ -141,8 +163,9 @@ impl<'a> Comparison<'a> {
         marks: &[Mark],
         documents: &Documents<'_>,
         place: u32,
-        near: usize,
-    ) -> FoundNear
+        ranked: &[Placed],
+        near: Near,
+    ) -> FoundUnjudged
         requires place { place < length documents.now.names }
         requires marks { slice_get self.now.marks topic ≡ Some marks.now }
         requires topic { OfTopic (topics_in self.now) topic (λ t. documents.now.docs ≡ t.docs) }
@@ -151,15 +174,14 @@ impl<'a> Comparison<'a> {
             AreUnjudged t (name ∷ []))) }
     {
         let _desk = self.desk;
-        match documents.number(place, near) {
-            Some(doc) => FoundNear {
-                is_found: is_open(marks[doc as usize]),
-                near: doc as usize + 1,
-            },
-            None => FoundNear {
-                is_found: false,
-                near,
-            },
+        let found = documents.number(place, ranked, near);
+        let is_found = match found.number {
+            Some(doc) => is_open(marks[doc as usize]),
+            None => false,
+        };
+        FoundUnjudged {
+            is_found,
+            near: found.near,
         }
     }
 

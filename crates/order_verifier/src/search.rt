@@ -1,46 +1,152 @@
 //! Searches for names in order that begin near a place: in steps that double, and then by halving. Where they begin
 //! changes nothing but how soon they end.
-ghost use Rattle.std.specs.Prelude.{◌≡◌, ℕ, ◌+◌, ◌<◌, ◌≤◌, [], length, slice_index_or, IfSome};
+ghost use Rattle.std.specs.Prelude.{◌≡◌, ℕ, ◌+◌, ◌<◌, ◌≤◌, [], length, slice_index_or, IfSome, IsTrue, Some};
 ghost use Rattle.std.specs.List.Sorted.{IsBinarySearchResult, IsSearchInRange};
-ghost use Rattle.std.specs.declared.cmp.Ordering.TheVariants.{Greater, Less};
+ghost use Rattle.std.specs.declared.cmp.Ordering.TheVariants.{Equal, Greater, Less};
 ghost use Rattle.desk_model.specs.Name.{name_cmp, number_of};
 
-use desk_model::{Name, TopicBook};
+use crate::name_order::{compare, may_be_same};
+use desk_model::{Name, Placed, TopicBook};
 use std::cmp::Ordering;
 
-/// The number of the document of a topic with a name, where it is found among those from a number on, in steps of which
+/// Where a search for a name begins: at a document's number, and at a place of the documents that a run ranks.
+#[derive(Clone, Copy)]
+pub struct Near {
+    pub doc: u32,
+    pub place: usize,
+}
+
+impl Near {
+    /// The first document, and the first place.
+    pub const START: Near = Near { doc: 0, place: 0 };
+}
+
+/// The number of a document that is looked for, and where the search for the next one begins.
+#[derive(Clone, Copy)]
+pub struct FoundNumber {
+    pub number: Option<u32>,
+    pub near: Near,
+}
+
+/// How the name of a document compares with another. Past the end it is greater.
+#[inline(always)]
+fn order_of(book: &TopicBook, doc: u32, name: &[u8]) -> Ordering
+    ensures { result ≡ Equal → number_of book.now.docs name.now ≡ Some doc }
+{
+    if doc < book.doc_count() {
+        compare(book.doc_name(doc), name)
+    } else {
+        Ordering::Greater
+    }
+}
+
+/// Whether a document is found to have a name. Names that end in different bytes are compared no further.
+#[inline(always)]
+fn has_name(book: &TopicBook, doc: u32, name: &[u8]) -> bool
+    ensures { IsTrue result → number_of book.now.docs name.now ≡ Some doc }
+{
+    if doc >= book.doc_count() {
+        return false;
+    }
+    may_be_same(book.doc_name(doc), name) && order_of(book, doc, name).is_eq()
+}
+
+/// The number of the document with a name, where it is found among ranked ones from a place and a number on, and the
+/// place where the search ends.
+fn number_ranked(book: &TopicBook, name: &[u8], ranked: &[Placed], near: Near) -> FoundNumber
+    ensures { IfSome result.number (λ number. number_of book.now.docs name.now ≡ Some number) }
+{
+    let mut place = near.place;
+    while place < ranked.len() {
+        let doc = ranked[place].doc;
+        if doc >= near.doc {
+            match order_of(book, doc, name) {
+                Ordering::Less => {}
+                Ordering::Equal => {
+                    return FoundNumber {
+                        number: Some(doc),
+                        near: Near { doc, place },
+                    };
+                }
+                Ordering::Greater => {
+                    return FoundNumber {
+                        number: None,
+                        near: Near { doc, place },
+                    };
+                }
+            }
+        }
+        place += 1;
+    }
+    FoundNumber {
+        number: None,
+        near: Near {
+            doc: book.doc_count(),
+            place,
+        },
+    }
+}
+
+/// The number of the document with a name, where it is found from a number on and before another, in steps of which
 /// each is twice the one before, and then by halving.
-fn number_from(book: &TopicBook, name: &[u8], start: usize, step: usize) -> Option<u32>
+fn number_between(book: &TopicBook, name: &[u8], start: u32, end: u32) -> Option<u32>
     ensures { IfSome result (λ number. number_of book.now.docs name.now ≡ Some number) }
 {
     let mut from = start;
-    let mut to = book.doc_count() as usize;
-    let mut step = step;
+    let mut to = end;
+    let mut step = 0;
     while from < to {
         let ahead = ((to - from) / 2).min(step);
-        let place = from + ahead;
-        match book.doc_name(place as u32).cmp(name) {
+        let doc = from + ahead;
+        match order_of(book, doc, name) {
             Ordering::Less => {
-                from = place + 1;
-                step = 2 * ahead + 1;
+                from = doc + 1;
+                step = ahead.saturating_mul(2).saturating_add(1);
             }
-            Ordering::Equal => return Some(place as u32),
-            Ordering::Greater => to = place,
+            Ordering::Equal => return Some(doc),
+            Ordering::Greater => to = doc,
         }
     }
     None
 }
 
-/// The number of the document of a topic with a name, and none where it has no such document. It is looked for first
-/// from a number on. The first step is as many documents as the topic has for each of so many names.
-#[inline(never)]
-pub fn number_near(book: &TopicBook, name: &[u8], near: usize, names: usize) -> Option<u32>
+/// The same, and then among all documents.
+fn number_after(book: &TopicBook, name: &[u8], start: u32, end: u32) -> Option<u32>
     ensures { result ≡ number_of book.now.docs name.now }
 {
-    let step = book.doc_count() as usize / names.max(1);
-    match number_from(book, name, near, step) {
+    match number_between(book, name, start, end) {
         Some(number) => Some(number),
         None => book.find(name),
+    }
+}
+
+/// The number of the document of a topic with a name, and none where it has no such document. It is looked for first
+/// at a number, then among ranked documents, and then before the first of these that comes after it.
+#[inline(never)]
+pub fn number_near(book: &TopicBook, name: &[u8], ranked: &[Placed], near: Near) -> FoundNumber
+    ensures { result.number ≡ number_of book.now.docs name.now }
+{
+    let next = near.doc.saturating_add(1);
+    if has_name(book, near.doc, name) {
+        return FoundNumber {
+            number: Some(near.doc),
+            near: Near {
+                doc: next,
+                place: near.place,
+            },
+        };
+    }
+    let found = number_ranked(book, name, ranked, near);
+    let number = match found.number {
+        Some(number) => Some(number),
+        None => number_after(book, name, next, found.near.doc),
+    };
+    FoundNumber {
+        number,
+        near: Near {
+            doc: number.unwrap_or(near.doc).saturating_add(1),
+            place: found.near.place,
+        },
     }
 }
 
@@ -52,7 +158,7 @@ fn name_order(names: &[Name], place: usize, name: &[u8]) -> Ordering
     ensures past { length names.now ≤ place → result ≡ Greater }
 {
     match names.get(place) {
-        Some(each) => each.compare(name),
+        Some(each) => compare(each.as_bytes(), name),
         None => Ordering::Greater,
     }
 }

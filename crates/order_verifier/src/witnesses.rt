@@ -16,6 +16,8 @@ use crate::completion::CompletionEnds;
 use crate::documents::Documents;
 use crate::failure::Failure;
 use crate::rows::ListRows;
+use crate::search::Near;
+use desk_model::Placed;
 use order_certificate::{CertificatePlace, WitnessList};
 
 /// Whether two sums, of a low and of a high completion, differ on the order: they are on two sides of 0, or one is 0.
@@ -26,8 +28,9 @@ fn differ(low: i128, high: i128) -> bool
 }
 
 impl Comparison<'_> {
-    /// The first name of a list, by its number from 0, that is not that of an unjudged document of a topic.
-    fn first_other(&self, topic: u32, documents: &Documents<'_>) -> Option<u32>
+    /// The first name of a list, by its number from 0, that is not that of an unjudged document of a topic. Each is
+    /// looked for near the one before, and among some ranked documents.
+    fn first_other(&self, topic: u32, documents: &Documents<'_>, ranked: &[Placed]) -> Option<u32>
         requires topic { OfTopic (topics_in self.now) topic (λ t. documents.now.docs ≡ t.docs) }
         requires few { length documents.now.names ≤ DOCUMENT_LIMIT }
         ensures { OfTopic (topics_in self.now) topic (λ t.
@@ -35,9 +38,9 @@ impl Comparison<'_> {
             (IsFirstOther t documents.now.names)) }
     {
         let marks = self.topic_marks(topic);
-        let mut near = 0;
+        let mut near = Near::START;
         for document in 0..documents.len() as u32 {
-            let found = self.find_unjudged(topic, marks, documents, document, near);
+            let found = self.find_unjudged(topic, marks, documents, document, ranked, near);
             if !found.is_found {
                 return Some(document);
             }
@@ -59,14 +62,16 @@ impl Comparison<'_> {
         let book = self.topic_book(topic);
         let low = lists.low(topic, book);
         let high = lists.high(topic, book);
-        if let Some(document) = self.first_other(topic, &low) {
+        let likely = self.likely(topic, WitnessList::Low);
+        if let Some(document) = self.first_other(topic, &low, likely) {
             return Some(CertificatePlace::Document {
                 topic,
                 list: WitnessList::Low,
                 document,
             });
         }
-        match self.first_other(topic, &high) {
+        let likely = self.likely(topic, WitnessList::High);
+        match self.first_other(topic, &high, likely) {
             Some(document) => Some(CertificatePlace::Document {
                 topic,
                 list: WitnessList::High,
