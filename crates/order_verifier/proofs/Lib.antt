@@ -18,6 +18,7 @@ pub mod Numbered
 pub mod NearPlaces
 pub mod FirstFailing
 pub mod EightBytes
+pub mod Flags
 pub mod EndSums
 pub mod NumbersOnTopics
 pub mod SameNames

@@ -1,10 +1,11 @@
 -- What is listed for each topic, by its number.
-use Rattle.std.specs.Prelude.{◌≡◌, ℕ, Bool, true, false, List, [], All, map, slice_get, slice_index_or, Option, Some, unwrap_or}
+use Rattle.std.specs.Prelude.{◌≡◌, ℕ, ◌<◌, ◌≤◌, Bool, true, false, List, [], All, length, map, slice_get, slice_index_or, Option, Some, unwrap_or}
+use Rattle.std.specs.List.{list_any}
 use Rattle.desk_model.specs.Book.{Book}
 use Rattle.desk_model.specs.Desk.{Desk}
-use Rattle.desk_model.specs.Name.{AreAscending, number_of}
+use Rattle.desk_model.specs.Name.{AreAscending, is_same_name, number_of}
 use Rattle.order_verifier.specs.declared.documents.ListForm.{ListForm}
-use Rattle.order_verifier.specs.declared.documents.ListForm.TheVariants.{Names, Picks, NumberedPicks}
+use Rattle.order_verifier.specs.declared.documents.ListForm.TheVariants.{Names, FlaggedNames, Picks, NumberedPicks}
 
 -- the names of a list: all of some names, or those picked of them by their numbers
 abbrev pub names_listed : List (List ℕ) → List ℕ → Bool → List (List ℕ)
@@ -18,6 +19,7 @@ pub record ListedOn : Type 0 where
 
 abbrev pub is_picked : ListForm → Bool
 is_picked Names = false
+is_picked FlaggedNames = false
 is_picked Picks = true
 is_picked NumberedPicks = true
 
@@ -32,8 +34,24 @@ number_of_pick docs numbers k = unwrap_or (slice_index_or numbers k (number_of d
 -- numbers that are known are those of the names
 abbrev pub AreNumbered : ListForm → List (List ℕ) → List (List ℕ) → List (Option ℕ) → Type 0
 AreNumbered Names docs names numbers = Unit {0}
+AreNumbered FlaggedNames docs names numbers = Unit {0}
 AreNumbered Picks docs names numbers = Unit {0}
 AreNumbered NumberedPicks docs names numbers = numbers ≡ numbers_of docs names
+
+-- whether a list names a document of a topic
+abbrev pub is_named : List (List ℕ) → List (List ℕ) → ℕ → Bool
+is_named docs names doc = list_any (λ each. is_same_name each (slice_index_or docs doc [])) names
+
+-- as far as flags go, the one of each document says whether the list names it
+abbrev pub AreFlags : List (List ℕ) → List (List ℕ) → List Bool → Type 0
+AreFlags docs names flags = (doc : ℕ) → doc < length docs → doc < length flags → slice_index_or flags doc false ≡ is_named docs names doc
+
+-- flags that are known are those of all documents
+abbrev pub AreFlagged : ListForm → List (List ℕ) → List (List ℕ) → List Bool → Type 0
+AreFlagged FlaggedNames docs names flags = (length docs ≤ length flags) × AreFlags docs names flags
+AreFlagged Names docs names flags = Unit {0}
+AreFlagged Picks docs names flags = Unit {0}
+AreFlagged NumberedPicks docs names flags = Unit {0}
 
 -- ascending names of documents of a topic, which ascend, too
 pub record AreKnown (docs names : List (List ℕ)) : Type 0 where

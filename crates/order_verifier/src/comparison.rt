@@ -1,7 +1,7 @@
 // Two runs of a desk on its topics.
 ghost use Rattle.std.specs.Prelude.{◌≡◌, ◌↔◌, ◌<◌, ◌∷◌, [], length, slice_get, IsTrue, Some};
 ghost use Rattle.desk_model.specs.Mark.{is_unjudged};
-ghost use Rattle.desk_model.specs.Name.{AreAscending};
+ghost use Rattle.desk_model.specs.Name.{AreAscending, number_of};
 ghost use Rattle.measure_laws.specs.Ends.{IsUpperEnd, IsLowerEnd};
 ghost use Rattle.measure_laws.specs.Shares.{IsModest};
 ghost use Rattle.order_certificate.specs.Evidence.{AreUnjudged, listed_truth};
@@ -57,6 +57,8 @@ pub struct OuterEnds {
 #[derive(Clone, Copy)]
 pub struct FoundUnjudged {
     pub is_found: bool,
+    /// Its number, where it is found.
+    pub doc: u32,
     pub near: Near,
 }
 
@@ -101,6 +103,7 @@ impl<'a> Comparison<'a> {
         requires { topic < length (topics_in self.now) }
         ensures book { slice_get self.now.desk.topics topic ≡ Some result.now }
         ensures docs { OfTopic (topics_in self.now) topic (λ t. result.now.docs ≡ t.docs) }
+        ensures ascending { AreAscending result.now.docs }
     {
         self.desk.topic(topic)
     }
@@ -170,18 +173,23 @@ impl<'a> Comparison<'a> {
         requires marks { slice_get self.now.marks topic ≡ Some marks.now }
         requires topic { OfTopic (topics_in self.now) topic (λ t. documents.now.docs ≡ t.docs) }
         ensures { OfRow documents.now.names place (λ name.
+            (IsTrue result.is_found → number_of documents.now.docs name ≡ Some result.doc) ×
             OfTopic (topics_in self.now) topic (λ t. IsTrue result.is_found ↔
             AreUnjudged t (name ∷ []))) }
     {
         let _desk = self.desk;
         let found = documents.number(place, ranked, near);
-        let is_found = match found.number {
-            Some(doc) => is_open(marks[doc as usize]),
-            None => false,
-        };
-        FoundUnjudged {
-            is_found,
-            near: found.near,
+        match found.number {
+            Some(doc) => FoundUnjudged {
+                is_found: is_open(marks[doc as usize]),
+                doc,
+                near: found.near,
+            },
+            None => FoundUnjudged {
+                is_found: false,
+                doc: 0,
+                near: found.near,
+            },
         }
     }
 

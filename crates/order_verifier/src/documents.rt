@@ -5,7 +5,7 @@ ghost use Rattle.std.specs.List.Sorted.{IsBinarySearchResult, IsSearchInRange};
 ghost use Rattle.std.specs.Ordering.{nat_cmp};
 ghost use Rattle.std.specs.declared.cmp.Ordering.TheVariants.{Greater};
 ghost use Rattle.desk_model.specs.Name.{is_same_name, number_of, AreAscending};
-ghost use Rattle.order_verifier.specs.Rows.{AreKnown, OfRow, names_listed, number_of_pick, numbers_of};
+ghost use Rattle.order_verifier.specs.Rows.{AreFlags, AreKnown, OfRow, names_listed, number_of_pick, numbers_of};
 
 use crate::search::{FoundNumber, Near, name_place, number_near};
 use desk_model::{Name, Placed, TopicBook};
@@ -17,6 +17,8 @@ use std::marker::Model;
 pub enum ListForm {
     /// By all of some names.
     Names,
+    /// The same, where it is known of each document whether it is named.
+    FlaggedNames,
     /// By picking some of the names by their numbers.
     Picks,
     /// The same, where the topic's number of each of the names is known.
@@ -37,17 +39,18 @@ pub struct Documents<'a> {
     names: &'a [Name],
     picks: &'a [u32],
     numbers: &'a [Option<u32>],
+    flags: &'a [bool],
     form: ListForm,
 }
 
 impl<'a> Model for Documents<'a> {
-    ghost use Rattle.order_verifier.specs.Rows.{AreNumbered as Numbered, ListedOn, is_picked, names_listed as listed};
+    ghost use Rattle.order_verifier.specs.Rows.{AreFlagged as Flagged, AreNumbered as Numbered, ListedOn, is_picked, names_listed as listed};
 
     ghost Value = { ListedOn };
 
     ghost view = { λ d. record { docs = d.book.now.docs; names = listed d.names.now d.picks.now (is_picked d.form) } };
 
-    ghost invariant = { λ d. Numbered d.form d.book.now.docs d.names.now d.numbers.now };
+    ghost invariant = { λ d. Numbered d.form d.book.now.docs d.names.now d.numbers.now × Flagged d.form d.book.now.docs d.names.now d.flags.now };
 }
 
 impl<'a> Documents<'a> {
@@ -60,6 +63,7 @@ impl<'a> Documents<'a> {
             names,
             picks: &[],
             numbers: &[],
+            flags: &[],
             form: ListForm::Names,
         }
     }
@@ -74,6 +78,7 @@ impl<'a> Documents<'a> {
             names,
             picks,
             numbers: &[],
+            flags: &[],
             form: ListForm::Picks,
         }
     }
@@ -94,7 +99,36 @@ impl<'a> Documents<'a> {
             names,
             picks,
             numbers,
+            flags: &[],
             form: ListForm::NumberedPicks,
+        }
+    }
+
+    /// Whether flags for all documents pay: the list has all of some names, and these are many.
+    pub fn is_long(&self) -> bool {
+        matches!(self.form, ListForm::Names) && self.names.len() >= 64
+    }
+
+    /// The same documents, where it is known of the topic's first documents whether the list names them. That pays
+    /// where it has all of some names and these are all documents.
+    pub fn flagged<'b>(&'b self, flags: &'b [bool]) -> Documents<'b>
+        requires { AreFlags self.now.docs self.now.names flags.now }
+        ensures { result ≡ self.now }
+    {
+        let are_all = flags.len() >= self.book.doc_count() as usize;
+        let form = match self.form {
+            ListForm::Names | ListForm::FlaggedNames if are_all => ListForm::FlaggedNames,
+            ListForm::Names | ListForm::FlaggedNames => ListForm::Names,
+            ListForm::Picks => ListForm::Picks,
+            ListForm::NumberedPicks => ListForm::NumberedPicks,
+        };
+        Documents {
+            book: self.book,
+            names: self.names,
+            picks: self.picks,
+            numbers: self.numbers,
+            flags,
+            form,
         }
     }
 
@@ -103,7 +137,7 @@ impl<'a> Documents<'a> {
         ensures { result ≡ length self.now.names }
     {
         match self.form {
-            ListForm::Names => self.names.len(),
+            ListForm::Names | ListForm::FlaggedNames => self.names.len(),
             ListForm::Picks | ListForm::NumberedPicks => self.picks.len(),
         }
     }
@@ -117,7 +151,7 @@ impl<'a> Documents<'a> {
             number_of self.now.docs name) }
     {
         match self.form {
-            ListForm::Names => {
+            ListForm::Names | ListForm::FlaggedNames => {
                 let name = self.names[place as usize].as_bytes();
                 number_near(self.book, name, ranked, near)
             }
@@ -141,6 +175,7 @@ impl<'a> Documents<'a> {
     {
         match self.form {
             ListForm::Names => is_on(self.names, self.book.doc_name(doc)),
+            ListForm::FlaggedNames => self.flags[doc as usize],
             ListForm::Picks => is_picked(self.names, self.picks, self.book.doc_name(doc)),
             ListForm::NumberedPicks => {
                 find_number(self.book, self.numbers, self.picks, doc, 0).is_found
@@ -162,8 +197,26 @@ impl<'a> Documents<'a> {
             ListForm::NumberedPicks => {
                 find_number(self.book, self.numbers, self.picks, doc, near)
             }
+            ListForm::FlaggedNames => FoundNear {
+                is_found: self.flags[doc as usize],
+                near,
+            },
+            ListForm::Names | ListForm::Picks => self.find_by_name(doc, near),
+        }
+    }
+
+    /// The same by the names of the list.
+    #[inline(never)]
+    fn find_by_name(&self, doc: u32, near: usize) -> FoundNear
+        requires known { AreKnown self.now.docs self.now.names }
+        requires doc { doc < length self.now.docs }
+        ensures { result.is_found ≡
+            list_any (λ each. is_same_name each (slice_index_or self.now.docs doc []))
+            self.now.names }
+    {
+        match self.form {
             ListForm::Names => find_name(self.names, self.book.doc_name(doc), near),
-            ListForm::Picks => FoundNear {
+            _ => FoundNear {
                 is_found: self.has(doc),
                 near,
             },
@@ -203,7 +256,6 @@ fn is_on(names: &[Name], name: &[u8]) -> bool
 }
 
 /// Whether a name is on a list, looked for near a place, and the place after it.
-#[inline(never)]
 fn find_name(names: &[Name], name: &[u8], near: usize) -> FoundNear
     requires { AreAscending names.now }
     ensures { result.is_found ≡ list_any (λ each. is_same_name each name.now) names.now }

@@ -1,14 +1,15 @@
 // The lists of an open claim: each name against the documents of its topic, and the sums of both completions.
-ghost use Rattle.std.specs.Prelude.{◌≡◌, ◌≤◌, ◌<◌, All, length, MatchOption, MatchResult};
-ghost use Rattle.desk_model.specs.Limits.{DOCUMENT_LIMIT, TOPIC_LIMIT};
+ghost use Rattle.std.specs.Prelude.{◌≡◌, ℕ, ◌≤◌, ◌<◌, false, None, All, length, slice_index_or, MatchOption, MatchResult};
+ghost use Rattle.desk_model.specs.Limits.{TOPIC_LIMIT};
 ghost use Rattle.order_certificate.specs.Certificate.{AreLists};
 ghost use Rattle.order_certificate.specs.Evidence.{AreUnjudged};
 ghost use Rattle.desk_model.specs.Verdict.{differs};
 ghost use Rattle.order_certificate.specs.declared.certificate.Evidence.TheVariants.{Open as O};
 ghost use Rattle.order_verifier.specs.Checks.{OfTopic};
-ghost use Rattle.order_verifier.specs.CompletionEnds.{AreEndsOn, AreEndSums};
-ghost use Rattle.order_verifier.specs.Refusal.{AreCompletions, HasOther, HasWrongDocument, IsFirstOther, ShowsOf, topics_in};
-ghost use Rattle.order_verifier.specs.Rows.{OfRow, SuitDesk};
+ghost use Rattle.order_certificate.specs.declared.certificate.TopicWitness.{TopicWitness as Witness};
+ghost use Rattle.order_verifier.specs.CompletionEnds.{AreEndsOn, AreEndSums, IsListOn};
+ghost use Rattle.order_verifier.specs.Refusal.{HasOther, HasWrongDocument, IsFirstOther, ShowsOf, topics_in};
+ghost use Rattle.order_verifier.specs.Rows.{AreFlags, OfRow, SuitDesk};
 ghost use Rattle.order_verifier.specs.Verified.{FailsBy};
 
 use crate::comparison::Comparison;
@@ -29,13 +30,21 @@ fn differ(low: i128, high: i128) -> bool
 
 impl Comparison<'_> {
     /// The first name of a list, by its number from 0, that is not that of an unjudged document of a topic. Each is
-    /// looked for near the one before, and among some ranked documents.
-    fn first_other(&self, topic: u32, documents: &Documents<'_>, ranked: &[Placed]) -> Option<u32>
-        requires topic { OfTopic (topics_in self.now) topic (λ t. documents.now.docs ≡ t.docs) }
-        requires few { length documents.now.names ≤ DOCUMENT_LIMIT }
-        ensures { OfTopic (topics_in self.now) topic (λ t.
+    /// looked for near the one before, and among some ranked documents. Flags that are clear, one for each of the
+    /// topic's first documents, are set for those that the list names.
+    fn first_other(
+        &self,
+        topic: u32,
+        documents: &Documents<'_>,
+        ranked: &[Placed],
+        flags: &mut [bool],
+    ) -> Option<u32>
+        requires list { IsListOn self.now topic documents.now }
+        requires clear { (k : ℕ) → slice_index_or flags.old k false ≡ false }
+        ensures other { OfTopic (topics_in self.now) topic (λ t.
             MatchOption result (AreUnjudged t documents.now.names)
             (IsFirstOther t documents.now.names)) }
+        ensures flags { result ≡ None → AreFlags documents.now.docs documents.now.names flags.new }
     {
         let marks = self.topic_marks(topic);
         let mut near = Near::START;
@@ -44,41 +53,70 @@ impl Comparison<'_> {
             if !found.is_found {
                 return Some(document);
             }
+            if (found.doc as usize) < flags.len() {
+                flags[found.doc as usize] = true;
+            }
             near = found.near;
         }
         None
     }
 
-    /// The same of the two lists of a topic, the low one first.
-    fn first_other_on<L: ListRows>(&self, topic: u32, lists: &L) -> Option<CertificatePlace>
-        requires topic { topic < length (topics_in self.now) }
-        requires row { topic < length (L.witnesses lists.now) }
-        requires lists { All AreLists (L.witnesses lists.now) }
-        requires suits { SuitDesk (L.suits lists.now) self.now.desk }
-        ensures { OfRow (L.witnesses lists.now) topic (λ w.
+    /// The ends of the differences in the completions of two lists of a topic, or the first document of the lists that
+    /// is no unjudged one, the low list first. The flags are clear.
+    fn ends_of(
+        &self,
+        topic: u32,
+        low: &Documents<'_>,
+        high: &Documents<'_>,
+        low_flags: &mut [bool],
+        high_flags: &mut [bool],
+    ) -> Result<CompletionEnds, CertificatePlace>
+        requires low { IsListOn self.now topic low.now }
+        requires high { IsListOn self.now topic high.now }
+        requires low_clear { (k : ℕ) → slice_index_or low_flags.old k false ≡ false }
+        requires high_clear { (k : ℕ) → slice_index_or high_flags.old k false ≡ false }
+        ensures { (w : Witness) → w.low ≡ low.now.names → w.high ≡ high.now.names →
             OfTopic (topics_in self.now) topic (λ t.
-            MatchOption result (AreCompletions (w, t)) (HasOther topic (w, t)))) }
+            MatchResult result (AreEndsOn self.now (w, t)) (HasOther topic (w, t))) }
     {
-        let book = self.topic_book(topic);
-        let low = lists.low(topic, book);
-        let high = lists.high(topic, book);
         let likely = self.likely(topic, WitnessList::Low);
-        if let Some(document) = self.first_other(topic, &low, likely) {
-            return Some(CertificatePlace::Document {
+        if let Some(document) = self.first_other(topic, low, likely, low_flags) {
+            return Err(CertificatePlace::Document {
                 topic,
                 list: WitnessList::Low,
                 document,
             });
         }
         let likely = self.likely(topic, WitnessList::High);
-        match self.first_other(topic, &high, likely) {
-            Some(document) => Some(CertificatePlace::Document {
+        if let Some(document) = self.first_other(topic, high, likely, high_flags) {
+            return Err(CertificatePlace::Document {
                 topic,
                 list: WitnessList::High,
                 document,
-            }),
-            None => None,
+            });
         }
+        let low = low.flagged(low_flags);
+        let high = high.flagged(high_flags);
+        Ok(self.completion_ends(topic, &low, &high))
+    }
+
+    /// The same for long lists, with a flag for each of the topic's first documents.
+    #[inline(never)]
+    fn flagged_ends(
+        &self,
+        topic: u32,
+        low: &Documents<'_>,
+        high: &Documents<'_>,
+    ) -> Result<CompletionEnds, CertificatePlace>
+        requires low { IsListOn self.now topic low.now }
+        requires high { IsListOn self.now topic high.now }
+        ensures { (w : Witness) → w.low ≡ low.now.names → w.high ≡ high.now.names →
+            OfTopic (topics_in self.now) topic (λ t.
+            MatchResult result (AreEndsOn self.now (w, t)) (HasOther topic (w, t))) }
+    {
+        let mut low_flags = [false; 16_384];
+        let mut high_flags = [false; 16_384];
+        self.ends_of(topic, low, high, &mut low_flags, &mut high_flags)
     }
 
     /// The ends of the differences in the two completions of a topic, or the first document of its lists that is no
@@ -96,13 +134,13 @@ impl Comparison<'_> {
             OfTopic (topics_in self.now) topic (λ t.
             MatchResult result (AreEndsOn self.now (w, t)) (HasOther topic (w, t)))) }
     {
-        if let Some(place) = self.first_other_on(topic, lists) {
-            return Err(place);
-        }
         let book = self.topic_book(topic);
         let low = lists.low(topic, book);
         let high = lists.high(topic, book);
-        Ok(self.completion_ends(topic, &low, &high))
+        if low.is_long() || high.is_long() {
+            return self.flagged_ends(topic, &low, &high);
+        }
+        self.ends_of(topic, &low, &high, &mut [], &mut [])
     }
 
     /// Their sums over the topics, or the first document of all lists that is no unjudged one, in the order of the

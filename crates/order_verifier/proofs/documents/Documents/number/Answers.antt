@@ -26,6 +26,6 @@ returns-in-NumberedPicks c =
     let listed : record { docs = docs; names = names_listed names picks true } ≡ c.args.self.now = subst (λ f. record { docs = docs; names = names_listed names picks (is_picked f) } ≡ c.args.self.now) c.in-NumberedPicks.is c.self.view_is in
     let at : ℕ → List ℕ = λ k. get_or names k [] in
     let within : place < length picks = omega (arith, subst (λ (l : ListedOn). place < length l.names) (sym listed) c.requires, length-map picks at) in
-    let numbers = subst (λ f. AreNumbered f docs names c.self.inside.numbers.now) c.in-NumberedPicks.is c.self.invariant in
+    let numbers = subst (λ f. AreNumbered f docs names c.self.inside.numbers.now) c.in-NumberedPicks.is c.self.invariant.0 in
     subst (λ (l : ListedOn). OfRow l.names place (λ name. c.number_at.result ≡ number_of l.docs name)) listed
     (get_or names (get_or picks place 0) [], picked_there names picks place 0 within, c.number_at.ensures ∙ number_there docs names c.self.inside.numbers.now (get_or picks place 0) numbers)
