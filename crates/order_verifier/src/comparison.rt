@@ -53,13 +53,12 @@ pub struct OuterEnds {
     pub most_high: i128,
 }
 
-/// Whether an unjudged document is found, and where the search for the next one begins.
+/// Whether an unjudged document is found.
 #[derive(Clone, Copy)]
 pub struct FoundUnjudged {
     pub is_found: bool,
     /// Its number, where it is found.
     pub doc: u32,
-    pub near: Near,
 }
 
 /// Whether a mark leaves the document unjudged.
@@ -156,9 +155,8 @@ impl<'a> Comparison<'a> {
         self.desk.ranking(run, topic).by_doc()
     }
 
-    /// Whether a list names an unjudged document of a topic with these marks at a place, and where the search for the
-    /// next one begins. It is looked for first at a number and among ranked documents, which changes nothing but how
-    /// soon it is found.
+    /// Whether a list names an unjudged document of a topic with these marks at a place. It is looked for first at a
+    /// number and among ranked documents, which changes nothing but how soon it is found.
     #[inline(always)]
     pub fn find_unjudged(
         &self,
@@ -167,7 +165,7 @@ impl<'a> Comparison<'a> {
         documents: &Documents<'_>,
         place: u32,
         ranked: &[Placed],
-        near: Near,
+        near: &mut Near,
     ) -> FoundUnjudged
         requires place { place < length documents.now.names }
         requires marks { slice_get self.now.marks topic ≡ Some marks.now }
@@ -178,17 +176,14 @@ impl<'a> Comparison<'a> {
             AreUnjudged t (name ∷ []))) }
     {
         let _desk = self.desk;
-        let found = documents.number(place, ranked, near);
-        match found.number {
+        match documents.number(place, ranked, near) {
             Some(doc) => FoundUnjudged {
                 is_found: is_open(marks[doc as usize]),
                 doc,
-                near: found.near,
             },
             None => FoundUnjudged {
                 is_found: false,
                 doc: 0,
-                near: found.near,
             },
         }
     }

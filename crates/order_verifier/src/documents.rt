@@ -7,7 +7,7 @@ ghost use Rattle.std.specs.declared.cmp.Ordering.TheVariants.{Greater};
 ghost use Rattle.desk_model.specs.Name.{is_same_name, number_of, AreAscending};
 ghost use Rattle.order_verifier.specs.Rows.{AreFlags, AreKnown, OfRow, names_listed, number_of_pick, numbers_of};
 
-use crate::search::{FoundNumber, Near, name_place, number_near};
+use crate::search::{Near, name_place, number_near};
 use desk_model::{Name, Placed, TopicBook};
 use std::cmp::Ordering;
 use std::marker::Model;
@@ -144,11 +144,11 @@ impl<'a> Documents<'a> {
 
     /// The number on the topic of the document at a place of the list, from 0, and none where the topic has no
     /// such document. A name is looked for first at a number and among ranked documents, which changes nothing but how
-    /// soon it is found. On a list that ascends, what the search for the name before answers is near.
-    pub fn number(&self, place: u32, ranked: &[Placed], near: Near) -> FoundNumber
+    /// soon it is found. On a list that ascends, what the search for the name before leaves is near.
+    #[inline(always)]
+    pub fn number(&self, place: u32, ranked: &[Placed], near: &mut Near) -> Option<u32>
         requires { place < length self.now.names }
-        ensures { OfRow self.now.names place (λ name. result.number ≡
-            number_of self.now.docs name) }
+        ensures { OfRow self.now.names place (λ name. result ≡ number_of self.now.docs name) }
     {
         match self.form {
             ListForm::Names | ListForm::FlaggedNames => {
@@ -159,10 +159,9 @@ impl<'a> Documents<'a> {
                 let name = name_at(self.names, self.picks[place as usize]);
                 number_near(self.book, name, ranked, near)
             }
-            ListForm::NumberedPicks => FoundNumber {
-                number: number_at(self.book, self.numbers, self.picks[place as usize]),
-                near,
-            },
+            ListForm::NumberedPicks => {
+                number_at(self.book, self.numbers, self.picks[place as usize])
+            }
         }
     }
 

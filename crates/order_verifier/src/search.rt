@@ -21,11 +21,11 @@ impl Near {
     pub const START: Near = Near { doc: 0, place: 0 };
 }
 
-/// The number of a document that is looked for, and where the search for the next one begins.
+/// The number of a document that is looked for, and where the search ends.
 #[derive(Clone, Copy)]
-pub struct FoundNumber {
-    pub number: Option<u32>,
-    pub near: Near,
+struct FoundNumber {
+    number: Option<u32>,
+    near: Near,
 }
 
 /// How the name of a document compares with another. Past the end it is greater.
@@ -121,33 +121,26 @@ fn number_after(book: &TopicBook, name: &[u8], start: u32, end: u32) -> Option<u
 }
 
 /// The number of the document of a topic with a name, and none where it has no such document. It is looked for first
-/// at a number, then among ranked documents, and then before the first of these that comes after it.
+/// at a number, then among ranked documents, and then before the first of these that comes after it. Where the search
+/// for the next name begins is kept.
 #[inline(never)]
-pub fn number_near(book: &TopicBook, name: &[u8], ranked: &[Placed], near: Near) -> FoundNumber
-    ensures { result.number ≡ number_of book.now.docs name.now }
+pub fn number_near(book: &TopicBook, name: &[u8], ranked: &[Placed], near: &mut Near) -> Option<u32>
+    ensures { result ≡ number_of book.now.docs name.now }
 {
-    let next = near.doc.saturating_add(1);
-    if has_name(book, near.doc, name) {
-        return FoundNumber {
-            number: Some(near.doc),
-            near: Near {
-                doc: next,
-                place: near.place,
-            },
-        };
+    let start = *near;
+    let next = start.doc.saturating_add(1);
+    near.doc = next;
+    if has_name(book, start.doc, name) {
+        return Some(start.doc);
     }
-    let found = number_ranked(book, name, ranked, near);
+    let found = number_ranked(book, name, ranked, start);
     let number = match found.number {
         Some(number) => Some(number),
         None => number_after(book, name, next, found.near.doc),
     };
-    FoundNumber {
-        number,
-        near: Near {
-            doc: number.unwrap_or(near.doc).saturating_add(1),
-            place: found.near.place,
-        },
-    }
+    near.doc = number.unwrap_or(start.doc).saturating_add(1);
+    near.place = found.near.place;
+    number
 }
 
 /// How the name at a place compares with another. Past the end it is greater.

@@ -49,14 +49,13 @@ impl Comparison<'_> {
         let marks = self.topic_marks(topic);
         let mut near = Near::START;
         for document in 0..documents.len() as u32 {
-            let found = self.find_unjudged(topic, marks, documents, document, ranked, near);
+            let found = self.find_unjudged(topic, marks, documents, document, ranked, &mut near);
             if !found.is_found {
                 return Some(document);
             }
             if (found.doc as usize) < flags.len() {
                 flags[found.doc as usize] = true;
             }
-            near = found.near;
         }
         None
     }

@@ -14,7 +14,7 @@ returns-in-Picks c =
     let listed : record { docs = docs; names = names_listed names picks true } ≡ c.args.self.now = subst (λ f. record { docs = docs; names = names_listed names picks (is_picked f) } ≡ c.args.self.now) c.in-Picks.is c.self.view_is in
     let at : ℕ → List ℕ = λ k. get_or names k [] in
     let within : place < length picks = omega (arith, subst (λ (l : ListedOn). place < length l.names) (sym listed) c.requires, length-map picks at) in
-    subst (λ (l : ListedOn). OfRow l.names place (λ name. c.number_near-in-Picks.result.number ≡ number_of l.docs name)) listed
+    subst (λ (l : ListedOn). OfRow l.names place (λ name. c.number_near-in-Picks.result ≡ number_of l.docs name)) listed
     (get_or names (get_or picks place 0) [], picked_there names picks place 0 within, c.number_near-in-Picks.ensures ∙ ap (number_of docs) c.name_at-name.ensures)
 
 pub returns-in-NumberedPicks : goal.returns-in-NumberedPicks
