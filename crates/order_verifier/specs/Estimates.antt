@@ -1,7 +1,7 @@
 -- What is known of each candidate where a walk along the ranking stands: a number which its sum is near.
 use Rattle.std.specs.Prelude.{◌≡◌, ℕ, ◌+◌, ◌-◌, ◌*◌, ◌<◌, ◌≤◌, Bool, true, false, if◌then◌else◌, List, [], ◌∷◌, length, drop}
 use Rattle.desk_model.specs.Completion.{picked_value}
-use Rattle.desk_model.specs.Limits.{DOCUMENT_LIMIT, PARTS_OF_ONE, RANK_LIMIT}
+use Rattle.desk_model.specs.Limits.{PARTS_OF_ONE, RANK_LIMIT}
 use Rattle.desk_model.specs.Mark.{is_unjudged}
 use Rattle.desk_model.specs.Precisions.{true_ranks}
 use Rattle.desk_model.specs.declared.types.Mark.{Mark}
@@ -9,10 +9,8 @@ use Rattle.measure_laws.specs.Candidates.{open_docs}
 use Rattle.measure_laws.specs.Parts.{high_part}
 use Rattle.order_verifier.specs.Candidates.{along, candidate_sum, gains_by, number_of, value_at}
 use Rattle.order_verifier.specs.PartSums.{IsBefore, added, whole, worth_of}
-use Rattle.order_verifier.specs.declared.estimate.Estimate.{Estimate}
 use Rattle.order_verifier.specs.declared.estimate.Passed.{Passed}
 use Rattle.order_verifier.specs.declared.estimate.Totals.{Totals}
-use Rattle.order_verifier.specs.declared.run_bound.Start.{Start}
 
 -- the sum of one over each of some ranks, in parts, each rounded up
 abbrev pub inverse_sum : List ℕ → ℕ
@@ -79,17 +77,6 @@ pub record IsPassing (high : Bool) (marks : List Mark) (docs : List ℕ) (totals
   pub far_small : totals.far ≤ RANK_LIMIT * PARTS_OF_ONE
   pub inverses_small : totals.inverses ≤ RANK_LIMIT * PARTS_OF_ONE
   pub near : IsNear high (candidate_sum high (along marks docs) passed.unjudged) (estimate_of passed totals) (slack_of passed totals)
-
--- an estimate of numbers that are not too great
-pub record IsSmallEstimate (estimate : Estimate) : Type 0 where
-  pub sum : estimate.sum ≤ 2 * (RANK_LIMIT * PARTS_OF_ONE)
-  pub slack : estimate.slack ≤ RANK_LIMIT * (RANK_LIMIT * PARTS_OF_ONE)
-  pub documents : estimate.documents ≤ DOCUMENT_LIMIT
-
--- a candidate, with an estimate of any sum that is not too great
-pub record IsGuess (marks : List Mark) (docs : List ℕ) (start : Start) : Type 0 where
-  pub within : start.count ≤ length (open_docs marks docs)
-  pub small : IsSmallEstimate start.estimate
 
 -- ---- the best number
 -- whether a number is at least as good as another: the high side wants the greatest, the low side the smallest

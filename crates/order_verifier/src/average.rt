@@ -14,12 +14,12 @@ ghost use Rattle.order_verifier.specs.Least.{AreRankings, IsLeastLow};
 ghost use Rattle.order_verifier.specs.PartSums.{worth_of};
 ghost use Rattle.order_verifier.specs.RunBounds.{AreKnown};
 
-use crate::candidate::quotient;
+use crate::candidate::{MarkedRun, quotient};
 use crate::counts::RelevantCounts;
-use crate::part_sum::PartSum;
+use crate::part_sum::{PartSum, Rank};
 use crate::ranked::Ranked;
 use crate::relevance::Relevance;
-use crate::run_bound::bound;
+use crate::run_bound::{RunBounds, bound};
 use desk_model::{Mark, Ranking};
 
 /// Whether two rankings are one list of documents.
@@ -39,7 +39,7 @@ fn sum_in<T: Relevance>(high: bool, docs: &[u32], relevant: &T) -> u128
     let mut sum = PartSum::NONE;
     let mut rank = 1;
     for doc in docs {
-        sum = sum.with(high, relevant.is_relevant(*doc), rank);
+        sum = sum.with(high, relevant.is_relevant(*doc), Rank { number: rank });
         rank += 1;
     }
     sum.parts
@@ -57,33 +57,27 @@ fn average_in<T: Relevance>(high: bool, docs: &[u32], relevant: &T) -> u128
     quotient(high, sum, relevant.relevant_count())
 }
 
-/// A run's lower bound.
-fn low_bound(run: &Ranked<'_>, marks: &[Mark], all: RelevantCounts) -> u128
-    requires ranking { IsRanking (length marks.now) run.now.ranking.now }
-    requires few { length marks.now ≤ DOCUMENT_LIMIT }
-    requires all { AreAllCounts marks.now all }
-    requires known { AreKnown marks.now run.now.ranking.now run.now.bounds }
-    ensures value { result ≡ average_bound_lo marks.now run.now.ranking.now }
+/// A run's lower bound, which may be known.
+fn low_bound(known: Option<RunBounds>, run: &MarkedRun<'_, '_>) -> u128
+    requires { AreKnown run.now.marks.now run.now.docs.now known }
+    ensures value { result ≡ average_bound_lo run.now.marks.now run.now.docs.now }
     ensures small { result ≤ PARTS_OF_ONE }
 {
-    match run.bounds {
+    match known {
         Some(bounds) => u128::from(bounds.low),
-        None => bound(false, run.ranking.docs(), marks, all),
+        None => bound(false, run),
     }
 }
 
-/// A run's upper bound.
-fn high_bound(run: &Ranked<'_>, marks: &[Mark], all: RelevantCounts) -> u128
-    requires ranking { IsRanking (length marks.now) run.now.ranking.now }
-    requires few { length marks.now ≤ DOCUMENT_LIMIT }
-    requires all { AreAllCounts marks.now all }
-    requires known { AreKnown marks.now run.now.ranking.now run.now.bounds }
-    ensures value { result ≡ average_bound_hi marks.now run.now.ranking.now }
+/// A run's upper bound, which may be known.
+fn high_bound(known: Option<RunBounds>, run: &MarkedRun<'_, '_>) -> u128
+    requires { AreKnown run.now.marks.now run.now.docs.now known }
+    ensures value { result ≡ average_bound_hi run.now.marks.now run.now.docs.now }
     ensures small { result ≤ PARTS_OF_ONE }
 {
-    match run.bounds {
+    match known {
         Some(bounds) => u128::from(bounds.high),
-        None => bound(true, run.ranking.docs(), marks, all),
+        None => bound(true, run),
     }
 }
 
@@ -99,8 +93,18 @@ pub fn least_low(a: &Ranked<'_>, b: &Ranked<'_>, marks: &[Mark], all: RelevantCo
     if are_same(a.ranking.docs(), b.ranking.docs()) {
         return 0;
     }
-    let low = low_bound(a, marks, all);
-    let high = high_bound(b, marks, all);
+    let first = MarkedRun {
+        docs: a.ranking.docs(),
+        marks,
+        all,
+    };
+    let second = MarkedRun {
+        docs: b.ranking.docs(),
+        marks,
+        all,
+    };
+    let low = low_bound(a.bounds, &first);
+    let high = high_bound(b.bounds, &second);
     low as i128 - high as i128
 }
 

@@ -1,7 +1,8 @@
 //! The completions that a run's bounds under average precision are looked for among. On the high side the first of its
 //! unjudged documents are relevant and the later ones not, on the low side the other way round; a candidate is named by
 //! how many the first ones are.
-ghost use Rattle.std.specs.Prelude.{◌≡◌, ◌+◌, ◌-◌, ◌*◌, ◌≤◌, length, if◌then◌else◌};
+ghost use Rattle.std.proofs.Props.{props};
+ghost use Rattle.std.specs.Prelude.{◌≡◌, ◌-◌, ◌*◌, ◌≤◌, length, if◌then◌else◌};
 ghost use Rattle.desk_model.specs.Completion.{picked_value};
 ghost use Rattle.desk_model.specs.Limits.{DOCUMENT_LIMIT, PARTS_OF_ONE, RANK_LIMIT};
 ghost use Rattle.desk_model.specs.Mark.{is_unjudged};
@@ -11,7 +12,7 @@ ghost use Rattle.order_verifier.specs.Candidates.{along, candidate_sum, document
 ghost use Rattle.order_verifier.specs.Counted.{AreAllCounts};
 
 use crate::counts::RelevantCounts;
-use crate::part_sum::PartSum;
+use crate::part_sum::{PartSum, Rank};
 use desk_model::Mark;
 
 /// Whether a document is relevant where so many of the first unjudged ones are still to come.
@@ -32,18 +33,28 @@ fn left_after(left: u32, mark: Mark) -> u32
     left.saturating_sub(u32::from(mark == Mark::Unjudged))
 }
 
+/// A run's ranking on a topic, with the marks of the topic's documents and their counts.
+#[derive(Clone, Copy)]
+pub struct MarkedRun<'d, 'm> {
+    pub docs: &'d [u32],
+    pub marks: &'m [Mark],
+    pub all: RelevantCounts,
+    pub ghost ranking: { IsRanking (length marks.now) docs.now } by { Prim.hlevel props },
+    pub ghost few: { length marks.now ≤ DOCUMENT_LIMIT },
+    pub ghost counts: { AreAllCounts marks.now all },
+}
+
 /// The sum of a candidate's precisions, rounded up on the high side and down on the low one.
-pub fn sum_of(high: bool, count: u32, docs: &[u32], marks: &[Mark]) -> u128
-    requires { IsRanking (length marks.now) docs.now }
-    ensures value { result ≡ candidate_sum high (along marks.now docs.now) count }
+pub fn sum_of(high: bool, count: u32, run: &MarkedRun<'_, '_>) -> u128
+    ensures value { result ≡ candidate_sum high (along run.now.marks.now run.now.docs.now) count }
     ensures small { result ≤ RANK_LIMIT * PARTS_OF_ONE }
 {
     let mut sum = PartSum::NONE;
     let mut left = count;
     let mut rank = 1;
-    for doc in docs {
-        let mark = marks[*doc as usize];
-        sum = sum.with(high, gains(high, left, mark), rank);
+    for doc in run.docs {
+        let mark = run.marks[*doc as usize];
+        sum = sum.with(high, gains(high, left, mark), Rank { number: rank });
         left = left_after(left, mark);
         rank += 1;
     }
@@ -69,27 +80,27 @@ pub fn quotient(high: bool, sum: u128, count: u32) -> u128
 }
 
 /// How many documents of the topic are relevant in a candidate.
-pub fn documents_in(high: bool, count: u32, all: RelevantCounts) -> u32
-    requires relevant { all.relevant + count ≤ DOCUMENT_LIMIT }
-    requires possible { count ≤ all.possible }
-    ensures { result ≡ documents_of high all count }
+pub fn documents_in(high: bool, count: u32, run: &MarkedRun<'_, '_>) -> u32
+    requires { count ≤ length (open_docs run.now.marks.now run.now.docs.now) }
+    ensures value { result ≡ documents_of high run.now.all count }
+    ensures few { result ≤ DOCUMENT_LIMIT }
 {
     if high {
-        all.relevant + count
+        run.all.relevant + count
     } else {
-        all.possible - count
+        run.all.possible - count
     }
 }
 
 /// Average precision in a candidate, in parts, rounded up on the high side and down on the low one.
-pub fn number(high: bool, count: u32, docs: &[u32], marks: &[Mark], all: RelevantCounts) -> u128
-    requires ranking { IsRanking (length marks.now) docs.now }
-    requires few { length marks.now ≤ DOCUMENT_LIMIT }
-    requires all { AreAllCounts marks.now all }
-    requires count { count ≤ length (open_docs marks.now docs.now) }
-    ensures value { result ≡ number_of high marks.now docs.now count }
+pub fn number(high: bool, count: u32, run: &MarkedRun<'_, '_>) -> u128
+    requires { count ≤ length (open_docs run.now.marks.now run.now.docs.now) }
+    ensures value { result ≡ number_of high run.now.marks.now run.now.docs.now count }
     ensures small { result ≤ RANK_LIMIT * PARTS_OF_ONE }
 {
-    let sum = sum_of(high, count, docs, marks);
-    quotient(high, sum, documents_in(high, count, all))
+    quotient(
+        high,
+        sum_of(high, count, run),
+        documents_in(high, count, run),
+    )
 }

@@ -1,15 +1,13 @@
 //! A walk along a ranking that estimates the sum of each candidate, without a pass for each.
-ghost use Rattle.std.specs.Prelude.{◌≡◌, ◌+◌, ◌*◌, ◌<◌, ◌≤◌, length};
+ghost use Rattle.std.specs.Prelude.{◌≡◌, ◌+◌, ◌*◌, ◌≤◌};
 ghost use Rattle.desk_model.specs.Limits.{DOCUMENT_LIMIT, PARTS_OF_ONE, RANK_LIMIT};
 ghost use Rattle.desk_model.specs.Precisions.{true_ranks};
-ghost use Rattle.desk_model.specs.Ranking.{IsRanking};
 ghost use Rattle.order_verifier.specs.Candidates.{along, documents_of, gains_by};
-ghost use Rattle.order_verifier.specs.Estimates.{AreTotals, IsSmallEstimate, estimate_of, inverse_if, inverse_sum, slack_of, walked};
+ghost use Rattle.order_verifier.specs.Estimates.{AreTotals, IsPassing, estimate_of, inverse_if, inverse_sum, slack_of, walked};
 ghost use Rattle.order_verifier.specs.PartSums.{IsBefore};
 
-use crate::candidate::{documents_in, gains, sum_of};
-use crate::counts::RelevantCounts;
-use crate::part_sum::{PartSum, part_of};
+use crate::candidate::{MarkedRun, documents_in, gains, sum_of};
+use crate::part_sum::{PartSum, Rank, part_of};
 use desk_model::Mark;
 
 /// What is known of the documents that a walk has passed.
@@ -33,20 +31,21 @@ pub struct Totals {
 }
 
 /// What a candidate's sum is near: beyond the estimate by so many parts at most, above it on the high side and below it
-/// on the low one.
-#[derive(Clone, Copy, PartialEq, Eq)]
+/// on the low one. Its facts: no number is too great.
+#[derive(Clone, Copy)]
 pub struct Estimate {
     pub sum: u128,
     pub slack: u128,
     /// How many documents are relevant in the candidate.
     pub documents: u32,
+    pub ghost sum_small: { sum ≤ 2 * (RANK_LIMIT * PARTS_OF_ONE) },
+    pub ghost slack_small: { slack ≤ RANK_LIMIT * (RANK_LIMIT * PARTS_OF_ONE) },
+    pub ghost few: { documents ≤ DOCUMENT_LIMIT },
 }
 
 /// One over a rank, in parts, rounded up, where its document is relevant.
-fn inverse_at(gain: bool, rank: u64) -> u64
-    requires some { 0 < rank }
-    requires short { rank ≤ RANK_LIMIT }
-    ensures value { result ≡ inverse_if gain rank }
+fn inverse_at(gain: bool, rank: Rank) -> u64
+    ensures value { result ≡ inverse_if gain rank.number }
     ensures small { result ≤ PARTS_OF_ONE }
 {
     if gain { part_of(true, 1, rank) } else { 0 }
@@ -62,16 +61,14 @@ impl Passed {
     };
 
     /// With the document at the next rank.
-    pub fn with(self, high: bool, mark: Mark, rank: u64) -> Passed
-        requires some { 0 < rank }
-        requires short { rank ≤ RANK_LIMIT }
+    pub fn with(self, high: bool, mark: Mark, rank: Rank) -> Passed
         requires unjudged { self.unjudged ≤ RANK_LIMIT }
-        requires near { IsBefore rank self.near }
-        requires far { IsBefore rank self.far }
+        requires near { IsBefore rank.number self.near }
+        requires far { IsBefore rank.number self.far }
         requires inverses { self.inverses ≤ RANK_LIMIT * PARTS_OF_ONE }
-        ensures value { result ≡ walked high self mark rank }
-        ensures near { IsBefore (rank + 1) result.near }
-        ensures far { IsBefore (rank + 1) result.far }
+        ensures value { result ≡ walked high self mark rank.number }
+        ensures near { IsBefore (rank.number + 1) result.near }
+        ensures far { IsBefore (rank.number + 1) result.far }
         ensures inverses { result.inverses ≤ self.inverses + PARTS_OF_ONE }
     {
         let later = gains(high, 0, mark);
@@ -85,51 +82,41 @@ impl Passed {
 }
 
 /// The sum of one over each rank that is relevant where the unjudged documents are as those that come last.
-fn inverses_of(high: bool, docs: &[u32], marks: &[Mark]) -> u128
-    requires { IsRanking (length marks.now) docs.now }
+fn inverses_of(high: bool, run: &MarkedRun<'_, '_>) -> u128
     ensures value { result ≡
-        inverse_sum (true_ranks 1 (gains_by high (along marks.now docs.now) 0)) }
+        inverse_sum (true_ranks 1 (gains_by high (along run.now.marks.now run.now.docs.now) 0)) }
     ensures small { result ≤ RANK_LIMIT * PARTS_OF_ONE }
 {
     let mut sum = 0;
     let mut rank = 1;
-    for doc in docs {
-        sum += u128::from(inverse_at(gains(high, 0, marks[*doc as usize]), rank));
+    for doc in run.docs {
+        let gain = gains(high, 0, run.marks[*doc as usize]);
+        sum += u128::from(inverse_at(gain, Rank { number: rank }));
         rank += 1;
     }
     sum
 }
 
 /// The totals of a whole ranking.
-pub fn totals_of(high: bool, docs: &[u32], marks: &[Mark]) -> Totals
-    requires { IsRanking (length marks.now) docs.now }
-    ensures { AreTotals high marks.now docs.now result }
+pub fn totals_of(high: bool, run: &MarkedRun<'_, '_>) -> Totals
+    ensures { AreTotals high run.now.marks.now run.now.docs.now result }
 {
     Totals {
-        far: sum_of(high, 0, docs, marks),
-        inverses: inverses_of(high, docs, marks),
+        far: sum_of(high, 0, run),
+        inverses: inverses_of(high, run),
     }
 }
 
 /// What is known of the candidate whose first unjudged documents are those that a walk has passed.
-pub fn estimate_at(high: bool, passed: Passed, totals: Totals, all: RelevantCounts) -> Estimate
-    requires relevant { all.relevant + passed.unjudged ≤ DOCUMENT_LIMIT }
-    requires possible { passed.unjudged ≤ all.possible }
-    requires possible_few { all.possible ≤ DOCUMENT_LIMIT }
-    requires far { passed.far.parts ≤ totals.far }
-    requires inverses { passed.inverses ≤ totals.inverses }
-    requires unjudged { passed.unjudged ≤ RANK_LIMIT }
-    requires near_small { passed.near.parts ≤ RANK_LIMIT * PARTS_OF_ONE }
-    requires far_small { totals.far ≤ RANK_LIMIT * PARTS_OF_ONE }
-    requires inverses_small { totals.inverses ≤ RANK_LIMIT * PARTS_OF_ONE }
+pub fn estimate_at(high: bool, passed: Passed, totals: Totals, run: &MarkedRun<'_, '_>) -> Estimate
+    requires { IsPassing high run.now.marks.now run.now.docs.now totals passed }
     ensures sum { result.sum ≡ estimate_of passed totals }
     ensures slack { result.slack ≡ slack_of passed totals }
-    ensures documents { result.documents ≡ documents_of high all passed.unjudged }
-    ensures small { IsSmallEstimate result }
+    ensures documents { result.documents ≡ documents_of high run.now.all passed.unjudged }
 {
     Estimate {
         sum: passed.near.parts + (totals.far - passed.far.parts),
         slack: u128::from(passed.unjudged) * (totals.inverses - passed.inverses),
-        documents: documents_in(high, passed.unjudged, all),
+        documents: documents_in(high, passed.unjudged, run),
     }
 }

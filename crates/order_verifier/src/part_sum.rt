@@ -12,14 +12,21 @@ pub struct PartSum {
     pub parts: u128,
 }
 
+/// A rank, from 1.
+#[derive(Clone, Copy)]
+pub struct Rank {
+    pub number: u64,
+    pub ghost some: { 0 < number },
+    pub ghost short: { number ≤ RANK_LIMIT },
+}
+
 /// S times j over a rank, rounded up or down. Neither product is beyond 64 bits.
-pub fn part_of(high: bool, j: u64, rank: u64) -> u64
-    requires some { 0 < rank }
-    requires short { rank ≤ RANK_LIMIT }
-    requires deep { j ≤ rank }
-    ensures value { result ≡ worth_of high j rank }
+pub fn part_of(high: bool, j: u64, rank: Rank) -> u64
+    requires { j ≤ rank.number }
+    ensures value { result ≡ worth_of high j rank.number }
     ensures small { result ≤ PARTS_OF_ONE }
 {
+    let rank = rank.number;
     let up = if high { rank - 1 } else { 0 };
     j * (PARTS / rank) + (j * (PARTS % rank) + up) / rank
 }
@@ -29,12 +36,10 @@ impl PartSum {
     pub const NONE: PartSum = PartSum { found: 0, parts: 0 };
 
     /// With the document at the next rank, where it is relevant.
-    pub fn with(self, high: bool, gain: bool, rank: u64) -> PartSum
-        requires some { 0 < rank }
-        requires short { rank ≤ RANK_LIMIT }
-        requires before { IsBefore rank self }
-        ensures value { result ≡ added (worth_of high) self gain rank }
-        ensures before { IsBefore (rank + 1) result }
+    pub fn with(self, high: bool, gain: bool, rank: Rank) -> PartSum
+        requires { IsBefore rank.number self }
+        ensures value { result ≡ added (worth_of high) self gain rank.number }
+        ensures before { IsBefore (rank.number + 1) result }
     {
         if !gain {
             return self;

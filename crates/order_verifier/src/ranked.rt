@@ -4,6 +4,7 @@ ghost use Rattle.desk_model.specs.Desk.{AreMarksOf, ranking_of};
 ghost use Rattle.desk_model.specs.declared.types.Mark.{Mark as M};
 ghost use Rattle.order_verifier.specs.RunBounds.{AreBoundsOf, AreBoundsOn, AreKnown};
 
+use crate::candidate::MarkedRun;
 use crate::counts::all_documents;
 use crate::run_bound::{RunBounds, bounds_of};
 use desk_model::{Desk, Memory, Ranking, Rows};
@@ -50,7 +51,11 @@ impl BoundsOnTopic {
         let all = all_documents(own);
         let mut bounds = Vec::new(alloc);
         for run in 0..runs {
-            let next = bounds_of(desk.ranking(run, topic).docs(), own, all);
+            let next = bounds_of(&MarkedRun {
+                docs: desk.ranking(run, topic).docs(),
+                marks: own,
+                all,
+            });
             bounds.push(next)?;
         }
         Ok(BoundsOnTopic { bounds })

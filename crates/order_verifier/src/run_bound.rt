@@ -1,23 +1,20 @@
 //! A run's bounds under average precision: the least and the greatest number of its candidates. Only candidates whose
 //! estimate may beat the best number so far are evaluated.
 ghost use Rattle.std.specs.Prelude.{◌≡◌, ℕ, ◌≤◌, ◌*◌, ◌+◌, length, true};
-ghost use Rattle.desk_model.specs.Limits.{DOCUMENT_LIMIT, PARTS_OF_ONE, RANK_LIMIT};
-ghost use Rattle.desk_model.specs.Ranking.{IsRanking};
+ghost use Rattle.desk_model.specs.Limits.{PARTS_OF_ONE, RANK_LIMIT};
 ghost use Rattle.measure_laws.specs.Candidates.{open_docs};
 ghost use Rattle.order_verifier.specs.Candidates.{bound_of, out_of};
-ghost use Rattle.order_verifier.specs.Counted.{AreAllCounts};
 ghost use Rattle.order_verifier.specs.RunBounds.{AreRunBounds};
-ghost use Rattle.order_verifier.specs.Estimates.{AreTotals, IsAsGood, IsBestSoFar, IsGuess, IsNear, IsPassing, IsSmallEstimate};
+ghost use Rattle.order_verifier.specs.Estimates.{AreTotals, IsAsGood, IsBestSoFar, IsNear, IsPassing};
 
-use crate::candidate::number;
-use crate::counts::RelevantCounts;
+use crate::candidate::{MarkedRun, number};
 use crate::estimate::{Estimate, Passed, Totals, estimate_at, totals_of};
+use crate::part_sum::Rank;
 use desk_model::Mark;
 
 /// Whether a candidate is surely no better than a number.
 fn is_beaten(high: bool, estimate: Estimate, best: u128) -> bool
-    requires estimate { IsSmallEstimate estimate }
-    requires best { best ≤ RANK_LIMIT * PARTS_OF_ONE }
+    requires { best ≤ RANK_LIMIT * PARTS_OF_ONE }
     ensures { (sum : ℕ) → IsNear high sum estimate.sum estimate.slack → result ≡ true →
         IsAsGood high best (out_of high sum estimate.documents) }
 {
@@ -33,35 +30,21 @@ fn is_beaten(high: bool, estimate: Estimate, best: u128) -> bool
 }
 
 /// The better of the best number so far and that of the candidate that a walk has come to.
-fn visited(
-    high: bool,
-    passed: Passed,
-    totals: Totals,
-    best: u128,
-    docs: &[u32],
-    marks: &[Mark],
-    all: RelevantCounts,
-) -> u128
-    requires ranking { IsRanking (length marks.now) docs.now }
-    requires few { length marks.now ≤ DOCUMENT_LIMIT }
-    requires all { AreAllCounts marks.now all }
-    requires passing { IsPassing high marks.now docs.now totals passed }
-    requires best { IsBestSoFar high marks.now docs.now passed.unjudged best }
-    ensures { IsBestSoFar high marks.now docs.now (passed.unjudged + 1) result }
+fn visited(high: bool, passed: Passed, totals: Totals, best: u128, run: &MarkedRun<'_, '_>) -> u128
+    requires passing { IsPassing high run.now.marks.now run.now.docs.now totals passed }
+    requires best { IsBestSoFar high run.now.marks.now run.now.docs.now passed.unjudged best }
+    ensures { IsBestSoFar high run.now.marks.now run.now.docs.now (passed.unjudged + 1) result }
 {
-    let estimate = estimate_at(high, passed, totals, all);
+    let estimate = estimate_at(high, passed, totals, run);
     if is_beaten(high, estimate, best) {
         return best;
     }
-    let next = number(high, passed.unjudged, docs, marks, all);
+    let next = number(high, passed.unjudged, run);
     if high { best.max(next) } else { best.min(next) }
 }
 
 /// Whether a candidate seems better than another. It decides which is evaluated first, and so only how many are.
-fn seems_better(high: bool, x: Estimate, y: Estimate) -> bool
-    requires x { IsSmallEstimate x }
-    requires y { IsSmallEstimate y }
-{
+fn seems_better(high: bool, x: Estimate, y: Estimate) -> bool {
     let here = u128::from(x.documents.max(1));
     let there = u128::from(y.documents.max(1));
     if high {
@@ -72,7 +55,7 @@ fn seems_better(high: bool, x: Estimate, y: Estimate) -> bool
 }
 
 /// A candidate to begin with, and what is known of it.
-#[derive(Clone, Copy, PartialEq, Eq)]
+#[derive(Clone, Copy)]
 pub struct Start {
     pub count: u32,
     pub estimate: Estimate,
@@ -84,20 +67,13 @@ fn started(
     passed: Passed,
     totals: Totals,
     best: Start,
-    docs: &[u32],
-    marks: &[Mark],
-    all: RelevantCounts,
+    run: &MarkedRun<'_, '_>,
 ) -> Start
-    requires ranking { IsRanking (length marks.now) docs.now }
-    requires few { length marks.now ≤ DOCUMENT_LIMIT }
-    requires all { AreAllCounts marks.now all }
-    requires passing { IsPassing high marks.now docs.now totals passed }
-    requires best { IsGuess marks.now docs.now best }
-    ensures { IsGuess marks.now docs.now result }
+    requires passing { IsPassing high run.now.marks.now run.now.docs.now totals passed }
+    requires best { best.count ≤ length (open_docs run.now.marks.now run.now.docs.now) }
+    ensures { result.count ≤ length (open_docs run.now.marks.now run.now.docs.now) }
 {
-    let _ = docs;
-    let _ = marks;
-    let estimate = estimate_at(high, passed, totals, all);
+    let estimate = estimate_at(high, passed, totals, run);
     if seems_better(high, estimate, best.estimate) {
         Start {
             count: passed.unjudged,
@@ -109,12 +85,9 @@ fn started(
 }
 
 /// A candidate that is likely the best one.
-fn start_of(high: bool, totals: Totals, docs: &[u32], marks: &[Mark], all: RelevantCounts) -> u32
-    requires ranking { IsRanking (length marks.now) docs.now }
-    requires few { length marks.now ≤ DOCUMENT_LIMIT }
-    requires all { AreAllCounts marks.now all }
-    requires totals { AreTotals high marks.now docs.now totals }
-    ensures { result ≤ length (open_docs marks.now docs.now) }
+fn start_of(high: bool, totals: Totals, run: &MarkedRun<'_, '_>) -> u32
+    requires { AreTotals high run.now.marks.now run.now.docs.now totals }
+    ensures { result ≤ length (open_docs run.now.marks.now run.now.docs.now) }
 {
     let mut best = Start {
         count: 0,
@@ -130,39 +103,36 @@ fn start_of(high: bool, totals: Totals, docs: &[u32], marks: &[Mark], all: Relev
     };
     let mut passed = Passed::NONE;
     let mut rank = 1;
-    for doc in docs {
-        let mark = marks[*doc as usize];
+    for doc in run.docs {
+        let mark = run.marks[*doc as usize];
         if mark == Mark::Unjudged {
-            best = started(high, passed, totals, best, docs, marks, all);
+            best = started(high, passed, totals, best, run);
         }
-        passed = passed.with(high, mark, rank);
+        passed = passed.with(high, mark, Rank { number: rank });
         rank += 1;
     }
-    started(high, passed, totals, best, docs, marks, all).count
+    started(high, passed, totals, best, run).count
 }
 
 /// A run's upper or lower bound on a topic, in parts of 10^18.
-pub fn bound(high: bool, docs: &[u32], marks: &[Mark], all: RelevantCounts) -> u128
-    requires ranking { IsRanking (length marks.now) docs.now }
-    requires few { length marks.now ≤ DOCUMENT_LIMIT }
-    requires all { AreAllCounts marks.now all }
-    ensures value { result ≡ bound_of high marks.now docs.now }
+pub fn bound(high: bool, run: &MarkedRun<'_, '_>) -> u128
+    ensures value { result ≡ bound_of high run.now.marks.now run.now.docs.now }
     ensures small { result ≤ PARTS_OF_ONE }
 {
-    let totals = totals_of(high, docs, marks);
-    let start = start_of(high, totals, docs, marks, all);
-    let mut best = number(high, start, docs, marks, all);
+    let totals = totals_of(high, run);
+    let start = start_of(high, totals, run);
+    let mut best = number(high, start, run);
     let mut passed = Passed::NONE;
     let mut rank = 1;
-    for doc in docs {
-        let mark = marks[*doc as usize];
+    for doc in run.docs {
+        let mark = run.marks[*doc as usize];
         if mark == Mark::Unjudged {
-            best = visited(high, passed, totals, best, docs, marks, all);
+            best = visited(high, passed, totals, best, run);
         }
-        passed = passed.with(high, mark, rank);
+        passed = passed.with(high, mark, Rank { number: rank });
         rank += 1;
     }
-    visited(high, passed, totals, best, docs, marks, all)
+    visited(high, passed, totals, best, run)
 }
 
 /// Both bounds of a run on a topic, in parts of 10^18.
@@ -173,14 +143,11 @@ pub struct RunBounds {
 }
 
 /// Both bounds of a run on a topic.
-pub fn bounds_of(docs: &[u32], marks: &[Mark], all: RelevantCounts) -> RunBounds
-    requires ranking { IsRanking (length marks.now) docs.now }
-    requires few { length marks.now ≤ DOCUMENT_LIMIT }
-    requires all { AreAllCounts marks.now all }
-    ensures { AreRunBounds marks.now docs.now result }
+pub fn bounds_of(run: &MarkedRun<'_, '_>) -> RunBounds
+    ensures { AreRunBounds run.now.marks.now run.now.docs.now result }
 {
     RunBounds {
-        low: bound(false, docs, marks, all) as u64,
-        high: bound(true, docs, marks, all) as u64,
+        low: bound(false, run) as u64,
+        high: bound(true, run) as u64,
     }
 }

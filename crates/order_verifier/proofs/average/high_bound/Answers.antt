@@ -6,10 +6,10 @@ use Rattle.order_verifier.proofs.average.high_bound.Goals as goal
 
 pub returns-in-Some-clause-value : goal.returns-in-Some-clause-value
 returns-in-Some-clause-value c =
-    let known = subst (λ (o : Option RunBounds). AreKnown c.args.marks.now c.args.run.now.ranking.now o) c.in-Some.is c.requires.known in
+    let known = subst (λ (o : Option RunBounds). AreKnown c.args.run.now.marks.now c.args.run.now.docs.now o) c.in-Some.is c.requires in
     c.from.ensures ∙ known.high
 
 pub returns-in-Some-clause-small : goal.returns-in-Some-clause-small
 returns-in-Some-clause-small c =
-    let known = subst (λ (o : Option RunBounds). AreKnown c.args.marks.now c.args.run.now.ranking.now o) c.in-Some.is c.requires.known in
-    subst (λ (n : ℕ). n ≤ 10 ^ 18) (sym (c.from.ensures ∙ known.high)) (bound-most true c.args.marks.now c.args.run.now.ranking.now c.requires.ranking)
+    let known = subst (λ (o : Option RunBounds). AreKnown c.args.run.now.marks.now c.args.run.now.docs.now o) c.in-Some.is c.requires in
+    subst (λ (n : ℕ). n ≤ 10 ^ 18) (sym (c.from.ensures ∙ known.high)) (bound-most true c.args.run.now.marks.now c.args.run.now.docs.now c.args.run.now.ranking)

@@ -7,5 +7,5 @@ abbrev pub invariant-loop-doc : goal.invariant-loop-doc
 invariant-loop-doc l = record {
   rank : l.rank ≡ l.doc-index + 1;
   before : IsBefore l.rank l.sum;
-  rest : whole (worth_of l.high) l.sum l.rank (gains_by l.high (along l.marks (drop l.doc-index l.docs)) l.left) ≡ candidate_sum l.high (along l.marks l.docs) l.fn.count;
+  rest : whole (worth_of l.high) l.sum l.rank (gains_by l.high (along l.run.marks.now (drop l.doc-index l.run.docs.now)) l.left) ≡ candidate_sum l.high (along l.run.marks.now l.run.docs.now) l.fn.count;
 }

@@ -8,6 +8,6 @@ use Rattle.order_verifier.proofs.estimate.inverses_of.Given as goal
 abbrev pub invariant-loop-doc : goal.invariant-loop-doc
 invariant-loop-doc l = record {
   rank : l.rank ≡ l.doc-index + 1;
-  rest : l.sum + inverse_sum (true_ranks l.rank (gains_by l.high (along l.marks (drop l.doc-index l.docs)) 0)) ≡ inverse_sum (true_ranks 1 (gains_by l.high (along l.marks l.docs) 0));
+  rest : l.sum + inverse_sum (true_ranks l.rank (gains_by l.high (along l.run.marks.now (drop l.doc-index l.run.docs.now)) 0)) ≡ inverse_sum (true_ranks 1 (gains_by l.high (along l.run.marks.now l.run.docs.now) 0));
   small : l.sum ≤ l.doc-index * PARTS_OF_ONE;
 }

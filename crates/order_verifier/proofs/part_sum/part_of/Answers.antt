@@ -9,16 +9,16 @@ value_is high j r up p e = ap (λ (n : ℕ). j * (10 ^ 18 / r) + (j * (10 ^ 18 %
 
 pub returns-clause-value : goal.returns-clause-value
 returns-clause-value c =
-    let up : c.if-high.up ≡ up_of c.args.high c.args.rank = elim c.if-high.branch [
-      | then-high w ↦ up_high c.args.high c.args.rank c.if-high.up w.if-high.true w.up-is
-      | else-high w ↦ up_low c.args.high c.args.rank c.if-high.up w.if-high.false w.up-is
+    let up : c.if-high.up ≡ up_of c.args.high c.args.rank.number = elim c.if-high.branch [
+      | then-high w ↦ up_high c.args.high c.args.rank.number c.if-high.up w.if-high.true w.up-is
+      | else-high w ↦ up_low c.args.high c.args.rank.number c.if-high.up w.if-high.false w.up-is
     ] in
-    value_is c.args.high c.args.j c.args.rank c.if-high.up c.requires.some up
+    value_is c.args.high c.args.j c.args.rank.number c.if-high.up c.args.rank.some up
 
 pub returns-clause-small : goal.returns-clause-small
 returns-clause-small c =
-    let up : c.if-high.up ≡ up_of c.args.high c.args.rank = elim c.if-high.branch [
-      | then-high w ↦ up_high c.args.high c.args.rank c.if-high.up w.if-high.true w.up-is
-      | else-high w ↦ up_low c.args.high c.args.rank c.if-high.up w.if-high.false w.up-is
+    let up : c.if-high.up ≡ up_of c.args.high c.args.rank.number = elim c.if-high.branch [
+      | then-high w ↦ up_high c.args.high c.args.rank.number c.if-high.up w.if-high.true w.up-is
+      | else-high w ↦ up_low c.args.high c.args.rank.number c.if-high.up w.if-high.false w.up-is
     ] in
-    subst (λ (n : ℕ). n ≤ 10 ^ 18) (sym (value_is c.args.high c.args.j c.args.rank c.if-high.up c.requires.some up)) (worth_small c.args.high c.args.j c.args.rank c.requires.some c.requires.deep)
+    subst (λ (n : ℕ). n ≤ 10 ^ 18) (sym (value_is c.args.high c.args.j c.args.rank.number c.if-high.up c.args.rank.some up)) (worth_small c.args.high c.args.j c.args.rank.number c.args.rank.some c.requires)

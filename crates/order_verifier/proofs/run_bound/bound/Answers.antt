@@ -13,13 +13,13 @@ use Rattle.order_verifier.proofs.run_bound.bound.Goals as goal
 
 pub visited-best-requires-clause-passing : goal.visited-best-requires-clause-passing
 visited-best-requires-clause-passing c =
-    walk_passing c.args.high c.args.marks.now c.args.docs.now c.loop-doc.doc-index c.loop-doc.passed c.totals_of-totals.result (omega (arith, c.loop-doc-test.true, c.requires.ranking.short)) c.loop-doc.invariant.walk c.totals_of-totals.ensures
+    walk_passing c.args.high c.args.run.now.marks.now c.args.run.now.docs.now c.loop-doc.doc-index c.loop-doc.passed c.totals_of-totals.result (omega (arith, c.loop-doc-test.true, c.args.run.now.ranking.short)) c.loop-doc.invariant.walk c.totals_of-totals.ensures
 
 pub loop-doc-preserved : goal.loop-doc-preserved
 loop-doc-preserved c =
     let high = c.args.high in
-    let marks = c.args.marks.now in
-    let docs = c.args.docs.now in
+    let marks = c.args.run.now.marks.now in
+    let docs = c.args.run.now.docs.now in
     let place = c.loop-doc.doc-index in
     let passed = c.loop-doc.passed in
     let m = mark_at marks (get_or docs place 0) in
@@ -39,15 +39,15 @@ loop-doc-preserved c =
 
 pub returns-clause-value : goal.returns-clause-value
 returns-clause-value c =
-    let marks = c.args.marks.now in
-    let docs = c.args.docs.now in
+    let marks = c.args.run.now.marks.now in
+    let docs = c.args.run.now.docs.now in
     let ended : c.loop-doc.passed.unjudged + 1 ≡ length (open_docs marks docs) + 1 = omega (arith, c.loop-doc.invariant.walk.opens, open_end marks docs c.loop-doc.doc-index c.loop-doc-test.false) in
-    best_is c.args.high marks docs c.visited.result c.requires.ranking (subst (λ (n : ℕ). IsBestSoFar c.args.high marks docs n c.visited.result) ended c.visited.ensures)
+    best_is c.args.high marks docs c.visited.result c.args.run.now.ranking (subst (λ (n : ℕ). IsBestSoFar c.args.high marks docs n c.visited.result) ended c.visited.ensures)
 
 pub returns-clause-small : goal.returns-clause-small
 returns-clause-small c =
-    let marks = c.args.marks.now in
-    let docs = c.args.docs.now in
+    let marks = c.args.run.now.marks.now in
+    let docs = c.args.run.now.docs.now in
     let ended : c.loop-doc.passed.unjudged + 1 ≡ length (open_docs marks docs) + 1 = omega (arith, c.loop-doc.invariant.walk.opens, open_end marks docs c.loop-doc.doc-index c.loop-doc-test.false) in
-    subst (λ (n : ℕ). n ≤ 10 ^ 18) (sym (best_is c.args.high marks docs c.visited.result c.requires.ranking (subst (λ (n : ℕ). IsBestSoFar c.args.high marks docs n c.visited.result) ended c.visited.ensures)))
-    (bound-most c.args.high marks docs c.requires.ranking)
+    subst (λ (n : ℕ). n ≤ 10 ^ 18) (sym (best_is c.args.high marks docs c.visited.result c.args.run.now.ranking (subst (λ (n : ℕ). IsBestSoFar c.args.high marks docs n c.visited.result) ended c.visited.ensures)))
+    (bound-most c.args.high marks docs c.args.run.now.ranking)

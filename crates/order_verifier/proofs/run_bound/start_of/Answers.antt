@@ -1,6 +1,7 @@
-use Rattle.std.proofs.Common.{◌≡◌, ℕ, ◌+◌, get_or, arith, ap, sym, subst, ◌∙◌}
+use Rattle.std.proofs.Common.{◌≡◌, ℕ, ◌+◌, ◌≤◌, length, get_or, arith, ap, sym, subst, ◌∙◌}
 use Rattle.desk_model.specs.Mark.{mark_at}
-use Rattle.order_verifier.specs.Estimates.{IsGuess, walked}
+use Rattle.measure_laws.specs.Candidates.{open_docs}
+use Rattle.order_verifier.specs.Estimates.{walked}
 use Rattle.order_verifier.specs.PartSums.{IsBefore}
 use Rattle.order_verifier.specs.declared.part_sum.PartSum.{PartSum}
 use Rattle.order_verifier.specs.declared.run_bound.Start.{Start}
@@ -10,13 +11,13 @@ use Rattle.order_verifier.proofs.run_bound.start_of.Goals as goal
 
 pub started-best-requires-clause-passing : goal.started-best-requires-clause-passing
 started-best-requires-clause-passing c =
-    walk_passing c.args.high c.args.marks.now c.args.docs.now c.loop-doc.doc-index c.loop-doc.passed c.args.totals (omega (arith, c.loop-doc-test.true, c.requires.ranking.short)) c.loop-doc.invariant.walk c.requires.totals
+    walk_passing c.args.high c.args.run.now.marks.now c.args.run.now.docs.now c.loop-doc.doc-index c.loop-doc.passed c.args.totals (omega (arith, c.loop-doc-test.true, c.args.run.now.ranking.short)) c.loop-doc.invariant.walk c.requires
 
 pub loop-doc-preserved : goal.loop-doc-preserved
 loop-doc-preserved c =
     let high = c.args.high in
-    let marks = c.args.marks.now in
-    let docs = c.args.docs.now in
+    let marks = c.args.run.now.marks.now in
+    let docs = c.args.run.now.docs.now in
     let place = c.loop-doc.doc-index in
     let passed = c.loop-doc.passed in
     let m = mark_at marks (get_or docs place 0) in
@@ -26,7 +27,7 @@ loop-doc-preserved c =
       rank = omega (arith, c.loop-doc.invariant.rank);
       walk = walk_next high marks docs place passed c.with-passed.result c.loop-doc-test.true c.loop-doc.invariant.walk at (before c.with-passed.result.near c.with-passed.ensures.near) (before c.with-passed.result.far c.with-passed.ensures.far) c.with-passed.ensures.inverses;
       best = elim c.if-eq.branch [
-        | then-eq w ↦ subst (λ (g : Start). IsGuess marks docs g) (sym w.best-is) w.started-best.ensures
-        | else-eq w ↦ subst (λ (g : Start). IsGuess marks docs g) (sym w.best-is) c.loop-doc.invariant.best
+        | then-eq w ↦ subst (λ (g : Start). g.count ≤ length (open_docs marks docs)) (sym w.best-is) w.started-best.ensures
+        | else-eq w ↦ subst (λ (g : Start). g.count ≤ length (open_docs marks docs)) (sym w.best-is) c.loop-doc.invariant.best
       ];
     }

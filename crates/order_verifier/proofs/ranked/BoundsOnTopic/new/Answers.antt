@@ -14,13 +14,13 @@ topic-own-requires c = marks_within c.args.desk.now c.args.marks.now c.requires.
 pub all_documents-all-requires : goal.all_documents-all-requires
 all_documents-all-requires c = small_at c.args.desk.now c.args.marks.now c.run_count-runs.ensures.desk c.requires.marks c.args.topic c.topic-own.result.now c.topic-own.ensures
 
-pub bounds_of-next-requires-clause-ranking : goal.bounds_of-next-requires-clause-ranking
-bounds_of-next-requires-clause-ranking c =
+pub invariant_of-bounds_of-clause-ranking : goal.invariant_of-bounds_of-clause-ranking
+invariant_of-bounds_of-clause-ranking c =
     let known : c.loop-run.run < length c.args.desk.now.runs = omega (arith, c.loop-run-test.true, c.run_count-runs.ensures.count) in
     subst (IsRanking (length c.topic-own.result.now)) (sym (c.docs.ensures.docs ∙ c.ranking.ensures.ranking)) (ranking_at c.args.desk.now c.args.marks.now c.run_count-runs.ensures.desk c.requires.marks c.loop-run.run c.args.topic c.topic-own.result.now known c.topic-own.ensures)
 
-pub bounds_of-next-requires-clause-few : goal.bounds_of-next-requires-clause-few
-bounds_of-next-requires-clause-few c = small_at c.args.desk.now c.args.marks.now c.run_count-runs.ensures.desk c.requires.marks c.args.topic c.topic-own.result.now c.topic-own.ensures
+pub invariant_of-bounds_of-clause-few : goal.invariant_of-bounds_of-clause-few
+invariant_of-bounds_of-clause-few c = small_at c.args.desk.now c.args.marks.now c.run_count-runs.ensures.desk c.requires.marks c.args.topic c.topic-own.result.now c.topic-own.ensures
 
 pub loop-run-preserved : goal.loop-run-preserved
 loop-run-preserved c =
