@@ -1,5 +1,5 @@
 -- The names of a list, one after another.
-use Rattle.std.proofs.Common.{◌≡◌, ℕ, ◌+◌, ◌<◌, ◌≤◌, Bool, true, false, List, [], ◌∷◌, length, take, Some, subst, arith}
+use Rattle.std.proofs.Common.{◌≡◌, ℕ, ◌+◌, ◌<◌, ◌≤◌, Bool, true, false, not, List, [], ◌∷◌, length, take, Some, refl, subst, arith}
 use Rattle.std.specs.Prelude.{◌↔◌, IsTrue, slice_get}
 use Rattle.std.specs.List.{AllByRecursion, AllZip, zip}
 use Rattle.std.proofs.lemmas.List.Elements.{All-from_recursion}
@@ -13,6 +13,14 @@ use Rattle.order_verifier.specs.Refusal.{AreCompletions, IsFirstOther}
 use Rattle.order_verifier.proofs.FirstFailing.{all_more}
 use Rattle.order_verifier.proofs.Topics.{of_topic}
 use Rattle.order_verifier.proofs.Unjudged.{IsUnjudgedName, unjudged_out}
+
+pub not_true : (b : Bool) → not b ≡ true → b ≡ false
+not_true true e = absurd (cc)
+not_true false e = refl
+
+pub not_false : (b : Bool) → not b ≡ false → b ≡ true
+not_false true e = refl
+not_false false e = absurd (cc)
 
 -- a fact of each name, and of all
 pub together : (t : NamedTopic) (names : List (List ℕ)) → AllByRecursion (λ name. AreUnjudged t (name ∷ [])) names → AreUnjudged t names

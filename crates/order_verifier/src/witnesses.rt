@@ -30,9 +30,27 @@ fn differ(low: i128, high: i128) -> bool
 
 impl Comparison<'_> {
     /// The first name of a list, by its number from 0, that is not that of an unjudged document of a topic. Each is
-    /// looked for near the one before, and among some ranked documents. Flags that are clear, one for each of the
-    /// topic's first documents, are set for those that the list names.
-    fn first_other(
+    /// looked for near the one before, and among some ranked documents.
+    fn first_other(&self, topic: u32, documents: &Documents<'_>, ranked: &[Placed]) -> Option<u32>
+        requires { IsListOn self.now topic documents.now }
+        ensures { OfTopic (topics_in self.now) topic (λ t.
+            MatchOption result (AreUnjudged t documents.now.names)
+            (IsFirstOther t documents.now.names)) }
+    {
+        let marks = self.topic_marks(topic);
+        let mut near = Near::START;
+        for document in 0..documents.len() as u32 {
+            let found = self.find_unjudged(topic, marks, documents, document, ranked, &mut near);
+            if !found.is_found {
+                return Some(document);
+            }
+        }
+        None
+    }
+
+    /// The same. Flags that are clear, one for each of the topic's first documents, are set for those that the list
+    /// names.
+    fn first_other_flagged(
         &self,
         topic: u32,
         documents: &Documents<'_>,
@@ -46,6 +64,9 @@ impl Comparison<'_> {
             (IsFirstOther t documents.now.names)) }
         ensures flags { result ≡ None → AreFlags documents.now.docs documents.now.names flags.new }
     {
+        if flags.is_empty() {
+            return self.first_other(topic, documents, ranked);
+        }
         let marks = self.topic_marks(topic);
         let mut near = Near::START;
         for document in 0..documents.len() as u32 {
@@ -79,7 +100,7 @@ impl Comparison<'_> {
             MatchResult result (AreEndsOn self.now (w, t)) (HasOther topic (w, t))) }
     {
         let likely = self.likely(topic, WitnessList::Low);
-        if let Some(document) = self.first_other(topic, low, likely, low_flags) {
+        if let Some(document) = self.first_other_flagged(topic, low, likely, low_flags) {
             return Err(CertificatePlace::Document {
                 topic,
                 list: WitnessList::Low,
@@ -87,7 +108,7 @@ impl Comparison<'_> {
             });
         }
         let likely = self.likely(topic, WitnessList::High);
-        if let Some(document) = self.first_other(topic, high, likely, high_flags) {
+        if let Some(document) = self.first_other_flagged(topic, high, likely, high_flags) {
             return Err(CertificatePlace::Document {
                 topic,
                 list: WitnessList::High,

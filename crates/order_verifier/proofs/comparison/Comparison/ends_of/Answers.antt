@@ -7,11 +7,11 @@ use Rattle.order_verifier.specs.Rows.{ListedOn}
 use Rattle.order_verifier.proofs.Topics.{of_topic}
 use Rattle.order_verifier.proofs.comparison.Comparison.ends_of.Goals as goal
 
-pub returns-in-Some-first_other : goal.returns-in-Some-first_other
-returns-in-Some-first_other c = λ w low high.
-    let of = c.in-Some-first_other.ensures.other in
+pub returns-in-Some-first_other_flagged : goal.returns-in-Some-first_other_flagged
+returns-in-Some-first_other_flagged c = λ w low high.
+    let of = c.in-Some-first_other_flagged.ensures.other in
     let unjudged = of_topic (topics_in c.args.self.now) c.args.topic of.0 of.1 c.in_default.ensures.other in
-    (of.0, of.1, (refl, subst (AreUnjudged of.0) (sym low) unjudged, subst (λ ns. IsFirstOther of.0 ns c.in-Some-first_other.document) (sym high) of.2))
+    (of.0, of.1, (refl, subst (AreUnjudged of.0) (sym low) unjudged, subst (λ ns. IsFirstOther of.0 ns c.in-Some-first_other_flagged.document) (sym high) of.2))
 
 pub completion_ends-requires-clause-low_topic : goal.completion_ends-requires-clause-low_topic
 completion_ends-requires-clause-low_topic c =
@@ -21,7 +21,7 @@ completion_ends-requires-clause-low_topic c =
 
 pub completion_ends-requires-clause-high_topic : goal.completion_ends-requires-clause-high_topic
 completion_ends-requires-clause-high_topic c =
-    let of = c.in_default-first_other.ensures.other in
+    let of = c.in_default-first_other_flagged.ensures.other in
     let docs = of_topic (topics_in c.args.self.now) c.args.topic of.0 of.1 c.requires.high.on in
     subst (λ (l : ListedOn). OfTopic (topics_in c.args.self.now) c.args.topic (λ t. (l.docs ≡ t.docs) × AreUnjudged t l.names)) (sym c.flagged-high.ensures) (of.0, of.1, (docs, of.2))
 
@@ -37,7 +37,7 @@ returns c = λ w low high.
       t,
       of.1,
       record {
-        unjudged = (subst (AreUnjudged t) (sym low) of.2, subst (AreUnjudged t) (sym high) (of_topic (topics_in v) c.args.topic t of.1 c.in_default-first_other.ensures.other));
+        unjudged = (subst (AreUnjudged t) (sym low) of.2, subst (AreUnjudged t) (sym high) (of_topic (topics_in v) c.args.topic t of.1 c.in_default-first_other_flagged.ensures.other));
         low = subst (λ names. IsLowEnd v ends.low (record w { low = names }, t)) low_names (of_topic (topics_in v) c.args.topic t of.1 are.low);
         high = subst (λ names. IsHighEnd v ends.high (record w { high = names }, t)) high_names (of_topic (topics_in v) c.args.topic t of.1 are.high);
         low_modest = are.low_modest;
