@@ -1,10 +1,8 @@
 -- What a measure's ends are computed from.
-use Rattle.std.specs.Prelude.{◌≡◌}
-use Rattle.desk_model.specs.Limits.{RANK_LIMIT}
-use Rattle.desk_model.specs.MeasureText.{IsDepth, IsPersistence}
+use Rattle.desk_model.specs.MeasureText.{IsDepth}
 use Rattle.desk_model.specs.declared.types.MeasureName.{MeasureName}
 use Rattle.desk_model.specs.declared.types.MeasureName.TheVariants as name
-use Rattle.topic_counts.specs.Places.{Known}
+use Rattle.order_verifier.specs.RankPowers.{ArePowers}
 use Rattle.order_verifier.specs.declared.kind.Kind.{Kind}
 use Rattle.order_verifier.specs.declared.kind.Kind.TheVariants.{Precision, Recall, RPrecision, Reciprocal, Biased, AveragePrecision}
 
@@ -16,11 +14,6 @@ name_of RPrecision = name.RPrecision
 name_of Reciprocal = name.Reciprocal
 name_of (Biased powers) = name.Biased powers.top powers.bottom
 name_of AveragePrecision = name.AveragePrecision
-
--- the powers of a persistence, as many as a ranking has ranks
-pub record ArePowers (powers : Known) : Type 0 where
-  pub persistence : IsPersistence powers.top powers.bottom
-  pub last : powers.last ≡ RANK_LIMIT
 
 -- the numbers are those of a measure that has a text
 abbrev pub IsKind : Kind → Type 0

@@ -4,6 +4,7 @@ pub mod Counted
 pub mod Least
 pub mod Own
 pub mod Walk
+pub mod RankPowers
 pub mod Kinds
 pub mod Refusal
 pub mod Verified

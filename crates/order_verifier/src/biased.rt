@@ -1,48 +1,30 @@
-ghost use Rattle.std.specs.Prelude.{◌≡◌, ℕ, List, ◌≤◌, ◌-◌, ◌<◌, ◌-ℤ◌, ◌≤ℤ◌, pos, neg_ℤ, length, if◌then◌else◌};
+ghost use Rattle.std.specs.Prelude.{◌≡◌, ℕ, List, ◌≤◌, ◌<◌, ◌≤ℤ◌, pos, neg_ℤ, length, if◌then◌else◌};
 ghost use Rattle.desk_model.specs.Completion.{picked_value};
 ghost use Rattle.desk_model.specs.Limits.{PARTS_OF_ONE, RANK_LIMIT};
 ghost use Rattle.desk_model.specs.Ranking.{rank};
 ghost use Rattle.desk_model.specs.declared.types.MeasureName.TheVariants.{Biased as B};
 ghost use Rattle.measure_laws.specs.Ends.{IsUpperEnd};
-ghost use Rattle.measure_laws.specs.Powers.{low_power, high_power, low_weight, high_weight};
 ghost use Rattle.measure_laws.specs.Ranks.{IsRankWithin, comes_before};
 ghost use Rattle.measure_laws.specs.Shares.{low_share, high_share};
-ghost use Rattle.order_verifier.specs.Kinds.{ArePowers};
 ghost use Rattle.order_verifier.specs.Least.{AreRankings, IsLeastLow};
 ghost use Rattle.order_verifier.specs.Walk.{AreFrom};
 
 use crate::completion::UpperEnds;
+use crate::rank_powers::RankPowers;
 use crate::ranks::is_before;
 use crate::relevance::Relevance;
 use crate::walk::{after, next_document, next_rank};
 use desk_model::{Mark, Placed, Ranking};
-use topic_counts::{Powers, Span};
-
-/// The weight of a rank in parts of 10^18, and none of an absent one.
-fn weight_of(powers: &Powers, rank: Option<u32>) -> Span
-    requires powers { ArePowers powers.now }
-    requires rank { IsRankWithin RANK_LIMIT rank }
-    ensures lo { result.lo ≡ pos (low_weight powers.now.top powers.now.bottom rank) }
-    ensures hi { result.hi ≡ pos (high_weight powers.now.top powers.now.bottom rank) }
-    ensures lo_small { result.lo ≤ℤ pos PARTS_OF_ONE }
-    ensures hi_small { result.hi ≤ℤ pos PARTS_OF_ONE }
-{
-    match rank {
-        None => Span { lo: 0, hi: 0 },
-        Some(rank) => powers.weight(rank),
-    }
-}
 
 /// What a relevant document at these two ranks adds at least to the difference.
-fn least_share(powers: &Powers, x: Option<u32>, y: Option<u32>) -> i128
-    requires powers { ArePowers powers.now }
+fn least_share(powers: &RankPowers, x: Option<u32>, y: Option<u32>) -> i128
     requires first { IsRankWithin RANK_LIMIT x }
     requires second { IsRankWithin RANK_LIMIT y }
     ensures share { result ≡ low_share powers.now.top powers.now.bottom x y }
     ensures low { neg_ℤ (pos PARTS_OF_ONE) ≤ℤ result }
     ensures high { result ≤ℤ pos PARTS_OF_ONE }
 {
-    let lead = weight_of(powers, x).lo - weight_of(powers, y).hi;
+    let lead = powers.weight(x).lo - powers.weight(y).hi;
     if is_before(x, y) {
         if lead > 0 { lead } else { 0 }
     } else if is_before(y, x) {
@@ -54,8 +36,7 @@ fn least_share(powers: &Powers, x: Option<u32>, y: Option<u32>) -> i128
 
 /// What a document with this mark at these two ranks adds at least in the least case: an unjudged one
 /// is relevant there where the second ranking has it first.
-fn least_gain(powers: &Powers, x: Option<u32>, y: Option<u32>, mark: Mark) -> i128
-    requires powers { ArePowers powers.now }
+fn least_gain(powers: &RankPowers, x: Option<u32>, y: Option<u32>, mark: Mark) -> i128
     requires first { IsRankWithin RANK_LIMIT x }
     requires second { IsRankWithin RANK_LIMIT y }
     ensures gain { result ≡
@@ -78,14 +59,13 @@ fn least_gain(powers: &Powers, x: Option<u32>, y: Option<u32>, mark: Mark) -> i1
 
 /// What a document adds at most in one completion, by the places of both rankings from it on.
 fn greatest_gain(
-    powers: &Powers,
+    powers: &RankPowers,
     first: &[Placed],
     second: &[Placed],
     doc: u32,
     is_relevant: bool,
 ) -> i128
-    requires powers { ArePowers powers.now }
-    requires places { (a : List ℕ) × (b : List ℕ) × (length a ≤ RANK_LIMIT) ×
+    requires { (a : List ℕ) × (b : List ℕ) × (length a ≤ RANK_LIMIT) ×
         (length b ≤ RANK_LIMIT) × AreFrom doc a first.now × AreFrom doc b second.now }
     ensures gain { (a : List ℕ) (b : List ℕ) → AreFrom doc a first.now → AreFrom doc b second.now →
         result ≡
@@ -103,33 +83,11 @@ fn greatest_gain(
     }
 }
 
-/// What a tail of a ranking adds at most.
-fn tail_most(powers: &Powers, ranking: &Ranking) -> i128
-    requires { ArePowers powers.now }
-    ensures value { result ≡
-        pos (high_power powers.now.top powers.now.bottom (length ranking.now)) }
-    ensures small { result ≤ℤ pos PARTS_OF_ONE }
-{
-    powers.high(ranking.docs().len() as u32)
-}
-
-/// What a tail of 10^24 relevant places adds at least.
-fn tail_least(powers: &Powers, ranking: &Ranking) -> i128
-    requires { ArePowers powers.now }
-    ensures value { result ≡ pos (low_power powers.now.top powers.now.bottom (length ranking.now) -
-        1) }
-    ensures small { result ≤ℤ pos PARTS_OF_ONE }
-{
-    let whole = powers.low(ranking.docs().len() as u32);
-    if whole > 0 { whole - 1 } else { 0 }
-}
-
 /// The lower end of the least difference under rank-biased precision: the lower shares of the
 /// documents that are relevant, or unjudged and ranked by b before a or alone, less what b's tail may
 /// hold.
-pub fn least_low(powers: &Powers, a: &Ranking, b: &Ranking, marks: &[Mark]) -> i128
-    requires powers { ArePowers powers.now }
-    requires rankings { AreRankings (length marks.now) a.now b.now }
+pub fn least_low(powers: &RankPowers, a: &Ranking, b: &Ranking, marks: &[Mark]) -> i128
+    requires { AreRankings (length marks.now) a.now b.now }
     ensures { IsLeastLow (B powers.now.top powers.now.bottom) marks.now a.now b.now result }
 {
     let mut first = a.by_doc();
@@ -142,20 +100,19 @@ pub fn least_low(powers: &Powers, a: &Ranking, b: &Ranking, marks: &[Mark]) -> i
         first = after(first, doc);
         second = after(second, doc);
     }
-    sum - tail_most(powers, b)
+    sum - powers.tail_most(b)
 }
 
 /// The upper ends of the differences under rank-biased precision in two completions: of a's score less b's in the low
 /// one, where b has a tail of 10^24 relevant places, and of b's less a's in the high one, where a has it. Each is the
 /// upper shares of the relevant documents, less what that tail adds at least. Both are summed in one walk.
 pub fn upper_ends<T: Relevance>(
-    powers: &Powers,
+    powers: &RankPowers,
     a: &Ranking,
     b: &Ranking,
     low: &T,
     high: &T,
 ) -> UpperEnds
-    requires powers { ArePowers powers.now }
     requires low { AreRankings (T.universe low.now) a.now b.now }
     requires high { AreRankings (T.universe high.now) b.now a.now }
     ensures low { IsUpperEnd (B powers.now.top powers.now.bottom) (T.universe low.now)
@@ -180,7 +137,7 @@ pub fn upper_ends<T: Relevance>(
         second = after(second, doc);
     }
     UpperEnds {
-        low: low_sum - tail_least(powers, b),
-        high: high_sum - tail_least(powers, a),
+        low: low_sum - powers.tail_least(b),
+        high: high_sum - powers.tail_least(a),
     }
 }

@@ -9,12 +9,12 @@ ghost use Rattle.order_verifier.specs.RunBounds.{AreKnown};
 use crate::completion::UpperEnds;
 use crate::counted::TopicMarks;
 use crate::kind::Kind;
+use crate::rank_powers::RankPowers;
 use crate::ranked::Ranked;
 use crate::relevance::Relevance;
 use desk_model::{MeasureName, Memory, Ranking};
 use std::alloc::Global;
 use std::marker::Model;
-use topic_counts::Powers;
 
 /// The ends of a measure, computed from counts of documents and ranks.
 #[derive(Drop)]
@@ -45,7 +45,7 @@ impl TopicEnds {
             MeasureName::RPrecision => Kind::RPrecision,
             MeasureName::Reciprocal => Kind::Reciprocal,
             MeasureName::Biased { top, bottom } => {
-                Kind::Biased(Powers::new(alloc, top, bottom, 10_000)?)
+                Kind::Biased(RankPowers::new(alloc, top, bottom)?)
             }
             MeasureName::AveragePrecision => Kind::AveragePrecision,
         };

@@ -1,10 +1,10 @@
 use crate::completion::UpperEnds;
 use crate::counted::TopicMarks;
+use crate::rank_powers::RankPowers;
 use crate::ranked::Ranked;
 use crate::relevance::Relevance;
 use crate::{average, biased, precision, recall, reciprocal, rprecision};
 use desk_model::Ranking;
-use topic_counts::Powers;
 
 /// A measure by what its ends are computed from.
 #[derive(Drop)]
@@ -18,7 +18,7 @@ pub enum Kind {
     /// `recip_rank`.
     Reciprocal,
     /// `rbp_p`, with the powers of its persistence.
-    Biased(Powers),
+    Biased(RankPowers),
     /// `map`.
     AveragePrecision,
 }

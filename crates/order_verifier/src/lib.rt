@@ -23,6 +23,7 @@ pub mod names;
 pub mod own;
 pub mod part_sum;
 pub mod precision;
+pub mod rank_powers;
 pub mod ranked;
 pub mod ranks;
 pub mod recall;

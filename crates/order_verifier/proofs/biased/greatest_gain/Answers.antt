@@ -24,12 +24,12 @@ negated_share top bottom x y = flipped (comes_before x y) (comes_before y x) (lo
 
 pub least_share-requires-clause-first : goal.least_share-requires-clause-first
 least_share-requires-clause-first c =
-    let ranked = c.requires.places in
+    let ranked = c.requires in
     subst (IsRankWithin 10000) (sym (c.next_rank-y.ensures ranked.1 ranked.5)) (rank_within ranked.1 10000 c.args.doc ranked.3)
 
 pub least_share-requires-clause-second : goal.least_share-requires-clause-second
 least_share-requires-clause-second c =
-    let ranked = c.requires.places in
+    let ranked = c.requires in
     subst (IsRankWithin 10000) (sym (c.next_rank-x.ensures ranked.0 ranked.4)) (rank_within ranked.0 10000 c.args.doc ranked.2)
 
 pub overflow_sub-result : goal.overflow_sub-result

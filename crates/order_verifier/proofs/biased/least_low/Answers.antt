@@ -23,7 +23,7 @@ bounds-marks-doc c =
     let doc = c.in-Some.doc in
     let kept = c.loop-doc.invariant in
     let next = next_is kept.next doc a b c.loop-doc.first.now c.loop-doc.second.now kept.first_from kept.second_from c.in-Some.ensures in
-    next_known kept.next doc (length c.args.marks.now) a b c.loop-doc.first.now c.loop-doc.second.now c.requires.rankings.first c.requires.rankings.second next
+    next_known kept.next doc (length c.args.marks.now) a b c.loop-doc.first.now c.loop-doc.second.now c.requires.first c.requires.second next
 
 pub least_gain-sum-requires-clause-first : goal.least_gain-sum-requires-clause-first
 least_gain-sum-requires-clause-first c =
@@ -32,7 +32,7 @@ least_gain-sum-requires-clause-first c =
     let doc = c.in-Some.doc in
     let kept = c.loop-doc.invariant in
     let next = next_is kept.next doc a b c.loop-doc.first.now c.loop-doc.second.now kept.first_from kept.second_from c.in-Some.ensures in
-    subst (IsRankWithin 10000) (sym (c.next_rank-x.ensures a next.first_from)) (rank_within a 10000 doc c.requires.rankings.first.short)
+    subst (IsRankWithin 10000) (sym (c.next_rank-x.ensures a next.first_from)) (rank_within a 10000 doc c.requires.first.short)
 
 pub least_gain-sum-requires-clause-second : goal.least_gain-sum-requires-clause-second
 least_gain-sum-requires-clause-second c =
@@ -41,7 +41,7 @@ least_gain-sum-requires-clause-second c =
     let doc = c.in-Some.doc in
     let kept = c.loop-doc.invariant in
     let next = next_is kept.next doc a b c.loop-doc.first.now c.loop-doc.second.now kept.first_from kept.second_from c.in-Some.ensures in
-    subst (IsRankWithin 10000) (sym (c.next_rank-y.ensures b next.second_from)) (rank_within b 10000 doc c.requires.rankings.second.short)
+    subst (IsRankWithin 10000) (sym (c.next_rank-y.ensures b next.second_from)) (rank_within b 10000 doc c.requires.second.short)
 
 pub loop-doc-preserved : goal.loop-doc-preserved
 loop-doc-preserved c =
@@ -53,7 +53,7 @@ loop-doc-preserved c =
     let universe = length c.args.marks.now in
     let truth = biased_truth c.args.marks.now a b in
     let share = low_share c.args.powers.now.top c.args.powers.now.bottom in
-    let known = next_known kept.next doc (length c.args.marks.now) a b c.loop-doc.first.now c.loop-doc.second.now c.requires.rankings.first c.requires.rankings.second next in
+    let known = next_known kept.next doc (length c.args.marks.now) a b c.loop-doc.first.now c.loop-doc.second.now c.requires.first c.requires.second next in
     let gain = c.least_gain-sum in
     let is = least_gain_is share c.args.marks.now a b doc c.next_rank-x.result c.next_rank-y.result _ gain.result gain.ensures.gain (c.next_rank-x.ensures a next.first_from) (c.next_rank-y.ensures b next.second_from) refl in
     let before = summed_next universe truth share a b c.loop-doc.first.now c.loop-doc.second.now _ kept doc refl next in
@@ -62,7 +62,7 @@ loop-doc-preserved c =
       within = omega (arith, known);
       first_from = c.after-first.ensures.from a next.first_from;
       second_from = c.after-second.ensures.from b next.second_from;
-      total = sum_more truth doc share a b _ gain.result (omega (arith, known, c.requires.rankings.small)) before is gain.ensures.low gain.ensures.high;
+      total = sum_more truth doc share a b _ gain.result (omega (arith, known, c.requires.small)) before is gain.ensures.low gain.ensures.high;
     }
 
 pub returns : goal.returns
@@ -73,4 +73,4 @@ returns c =
     let truth = biased_truth c.args.marks.now a b in
     let share = low_share c.args.powers.now.top c.args.powers.now.bottom in
     let all = summed_all universe truth share a b c.loop-doc.first.now c.loop-doc.second.now _ c.loop-doc.invariant refl (sym c.in_default.is ∙ c.next_document.ensures) in
-    omega (arith, ints, all.is, all.low, all.high, c.tail_most.ensures.value, c.tail_most.ensures.small, c.requires.rankings.small)
+    omega (arith, ints, all.is, all.low, all.high, c.tail_most.ensures.value, c.tail_most.ensures.small, c.requires.small)

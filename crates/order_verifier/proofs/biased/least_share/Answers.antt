@@ -35,50 +35,50 @@ levels first second l h e f = rw (sym e, sym f)
 
 pub overflow_sub-lead : goal.overflow_sub-lead
 overflow_sub-lead c =
-    let first = c.weight_of.ensures in
-    let second = c.weight_of-2.ensures in
+    let first = c.weight.ensures in
+    let second = c.weight-2.ensures in
     omega (arith, ints, first.lo, second.hi, first.lo_small, second.hi_small)
 
 pub returns-then-lead-gt0-clause-share : goal.returns-then-lead-gt0-clause-share
 returns-then-lead-gt0-clause-share c =
-    let first = c.weight_of.ensures in
-    let second = c.weight_of-2.ensures in
+    let first = c.weight.ensures in
+    let second = c.weight-2.ensures in
     leads _ _ _ _ _ c.if-is_before.ensures (lead_is _ _ _ _ first.lo second.hi first.lo_small second.hi_small) c.if-lead-gt0.true
 
 pub returns-then-lead-gt0-clause-low : goal.returns-then-lead-gt0-clause-low
 returns-then-lead-gt0-clause-low c =
-    let first = c.weight_of.ensures in
-    let second = c.weight_of-2.ensures in
+    let first = c.weight.ensures in
+    let second = c.weight-2.ensures in
     omega (arith, ints, lead_is _ _ _ _ first.lo second.hi first.lo_small second.hi_small, second.hi, second.hi_small)
 
 pub returns-then-lead-gt0-clause-high : goal.returns-then-lead-gt0-clause-high
 returns-then-lead-gt0-clause-high c =
-    let first = c.weight_of.ensures in
-    let second = c.weight_of-2.ensures in
+    let first = c.weight.ensures in
+    let second = c.weight-2.ensures in
     omega (arith, ints, lead_is _ _ _ _ first.lo second.hi first.lo_small second.hi_small, first.lo, first.lo_small)
 
 pub returns-else-lead-gt0-clause-share : goal.returns-else-lead-gt0-clause-share
 returns-else-lead-gt0-clause-share c =
-    let first = c.weight_of.ensures in
-    let second = c.weight_of-2.ensures in
+    let first = c.weight.ensures in
+    let second = c.weight-2.ensures in
     stays _ _ _ _ _ c.if-is_before.ensures (lead_is _ _ _ _ first.lo second.hi first.lo_small second.hi_small) c.if-lead-gt0.false
 
 pub returns-then-is_before-2-clause-share : goal.returns-then-is_before-2-clause-share
 returns-then-is_before-2-clause-share c =
-    let first = c.weight_of.ensures in
-    let second = c.weight_of-2.ensures in
+    let first = c.weight.ensures in
+    let second = c.weight-2.ensures in
     lead_is _ _ _ _ first.lo second.hi first.lo_small second.hi_small ∙ trails _ _ _ _ c.if-is_before.ensures c.if-is_before-2.ensures
 
 pub returns-then-is_before-2-clause-low : goal.returns-then-is_before-2-clause-low
 returns-then-is_before-2-clause-low c =
-    let first = c.weight_of.ensures in
-    let second = c.weight_of-2.ensures in
+    let first = c.weight.ensures in
+    let second = c.weight-2.ensures in
     omega (arith, ints, lead_is _ _ _ _ first.lo second.hi first.lo_small second.hi_small, second.hi, second.hi_small)
 
 pub returns-then-is_before-2-clause-high : goal.returns-then-is_before-2-clause-high
 returns-then-is_before-2-clause-high c =
-    let first = c.weight_of.ensures in
-    let second = c.weight_of-2.ensures in
+    let first = c.weight.ensures in
+    let second = c.weight-2.ensures in
     omega (arith, ints, lead_is _ _ _ _ first.lo second.hi first.lo_small second.hi_small, first.lo, first.lo_small)
 
 pub returns-else-is_before-2-clause-share : goal.returns-else-is_before-2-clause-share

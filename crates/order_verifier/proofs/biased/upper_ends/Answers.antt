@@ -34,16 +34,16 @@ find_relevant-in_high-requires g c =
     let next = next_is kept.next c.in-Some.doc b a c.loop-doc.second.now c.loop-doc.first.now kept.first_from kept.second_from swapped in
     next_known kept.next c.in-Some.doc (g.T.Relevance.universe c.args.high.now) b a c.loop-doc.second.now c.loop-doc.first.now c.requires.high.first c.requires.high.second next
 
-pub greatest_gain-low_sum-requires-clause-places : goal.greatest_gain-low_sum-requires-clause-places
-greatest_gain-low_sum-requires-clause-places g c =
+pub greatest_gain-low_sum-requires : goal.greatest_gain-low_sum-requires
+greatest_gain-low_sum-requires g c =
     let a = c.args.a.now in
     let b = c.args.b.now in
     let kept = c.loop-doc.invariant.low in
     let next = next_is kept.next c.in-Some.doc a b c.loop-doc.first.now c.loop-doc.second.now kept.first_from kept.second_from c.in-Some.ensures in
     (a, b, c.requires.low.first.short, c.requires.low.second.short, next.first_from, next.second_from)
 
-pub greatest_gain-high_sum-requires-clause-places : goal.greatest_gain-high_sum-requires-clause-places
-greatest_gain-high_sum-requires-clause-places g c =
+pub greatest_gain-high_sum-requires : goal.greatest_gain-high_sum-requires
+greatest_gain-high_sum-requires g c =
     let a = c.args.a.now in
     let b = c.args.b.now in
     let kept = c.loop-doc.invariant.low in
