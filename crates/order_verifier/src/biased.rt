@@ -10,6 +10,7 @@ ghost use Rattle.order_verifier.specs.Least.{AreRankings, IsLeastLow};
 ghost use Rattle.order_verifier.specs.Walk.{AreFrom};
 
 use crate::completion::UpperEnds;
+use crate::pair::MarkedPair;
 use crate::rank_powers::RankPowers;
 use crate::ranks::is_before;
 use crate::relevance::Relevance;
@@ -86,21 +87,21 @@ fn greatest_gain(
 /// The lower end of the least difference under rank-biased precision: the lower shares of the
 /// documents that are relevant, or unjudged and ranked by b before a or alone, less what b's tail may
 /// hold.
-pub fn least_low(powers: &RankPowers, a: &Ranking, b: &Ranking, marks: &[Mark]) -> i128
-    requires { AreRankings (length marks.now) a.now b.now }
-    ensures { IsLeastLow (B powers.now.top powers.now.bottom) marks.now a.now b.now result }
+pub fn least_low(powers: &RankPowers, pair: &MarkedPair<'_, '_, '_>) -> i128
+    ensures { IsLeastLow (B powers.now.top powers.now.bottom) pair.now.marks.now pair.now.a.now
+        pair.now.b.now result }
 {
-    let mut first = a.by_doc();
-    let mut second = b.by_doc();
+    let mut first = pair.a.by_doc();
+    let mut second = pair.b.by_doc();
     let mut sum = 0;
     while let Some(doc) = next_document(first, second) {
         let x = next_rank(first, doc);
         let y = next_rank(second, doc);
-        sum += least_gain(powers, x, y, marks[doc as usize]);
+        sum += least_gain(powers, x, y, pair.marks[doc as usize]);
         first = after(first, doc);
         second = after(second, doc);
     }
-    sum - powers.tail_most(b)
+    sum - powers.tail_most(pair.b)
 }
 
 /// The upper ends of the differences under rank-biased precision in two completions: of a's score less b's in the low

@@ -1,5 +1,6 @@
 use crate::completion::UpperEnds;
 use crate::counted::TopicMarks;
+use crate::pair::MarkedPair;
 use crate::rank_powers::RankPowers;
 use crate::ranked::Ranked;
 use crate::relevance::Relevance;
@@ -39,14 +40,17 @@ impl Kind {
         ensures { IsLeastLow (name_of self.now) marks.now x.now.ranking.now y.now.ranking.now
             result }
     {
-        let a = x.ranking;
-        let b = y.ranking;
+        let pair = MarkedPair {
+            a: x.ranking,
+            b: y.ranking,
+            marks: marks.as_slice(),
+        };
         match self {
-            Kind::Precision(k) => precision::least_low(*k, a, b, marks.as_slice()),
-            Kind::Recall(k) => recall::least_low(*k, a, b, marks.as_slice(), marks.all()),
-            Kind::RPrecision => rprecision::least_low(a, b, marks.as_slice(), marks.all()),
-            Kind::Reciprocal => reciprocal::least_low(a, b, marks.as_slice()),
-            Kind::Biased(powers) => biased::least_low(powers, a, b, marks.as_slice()),
+            Kind::Precision(k) => precision::least_low(*k, &pair),
+            Kind::Recall(k) => recall::least_low(*k, &pair, marks.all()),
+            Kind::RPrecision => rprecision::least_low(&pair, marks.all()),
+            Kind::Reciprocal => reciprocal::least_low(&pair),
+            Kind::Biased(powers) => biased::least_low(powers, &pair),
             Kind::AveragePrecision => average::least_low(x, y, marks.as_slice(), marks.all()),
         }
     }

@@ -21,6 +21,7 @@ mod listed;
 mod name_order;
 pub mod names;
 pub mod own;
+pub mod pair;
 pub mod part_sum;
 pub mod precision;
 pub mod rank_powers;

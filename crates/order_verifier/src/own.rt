@@ -1,10 +1,10 @@
 ghost use Rattle.std.specs.Prelude.{◌≡◌, ◌+◌, ◌^◌, ◌≤◌, ◌<◌, ◌&&◌, not, true, false, length, take, if◌then◌else◌};
 ghost use Rattle.desk_model.specs.Completion.{picked_value};
 ghost use Rattle.desk_model.specs.Ranking.{IsRanking, is_in};
-ghost use Rattle.order_verifier.specs.Least.{AreRankings};
 ghost use Rattle.order_verifier.specs.Own.{CountsOwn, IsOrdered};
 
 use crate::counts::{RelevantCounts, is_among_first};
+use crate::pair::MarkedPair;
 use crate::ranks::longer;
 use desk_model::{Mark, Ranking};
 
@@ -34,14 +34,14 @@ impl Own {
     }
 
     /// The counts of the first k documents, one document deeper in both rankings at a time.
-    pub fn of_first(k: u32, a: &Ranking, b: &Ranking, marks: &[Mark]) -> Own
-        requires { AreRankings (length marks.now) a.now b.now }
-        ensures own { CountsOwn marks.now (take k a.now) (take k b.now) result }
+    pub fn of_first(k: u32, pair: &MarkedPair<'_, '_, '_>) -> Own
+        ensures own { CountsOwn pair.now.marks.now (take k pair.now.a.now)
+            (take k pair.now.b.now) result }
         ensures ordered { IsOrdered result }
     {
         let mut own = Own::NONE;
-        for depth in 0..k.min(longer(a, b)) {
-            own = own.deepened(depth, a, b, marks);
+        for depth in 0..k.min(longer(pair.a, pair.b)) {
+            own = own.deepened(depth, pair);
         }
         own
     }
@@ -125,13 +125,16 @@ impl Own {
     }
 
     /// The counts one document deeper in both rankings.
-    pub fn deepened(self, depth: u32, a: &Ranking, b: &Ranking, marks: &[Mark]) -> Own
-        requires first { IsRanking (length marks.now) a.now }
-        requires second { IsRanking (length marks.now) b.now }
+    pub fn deepened(self, depth: u32, pair: &MarkedPair<'_, '_, '_>) -> Own
         requires depth { depth + 1 < 2 ^ 32 }
-        requires own { CountsOwn marks.now (take depth a.now) (take depth b.now) self }
-        ensures { CountsOwn marks.now (take (depth + 1) a.now) (take (depth + 1) b.now) result }
+        requires own { CountsOwn pair.now.marks.now (take depth pair.now.a.now)
+            (take depth pair.now.b.now) self }
+        ensures { CountsOwn pair.now.marks.now (take (depth + 1) pair.now.a.now)
+            (take (depth + 1) pair.now.b.now) result }
     {
+        let a = pair.a;
+        let b = pair.b;
+        let marks = pair.marks;
         let first = self.with_document(depth, a, depth, b, marks).swapped();
         first.with_document(depth, b, depth + 1, a, marks).swapped()
     }

@@ -1,4 +1,4 @@
-ghost use Rattle.std.specs.Prelude.{◌≡◌, length};
+ghost use Rattle.std.specs.Prelude.{◌≡◌};
 ghost use Rattle.desk_model.specs.MeasureText.{IsDepth};
 ghost use Rattle.desk_model.specs.declared.types.MeasureName.TheVariants.{Precision as P};
 ghost use Rattle.measure_laws.specs.Ends.{IsUpperEnd};
@@ -6,17 +6,17 @@ ghost use Rattle.order_verifier.specs.Least.{AreRankings, IsLeastLow};
 
 use crate::counts::relevant_among;
 use crate::own::Own;
+use crate::pair::MarkedPair;
 use crate::relevance::Relevance;
-use desk_model::{Mark, Ranking};
+use desk_model::Ranking;
 
 /// k times the least difference under `P_k`: a's own relevant documents among the first k, less b's
 /// own ones that are relevant or unjudged.
-pub fn least_low(k: u32, a: &Ranking, b: &Ranking, marks: &[Mark]) -> i128
-    requires depth { IsDepth k }
-    requires rankings { AreRankings (length marks.now) a.now b.now }
-    ensures { IsLeastLow (P k) marks.now a.now b.now result }
+pub fn least_low(k: u32, pair: &MarkedPair<'_, '_, '_>) -> i128
+    requires { IsDepth k }
+    ensures { IsLeastLow (P k) pair.now.marks.now pair.now.a.now pair.now.b.now result }
 {
-    let own = Own::of_first(k, a, b, marks);
+    let own = Own::of_first(k, pair);
     i128::from(own.first.relevant) - i128::from(own.second.possible)
 }
 

@@ -11,6 +11,7 @@ ghost use Rattle.order_verifier.specs.Least.{AreRankings, IsLeastLow};
 
 use crate::counts::prefix;
 use crate::difference::Difference;
+use crate::pair::MarkedPair;
 use crate::ranks::{earlier_of, rank_in};
 use crate::relevance::Relevance;
 use desk_model::{Mark, Ranking};
@@ -88,10 +89,12 @@ fn last_chosen(first: Option<u32>, ranking: &Ranking) -> u32
 /// choice of an unjudged document of b, where a's first relevant rank is the earlier of its first
 /// judged one and that of the chosen document, and so is b's. A document after b's first judged
 /// relevant one does not lower the difference.
-pub fn least_low(a: &Ranking, b: &Ranking, marks: &[Mark]) -> i128
-    requires { AreRankings (length marks.now) a.now b.now }
-    ensures { IsLeastLow R marks.now a.now b.now result }
+pub fn least_low(pair: &MarkedPair<'_, '_, '_>) -> i128
+    ensures { IsLeastLow R pair.now.marks.now pair.now.a.now pair.now.b.now result }
 {
+    let a = pair.a;
+    let b = pair.b;
+    let marks = pair.marks;
     let first = first_judged(a, marks);
     let second = first_judged(b, marks);
     let mut low = difference(first, second).floor();

@@ -12,9 +12,10 @@ ghost use Rattle.order_verifier.specs.Own.{CountsOwn, IsOrdered};
 use crate::counts::{RelevantCounts, relevant_among};
 use crate::difference::Difference;
 use crate::own::Own;
+use crate::pair::MarkedPair;
 use crate::ranks::longer;
 use crate::relevance::Relevance;
-use desk_model::{Mark, Ranking};
+use desk_model::Ranking;
 
 /// The difference where so many unjudged documents are relevant: b's own ones are chosen first, and
 /// a's own ones last.
@@ -53,16 +54,15 @@ fn steps_to_longer(all: RelevantCounts, a: &Ranking, b: &Ranking) -> u32
 /// documents that the topic can have, from the judged ones to those and all unjudged ones. Beyond both
 /// rankings two of them are enough: where b's own unjudged documents are used up, and where only a's
 /// own are left.
-pub fn least_low(a: &Ranking, b: &Ranking, marks: &[Mark], all: RelevantCounts) -> i128
-    requires rankings { AreRankings (length marks.now) a.now b.now }
-    requires all { AreAllCounts marks.now all }
-    ensures { IsLeastLow R marks.now a.now b.now result }
+pub fn least_low(pair: &MarkedPair<'_, '_, '_>, all: RelevantCounts) -> i128
+    requires { AreAllCounts pair.now.marks.now all }
+    ensures { IsLeastLow R pair.now.marks.now pair.now.a.now pair.now.b.now result }
 {
-    let steps = steps_to_longer(all, a, b);
-    let mut own = Own::of_first(all.relevant, a, b, marks);
+    let steps = steps_to_longer(all, pair.a, pair.b);
+    let mut own = Own::of_first(all.relevant, pair);
     let mut low = difference(own, all, 0).floor();
     for chosen in 0..steps {
-        own = own.deepened(all.relevant + chosen, a, b, marks);
+        own = own.deepened(all.relevant + chosen, pair);
         low = difference(own, all, chosen + 1).lowered(low);
     }
     let second_used = steps.max(own.second.unjudged());

@@ -4,7 +4,7 @@ use Rattle.order_verifier.proofs.Shares.{AreSummed}
 use Rattle.order_verifier.proofs.biased.least_low.Given as goal
 
 abbrev pub invariant-loop-doc : goal.invariant-loop-doc
-invariant-loop-doc l = AreSummed (length l.marks) (biased_truth l.marks l.a l.b) (low_share l.powers.top l.powers.bottom) l.a l.b l.first l.second l.sum
+invariant-loop-doc l = AreSummed (length l.pair.marks.now) (biased_truth l.pair.marks.now l.pair.a.now l.pair.b.now) (low_share l.powers.top l.powers.bottom) l.pair.a.now l.pair.b.now l.first l.second l.sum
 
 abbrev pub decreases-loop-doc : goal.decreases-loop-doc
 decreases-loop-doc l = length l.first + length l.second

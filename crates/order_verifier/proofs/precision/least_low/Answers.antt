@@ -13,6 +13,6 @@ returns c =
     let own = c.of_first-own.result in
     let is = c.of_first-own.ensures.own in
     let same : to_z w128 (of_z w128 (to_z w128 (of_z w128 c.from.result) -ℤ to_z w128 (of_z w128 c.from-2.result))) ≡ pos own.first.relevant -ℤ pos own.second.possible = omega (arith, ints) in
-    let low : to_z w128 (of_z w128 (to_z w128 (of_z w128 c.from.result) -ℤ to_z w128 (of_z w128 c.from-2.result))) ≡ precision_least c.args.k c.args.marks.now c.args.a.now c.args.b.now =
-    same ∙ ap (λ n. pos n -ℤ pos own.second.possible) is.first_relevant ∙ ap (λ n. pos (only_count false c.args.marks.now (take c.args.k c.args.a.now) (take c.args.k c.args.b.now)) -ℤ pos n) is.second_possible in
-    subst (IsGreatest (λ w. InEvery (Precision c.args.k) c.args.marks.now c.args.a.now c.args.b.now (IsAtMost w c.args.k))) (sym low) (precision_extremes c.args.k c.args.marks.now c.args.a.now c.args.b.now (omega arith) c.requires.rankings.first c.requires.rankings.second).least_lo
+    let low : to_z w128 (of_z w128 (to_z w128 (of_z w128 c.from.result) -ℤ to_z w128 (of_z w128 c.from-2.result))) ≡ precision_least c.args.k c.args.pair.now.marks.now c.args.pair.now.a.now c.args.pair.now.b.now =
+    same ∙ ap (λ n. pos n -ℤ pos own.second.possible) is.first_relevant ∙ ap (λ n. pos (only_count false c.args.pair.now.marks.now (take c.args.k c.args.pair.now.a.now) (take c.args.k c.args.pair.now.b.now)) -ℤ pos n) is.second_possible in
+    subst (IsGreatest (λ w. InEvery (Precision c.args.k) c.args.pair.now.marks.now c.args.pair.now.a.now c.args.pair.now.b.now (IsAtMost w c.args.k))) (sym low) (precision_extremes c.args.k c.args.pair.now.marks.now c.args.pair.now.a.now c.args.pair.now.b.now (omega arith) c.args.pair.now.first c.args.pair.now.second).least_lo

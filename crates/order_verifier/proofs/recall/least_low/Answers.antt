@@ -10,7 +10,7 @@ use Rattle.order_verifier.proofs.recall.least_low.Goals as goal
 
 pub overflow_sub-whole : goal.overflow_sub-whole
 overflow_sub-whole c =
-    omega (arith, own_few c.args.k c.args.marks.now c.args.a.now c.args.b.now _ _ c.requires.rankings.first c.requires.rankings.second c.of_first-own.ensures.own.first_possible c.requires.all.possible, c.unjudged.ensures)
+    omega (arith, own_few c.args.k c.args.pair.now.marks.now c.args.pair.now.a.now c.args.pair.now.b.now _ _ c.args.pair.now.first c.args.pair.now.second c.of_first-own.ensures.own.first_possible c.requires.possible, c.unjudged.ensures)
 
 pub returns : goal.returns
 returns c =
@@ -21,6 +21,6 @@ returns c =
     λ h. elim c.if-second-first.branch [ then-second-first w ↦ omega (arith, w.whole-is, w.unjudged.ensures) | else-second-first w ↦ absurd (omega (arith, h, w.if-second-first.false)) ] in
     let trails : own.first.relevant ≤ own.second.possible → c.if-second-first.whole ≡ c.args.all.relevant + (own.second.possible - own.second.relevant) =
     λ h. elim c.if-second-first.branch [ then-second-first w ↦ absurd (omega (arith, h, w.if-second-first.true)) | else-second-first w ↦ omega (arith, w.whole-is, w.unjudged-else-second-first.ensures) ] in
-    subst (IsGreatest (λ w. InEvery (Recall c.args.k) c.args.marks.now c.args.a.now c.args.b.now (IsAtMost w (10 ^ 18)))) (sym same)
-    (recall_low c.args.k c.args.marks.now c.args.a.now c.args.b.now own.first own.second c.args.all c.if-second-first.whole c.floor.result c.requires.rankings.first c.requires.rankings.second
-    (record { relevant = is.first_relevant; possible = is.first_possible }) (record { relevant = is.second_relevant; possible = is.second_possible }) c.requires.all.relevant c.requires.all.possible led trails c.floor.ensures.floor)
+    subst (IsGreatest (λ w. InEvery (Recall c.args.k) c.args.pair.now.marks.now c.args.pair.now.a.now c.args.pair.now.b.now (IsAtMost w (10 ^ 18)))) (sym same)
+    (recall_low c.args.k c.args.pair.now.marks.now c.args.pair.now.a.now c.args.pair.now.b.now own.first own.second c.args.all c.if-second-first.whole c.floor.result c.args.pair.now.first c.args.pair.now.second
+    (record { relevant = is.first_relevant; possible = is.first_possible }) (record { relevant = is.second_relevant; possible = is.second_possible }) c.requires.relevant c.requires.possible led trails c.floor.ensures.floor)

@@ -18,14 +18,14 @@ use Rattle.order_verifier.proofs.reciprocal.least_low.Goals as goal
 pub loop-doc-init : goal.loop-doc-init
 loop-doc-init c =
     let same : to_z w128 (of_z w128 c.floor-low.result) ≡ c.floor-low.result = omega (arith, ints) in
-    let of = of_choice c.args.marks.now c.args.a.now c.args.b.now None _ _ c.difference.result c.difference.ensures c.first_judged-first.ensures.first c.first_judged-second.ensures.first in
+    let of = of_choice c.args.pair.now.marks.now c.args.pair.now.a.now c.args.pair.now.b.now None _ _ c.difference.result c.difference.ensures c.first_judged-first.ensures.first c.first_judged-second.ensures.first in
     record {
-      low = subst (IsLowOf c.args.marks.now c.args.a.now c.args.b.now []) (sym same) (low_none c.args.marks.now c.args.a.now c.args.b.now c.difference.result c.floor-low.result of c.floor-low.ensures.floor);
+      low = subst (IsLowOf c.args.pair.now.marks.now c.args.pair.now.a.now c.args.pair.now.b.now []) (sym same) (low_none c.args.pair.now.marks.now c.args.pair.now.a.now c.args.pair.now.b.now c.difference.result c.floor-low.result of c.floor-low.ensures.floor);
       near = subst IsNear (sym same) c.floor-low.ensures.near;
     }
 
 pub bounds : goal.bounds
-bounds c = prefix_known (length c.args.marks.now) c.last_chosen.result c.loop-doc.doc-index _ _ c.args.b.now c.prefix-doc-items.ensures c.docs.ensures.docs c.requires.second.within c.loop-doc-test.true
+bounds c = prefix_known (length c.args.pair.now.marks.now) c.last_chosen.result c.loop-doc.doc-index _ _ c.args.pair.now.b.now c.prefix-doc-items.ensures c.docs.ensures.docs c.args.pair.now.second.within c.loop-doc-test.true
 
 -- the earlier of two ranks is as small as they are
 earlier_within : (x y : Option ℕ) → IsRankWithin 10000 x → IsRankWithin 10000 y → IsRankWithin 10000 (earlier x y)
@@ -44,9 +44,9 @@ lowered-low-requires-clause-near c = c.loop-doc.invariant.near
 
 pub loop-doc-preserved : goal.loop-doc-preserved
 loop-doc-preserved c =
-    let marks = c.args.marks.now in
-    let a = c.args.a.now in
-    let b = c.args.b.now in
+    let marks = c.args.pair.now.marks.now in
+    let a = c.args.pair.now.a.now in
+    let b = c.args.pair.now.b.now in
     let items = c.prefix-doc-items.result.now in
     let i = c.loop-doc.doc-index in
     let x = get_or items i 0 in
@@ -73,13 +73,13 @@ loop-doc-preserved c =
 
 pub returns : goal.returns
 returns c =
-    let marks = c.args.marks.now in
-    let a = c.args.a.now in
-    let b = c.args.b.now in
+    let marks = c.args.pair.now.marks.now in
+    let a = c.args.pair.now.a.now in
+    let b = c.args.pair.now.b.now in
     let k = c.last_chosen.result in
     let items = c.prefix-doc-items.result.now in
     let seen : take c.loop-doc.doc-index items ≡ take k b = take_all c.loop-doc.doc-index items c.loop-doc-test.false ∙ c.prefix-doc-items.ensures ∙ ap (take k) c.docs.ensures.docs in
     let low : IsLowOf marks a b (take k b) (to_z w128 c.loop-doc.low-bits) = subst (λ (xs : List ℕ). IsLowOf marks a b xs (to_z w128 c.loop-doc.low-bits)) seen c.loop-doc.invariant.low in
     let within = subst (IsRankWithin 10000) c.first_judged-first.ensures.first c.first_judged-first.ensures.within in
-    smallest_is Reciprocal marks a b _ _ _ (to_z w128 c.loop-doc.low-bits) (reciprocal_differences marks a b c.requires.first c.requires.second)
-    (low_rest marks a b k c.first_judged-second.result (to_z w128 c.loop-doc.low-bits) c.requires.first.short within c.first_judged-second.ensures.first c.last_chosen.ensures low)
+    smallest_is Reciprocal marks a b _ _ _ (to_z w128 c.loop-doc.low-bits) (reciprocal_differences marks a b c.args.pair.now.first c.args.pair.now.second)
+    (low_rest marks a b k c.first_judged-second.result (to_z w128 c.loop-doc.low-bits) c.args.pair.now.first.short within c.first_judged-second.ensures.first c.last_chosen.ensures low)

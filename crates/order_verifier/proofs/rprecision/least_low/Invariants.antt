@@ -6,7 +6,7 @@ use Rattle.order_verifier.proofs.rprecision.least_low.Given as goal
 
 abbrev pub invariant-loop-chosen : goal.invariant-loop-chosen
 invariant-loop-chosen l = record {
-  own : CountsOwn l.marks (take (l.all.relevant + l.chosen) l.a) (take (l.all.relevant + l.chosen) l.b) l.own;
-  low : IsLowTo l.marks l.a l.b l.chosen l.low;
+  own : CountsOwn l.pair.marks.now (take (l.all.relevant + l.chosen) l.pair.a.now) (take (l.all.relevant + l.chosen) l.pair.b.now) l.own;
+  low : IsLowTo l.pair.marks.now l.pair.a.now l.pair.b.now l.chosen l.low;
   near : IsNear l.low;
 }
