@@ -196,15 +196,13 @@ impl<'a> Documents<'a> {
             ListForm::NumberedPicks => {
                 find_number(self.book, self.numbers, self.picks, doc, near)
             }
-            ListForm::FlaggedNames => FoundNear {
-                is_found: self.flags[doc as usize],
-                near,
-            },
-            ListForm::Names | ListForm::Picks => self.find_by_name(doc, near),
+            ListForm::Names | ListForm::FlaggedNames | ListForm::Picks => {
+                self.find_by_name(doc, near)
+            }
         }
     }
 
-    /// The same by the names of the list.
+    /// The same by the names of the list, or by its flags.
     #[inline(never)]
     fn find_by_name(&self, doc: u32, near: usize) -> FoundNear
         requires known { AreKnown self.now.docs self.now.names }
@@ -233,13 +231,21 @@ fn name_at(names: &[Name], number: u32) -> &[u8]
     }
 }
 
+/// The number of the document whose name has no bytes, which no topic has.
+#[inline(never)]
+fn nameless(book: &TopicBook) -> Option<u32>
+    ensures { result ≡ number_of book.now.docs [] }
+{
+    book.find(&[])
+}
+
 /// The number on a topic of a document that is picked, by the numbers of the names that lists may pick.
 fn number_at(book: &TopicBook, numbers: &[Option<u32>], pick: u32) -> Option<u32>
     ensures { result ≡ slice_index_or numbers.now pick (number_of book.now.docs []) }
 {
     match numbers.get(pick as usize) {
         Some(number) => *number,
-        None => book.find(&[]),
+        None => nameless(book),
     }
 }
 
