@@ -1,5 +1,5 @@
 -- The sums that a table keeps, by the numbers of its topics.
-use Rattle.std.proofs.Common.{◌≡◌, ℕ, zero, suc, ◌+◌, ◌≤◌, List, [], ◌∷◌, ◌++◌, map, length, take, Some, ℤ, pos, ◌+ℤ◌, ◌-ℤ◌, refl, ap, sym, ◌∙◌, subst, arith}
+use Rattle.std.proofs.Common.{◌≡◌, ◌⊎◌, inl, inr, ℕ, zero, suc, ◌+◌, ◌≤◌, List, [], ◌∷◌, ◌++◌, map, length, take, Some, ℤ, pos, ◌+ℤ◌, ◌-ℤ◌, refl, ap, sym, ◌∙◌, subst, arith}
 use Rattle.std.specs.Prelude.{slice_get, slice_set, All}
 use Rattle.std.specs.List.{AllByRecursion, AllZip}
 use Rattle.std.proofs.lemmas.Int.{ints}
@@ -23,7 +23,7 @@ use Rattle.topic_counts.proofs.Spans.{span_same}
 use Rattle.measure_laws.specs.Shares.{IsModest}
 use Rattle.measure_core.specs.Laws.{CellIsModest, SpanIsModest}
 use Rattle.measure_core.specs.declared.cell.Cell.{Cell}
-use Rattle.pair_table.specs.Kept.{TopicNumbers, numbers_on, all_numbers, AreTopicNumbers, IsCellOf, with_cell, without_cell, with_span, without_span, no_totals, no_bounds, kept_totals, kept_bounds, each_with, sums_by, AreWithin, SpanIsWithin, IsAtMostInSize, AreModestTotals, TotalsCanGrow, BoundsCanGrow, IsKeptTable}
+use Rattle.pair_table.specs.Kept.{TopicNumbers, AllSums, kept_sums, sums_with, sums_without, SumsCanGrow, numbers_on, all_numbers, AreTopicNumbers, IsCellOf, with_cell, without_cell, with_span, without_span, no_totals, no_bounds, kept_totals, kept_bounds, each_with, sums_by, AreWithin, SpanIsWithin, IsAtMostInSize, AreModestTotals, TotalsCanGrow, BoundsCanGrow, IsKeptTable}
 use Rattle.pair_table.specs.Sums.{all_pair_sums, all_run_sums, pair_sums, run_sums, run_numbers}
 use Rattle.pair_table.proofs.Adding.{totals_same, within_step, within_near}
 use Rattle.measure_core.proofs.RunPairs.{length-run_numbers}
@@ -100,6 +100,10 @@ spans_wider n m s few h = (wider n m s.lo few h.0, wider n m s.hi few h.1)
 spans_near : (n : ℕ) (s : Span) → n ≤ 10000 → SpanIsWithin n s → IsShort s
 spans_near n s few h = (within_near n s.lo few h.0, within_near n s.hi few h.1)
 
+-- ---- both sums
+pub same_sums : (totals us : List Totals) (bounds bs : List Span) → totals ≡ us → bounds ≡ bs → ◌≡◌ {A = AllSums} (record { totals = totals; bounds = bounds }) (record { totals = us; bounds = bs })
+same_sums totals us bounds bs e f = ap (λ l. record { totals = l; bounds = bounds }) e ∙ ap (λ l. record { totals = us; bounds = l }) f
+
 -- ---- what a list of kept numbers has
 abbrev cells_of : List TopicNumbers → List (List Cell)
 cells_of topics = map (λ (t : TopicNumbers). t.cells) topics
@@ -157,48 +161,61 @@ module _ (runs : ℕ) (topics : List TopicNumbers) (numbers : All (AreTopicNumbe
     pub near_bounds : All IsShort (kept_bounds runs topics)
     near_bounds = All-from_recursion IsShort (kept_bounds runs topics) (all_then (SpanIsWithin (length topics)) IsShort (λ s h. spans_near (length topics) s few h) (kept_bounds runs topics) spans_within)
 
-    pub totals_can_grow : TotalsCanGrow (kept_totals runs topics)
+    totals_can_grow : TotalsCanGrow (kept_totals runs topics)
     totals_can_grow = All-from_recursion _ (kept_totals runs topics)
         (all_then (AreWithin (length topics)) (AreWithin (TOPIC_LIMIT + 1)) (λ t h. totals_wider (length topics) (TOPIC_LIMIT + 1) t (omega (arith, few)) h) (kept_totals runs topics) within)
 
-    pub bounds_can_grow : BoundsCanGrow (kept_bounds runs topics)
+    bounds_can_grow : BoundsCanGrow (kept_bounds runs topics)
     bounds_can_grow = All-from_recursion _ (kept_bounds runs topics)
         (all_then (SpanIsWithin (length topics)) (SpanIsWithin (TOPIC_LIMIT + 1)) (λ s h. spans_wider (length topics) (TOPIC_LIMIT + 1) s (omega (arith, few)) h) (kept_bounds runs topics) spans_within)
 
     -- a topic's numbers are taken off
-    pub less_totals_can_grow : (t : TopicNumbers) → AreTopicNumbers runs t → TotalsCanGrow (each_with without_cell (kept_totals runs topics) t.cells)
+    less_totals_can_grow : (t : TopicNumbers) → AreTopicNumbers runs t → TotalsCanGrow (each_with without_cell (kept_totals runs topics) t.cells)
     less_totals_can_grow t h = All-from_recursion _ (each_with without_cell (kept_totals runs topics) t.cells)
         (all_each without_cell (AreWithin (length topics)) (AreWithin (TOPIC_LIMIT + 1)) CellIsModest (λ s c p q. totals_wider (length topics + 1) (TOPIC_LIMIT + 1) _ (omega (arith, few)) (less_cell_within (length topics) s c p q))
         (kept_totals runs topics) t.cells within (recursion_from_All CellIsModest t.cells h.cells))
 
-    pub less_bounds_can_grow : (t : TopicNumbers) → AreTopicNumbers runs t → BoundsCanGrow (each_with without_span (kept_bounds runs topics) t.bounds)
+    less_bounds_can_grow : (t : TopicNumbers) → AreTopicNumbers runs t → BoundsCanGrow (each_with without_span (kept_bounds runs topics) t.bounds)
     less_bounds_can_grow t h = All-from_recursion _ (each_with without_span (kept_bounds runs topics) t.bounds)
         (all_each without_span (SpanIsWithin (length topics)) (SpanIsWithin (TOPIC_LIMIT + 1)) SpanIsModest (λ s c p q. spans_wider (length topics + 1) (TOPIC_LIMIT + 1) _ (omega (arith, few)) (less_span_within (length topics) s c p q))
         (kept_bounds runs topics) t.bounds spans_within (recursion_from_All SpanIsModest t.bounds h.bounds))
 
+    pub can_grow : SumsCanGrow (kept_sums runs topics)
+    can_grow = (totals_can_grow, bounds_can_grow)
+
+    -- a topic's numbers are taken off
+    pub less_can_grow : (t : TopicNumbers) → AreTopicNumbers runs t → SumsCanGrow (sums_without (kept_sums runs topics) t)
+    less_can_grow t h = (less_totals_can_grow t h, less_bounds_can_grow t h)
+
   -- one topic with other numbers
-  pub totals_renewed : (k : ℕ) (old new : TopicNumbers) → slice_get topics k ≡ Some old → kept_totals runs (slice_set topics k new) ≡ each_with with_cell (each_with without_cell (kept_totals runs topics) old.cells) new.cells
+  totals_renewed : (k : ℕ) (old new : TopicNumbers) → slice_get topics k ≡ Some old → kept_totals runs (slice_set topics k new) ≡ each_with with_cell (each_with without_cell (kept_totals runs topics) old.cells) new.cells
   totals_renewed k old new there =
       ap (sums_by with_cell (no_totals runs)) (map-set (λ (t : TopicNumbers). t.cells) topics k new)
       ∙ sums_renewed with_cell without_cell cells_commute cells_cancel cells_exchange (no_totals runs) (cells_of topics) k old.cells new.cells pair_counts (map_there (λ (t : TopicNumbers). t.cells) topics k old there)
 
-  pub bounds_renewed : (k : ℕ) (old new : TopicNumbers) → slice_get topics k ≡ Some old → kept_bounds runs (slice_set topics k new) ≡ each_with with_span (each_with without_span (kept_bounds runs topics) old.bounds) new.bounds
+  bounds_renewed : (k : ℕ) (old new : TopicNumbers) → slice_get topics k ≡ Some old → kept_bounds runs (slice_set topics k new) ≡ each_with with_span (each_with without_span (kept_bounds runs topics) old.bounds) new.bounds
   bounds_renewed k old new there =
       ap (sums_by with_span (no_bounds runs)) (map-set (λ (t : TopicNumbers). t.bounds) topics k new)
       ∙ sums_renewed with_span without_span spans_commute spans_cancel spans_exchange (no_bounds runs) (spans_of topics) k old.bounds new.bounds run_counts (map_there (λ (t : TopicNumbers). t.bounds) topics k old there)
 
+  pub renewed : (k : ℕ) (old new : TopicNumbers) → slice_get topics k ≡ Some old → kept_sums runs (slice_set topics k new) ≡ sums_with (sums_without (kept_sums runs topics) old) new
+  renewed k old new there = same_sums _ _ _ _ (totals_renewed k old new there) (bounds_renewed k old new there)
+
 -- ---- one topic more
-pub totals_more : (runs : ℕ) (topics : List TopicNumbers) (i : ℕ) (t : TopicNumbers) → slice_get topics i ≡ Some t → each_with with_cell (kept_totals runs (take i topics)) t.cells ≡ kept_totals runs (take (i + 1) topics)
+totals_more : (runs : ℕ) (topics : List TopicNumbers) (i : ℕ) (t : TopicNumbers) → slice_get topics i ≡ Some t → each_with with_cell (kept_totals runs (take i topics)) t.cells ≡ kept_totals runs (take (i + 1) topics)
 totals_more runs topics i t there =
     sym (ap (λ (l : List TopicNumbers). kept_totals runs l) (take-there topics i t there)
     ∙ ap (sums_by with_cell (no_totals runs)) (map-append (λ (n : TopicNumbers). n.cells) (take i topics) (t ∷ []))
     ∙ sums_more with_cell without_cell cells_commute cells_cancel cells_exchange (no_totals runs) (cells_of (take i topics)) t.cells)
 
-pub bounds_more : (runs : ℕ) (topics : List TopicNumbers) (i : ℕ) (t : TopicNumbers) → slice_get topics i ≡ Some t → each_with with_span (kept_bounds runs (take i topics)) t.bounds ≡ kept_bounds runs (take (i + 1) topics)
+bounds_more : (runs : ℕ) (topics : List TopicNumbers) (i : ℕ) (t : TopicNumbers) → slice_get topics i ≡ Some t → each_with with_span (kept_bounds runs (take i topics)) t.bounds ≡ kept_bounds runs (take (i + 1) topics)
 bounds_more runs topics i t there =
     sym (ap (λ (l : List TopicNumbers). kept_bounds runs l) (take-there topics i t there)
     ∙ ap (sums_by with_span (no_bounds runs)) (map-append (λ (n : TopicNumbers). n.bounds) (take i topics) (t ∷ []))
     ∙ sums_more with_span without_span spans_commute spans_cancel spans_exchange (no_bounds runs) (spans_of (take i topics)) t.bounds)
+
+pub one_more_topic : (runs : ℕ) (topics : List TopicNumbers) (i : ℕ) (t : TopicNumbers) → slice_get topics i ≡ Some t → sums_with (kept_sums runs (take i topics)) t ≡ kept_sums runs (take (i + 1) topics)
+one_more_topic runs topics i t there = same_sums _ _ _ _ (totals_more runs topics i t there) (bounds_more runs topics i t there)
 
 -- ---- the sums of a measure's numbers
 module _ (cell : List Mark → List ℕ → List ℕ → Cell) (bounds : List Mark → List ℕ → Span) (runs : ℕ) where
@@ -281,3 +298,15 @@ constant {A = A} {B = B} y xs ys e h = go xs ys e (recursion_from_All (λ z. z �
     go [] (v ∷ vs) q k = absurd (omega (arith, q))
     go (u ∷ us) [] q k = absurd (omega (arith, q))
     go (u ∷ us) (v ∷ vs) q k = ap (λ z. z ∷ vs) k.0 ∙ ap (λ l. y ∷ l) (go us vs (omega (arith, q)) k.1)
+
+-- copies of one element
+pub all_copies : {A : Type 0} (x : A) (xs : List A) → AllByRecursion (λ z. (z ≡ x) ⊎ (z ≡ x)) xs → All (λ z. z ≡ x) xs
+all_copies {A = A} x xs h = All-from_recursion (λ z. z ≡ x) xs (go xs h)
+  where
+    either : (z : A) → (z ≡ x) ⊎ (z ≡ x) → z ≡ x
+    either z (inl e) = e
+    either z (inr e) = e
+
+    go : (ys : List A) → AllByRecursion (λ z. (z ≡ x) ⊎ (z ≡ x)) ys → AllByRecursion (λ z. z ≡ x) ys
+    go [] k = tt
+    go (y ∷ ys) k = (either y k.0, go ys k.1)

@@ -4,13 +4,14 @@ use Rattle.std.specs.Prelude.{slice_get, filter, ◌&&◌, ℤ}
 use Rattle.std.specs.List.{IsDistinct, range_with_len, position_from, zip}
 use Rattle.std.proofs.lemmas.List.{get_or_default, length-map, map-append}
 use Rattle.std.proofs.lemmas.List.FromFn.{filter_of_map_range_with_len_more}
-use Rattle.std.proofs.lemmas.Option.{get_or_from_slice_get}
+use Rattle.std.proofs.lemmas.Option.{get_or_from_slice_get, slice_get-get_or}
 use Rattle.std.proofs.lemmas.Slice.Eq.{bytes_eq-Decides}
 use Rattle.desk_model.specs.Book.{Book}
 use Rattle.desk_model.specs.Desk.{Desk, AreMarksOf, ranking_of, topics_under}
 use Rattle.desk_model.specs.Extremes.{Ends}
 use Rattle.desk_model.specs.Mark.{is_unjudged, mark_at}
 use Rattle.desk_model.specs.Name.{is_same_name, number_of}
+use Rattle.desk_model.specs.Named.{book_at}
 use Rattle.desk_model.specs.Order.{Topic}
 use Rattle.desk_model.specs.declared.types.Mark.{Mark}
 use Rattle.desk_model.specs.declared.types.Mark.TheVariants.{Unjudged}
@@ -22,7 +23,9 @@ use Rattle.measure_laws.specs.Cases.{least_truth}
 use Rattle.measure_core.specs.Laws.{AreValues}
 use Rattle.order_certificate.specs.declared.certificate.TopicBound.{TopicBound}
 use Rattle.order_certificate.specs.declared.certificate.TopicWitness.{TopicWitness}
-use Rattle.pair_table.specs.Evidence.{bounds_of, relevant_names, witnesses_of}
+use Rattle.pair_table.specs.Evidence.{bounds_of, relevant_names, witnesses_of, witness_of}
+use Rattle.pair_table.specs.TopicUnder.{TopicUnder, IsKnownTopic}
+use Rattle.pair_table.proofs.DeskTopics.{marks_known}
 
 -- one more of a list
 pub grown : {X : Type 0} (xs ys : List X) (t : ℕ) (x : X) → slice_get xs t ≡ Some x → ys ≡ take t xs → ys ++ x ∷ [] ≡ take (t + 1) xs
@@ -131,14 +134,14 @@ pub case_listed : (measure : MeasureName) (docs : List (List ℕ)) (m : List Mar
 case_listed measure docs m a b values truth count same are =
     relevant_agree docs m (λ doc. get_or truth doc false) (least_truth measure m a b) (λ doc k. ap (λ (l : List Bool). get_or l doc false) same ∙ are.each doc (omega (arith, k, count)))
 
-abbrev pub witness_at : MeasureName → Desk → ℕ → ℕ → ℕ → Book → List Mark → TopicWitness
+abbrev witness_at : MeasureName → Desk → ℕ → ℕ → ℕ → Book → List Mark → TopicWitness
 witness_at measure desk a b t book m = record {
   topic = book.name;
   low = relevant_names book.docs m (least_truth measure m (ranking_of desk a t) (ranking_of desk b t));
   high = relevant_names book.docs m (least_truth measure m (ranking_of desk b t) (ranking_of desk a t));
 }
 
-pub witness_there : (measure : MeasureName) (desk : Desk) (marks : List (List Mark)) (a b t : ℕ) (book : Book) (m : List Mark) → slice_get desk.topics t ≡ Some book → slice_get marks t ≡ Some m →
+witness_there : (measure : MeasureName) (desk : Desk) (marks : List (List Mark)) (a b t : ℕ) (book : Book) (m : List Mark) → slice_get desk.topics t ≡ Some book → slice_get marks t ≡ Some m →
     slice_get (witnesses_of measure desk marks a b) t ≡ Some (witness_at measure desk a b t book m)
 witness_there measure desk marks a b t book m at_book at_marks =
     let f : Book × Topic → TopicWitness = λ p. record {
@@ -148,16 +151,11 @@ witness_there measure desk marks a b t book m at_book at_marks =
     } in
     map_there f (zip desk.topics (topics_under desk marks)) t (book, topic_of desk t m) (slice_get-zip desk.topics (topics_under desk marks) t book (topic_of desk t m) at_book (topic_there desk marks t m at_marks))
 
--- a witness with the topic's name and the lists of its two rankings
-pub witness_same : (measure : MeasureName) (desk : Desk) (a b t : ℕ) (book : Book) (m : List Mark) (x y : List ℕ) (w : TopicWitness) → x ≡ ranking_of desk a t → y ≡ ranking_of desk b t →
-    w.topic ≡ book.name → w.low ≡ relevant_names book.docs m (least_truth measure m x y) → w.high ≡ relevant_names book.docs m (least_truth measure m y x) → w ≡ witness_at measure desk a b t book m
-witness_same measure desk a b t book m x y w at_a at_b topic low high =
-    let list : List ℕ → List ℕ → List (List ℕ) = λ u v. relevant_names book.docs m (least_truth measure m u v) in
-    let ra = ranking_of desk a t in
-    let rb = ranking_of desk b t in
-    ap (λ n. record { topic = n; low = w.low; high = w.high }) topic
-    ∙ ap (λ l. record { topic = book.name; low = l; high = w.high }) (low ∙ ap (λ u. list u y) at_a ∙ ap (λ v. list ra v) at_b)
-    ∙ ap (λ l. record { topic = book.name; low = list ra rb; high = l }) (high ∙ ap (λ u. list u x) at_b ∙ ap (λ v. list rb v) at_a)
+-- a topic under marks has its witness
+pub witness_known : (measure : MeasureName) (t : TopicUnder) (a b : ℕ) → IsKnownTopic t → slice_get (witnesses_of measure t.desk t.marks a b) t.number ≡ Some (witness_of measure t a b)
+witness_known measure t a b known =
+    let none : Book = record { name = []; docs = []; grades = [] } in
+    witness_there measure t.desk t.marks a b t.number (book_at t.desk t.number) (get_or t.marks t.number []) (slice_get-get_or t.desk.topics t.number none known.known) (slice_get-get_or t.marks t.number [] (marks_known t known))
 
 pub length-witnesses : (measure : MeasureName) (desk : Desk) (marks : List (List Mark)) (a b : ℕ) → AreMarksOf desk marks → length (witnesses_of measure desk marks a b) ≡ length desk.topics
 length-witnesses measure desk marks a b known =

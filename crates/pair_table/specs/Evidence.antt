@@ -5,6 +5,7 @@ use Rattle.desk_model.specs.Book.{Book}
 use Rattle.desk_model.specs.Desk.{Desk, topics_under}
 use Rattle.desk_model.specs.Extremes.{Ends}
 use Rattle.desk_model.specs.Mark.{is_unjudged, mark_at}
+use Rattle.desk_model.specs.Named.{book_at}
 use Rattle.desk_model.specs.Order.{Topic}
 use Rattle.desk_model.specs.Verdict.{verdict}
 use Rattle.desk_model.specs.declared.types.Mark.{Mark}
@@ -18,6 +19,7 @@ use Rattle.order_certificate.specs.declared.certificate.Certificate.{Certificate
 use Rattle.order_certificate.specs.declared.certificate.Evidence.TheVariants.{Above as AboveBy, Equal as EqualBy, Open as OpenBy}
 use Rattle.order_certificate.specs.declared.certificate.TopicBound.{TopicBound}
 use Rattle.order_certificate.specs.declared.certificate.TopicWitness.{TopicWitness}
+use Rattle.pair_table.specs.TopicUnder.{TopicUnder, topic_of}
 use Rattle.pair_table.specs.Numbers.{HaveEnds, AreEndsBy, ArePairSums}
 use Rattle.pair_table.specs.declared.evidence.EvidenceFault.{EvidenceFault}
 use Rattle.pair_table.specs.declared.evidence.EvidenceFault.TheVariants.{Close as CloseBy, Memory}
@@ -40,6 +42,16 @@ witnesses_of measure desk marks a b =
       high = relevant_names p.0.docs p.1.marks (least_truth measure p.1.marks (p.1.ranking b) (p.1.ranking a));
     })
     (zip desk.topics (topics_under desk marks))
+
+-- the names of the unjudged documents of a topic that the least case of two runs makes relevant
+abbrev pub least_names_of : MeasureName → TopicUnder → ℕ → ℕ → List (List ℕ)
+least_names_of measure t a b =
+    let topic = topic_of t in
+    relevant_names (book_at t.desk t.number).docs topic.marks (least_truth measure topic.marks (topic.ranking a) (topic.ranking b))
+
+-- the witness of a topic: the least case of two runs, and their most case
+abbrev pub witness_of : MeasureName → TopicUnder → ℕ → ℕ → TopicWitness
+witness_of measure t a b = record { topic = (book_at t.desk t.number).name; low = least_names_of measure t a b; high = least_names_of measure t b a }
 
 -- a certificate compares two runs by a measure at a level
 pub record Compares (measure : MeasureName) (desk : Desk) (level a b : ℕ) (c : Certificate) : Type 0 where

@@ -93,6 +93,26 @@ kept_totals runs topics = sums_by with_cell (no_totals runs) (map (λ (t : Topic
 abbrev pub kept_bounds : ℕ → List TopicNumbers → List Span
 kept_bounds runs topics = sums_by with_span (no_bounds runs) (map (λ (t : TopicNumbers). t.bounds) topics)
 
+-- the sums of each pair's cells, in pair order, and of each run's bounds
+pub record AllSums : Type 0 where
+  pub totals : List Totals
+  pub bounds : List Span
+
+-- no sums, for each pair and for each run
+abbrev pub no_sums : ℕ → AllSums
+no_sums runs = record { totals = no_totals runs; bounds = no_bounds runs }
+
+-- the sums of each pair's cells and of each run's bounds over topics
+abbrev pub kept_sums : ℕ → List TopicNumbers → AllSums
+kept_sums runs topics = record { totals = kept_totals runs topics; bounds = kept_bounds runs topics }
+
+-- some sums with the numbers of a topic, and without them
+abbrev pub sums_with : AllSums → TopicNumbers → AllSums
+sums_with s t = record { totals = each_with with_cell s.totals t.cells; bounds = each_with with_span s.bounds t.bounds }
+
+abbrev pub sums_without : AllSums → TopicNumbers → AllSums
+sums_without s t = record { totals = each_with without_cell s.totals t.cells; bounds = each_with without_span s.bounds t.bounds }
+
 -- ---- a table
 -- a measure, how many runs there are, the numbers of each topic, the sums of each pair in pair order, and the sums of each run's bounds
 pub record Kept (M : Type 0) : Type 0 where
@@ -142,6 +162,10 @@ TotalsCanGrow totals = All (AreWithin (TOPIC_LIMIT + 1)) totals
 
 abbrev pub BoundsCanGrow : List Span → Type 0
 BoundsCanGrow bounds = All (SpanIsWithin (TOPIC_LIMIT + 1)) bounds
+
+-- all sums are those of as many topics as a desk may have, and one more
+abbrev pub SumsCanGrow : AllSums → Type 0
+SumsCanGrow s = TotalsCanGrow s.totals × BoundsCanGrow s.bounds
 
 -- numbers for each topic, their sums for each pair and run, and a verdict for each sums
 pub record IsKeptTable (runs : ℕ) (topics : List TopicNumbers) (totals : List Totals) (verdicts : List Verdict) (bounds : List Span) : Type 0 where

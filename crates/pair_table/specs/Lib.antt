@@ -6,3 +6,5 @@ pub mod Evidence
 pub mod Refined
 pub mod Made
 pub mod Narrowing
+pub mod TopicUnder
+pub mod Places

@@ -1,16 +1,16 @@
 // What a table keeps of a topic.
-ghost use Rattle.std.specs.Prelude.{◌≡◌, ◌+◌, ◌<◌, All, length, slice_get, Some, IfOk};
-ghost use Rattle.desk_model.specs.Desk.{AreMarksOf};
-ghost use Rattle.desk_model.specs.MeasureText.{IsMeasure};
+ghost use Rattle.std.specs.Prelude.{◌≡◌, ◌+◌, All, length, IfOk};
 ghost use Rattle.desk_model.specs.Pairs.{pairs_of};
-ghost use Rattle.topic_counts.specs.Ends.{IsShort};
 ghost use Rattle.measure_core.specs.Laws.{SpanIsModest};
 ghost use Rattle.pair_table.specs.Sums.{run_numbers};
-ghost use Rattle.pair_table.specs.Kept.{numbers_on, topic_at, AreTopicNumbers, each_with, with_cell, without_cell, with_span, without_span, TotalsCanGrow, BoundsCanGrow};
+ghost use Rattle.pair_table.specs.Kept.{AreTopicNumbers, IsCellOf};
+ghost use Rattle.pair_table.specs.TopicUnder.{numbers_of};
+ghost use Rattle.measure_core.specs.Laws.{swapped_cell};
 
+use crate::marked_topic::MarkedTopic;
 use crate::numbers::{evaluate_bounds, evaluate_cells};
-use crate::sums::{add_bounds, add_cells, take_bounds_back, take_cells_back};
-use desk_model::{Desk, Rows, Totals};
+use crate::two_runs::{PairPlace, TwoRuns};
+use desk_model::Desk;
 use measure_core::{Cell, CellRoom, KeptCell, Measure, Steps};
 use std::alloc::{AllocError, Global};
 use std::marker::Model;
@@ -25,95 +25,92 @@ pub struct KeptTopic {
 }
 
 impl Model for KeptTopic {
-    ghost use Rattle.pair_table.specs.Kept.{TopicNumbers};
+    ghost use Rattle.std.specs.Prelude.{length};
+    ghost use Rattle.pair_table.specs.Kept.{TopicNumbers, AreTopicNumbers};
 
     ghost Value = { TopicNumbers };
 
     ghost view = { λ t. record { cells = t.cells.items; bounds = t.bounds.items } };
+
+    ghost invariant = { λ t. AreTopicNumbers (length t.bounds.items) (record { cells = t.cells.items; bounds = t.bounds.items }) };
 }
+
+const NO_CELL: KeptCell = KeptCell {
+    least_lo: 0,
+    least_hi: 0,
+    most_lo: 0,
+    most_hi: 0,
+};
 
 const NO_BOUNDS: Span = Span { lo: 0, hi: 0 };
 
+/// The cell of two swapped runs.
+fn swapped(cell: &KeptCell) -> Cell
+    ensures { result ≡ swapped_cell cell.now }
+{
+    let cell = cell.cell();
+    Cell {
+        least: cell.most.negate(),
+        most: cell.least.negate(),
+    }
+}
+
 impl KeptTopic {
-    /// Room for the numbers of so many pairs and runs.
-    pub fn new(alloc: Global, pairs: u32, runs: u32) -> Result<KeptTopic, AllocError>
-        ensures cells { IfOk result (λ kept. length kept.cells ≡ pairs) }
-        ensures bounds { IfOk result (λ kept. length kept.bounds ≡ runs) }
+    /// Room for the numbers of the pairs and runs of a desk.
+    pub fn new(alloc: Global, desk: &Desk) -> Result<KeptTopic, AllocError>
+        ensures { IfOk result (λ kept. length kept.bounds ≡ length desk.now.runs) }
     {
-        let nothing = KeptCell {
-            least_lo: 0,
-            least_hi: 0,
-            most_lo: 0,
-            most_hi: 0,
-        };
-        let cells = vec![in alloc; nothing; pairs as usize]?;
+        let runs = desk.run_count();
+        let pairs = runs * (runs - 1) / 2;
+        let cells = vec![in alloc; NO_CELL; pairs as usize]?;
         let bounds = vec![in alloc; NO_BOUNDS; runs as usize]?;
         Ok(KeptTopic { cells, bounds })
     }
 
-    /// Evaluates the cells and bounds of a topic, by its number, in a room whose contents are anything. It
-    /// is one step for each pair.
+    /// Evaluates the cells and bounds of a topic, in a room whose contents are anything. It is one step for each pair.
     pub fn evaluate<M: Measure, L: Ledger>(
         &mut self,
         measure: &M,
-        desk: &Desk,
-        marks: &Rows,
-        topic: u32,
+        topic: &MarkedTopic<'_>,
         room: &mut CellRoom,
         steps: &mut Steps<L>,
     )
-        requires measure { IsMeasure (M.measured measure.now) }
-        requires marks { AreMarksOf desk.now marks.now }
-        requires topic { topic < length desk.now.topics }
-        requires cells { length self.old.cells ≡
-            length (pairs_of (run_numbers (length desk.now.runs))) }
-        requires bounds { length self.old.bounds ≡ length desk.now.runs }
+        requires { length self.old.bounds ≡ length topic.now.desk.runs }
         ensures numbers { self.new ≡
-            numbers_on (M.cell_of measure.now) (M.bounds_of measure.now) (length desk.now.runs)
-            (topic_at desk.now marks.now topic) }
-        ensures sizes { AreTopicNumbers (length desk.now.runs) self.new }
+            numbers_of (M.cell_of measure.now) (M.bounds_of measure.now) topic.now }
+        ensures sizes { AreTopicNumbers (length topic.now.desk.runs) self.new }
         ensures steps { steps.new ≡ steps.old +
-            length (pairs_of (run_numbers (length desk.now.runs))) }
+            length (pairs_of (run_numbers (length topic.now.desk.runs))) }
     {
-        evaluate_cells(&mut self.cells, measure, desk, marks, topic, room, steps);
-        evaluate_bounds(&mut self.bounds, measure, desk, marks, topic);
+        evaluate_cells(&mut self.cells, measure, topic, room, steps);
+        evaluate_bounds(&mut self.bounds, measure, topic);
     }
 
-    /// Adds the cells to the sums of each pair, and the bounds to those of each run.
-    pub fn add_to(&self, totals: &mut [Totals], bounds: &mut [Span])
-        requires pairs { length totals.old ≡ length self.now.cells }
-        requires runs { length bounds.old ≡ length self.now.bounds }
-        requires modest { All SpanIsModest self.now.bounds }
-        requires totals { TotalsCanGrow totals.old }
-        requires bounds { BoundsCanGrow bounds.old }
-        ensures totals { totals.new ≡ each_with with_cell totals.old self.now.cells }
-        ensures bounds { bounds.new ≡ each_with with_span bounds.old self.now.bounds }
+    /// The cell of each pair, in pair order.
+    pub fn cells(&self) -> &[KeptCell]
+        ensures cells { result.now ≡ self.now.cells }
+        ensures count { length result.now ≡
+            length (pairs_of (run_numbers (length self.now.bounds))) }
     {
-        add_cells(totals, &self.cells);
-        add_bounds(bounds, &self.bounds);
+        &self.cells
     }
 
-    /// Takes them off again.
-    pub fn take_back(&self, totals: &mut [Totals], bounds: &mut [Span])
-        requires pairs { length totals.old ≡ length self.now.cells }
-        requires runs { length bounds.old ≡ length self.now.bounds }
-        requires modest { All SpanIsModest self.now.bounds }
-        requires totals { TotalsCanGrow totals.old }
-        requires bounds { BoundsCanGrow bounds.old }
-        ensures totals { totals.new ≡ each_with without_cell totals.old self.now.cells }
-        ensures bounds { bounds.new ≡ each_with without_span bounds.old self.now.bounds }
+    /// The bounds of each run, in run order.
+    pub fn bounds(&self) -> &[Span]
+        ensures bounds { result.now ≡ self.now.bounds }
+        ensures modest { All SpanIsModest result.now }
     {
-        take_cells_back(totals, &self.cells);
-        take_bounds_back(bounds, &self.bounds);
+        &self.bounds
     }
 
-    /// The cell of a pair, by its number.
-    pub fn cell(&self, pair: u32) -> Cell
-        requires { pair < length self.now.cells }
-        ensures cell { slice_get self.now.cells pair ≡ Some result }
-        ensures least { IsShort result.least }
-        ensures most { IsShort result.most }
+    /// The cell of two runs. That of (j, i) is that of (i, j) swapped.
+    pub fn cell_of(&self, pair: TwoRuns) -> Cell
+        requires { length self.now.bounds ≡ pair.runs }
+        ensures { IsCellOf pair.runs pair.first pair.second result self.now }
     {
-        self.cells[pair as usize].cell()
+        match pair.place() {
+            PairPlace::InOrder(place) => self.cells[place as usize].cell(),
+            PairPlace::Swapped(place) => swapped(&self.cells[place as usize]),
+        }
     }
 }

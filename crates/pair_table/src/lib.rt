@@ -1,17 +1,23 @@
 //! The table of all pairs of runs, and the certificates of its pairs, proved once for every measure.
 #![tactic(auto)]
 
+mod certificates;
 pub mod evidence;
 pub mod evidence_laws;
 mod kept;
 pub mod laws;
 mod made;
+mod marked_topic;
 mod numbers;
 pub mod settled;
 pub mod smaller_depths;
 mod sums;
 pub mod table;
+mod topics;
+pub mod two_runs;
+mod witness;
 
 pub use evidence::EvidenceFault;
 pub use made::table_on;
 pub use table::Table;
+pub use two_runs::TwoRuns;

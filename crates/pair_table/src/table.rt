@@ -1,20 +1,21 @@
-ghost use Rattle.std.specs.Prelude.{◌≡◌, ◌≢◌, ◌+◌, ◌*◌, ◌<◌, ◌≤◌, All, [], length, map, pos, slice_get, slice_set, Some, IfOk, OnOk, OnErr};
+ghost use Rattle.std.specs.Prelude.{◌≡◌, ◌≢◌, ◌+◌, ◌*◌, ◌<◌, All, length, map, slice_get, Some, IfOk, OnOk, OnErr};
 ghost use Rattle.std.specs.List.{AllZip};
-ghost use Rattle.desk_model.specs.Limits.{RUN_LIMIT, TOPIC_LIMIT};
 ghost use Rattle.desk_model.specs.Desk.{AreMarksOf, topics_under, pair_count};
 ghost use Rattle.desk_model.specs.Pairs.{pairs_of};
-ghost use Rattle.desk_model.specs.Verdict.{totals_of, verdict};
+ghost use Rattle.desk_model.specs.Verdict.{verdict};
 ghost use Rattle.desk_model.specs.declared.types.Totals.{Totals as Sums};
-ghost use Rattle.desk_model.specs.MeasureText.{IsMeasure};
 ghost use Rattle.topic_counts.specs.Ends.{IsShort};
-ghost use Rattle.pair_table.specs.Sums.{run_numbers, all_pair_sums, all_run_sums, swapped_totals};
-ghost use Rattle.measure_core.specs.Laws.{swapped_cell};
-ghost use Rattle.pair_table.specs.Kept.{TopicNumbers, numbers_on, topic_at, all_numbers, AreTopicNumbers, IsCellOf, no_totals, no_bounds, kept_totals, kept_bounds, StandsFor, StandsElsewhere, AreSumsOf, AreModestTotals};
+ghost use Rattle.pair_table.specs.Sums.{run_numbers, all_pair_sums, all_run_sums};
+ghost use Rattle.pair_table.specs.Kept.{TopicNumbers, IsCellOf, StandsFor, StandsElsewhere, AreSumsOf, AreModestTotals};
 
 use crate::kept::KeptTopic;
-use desk_model::{Desk, Marks, Memory, Rows, Totals, Verdict, verdict_of};
+use crate::marked_topic::MarkedTopic;
+use crate::sums::KeptSums;
+use crate::topics::{evaluate_topics, most_documents, renew_topic, topic_rooms};
+use crate::two_runs::TwoRuns;
+use desk_model::{Desk, Marks, Memory, Totals, Verdict, verdict_of};
 use measure_core::{Cell, CellRoom, Measure, Steps};
-use std::alloc::{AllocError, Global};
+use std::alloc::Global;
 use std::marker::Model;
 use std::sync::ledger::Ledger;
 use topic_counts::Span;
@@ -28,9 +29,8 @@ pub struct Table<M: Measure> {
     measure: M,
     runs: u32,
     topics: Vec<KeptTopic>,
-    totals: Vec<Totals>,
+    sums: KeptSums,
     verdicts: Vec<Verdict>,
-    bounds: Vec<Span>,
     // What the measure finds the cells of a topic in.
     room: CellRoom,
 }
@@ -40,195 +40,9 @@ impl<M: Measure> Model for Table<M> {
 
     ghost Value = { Kept M };
 
-    ghost view = { λ t. record { measure = t.measure; runs = t.runs; topics = t.topics.items; totals = t.totals.items; bounds = t.bounds.items } };
+    ghost view = { λ t. record { measure = t.measure; runs = t.runs; topics = t.topics.items; totals = t.sums.totals; bounds = t.sums.bounds } };
 
-    ghost invariant = { λ t. IsKeptTable t.runs t.topics.items t.totals.items t.verdicts.items t.bounds.items };
-}
-
-const NO_SUMS: Totals = Totals {
-    least_lo: 0,
-    least_hi: 0,
-    most_lo: 0,
-    most_hi: 0,
-};
-
-const NO_BOUNDS: Span = Span { lo: 0, hi: 0 };
-
-/// The number of a pair among so many runs, the first before the second, from 0.
-fn pair_number(runs: u32, first: u32, second: u32) -> u32
-    requires few { runs ≤ RUN_LIMIT }
-    requires order { first < second }
-    requires within { second < runs }
-    ensures { slice_get (pairs_of (run_numbers runs)) result ≡ Some (first, second) }
-{
-    first * (2 * runs - first - 1) / 2 + (second - first - 1)
-}
-
-/// The sums of two swapped runs.
-fn swapped_sums(totals: &Totals) -> Totals
-    requires { AreModestTotals totals.now }
-    ensures { result ≡ swapped_totals totals.now }
-{
-    Totals {
-        least_lo: -totals.most_hi,
-        least_hi: -totals.most_lo,
-        most_lo: -totals.least_hi,
-        most_hi: -totals.least_lo,
-    }
-}
-
-/// The cell of two swapped runs.
-fn swapped(cell: Cell) -> Cell
-    requires least { IsShort cell.least }
-    requires most { IsShort cell.most }
-    ensures { result ≡ swapped_cell cell }
-{
-    Cell {
-        least: cell.most.negate(),
-        most: cell.least.negate(),
-    }
-}
-
-/// The cell of two different runs of so many. That of (j, i) is that of (i, j) swapped.
-fn cell_of_runs(kept: &KeptTopic, runs: u32, i: u32, j: u32) -> Cell
-    requires few { runs ≤ RUN_LIMIT }
-    requires numbers { length kept.now.cells ≡ length (pairs_of (run_numbers runs)) }
-    requires different { i ≢ j }
-    requires first { i < runs }
-    requires second { j < runs }
-    ensures { IsCellOf runs i j result kept.now }
-{
-    if i < j {
-        kept.cell(pair_number(runs, i, j))
-    } else {
-        swapped(kept.cell(pair_number(runs, j, i)))
-    }
-}
-
-/// Room for the numbers of so many topics, pairs and runs.
-fn topic_rooms(
-    alloc: Global,
-    topics: u32,
-    pairs: u32,
-    runs: u32,
-) -> Result<Vec<KeptTopic>, AllocError>
-    ensures count { IfOk result (λ rooms. length rooms.items ≡ topics) }
-    ensures cells { IfOk result (λ rooms. All (λ kept. length kept.cells ≡ pairs) rooms.items) }
-    ensures bounds { IfOk result (λ rooms. All (λ kept. length kept.bounds ≡ runs) rooms.items) }
-{
-    let mut rooms = Vec::with_capacity(alloc, topics as usize)?;
-    for _topic in 0..topics {
-        rooms.push(KeptTopic::new(alloc, pairs, runs)?)?;
-    }
-    Ok(rooms)
-}
-
-/// Room for the sums and verdicts of so many pairs, and for the sums of so many runs.
-fn sum_rooms(
-    alloc: Global,
-    pairs: u32,
-    runs: u32,
-) -> Result<(Vec<Totals>, Vec<Verdict>, Vec<Span>), AllocError>
-    ensures totals { IfOk result (λ rooms. (length rooms.0.items ≡ pairs) ×
-        All (λ sums. sums ≡ totals_of []) rooms.0.items) }
-    ensures verdicts { IfOk result (λ rooms. length rooms.1.items ≡ pairs) }
-    ensures bounds { IfOk result (λ rooms. (length rooms.2.items ≡ runs) ×
-        All (λ sums. sums ≡ record { lo = pos 0; hi = pos 0 }) rooms.2.items) }
-{
-    let totals = vec![in alloc; NO_SUMS; pairs as usize]?;
-    let verdicts = vec![in alloc; Verdict::Close; pairs as usize]?;
-    let bounds = vec![in alloc; NO_BOUNDS; runs as usize]?;
-    Ok((totals, verdicts, bounds))
-}
-
-/// How many documents the topic has that has the most.
-fn most_documents(desk: &Desk) -> u32
-    ensures { All (λ book. length book.docs ≤ result) desk.now.topics }
-{
-    let mut most = 0;
-    for t in 0..desk.topic_count() {
-        most = desk.topic(t).doc_count().max(most);
-    }
-    most
-}
-
-/// Evaluates the numbers of each topic, one after the other in one room. It is one step for each pair and
-/// topic.
-fn evaluate_topics<M: Measure, L: Ledger>(
-    topics: &mut [KeptTopic],
-    measure: &M,
-    desk: &Desk,
-    marks: &Rows,
-    room: &mut CellRoom,
-    steps: &mut Steps<L>,
-)
-    requires measure { IsMeasure (M.measured measure.now) }
-    requires marks { AreMarksOf desk.now marks.now }
-    requires count { length topics.old ≡ length desk.now.topics }
-    requires cells { All (λ kept. length kept.cells ≡
-        length (pairs_of (run_numbers (length desk.now.runs)))) topics.old }
-    requires bounds { All (λ kept. length kept.bounds ≡ length desk.now.runs) topics.old }
-    ensures numbers { topics.new ≡
-        all_numbers (M.cell_of measure.now) (M.bounds_of measure.now) desk.now marks.now }
-    ensures sizes { All (AreTopicNumbers (length desk.now.runs)) topics.new }
-    ensures steps { steps.new ≡ steps.old + length (pairs_of (run_numbers (length desk.now.runs))) *
-        length desk.now.topics }
-{
-    for topic in 0..desk.topic_count() {
-        let kept = &mut topics[topic as usize];
-        kept.evaluate(measure, desk, marks, topic, room, steps);
-    }
-}
-
-/// Adds up the numbers of the topics of so many runs.
-fn add_topics(totals: &mut [Totals], bounds: &mut [Span], topics: &[KeptTopic], runs: u32)
-    requires topics { length topics.now ≤ TOPIC_LIMIT }
-    requires sizes { All (AreTopicNumbers runs) topics.now }
-    requires totals { totals.old ≡ no_totals runs }
-    requires bounds { bounds.old ≡ no_bounds runs }
-    ensures totals { totals.new ≡ kept_totals runs topics.now }
-    ensures bounds { bounds.new ≡ kept_bounds runs topics.now }
-{
-    for topic in 0..topics.len() {
-        let kept = &topics[topic];
-        kept.add_to(totals, bounds);
-    }
-}
-
-/// Evaluates the numbers of one topic, by its number, in a room whose contents are anything, and makes the
-/// sums those with its new numbers. It is one step for each pair.
-fn renew_topic<M: Measure, L: Ledger>(
-    topics: &mut [KeptTopic],
-    totals: &mut [Totals],
-    bounds: &mut [Span],
-    measure: &M,
-    desk: &Desk,
-    marks: &Rows,
-    topic: u32,
-    room: &mut CellRoom,
-    steps: &mut Steps<L>,
-)
-    requires measure { IsMeasure (M.measured measure.now) }
-    requires marks { AreMarksOf desk.now marks.now }
-    requires count { length topics.old ≡ length desk.now.topics }
-    requires topic { topic < length desk.now.topics }
-    requires sizes { All (AreTopicNumbers (length desk.now.runs)) topics.old }
-    requires totals { totals.old ≡ kept_totals (length desk.now.runs) topics.old }
-    requires bounds { bounds.old ≡ kept_bounds (length desk.now.runs) topics.old }
-    ensures topics { topics.new ≡
-        slice_set topics.old topic
-        (numbers_on (M.cell_of measure.now) (M.bounds_of measure.now) (length desk.now.runs)
-        (topic_at desk.now marks.now topic)) }
-    ensures sizes { All (AreTopicNumbers (length desk.now.runs)) topics.new }
-    ensures totals { totals.new ≡ kept_totals (length desk.now.runs) topics.new }
-    ensures bounds { bounds.new ≡ kept_bounds (length desk.now.runs) topics.new }
-    ensures steps { steps.new ≡ steps.old + length (pairs_of (run_numbers (length desk.now.runs))) }
-{
-    desk.valid();
-    let kept = &mut topics[topic as usize];
-    kept.take_back(totals, bounds);
-    kept.evaluate(measure, desk, marks, topic, room, steps);
-    kept.add_to(totals, bounds);
+    ghost invariant = { λ t. IsKeptTable t.runs t.topics.items t.sums.totals t.verdicts.items t.sums.bounds };
 }
 
 fn fill_verdicts(verdicts: &mut [Verdict], totals: &[Totals])
@@ -270,21 +84,20 @@ impl<M: Measure> Table<M> {
         // The laws speak of measures that have a name.
         let _name = measure.name();
         let rows = marks.rows();
+        let mut topics = topic_rooms(alloc, desk)?;
+        let mut sums = KeptSums::new(alloc, desk)?;
         let runs = desk.run_count();
-        let count = runs * (runs - 1) / 2;
-        let mut topics = topic_rooms(alloc, desk.topic_count(), count, runs)?;
-        let (mut totals, mut verdicts, mut bounds) = sum_rooms(alloc, count, runs)?;
+        let mut verdicts = vec![in alloc; Verdict::Close; (runs * (runs - 1) / 2) as usize]?;
         let mut room = CellRoom::new(alloc, most_documents(desk), runs)?;
         evaluate_topics(&mut topics, &measure, desk, rows, &mut room, steps);
-        add_topics(&mut totals, &mut bounds, &topics, runs);
-        fill_verdicts(&mut verdicts, &totals);
+        sums.add_topics(&topics, runs);
+        fill_verdicts(&mut verdicts, sums.totals());
         Ok(Table {
             measure,
             runs,
             topics,
-            totals,
+            sums,
             verdicts,
-            bounds,
             room,
         })
     }
@@ -312,33 +125,28 @@ impl<M: Measure> Table<M> {
     {
         // The laws speak of measures that have a name.
         let _name = self.measure.name();
-        let rows = marks.rows();
+        let topic = MarkedTopic::of(desk, marks.rows(), topic);
         renew_topic(
             &mut self.topics,
-            &mut self.totals,
-            &mut self.bounds,
+            &mut self.sums,
             &self.measure,
-            desk,
-            rows,
-            topic,
+            &topic,
             &mut self.room,
             steps,
         );
-        fill_verdicts(&mut self.verdicts, &self.totals);
+        fill_verdicts(&mut self.verdicts, self.sums.totals());
     }
 
     /// The cells of two different runs, one for each topic. Those of (j, i) are those of (i, j) swapped.
-    pub fn cells(&self, alloc: Global, i: u32, j: u32) -> Result<Vec<Cell>, Memory>
-        requires different { i ≢ j }
-        requires first { i < self.now.runs }
-        requires second { j < self.now.runs }
+    pub fn cells(&self, alloc: Global, pair: TwoRuns) -> Result<Vec<Cell>, Memory>
+        requires { pair.runs ≡ self.now.runs }
         ensures { IfOk result (λ cells.
-            AllZip (IsCellOf self.now.runs i j) cells.items self.now.topics) }
+            AllZip (IsCellOf pair.runs pair.first pair.second) cells.items self.now.topics) }
     {
         let mut cells = Vec::new(alloc);
         for topic in 0..self.topics.len() {
-            let cell = cell_of_runs(&self.topics[topic], self.runs, i, j);
-            cells.push(cell)?;
+            let kept = &self.topics[topic];
+            cells.push(kept.cell_of(pair))?;
         }
         Ok(cells)
     }
@@ -353,7 +161,13 @@ impl<M: Measure> Table<M> {
         ensures { (kept : TopicNumbers) × (slice_get self.now.topics topic ≡ Some kept) ×
             IsCellOf self.now.runs i j result kept }
     {
-        cell_of_runs(&self.topics[topic as usize], self.runs, i, j)
+        let pair = TwoRuns {
+            runs: self.runs,
+            first: i,
+            second: j,
+        };
+        let kept = &self.topics[topic as usize];
+        kept.cell_of(pair)
     }
 
     /// The verdict of two different runs, of the first on the second.
@@ -374,11 +188,12 @@ impl<M: Measure> Table<M> {
         requires second { j < self.now.runs }
         ensures { AreSumsOf self.now.runs self.now.totals i j result }
     {
-        if i < j {
-            self.totals[pair_number(self.runs, i, j) as usize]
-        } else {
-            swapped_sums(&self.totals[pair_number(self.runs, j, i) as usize])
-        }
+        let pair = TwoRuns {
+            runs: self.runs,
+            first: i,
+            second: j,
+        };
+        pair.sums_in(self.sums.totals())
     }
 
     /// The verdict of each pair, in pair order.
@@ -394,7 +209,7 @@ impl<M: Measure> Table<M> {
         ensures count { length result.now ≡ length (pairs_of (run_numbers self.now.runs)) }
         ensures near { All AreModestTotals result.now }
     {
-        &self.totals
+        self.sums.totals()
     }
 
     /// The sums of a run's bounds.
@@ -403,7 +218,7 @@ impl<M: Measure> Table<M> {
         ensures bounds { slice_get self.now.bounds i ≡ Some result }
         ensures near { IsShort result }
     {
-        self.bounds[i as usize]
+        self.sums.bounds()[i as usize]
     }
 
     /// The sums of each run's bounds, in run order.
@@ -412,7 +227,7 @@ impl<M: Measure> Table<M> {
         ensures count { length result.now ≡ self.now.runs }
         ensures near { All IsShort result.now }
     {
-        &self.bounds
+        self.sums.bounds()
     }
 
     /// The measure of the table.

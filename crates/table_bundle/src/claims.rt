@@ -14,7 +14,7 @@ use crate::pairs::NamedPair;
 use desk_model::{Desk, Memory, PairPlaces, Rows, Verdict};
 use measure_core::{Cell, Measure};
 use order_bundle::{Bound, PairBounds, PairClaim, PairEvidence};
-use pair_table::Table;
+use pair_table::{Table, TwoRuns};
 use std::alloc::Global;
 
 // The bound of each topic by its cell: the lower end of the least difference, and, where it is wanted, the upper end
@@ -33,20 +33,17 @@ fn bounds_of(alloc: Global, cells: &[Cell], upper: bool) -> Result<PairBounds, M
     Ok(PairBounds::new(made))
 }
 
-// The claim that run a is always above run b, of which the first stands at `first` among the names.
+// The claim that the first of two runs is always above the second, which stand at `first` and `second` among the names.
 fn above<M: Measure>(
     alloc: Global,
     table: &Table<M>,
     first: u32,
     second: u32,
-    a: u32,
-    b: u32,
+    pair: TwoRuns,
 ) -> Result<PairClaim, Memory>
-    requires different { a ≢ b }
-    requires first { a < table.now.runs }
-    requires second { b < table.now.runs }
+    requires { pair.runs ≡ table.now.runs }
     ensures { IfOk result (λ claim. (cells : List C) ×
-        AllZip (IsCellOf table.now.runs a b) cells table.now.topics
+        AllZip (IsCellOf pair.runs pair.first pair.second) cells table.now.topics
         ×
         (claim ≡
         record {
@@ -56,7 +53,7 @@ fn above<M: Measure>(
               (bounds_by (λ _. pos 0) (map ends_of cells));
         })) }
 {
-    let cells = table.cells(alloc, a, b)?;
+    let cells = table.cells(alloc, pair)?;
     let bounds = bounds_of(alloc, &cells, false)?;
     Ok(PairClaim {
         first,
@@ -65,20 +62,17 @@ fn above<M: Measure>(
     })
 }
 
-// The claim that runs a and b are always equal.
+// The claim that two runs are always equal.
 fn equal<M: Measure>(
     alloc: Global,
     table: &Table<M>,
     first: u32,
     second: u32,
-    a: u32,
-    b: u32,
+    pair: TwoRuns,
 ) -> Result<PairClaim, Memory>
-    requires different { a ≢ b }
-    requires first { a < table.now.runs }
-    requires second { b < table.now.runs }
+    requires { pair.runs ≡ table.now.runs }
     ensures { IfOk result (λ claim. (cells : List C) ×
-        AllZip (IsCellOf table.now.runs a b) cells table.now.topics
+        AllZip (IsCellOf pair.runs pair.first pair.second) cells table.now.topics
         ×
         (claim ≡
         record {
@@ -88,7 +82,7 @@ fn equal<M: Measure>(
               (bounds_by (λ (e : Ends). e.most_hi) (map ends_of cells));
         })) }
 {
-    let cells = table.cells(alloc, a, b)?;
+    let cells = table.cells(alloc, pair)?;
     let bounds = bounds_of(alloc, &cells, true)?;
     Ok(PairClaim {
         first,
@@ -150,11 +144,21 @@ pub fn claim_of_pair<M: Measure>(
     // The laws speak of desks, and of measures that have a name.
     let measure = table.measure();
     let _name = measure.name();
-    desk.valid();
+    let runs = desk.run_count();
+    let pair = TwoRuns {
+        runs,
+        first: a,
+        second: b,
+    };
+    let exchanged = TwoRuns {
+        runs,
+        first: b,
+        second: a,
+    };
     let claim = match table.verdict(a, b) {
-        Verdict::Above => above(alloc, table, at.first, at.second, a, b)?,
-        Verdict::Below => above(alloc, table, at.second, at.first, b, a)?,
-        Verdict::Equal => equal(alloc, table, at.first, at.second, a, b)?,
+        Verdict::Above => above(alloc, table, at.first, at.second, pair)?,
+        Verdict::Below => above(alloc, table, at.second, at.first, exchanged)?,
+        Verdict::Equal => equal(alloc, table, at.first, at.second, pair)?,
         Verdict::Open => open(alloc, measure, desk, marks, at.first, at.second, a, b)?,
         Verdict::Close => return Ok(None),
     };

@@ -1,21 +1,19 @@
-use Rattle.std.proofs.Common.{arith, subst, sym}
-use Rattle.measure_core.specs.Laws.{IsMet, SpanIsModest}
-use Rattle.desk_model.proofs.DeskTopics.{length-marks}
-use Rattle.pair_table.proofs.DeskTopics.{one_met_at, bounds_there}
+use Rattle.std.proofs.Common.{ℕ, List, subst, sym, ap, ◌∙◌}
+use Rattle.desk_model.specs.declared.types.Mark.{Mark}
+use Rattle.measure_core.specs.Laws.{SpanIsModest}
+use Rattle.pair_table.specs.TopicUnder.{place_of, topic_of}
+use Rattle.pair_table.proofs.DeskTopics.{one_of_met}
 use Rattle.pair_table.proofs.numbers.bounds_at.Goals as goal
 
-pub topic-requires : goal.topic-requires
-topic-requires g c = omega (arith, c.requires.topic, length-marks c.args.desk.now c.args.marks.now c.requires.marks)
-
 pub bounds-requires : goal.bounds-requires
-bounds-requires g c =
-    rw c.ranking.ensures.ranking (one_met_at c.args.desk.now c.args.marks.now c.requires.desk c.requires.marks c.args.run c.args.topic c.topic.result.now c.requires.run c.topic.ensures)
+bounds-requires g c = one_of_met c.marks.result.now (place_of c.args.topic.now) c.args.run c.ranking.result.now c.marks.ensures.met c.requires c.ranking.ensures
 
 pub returns-clause-bounds : goal.returns-clause-bounds
 returns-clause-bounds g c =
-    bounds_there c.args.desk.now c.args.marks.now (g.M.Measure.bounds_of c.args.measure.now) c.args.run c.args.topic c.topic.result.now c.ranking.result.now c.bounds.result c.topic.ensures c.ranking.ensures.ranking c.bounds.ensures
+    let bounds = g.M.Measure.bounds_of c.args.measure.now in
+    c.bounds.ensures ∙ ap (λ (m : List Mark). bounds m c.ranking.result.now) c.marks.ensures.marks ∙ ap (λ (r : List ℕ). bounds (topic_of c.args.topic.now).marks r) c.ranking.ensures
 
 pub returns-clause-modest : goal.returns-clause-modest
-returns-clause-modest g c =
-    let met : IsMet c.topic.result.now c.ranking.result.now = rw c.ranking.ensures.ranking (one_met_at c.args.desk.now c.args.marks.now c.requires.desk c.requires.marks c.args.run c.args.topic c.topic.result.now c.requires.run c.topic.ensures) in
-    subst SpanIsModest (sym c.bounds.ensures) ((g.met.M.Measure.laws c.args.measure.now c.requires.measure).bounds_modest c.topic.result.now c.ranking.result.now met)
+returns-clause-modest g c named =
+    subst SpanIsModest (sym c.bounds.ensures) ((g.met.M.Measure.laws c.args.measure.now named).bounds_modest c.marks.result.now c.ranking.result.now
+    (one_of_met c.marks.result.now (place_of c.args.topic.now) c.args.run c.ranking.result.now c.marks.ensures.met c.requires c.ranking.ensures))

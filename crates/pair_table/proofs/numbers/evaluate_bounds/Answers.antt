@@ -1,7 +1,8 @@
-use Rattle.std.proofs.Common.{ℕ, length, arith}
+use Rattle.std.proofs.Common.{ℕ, length, subst, arith}
+use Rattle.desk_model.specs.MeasureText.{IsMeasure}
 use Rattle.topic_counts.specs.declared.span.Span.{Span}
 use Rattle.measure_core.specs.Laws.{SpanIsModest}
-use Rattle.pair_table.specs.Kept.{topic_at}
+use Rattle.pair_table.specs.TopicUnder.{topic_of}
 use Rattle.pair_table.specs.Sums.{run_numbers}
 use Rattle.measure_core.proofs.Filling.{filled_none, filled_more, filled_whole}
 use Rattle.measure_core.proofs.RunPairs.{number_at, length-run_numbers}
@@ -12,17 +13,17 @@ loop-run-init g c = record { filled = filled_none _ SpanIsModest _ c.args.bounds
 
 pub loop-run-preserved : goal.loop-run-preserved
 loop-run-preserved g c =
-    let topic = topic_at c.args.desk.now c.args.marks.now c.args.topic in
+    let topic = topic_of c.args.topic.now in
     let f : ℕ → Span = λ run. g.M.Measure.bounds_of c.args.measure.now topic.marks (topic.ranking run) in
     record {
-      filled = filled_more f SpanIsModest (run_numbers (length c.args.desk.now.runs)) c.loop-run.bounds c.loop-run.run c.loop-run.run c.bounds_at.result (omega (arith, c.requires.count)) c.loop-run.invariant.filled
-          (number_at (length c.args.desk.now.runs) c.loop-run.run (omega arith)) c.bounds_at.ensures.bounds c.bounds_at.ensures.modest;
+      filled = filled_more f SpanIsModest (run_numbers (length c.args.topic.now.desk.runs)) c.loop-run.bounds c.loop-run.run c.loop-run.run c.bounds_at.result (omega (arith, c.requires)) c.loop-run.invariant.filled
+          (number_at (length c.args.topic.now.desk.runs) c.loop-run.run (omega arith)) c.bounds_at.ensures.bounds (c.bounds_at.ensures.modest (subst IsMeasure c.name-name.ensures.name c.name-name.ensures.built));
     }
 
 pub returns-clause-bounds : goal.returns-clause-bounds
 returns-clause-bounds g c =
-    (filled_whole _ SpanIsModest _ c.loop-run.bounds c.loop-run.run (omega (arith, c.requires.count)) (omega (arith, length-run_numbers (length c.args.desk.now.runs))) c.loop-run.invariant.filled).0
+    (filled_whole _ SpanIsModest _ c.loop-run.bounds c.loop-run.run (omega (arith, c.requires)) (omega (arith, length-run_numbers (length c.args.topic.now.desk.runs))) c.loop-run.invariant.filled).0
 
 pub returns-clause-modest : goal.returns-clause-modest
 returns-clause-modest g c =
-    (filled_whole _ SpanIsModest _ c.loop-run.bounds c.loop-run.run (omega (arith, c.requires.count)) (omega (arith, length-run_numbers (length c.args.desk.now.runs))) c.loop-run.invariant.filled).1
+    (filled_whole _ SpanIsModest _ c.loop-run.bounds c.loop-run.run (omega (arith, c.requires)) (omega (arith, length-run_numbers (length c.args.topic.now.desk.runs))) c.loop-run.invariant.filled).1

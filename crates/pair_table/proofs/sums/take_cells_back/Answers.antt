@@ -8,7 +8,7 @@ use Rattle.desk_model.proofs.Nested.{length-zip}
 use Rattle.desk_model.specs.Limits.{TOPIC_LIMIT}
 use Rattle.desk_model.specs.declared.types.Totals.{Totals}
 use Rattle.measure_core.specs.declared.cell.Cell.{Cell}
-use Rattle.pair_table.specs.Kept.{without_cell, AreWithin}
+use Rattle.pair_table.specs.Kept.{each_with, without_cell, AreWithin}
 use Rattle.measure_core.proofs.Filling.{refilled_none, refilled_here, refilled_more, filled_whole}
 use Rattle.pair_table.proofs.sums.take_cells_back.Goals as goal
 
@@ -19,10 +19,10 @@ abbrev step : Totals × Cell → Totals
 step p = without_cell p.0 p.1
 
 pub loop-place-init : goal.loop-place-init
-loop-place-init c = record { refilled = refilled_none step (λ _. Unit {0}) (zip c.args.totals.now c.args.cells.now) c.args.totals.now }
+loop-place-init c = record { refilled = refilled_none step (λ _. Unit {0}) (zip c.args.totals.now c.cells-cells.result.now) c.args.totals.now }
 
-pub minus-requires-clause-totals : goal.minus-requires-clause-totals
-minus-requires-clause-totals c =
+pub minus-requires : goal.minus-requires
+minus-requires c =
     let here : get_or c.loop-place.totals c.loop-place.place nothing ≡ get_or c.args.totals.now c.loop-place.place nothing =
     refilled_here _ _ _ c.loop-place.totals c.args.totals.now c.loop-place.place nothing c.loop-place.invariant.refilled in
     subst (AreWithin (TOPIC_LIMIT + 1)) (sym here) (c.requires.near c.loop-place.place nothing (omega arith))
@@ -30,12 +30,12 @@ minus-requires-clause-totals c =
 pub loop-place-preserved : goal.loop-place-preserved
 loop-place-preserved c =
     let totals : List Totals = c.args.totals.now in
-    let cells : List Cell = c.args.cells.now in
+    let cells : List Cell = c.cells-cells.result.now in
     let place = c.loop-place.place in
     let here : get_or c.loop-place.totals place nothing ≡ get_or totals place nothing = refilled_here _ _ _ c.loop-place.totals totals place nothing c.loop-place.invariant.refilled in
     let cell : Cell = c.index-cells-place.result in
-    let there : slice_get cells place ≡ Some cell = slice_get-get_or cells place cell (omega (arith, c.requires.count)) ∙ ap Some (sym c.index-cells-place.is) in
-    let made = c.minus.ensures ∙ ap (λ t. without_cell t c.cell-cell.result) here ∙ ap (without_cell (get_or totals place nothing)) c.cell-cell.ensures.cell in
+    let there : slice_get cells place ≡ Some cell = slice_get-get_or cells place cell (omega (arith, c.requires.count, c.cells-cells.ensures.count)) ∙ ap Some (sym c.index-cells-place.is) in
+    let made = c.minus.ensures ∙ ap (λ t. without_cell t cell) here in
     record {
       refilled = refilled_more step (λ _. Unit {0}) (zip totals cells) c.loop-place.totals totals place (get_or totals place nothing, cell) c.minus.result (omega arith) c.loop-place.invariant.refilled
           (slice_get-zip totals cells place _ _ (slice_get-get_or totals place nothing (omega arith)) there) made tt;
@@ -43,5 +43,8 @@ loop-place-preserved c =
 
 pub returns : goal.returns
 returns c =
-    (filled_whole step (λ _. Unit {0}) (zip c.args.totals.now c.args.cells.now) c.loop-place.totals c.loop-place.place (omega arith)
-    (omega (arith, length-zip c.args.totals.now c.args.cells.now (sym c.requires.count))) c.loop-place.invariant.refilled.filled).0
+    let totals = c.args.totals.now in
+    let cells = c.cells-cells.result.now in
+    let count = c.requires.count ∙ sym c.cells-cells.ensures.count in
+    (filled_whole step (λ _. Unit {0}) (zip totals cells) c.loop-place.totals c.loop-place.place (omega arith) (omega (arith, length-zip totals cells (sym count))) c.loop-place.invariant.refilled.filled).0
+    ∙ ap (each_with without_cell totals) c.cells-cells.ensures.cells

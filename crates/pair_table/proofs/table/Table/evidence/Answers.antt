@@ -1,6 +1,6 @@
 use Rattle.std.proofs.Common.{◌<◌, List, length, ap, sym, subst, ◌∙◌}
 use Rattle.std.proofs.lemmas.Result.{IfOk-at_ok}
-use Rattle.desk_model.specs.Desk.{AreMarksOf, topics_under}
+use Rattle.desk_model.specs.Desk.{topics_under}
 use Rattle.desk_model.specs.MeasureText.{IsMeasure}
 use Rattle.desk_model.specs.Verdict.{verdict}
 use Rattle.desk_model.specs.declared.types.Mark.{Mark}
@@ -12,17 +12,17 @@ use Rattle.pair_table.proofs.Saying.{standing_sums, summed_cells, answered_by}
 use Rattle.pair_table.proofs.table.Table.evidence.Goals as goal
 use Rattle.pair_table.proofs.table.Table.evidence.Goals.{in-Above, in-Below, in-Equal, in-Open}
 
-pub above-made-requires-clause-topics : goal.above-made-requires-clause-topics
-above-made-requires-clause-topics g c = ap length c.requires.stands.topics ∙ length-all_numbers (g.M.Measure.cell_of c.args.self.now.measure) (g.M.Measure.bounds_of c.args.self.now.measure) c.args.desk.now c.args.marks.now.rows c.requires.marks
+pub invariant_of-runs-clause-topics : goal.invariant_of-runs-clause-topics
+invariant_of-runs-clause-topics g c = ap length c.requires.stands.topics ∙ length-all_numbers (g.M.Measure.cell_of c.args.self.now.measure) (g.M.Measure.bounds_of c.args.self.now.measure) c.args.desk.now c.args.marks.now.rows c.requires.marks
 
-pub above-made-requires-in-Below-clause-topics : goal.above-made-requires-in-Below-clause-topics
-above-made-requires-in-Below-clause-topics g c = ap length c.requires.stands.topics ∙ length-all_numbers (g.M.Measure.cell_of c.args.self.now.measure) (g.M.Measure.bounds_of c.args.self.now.measure) c.args.desk.now c.args.marks.now.rows c.requires.marks
+pub invariant_of-swapped-clause-topics : goal.invariant_of-swapped-clause-topics
+invariant_of-swapped-clause-topics g c = ap length c.requires.stands.topics ∙ length-all_numbers (g.M.Measure.cell_of c.args.self.now.measure) (g.M.Measure.bounds_of c.args.self.now.measure) c.args.desk.now c.args.marks.now.rows c.requires.marks
 
-pub equal-made-requires-clause-topics : goal.equal-made-requires-clause-topics
-equal-made-requires-clause-topics g c = ap length c.requires.stands.topics ∙ length-all_numbers (g.M.Measure.cell_of c.args.self.now.measure) (g.M.Measure.bounds_of c.args.self.now.measure) c.args.desk.now c.args.marks.now.rows c.requires.marks
+pub invariant_of-runs-in-Equal-clause-topics : goal.invariant_of-runs-in-Equal-clause-topics
+invariant_of-runs-in-Equal-clause-topics g c = ap length c.requires.stands.topics ∙ length-all_numbers (g.M.Measure.cell_of c.args.self.now.measure) (g.M.Measure.bounds_of c.args.self.now.measure) c.args.desk.now c.args.marks.now.rows c.requires.marks
 
-pub open-made-requires-clause-marks : goal.open-made-requires-clause-marks
-open-made-requires-clause-marks g c = subst (AreMarksOf c.args.desk.now) (sym c.rows-rows.ensures) c.requires.marks
+pub invariant_of-runs-in-Open-clause-topics : goal.invariant_of-runs-in-Open-clause-topics
+invariant_of-runs-in-Open-clause-topics g c = ap length c.requires.stands.topics ∙ length-all_numbers (g.M.Measure.cell_of c.args.self.now.measure) (g.M.Measure.bounds_of c.args.self.now.measure) c.args.desk.now c.args.marks.now.rows c.requires.marks
 
 pub returns-in-Close-clause-answer : goal.returns-in-Close-clause-answer
 returns-in-Close-clause-answer g c =
@@ -62,8 +62,8 @@ returns-in-Ok-clause-answer g c =
       | in-Equal w ↦ answered_by cell name desk marks level i j made sums Equal told (sym w.in-Equal.is ∙ c.verdict.ensures.2)
           (IfOk-at_ok _ (sym w.made-is ∙ c.in-Ok.is) w.equal-made.ensures marks c.requires.marks c.requires.stands)
       | in-Open w ↦ answered_by cell name desk marks level i j made sums Open told (sym w.in-Open.is ∙ c.verdict.ensures.2)
-          (subst (λ (ms : List (List Mark)). SaysOpen name desk ms level i j made) c.rows-rows.ensures
-          (subst (λ m. SaysOpen (g.M.Measure.measured m) desk c.rows-rows.result.now level i j made) c.measure-measure.ensures (IfOk-at_ok _ (sym w.made-is ∙ c.in-Ok.is) w.open-made.ensures)))
+          (subst (λ (ms : List (List Mark)). SaysOpen name desk ms level i j made) w.rows.ensures
+          (IfOk-at_ok _ (sym w.made-is ∙ c.in-Ok.is) w.open-made.ensures))
     ]
 
 pub returns-in-Ok-clause-certificate : goal.returns-in-Ok-clause-certificate
