@@ -1,7 +1,6 @@
 //! Rank-biased precision by grades: the table of its numbers, and its laws.
 #![tactic(auto)]
 
-mod in_order;
 pub mod laws;
 mod level;
 mod sums;

@@ -11,11 +11,11 @@ ghost use Rattle.pair_table.specs.Sums.{run_numbers};
 ghost use Rattle.graded_rbp.specs.Kept.{StandsByGrades};
 ghost use Rattle.graded_rbp.specs.Score.{GradedMeasure, IsBiased, GREATEST_LIMIT, binary};
 
-use crate::in_order::sums_of_runs;
 use crate::level::level_table;
 use crate::sums::{add_bounds, add_totals};
 use desk_model::{Desk, MeasureName, Memory, Totals, Verdict, verdict_of};
 use measure_core::{Maker, Measure, Steps};
+use pair_table::TwoRuns;
 use std::alloc::{AllocError, Global};
 use std::marker::{Model, PhantomData};
 use std::sync::ledger::Ledger;
@@ -116,7 +116,12 @@ impl<M: Measure> GradedTable<M> {
         requires second { j < self.now.runs }
         ensures { AreSumsOf self.now.runs self.now.totals i j result }
     {
-        sums_of_runs(&self.totals, self.runs, i, j)
+        let pair = TwoRuns {
+            runs: self.runs,
+            first: i,
+            second: j,
+        };
+        pair.sums_in(&self.totals)
     }
 
     /// The verdict of two different runs, of the first on the second. It takes no memory.
