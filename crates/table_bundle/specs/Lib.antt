@@ -1,3 +1,4 @@
 pub mod Bundles
 pub mod Drafts
 pub mod Lengths
+pub mod Marked

@@ -6,10 +6,10 @@ ghost use Rattle.pair_table.specs.Kept.{StandsFor};
 ghost use Rattle.pair_table.specs.Numbers.{HasCellEnds};
 ghost use Rattle.table_bundle.specs.Bundles.{IsBundleOf};
 
-use crate::claims::all_claims;
 use crate::order::{run_names, runs_by_name};
 use crate::pairs::named_pairs;
 use crate::places::{picked_documents, replaced_claims};
+use crate::standing_table::{StandingPairs, StandingTable};
 use desk_model::{Desk, Marks, Memory};
 use measure_core::Measure;
 use order_bundle::{Bundle, BundleTopics};
@@ -45,7 +45,16 @@ pub fn bundle_of<M: Measure>(
     let order = runs_by_name(alloc, desk)?;
     let runs = run_names(alloc, desk, &order)?;
     let pairs = named_pairs(alloc, &order)?;
-    let claims = all_claims(alloc, table, desk, rows, &pairs)?;
+    let standing = StandingTable {
+        table,
+        desk,
+        marks: rows,
+    };
+    let pairs = StandingPairs {
+        standing: &standing,
+        pairs: &pairs,
+    };
+    let claims = pairs.claims(alloc)?;
     let (topics, places) = picked_documents(alloc, desk, &claims)?;
     let claims = replaced_claims(alloc, claims, &places)?;
     Ok(Bundle {

@@ -1,20 +1,18 @@
 // The claims of a table, on all documents of each topic.
-ghost use Rattle.std.specs.Prelude.{◌≡◌, ◌≢◌, ◌<◌, All, List, length, map, pos, IfOk, if◌then◌else◌};
-ghost use Rattle.std.specs.List.{AllZip};
-ghost use Rattle.desk_model.specs.Desk.{AreMarksOf, topics_under};
+ghost use Rattle.std.specs.Prelude.{◌≡◌, map, pos, Some, IfOk, if◌then◌else◌};
+ghost use Rattle.desk_model.specs.Desk.{topics_under};
 ghost use Rattle.desk_model.specs.Extremes.{Ends};
+ghost use Rattle.desk_model.specs.declared.types.Verdict.TheVariants.{Above as IsAbove, Equal as IsEqual, Open as IsOpen};
 ghost use Rattle.measure_core.specs.Made.{ends_of};
-ghost use Rattle.measure_core.specs.declared.cell.Cell.{Cell as C};
-ghost use Rattle.order_bundle.specs.declared.bundle.PairEvidence.TheVariants.{Above as AboveBy, Equal as EqualBy, Open as OpenBy};
-ghost use Rattle.pair_table.specs.Kept.{IsCellOf, StandsFor};
-ghost use Rattle.table_bundle.specs.Drafts.{bounds_by, draft_of, drafts_on, picks_on, IsRunPair};
+ghost use Rattle.pair_table.specs.Sums.{cell_ends};
+ghost use Rattle.table_bundle.specs.Drafts.{bounds_by, draft_by, draft_on, drafts_on};
 
-use crate::lists::pair_picks;
 use crate::pairs::NamedPair;
-use desk_model::{Desk, Memory, PairPlaces, Rows, Verdict};
+use crate::standing_table::{StandingPair, StandingPairs};
+use desk_model::{Memory, PairPlaces, Verdict};
 use measure_core::{Cell, Measure};
 use order_bundle::{Bound, PairBounds, PairClaim, PairEvidence};
-use pair_table::{Table, TwoRuns};
+use pair_table::TwoRuns;
 use std::alloc::Global;
 
 // The bound of each topic by its cell: the lower end of the least difference, and, where it is wanted, the upper end
@@ -33,160 +31,139 @@ fn bounds_of(alloc: Global, cells: &[Cell], upper: bool) -> Result<PairBounds, M
     Ok(PairBounds::new(made))
 }
 
-// The claim that the first of two runs is always above the second, which stand at `first` and `second` among the names.
-fn above<M: Measure>(
-    alloc: Global,
-    table: &Table<M>,
-    first: u32,
-    second: u32,
-    pair: TwoRuns,
-) -> Result<PairClaim, Memory>
-    requires { pair.runs ≡ table.now.runs }
-    ensures { IfOk result (λ claim. (cells : List C) ×
-        AllZip (IsCellOf pair.runs pair.first pair.second) cells table.now.topics
-        ×
-        (claim ≡
-        record {
-          first = first;
-          second = second;
-          evidence = AboveBy
-              (bounds_by (λ _. pos 0) (map ends_of cells));
-        })) }
-{
-    let cells = table.cells(alloc, pair)?;
-    let bounds = bounds_of(alloc, &cells, false)?;
-    Ok(PairClaim {
-        first,
-        second,
-        evidence: PairEvidence::Above(bounds),
-    })
-}
-
-// The claim that two runs are always equal.
-fn equal<M: Measure>(
-    alloc: Global,
-    table: &Table<M>,
-    first: u32,
-    second: u32,
-    pair: TwoRuns,
-) -> Result<PairClaim, Memory>
-    requires { pair.runs ≡ table.now.runs }
-    ensures { IfOk result (λ claim. (cells : List C) ×
-        AllZip (IsCellOf pair.runs pair.first pair.second) cells table.now.topics
-        ×
-        (claim ≡
-        record {
-          first = first;
-          second = second;
-          evidence = EqualBy
-              (bounds_by (λ (e : Ends). e.most_hi) (map ends_of cells));
-        })) }
-{
-    let cells = table.cells(alloc, pair)?;
-    let bounds = bounds_of(alloc, &cells, true)?;
-    Ok(PairClaim {
-        first,
-        second,
-        evidence: PairEvidence::Equal(bounds),
-    })
-}
-
-// The claim that the order of runs a and b is open.
-fn open<M: Measure>(
-    alloc: Global,
-    measure: &M,
-    desk: &Desk,
-    marks: &Rows,
-    first: u32,
-    second: u32,
-    a: u32,
-    b: u32,
-) -> Result<PairClaim, Memory>
-    requires marks { AreMarksOf desk.now marks.now }
-    requires first { a < length desk.now.runs }
-    requires second { b < length desk.now.runs }
-    ensures { IfOk result (λ claim. claim ≡
-        record {
-          first = first;
-          second = second;
-          evidence = OpenBy
-              (map (picks_on (M.measured measure.now) a b) (topics_under desk.now marks.now));
-        }) }
-{
-    let picks = pair_picks(alloc, measure, desk, marks, a, b)?;
-    Ok(PairClaim {
-        first,
-        second,
-        evidence: PairEvidence::Open(picks),
-    })
-}
-
-/// The claim on runs a and b, which stand at two places among the names, and none where their verdict is close.
-pub fn claim_of_pair<M: Measure>(
-    alloc: Global,
-    table: &Table<M>,
-    desk: &Desk,
-    marks: &Rows,
-    at: PairPlaces,
-    a: u32,
-    b: u32,
-) -> Result<Option<PairClaim>, Memory>
-    requires different { a ≢ b }
-    requires first { a < table.now.runs }
-    requires second { b < table.now.runs }
-    requires marks { AreMarksOf desk.now marks.now }
-    requires stands { StandsFor (M.cell_of table.now.measure) (M.bounds_of table.now.measure)
-        desk.now marks.now table.now }
-    ensures { IfOk result (λ held. held ≡
-        draft_of (M.cell_of table.now.measure) (M.measured table.now.measure)
-        (topics_under desk.now marks.now) (at.first, at.second) a b) }
-{
-    // The laws speak of desks, and of measures that have a name.
-    let measure = table.measure();
-    let _name = measure.name();
-    let runs = desk.run_count();
-    let pair = TwoRuns {
-        runs,
-        first: a,
-        second: b,
-    };
-    let exchanged = TwoRuns {
-        runs,
-        first: b,
-        second: a,
-    };
-    let claim = match table.verdict(a, b) {
-        Verdict::Above => above(alloc, table, at.first, at.second, pair)?,
-        Verdict::Below => above(alloc, table, at.second, at.first, exchanged)?,
-        Verdict::Equal => equal(alloc, table, at.first, at.second, pair)?,
-        Verdict::Open => open(alloc, measure, desk, marks, at.first, at.second, a, b)?,
-        Verdict::Close => return Ok(None),
-    };
-    Ok(Some(claim))
-}
-
-/// The claims on pairs whose verdict is not close.
-pub fn all_claims<M: Measure>(
-    alloc: Global,
-    table: &Table<M>,
-    desk: &Desk,
-    marks: &Rows,
-    pairs: &[NamedPair],
-) -> Result<Vec<PairClaim>, Memory>
-    requires pairs { All (IsRunPair (length desk.now.runs)) pairs.now }
-    requires marks { AreMarksOf desk.now marks.now }
-    requires stands { StandsFor (M.cell_of table.now.measure) (M.bounds_of table.now.measure)
-        desk.now marks.now table.now }
-    ensures { IfOk result (λ claims. claims.items ≡
-        drafts_on (M.cell_of table.now.measure) (M.measured table.now.measure)
-        (topics_under desk.now marks.now) pairs.now) }
-{
-    let mut claims = Vec::new(alloc);
-    for pair in pairs {
-        let claim = claim_of_pair(alloc, table, desk, marks, pair.at, pair.first, pair.second)?;
-        if let Some(claim) = claim {
-            claims.push(claim)?;
-        }
+impl<'s, 'a, M: Measure> StandingPair<'s, 'a, M> {
+    // The cells of the two runs, one for each topic.
+    fn cells(&self, alloc: Global) -> Result<Vec<Cell>, Memory>
+        ensures { IfOk result (λ cells.
+            let s = self.now.standing.now in
+            map ends_of cells.items ≡
+            cell_ends (M.cell_of s.table.now.measure) (topics_under s.desk.now s.marks.now)
+            self.now.pair.first self.now.pair.second) }
+    {
+        // The laws speak of measures that have a name.
+        let standing = self.standing;
+        let measure = standing.table.measure();
+        let _name = measure.name();
+        let pair = TwoRuns {
+            runs: standing.desk.run_count(),
+            first: self.pair.first,
+            second: self.pair.second,
+        };
+        standing.table.cells(alloc, pair)
     }
-    Ok(claims)
+
+    // The claim that the first run is always above the second.
+    fn above(&self, alloc: Global) -> Result<PairClaim, Memory>
+        ensures { IfOk result (λ claim.
+            let s = self.now.standing.now in
+            let p = self.now.pair in
+            Some claim ≡
+            draft_by (M.cell_of s.table.now.measure) (M.measured s.table.now.measure)
+            (topics_under s.desk.now s.marks.now) (p.at.first, p.at.second) p.first p.second
+            IsAbove) }
+    {
+        let cells = self.cells(alloc)?;
+        let evidence = PairEvidence::Above(bounds_of(alloc, &cells, false)?);
+        Ok(PairClaim {
+            first: self.pair.at.first,
+            second: self.pair.at.second,
+            evidence,
+        })
+    }
+
+    // The claim that the two runs are always equal.
+    fn equal(&self, alloc: Global) -> Result<PairClaim, Memory>
+        ensures { IfOk result (λ claim.
+            let s = self.now.standing.now in
+            let p = self.now.pair in
+            Some claim ≡
+            draft_by (M.cell_of s.table.now.measure) (M.measured s.table.now.measure)
+            (topics_under s.desk.now s.marks.now) (p.at.first, p.at.second) p.first p.second
+            IsEqual) }
+    {
+        let cells = self.cells(alloc)?;
+        let evidence = PairEvidence::Equal(bounds_of(alloc, &cells, true)?);
+        Ok(PairClaim {
+            first: self.pair.at.first,
+            second: self.pair.at.second,
+            evidence,
+        })
+    }
+
+    // The claim that the order of the two runs is open.
+    fn open(&self, alloc: Global) -> Result<PairClaim, Memory>
+        ensures { IfOk result (λ claim.
+            let s = self.now.standing.now in
+            let p = self.now.pair in
+            Some claim ≡
+            draft_by (M.cell_of s.table.now.measure) (M.measured s.table.now.measure)
+            (topics_under s.desk.now s.marks.now) (p.at.first, p.at.second) p.first p.second
+            IsOpen) }
+    {
+        let evidence = PairEvidence::Open(self.picks(alloc)?);
+        Ok(PairClaim {
+            first: self.pair.at.first,
+            second: self.pair.at.second,
+            evidence,
+        })
+    }
+
+    /// The claim on the two runs, and none where their verdict is close.
+    pub fn claim(&self, alloc: Global) -> Result<Option<PairClaim>, Memory>
+        ensures { IfOk result (λ held.
+            let s = self.now.standing.now in
+            held ≡
+            draft_on (M.cell_of s.table.now.measure) (M.measured s.table.now.measure)
+            (topics_under s.desk.now s.marks.now) self.now.pair) }
+    {
+        // The laws speak of desks, and of measures that have a name.
+        let standing = self.standing;
+        let measure = standing.table.measure();
+        let _name = measure.name();
+        standing.desk.valid();
+        let NamedPair { at, first, second } = self.pair;
+        let exchanged = StandingPair {
+            standing,
+            pair: NamedPair {
+                at: PairPlaces {
+                    first: at.second,
+                    second: at.first,
+                },
+                first: second,
+                second: first,
+            },
+        };
+        let claim = match standing.table.verdict(first, second) {
+            Verdict::Above => self.above(alloc)?,
+            Verdict::Below => exchanged.above(alloc)?,
+            Verdict::Equal => self.equal(alloc)?,
+            Verdict::Open => self.open(alloc)?,
+            Verdict::Close => return Ok(None),
+        };
+        Ok(Some(claim))
+    }
+}
+
+impl<'s, 'a, M: Measure> StandingPairs<'s, 'a, M> {
+    /// The claims on the pairs whose verdict is not close.
+    pub fn claims(&self, alloc: Global) -> Result<Vec<PairClaim>, Memory>
+        ensures { IfOk result (λ claims.
+            let s = self.now.standing.now in
+            claims.items ≡
+            drafts_on (M.cell_of s.table.now.measure) (M.measured s.table.now.measure)
+            (topics_under s.desk.now s.marks.now) self.now.pairs.now) }
+    {
+        let pairs = self.pairs;
+        let mut claims = Vec::new(alloc);
+        for pair in pairs {
+            let pair = StandingPair {
+                standing: self.standing,
+                pair: *pair,
+            };
+            if let Some(claim) = pair.claim(alloc)? {
+                claims.push(claim)?;
+            }
+        }
+        Ok(claims)
+    }
 }

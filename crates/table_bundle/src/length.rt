@@ -6,10 +6,9 @@ ghost use Rattle.pair_table.specs.Kept.{StandsFor};
 ghost use Rattle.pair_table.specs.Numbers.{HasCellEnds};
 ghost use Rattle.table_bundle.specs.Lengths.{IsBundleLength};
 
-use crate::claim_count::count_claims;
 use crate::order::{run_names, runs_by_name};
 use crate::pairs::named_pairs;
-use crate::topic_length::topics_length;
+use crate::standing_table::{StandingPairs, StandingTable};
 use desk_model::{Desk, Marks, Memory};
 use measure_core::Measure;
 use order_bundle::length::{digits, names_length, opening_length};
@@ -49,13 +48,25 @@ pub fn table_bundle_length<M: Measure>(
     // The laws speak of desks, and of measures that have a name.
     desk.valid();
     let rows = marks.rows();
-    let measure = table.measure();
-    let name = measure.name();
+    let name = table.measure().name();
     let order = runs_by_name(alloc, desk)?;
     let runs = run_names(alloc, desk, &order)?;
     let pairs = named_pairs(alloc, &order)?;
-    let (claims, undecided) = count_claims(alloc, table, desk, rows, &pairs)?;
-    let topics = topics_length(alloc, measure, desk, rows, &undecided)?;
+    let standing = StandingTable {
+        table,
+        desk,
+        marks: rows,
+    };
+    let all = StandingPairs {
+        standing: &standing,
+        pairs: &pairs,
+    };
+    let (claims, undecided) = all.count_claims(alloc)?;
+    let open = StandingPairs {
+        standing: &standing,
+        pairs: &undecided,
+    };
+    let topics = open.topics_length(alloc)?;
     let first = opening_length(&name, level) + names_length(b"run ", runs.as_slice());
     let topic_count = u64::from(desk.topic_count());
     let counting = counting_lines(order.len() as u64, topic_count, claims.claims);

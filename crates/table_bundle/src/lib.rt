@@ -12,6 +12,7 @@ mod order;
 mod pairs;
 mod picked;
 mod places;
+mod standing_table;
 mod topic_length;
 
 pub use bundle::bundle_of;

@@ -1,12 +1,13 @@
 // The documents that the least and the most case of two runs make relevant, by their numbers.
-ghost use Rattle.std.specs.Prelude.{◌≡◌, ◌<◌, length, map, IfOk};
-ghost use Rattle.desk_model.specs.Desk.{AreMarksOf, topics_under};
+ghost use Rattle.std.specs.Prelude.{◌≡◌, map, IfOk};
+ghost use Rattle.desk_model.specs.Desk.{topics_under};
 ghost use Rattle.measure_laws.specs.Cases.{least_truth};
 ghost use Rattle.measure_core.specs.Laws.{AreMet};
 ghost use Rattle.measure_core.specs.Lists.{added_documents};
 ghost use Rattle.table_bundle.specs.Drafts.{picks_on};
 
-use desk_model::{Desk, Mark, Memory, Ranking, Rows};
+use crate::standing_table::StandingPair;
+use desk_model::{Mark, Memory, Ranking};
 use measure_core::Measure;
 use order_bundle::{PairPicks, PickList, Picks};
 use std::alloc::Global;
@@ -44,30 +45,29 @@ fn picks<M: Measure>(
     Ok(Picks { low, high })
 }
 
-/// The documents of the least and of the most case of two runs on each topic.
-pub fn pair_picks<M: Measure>(
-    alloc: Global,
-    measure: &M,
-    desk: &Desk,
-    marks: &Rows,
-    first: u32,
-    second: u32,
-) -> Result<PairPicks, Memory>
-    requires marks { AreMarksOf desk.now marks.now }
-    requires first { first < length desk.now.runs }
-    requires second { second < length desk.now.runs }
-    ensures { IfOk result (λ picks. picks ≡
-        map (picks_on (M.measured measure.now) first second) (topics_under desk.now marks.now)) }
-{
-    let mut least = Vec::new(alloc);
-    let mut most = Vec::new(alloc);
-    let mut made = Vec::new(alloc);
-    for topic in 0..desk.topic_count() {
-        let a = desk.ranking(first, topic);
-        let b = desk.ranking(second, topic);
-        let topic_marks = marks.topic(topic);
-        let next = picks(alloc, measure, a, b, topic_marks, &mut least, &mut most)?;
-        made.push(next)?;
+impl<'s, 'a, M: Measure> StandingPair<'s, 'a, M> {
+    /// The documents of the least and of the most case of the two runs on each topic.
+    pub fn picks(&self, alloc: Global) -> Result<PairPicks, Memory>
+        ensures { IfOk result (λ picks.
+            let s = self.now.standing.now in
+            picks ≡
+            map
+            (picks_on (M.measured s.table.now.measure) self.now.pair.first self.now.pair.second)
+            (topics_under s.desk.now s.marks.now)) }
+    {
+        let standing = self.standing;
+        let measure = standing.table.measure();
+        let desk = standing.desk;
+        let mut least = Vec::new(alloc);
+        let mut most = Vec::new(alloc);
+        let mut made = Vec::new(alloc);
+        for topic in 0..desk.topic_count() {
+            let a = desk.ranking(self.pair.first, topic);
+            let b = desk.ranking(self.pair.second, topic);
+            let marks = standing.marks.topic(topic);
+            let next = picks(alloc, measure, a, b, marks, &mut least, &mut most)?;
+            made.push(next)?;
+        }
+        Ok(PairPicks::new(made))
     }
-    Ok(PairPicks::new(made))
 }

@@ -1,17 +1,17 @@
 // How long the lines of a topic are: its documents that lists of open pairs pick, and these lists. No list is kept.
 ghost use Rattle.std.specs.Prelude.{◌≡◌, ℕ, ◌*◌, ◌<◌, ◌≤◌, All, length, map, slice_get, slice_index, Some, IfOk};
 ghost use Rattle.std.specs.List.{sum, sum_by};
-ghost use Rattle.desk_model.specs.Desk.{AreMarksOf};
 ghost use Rattle.desk_model.specs.Limits.{DOCUMENT_LIMIT, TOPIC_LIMIT};
 ghost use Rattle.measure_core.specs.Lists.{times};
 ghost use Rattle.measure_core.specs.Pairs.{AreAllMet};
 ghost use Rattle.order_bundle.specs.Bundle.{CLAIM_LIMIT, topic_lines};
 ghost use Rattle.order_bundle.specs.Lengths.{text_length};
-ghost use Rattle.table_bundle.specs.Drafts.{names_where, runs_of, IsRunPair};
+ghost use Rattle.table_bundle.specs.Drafts.{names_where, runs_of};
 ghost use Rattle.table_bundle.specs.Lengths.{all_picks, heads_length, is_counted, lists_on, picks_length_by, sizes_length, topic_lengths, topic_with, LIST_LIMIT};
 
 use crate::pairs::NamedPair;
-use desk_model::{Desk, Mark, Memory, Rows, TopicBook};
+use crate::standing_table::{StandingPairs, TopicPairs};
+use desk_model::{Mark, Memory, TopicBook};
 use measure_core::{ListSizes, Measure, RunPair, TopicRankings};
 use order_bundle::length::digits;
 use std::alloc::Global;
@@ -41,36 +41,6 @@ fn heads_of(sizes: &[ListSizes]) -> u64
         bytes += digits(both.least as u64) + digits(both.most as u64) + 11;
     }
     bytes
-}
-
-// Counts how often the lists of pairs on a topic pick each document, and how long the lines are that begin these lists.
-fn count_topic<M: Measure>(
-    alloc: Global,
-    measure: &M,
-    desk: &Desk,
-    topic: u32,
-    marks: &[Mark],
-    pairs: &[NamedPair],
-) -> Result<(u64, Vec<u32>), Memory>
-    requires topic { topic < length desk.now.topics }
-    requires pairs { All (IsRunPair (length desk.now.runs)) pairs.now }
-    requires few { length pairs.now ≤ CLAIM_LIMIT }
-    requires met { AreAllMet marks.now (record { desk = desk.now; topic = topic }) }
-    ensures bytes { IfOk result (λ made. made.0 ≡
-        sum_by heads_length (lists_on (M.measured measure.now) pairs.now
-        (topic_with desk.now topic marks.now))) }
-    ensures few { IfOk result (λ made. made.0 ≤ 100 * length pairs.now) }
-    ensures size { IfOk result (λ made. length made.1.items ≡ length marks.now) }
-    ensures counts { IfOk result (λ made. (doc : ℕ) → doc < length marks.now →
-        slice_index made.1.items doc ≡
-        times (all_picks (lists_on (M.measured measure.now) pairs.now
-        (topic_with desk.now topic marks.now))) doc) }
-{
-    let rankings = TopicRankings::new(desk, topic);
-    let runs = runs_of_pairs(alloc, pairs)?;
-    let mut counts = vec![in alloc; 0; marks.len()]?;
-    let sizes = measure.count_pairs(alloc, &rankings, marks, &runs, &mut counts)?;
-    Ok((heads_of(&sizes), counts))
 }
 
 // The lines of a topic with the documents that are counted.
@@ -114,49 +84,69 @@ fn picks_length(counts: &[u32]) -> u64
     bytes
 }
 
-// The lines of a topic with the documents that lists of pairs pick, and these lists.
-fn topic_length<M: Measure>(
-    alloc: Global,
-    measure: &M,
-    desk: &Desk,
-    marks: &Rows,
-    topic: u32,
-    pairs: &[NamedPair],
-) -> Result<u64, Memory>
-    requires topic { topic < length desk.now.topics }
-    requires marks { AreMarksOf desk.now marks.now }
-    requires pairs { All (IsRunPair (length desk.now.runs)) pairs.now }
-    requires few { length pairs.now ≤ CLAIM_LIMIT }
-    ensures bytes { IfOk result (λ bytes.
-        slice_get (topic_lengths (M.measured measure.now) desk.now marks.now pairs.now) topic ≡
-        Some bytes) }
-    ensures few { IfOk result (λ bytes. bytes ≤ 75078653264400) }
-{
-    desk.valid();
-    let topic_marks = marks.topic(topic);
-    let (heads, counts) = count_topic(alloc, measure, desk, topic, topic_marks, pairs)?;
-    Ok(heads + documents_length(desk.topic(topic), &counts) + picks_length(&counts))
+impl<'t, 's, 'a, M: Measure> TopicPairs<'t, 's, 'a, M> {
+    // Counts how often the lists of the pairs pick each document, and how long the lines are that begin these lists.
+    fn count(&self, alloc: Global, marks: &[Mark]) -> Result<(u64, Vec<u32>), Memory>
+        requires met { AreAllMet marks.now
+            (record { desk = self.now.on.now.standing.now.desk.now; topic = self.now.number }) }
+        ensures bytes { let s = self.now.on.now.standing.now in
+            IfOk result (λ made. made.0 ≡
+            sum_by heads_length (lists_on (M.measured s.table.now.measure) self.now.on.now.pairs.now
+            (topic_with s.desk.now self.now.number marks.now))) }
+        ensures few { IfOk result (λ made. made.0 ≤ 100 * length self.now.on.now.pairs.now) }
+        ensures size { IfOk result (λ made. length made.1.items ≡ length marks.now) }
+        ensures counts { let s = self.now.on.now.standing.now in
+            IfOk result (λ made. (doc : ℕ) → doc < length marks.now →
+            slice_index made.1.items doc ≡
+            times (all_picks (lists_on (M.measured s.table.now.measure) self.now.on.now.pairs.now
+            (topic_with s.desk.now self.now.number marks.now))) doc) }
+    {
+        let standing = self.on.standing;
+        let measure = standing.table.measure();
+        let rankings = TopicRankings::new(standing.desk, self.number);
+        let runs = runs_of_pairs(alloc, self.on.pairs)?;
+        let mut counts = vec![in alloc; 0; marks.len()]?;
+        let sizes = measure.count_pairs(alloc, &rankings, marks, &runs, &mut counts)?;
+        Ok((heads_of(&sizes), counts))
+    }
+
+    // The lines of the topic with the documents that lists of the pairs pick, and these lists.
+    fn length(&self, alloc: Global) -> Result<u64, Memory>
+        ensures bytes { let s = self.now.on.now.standing.now in
+            IfOk result (λ bytes.
+            slice_get (topic_lengths (M.measured s.table.now.measure) s.desk.now s.marks.now
+            self.now.on.now.pairs.now) self.now.number ≡
+            Some bytes) }
+        ensures few { IfOk result (λ bytes. bytes ≤ 75078653264400) }
+    {
+        let standing = self.on.standing;
+        standing.desk.valid();
+        let marks = standing.marks.topic(self.number);
+        let (heads, counts) = self.count(alloc, marks)?;
+        let book = standing.desk.topic(self.number);
+        Ok(heads + documents_length(book, &counts) + picks_length(&counts))
+    }
 }
 
-/// The lines of all topics with the documents that lists of pairs pick, and these lists.
-pub fn topics_length<M: Measure>(
-    alloc: Global,
-    measure: &M,
-    desk: &Desk,
-    marks: &Rows,
-    pairs: &[NamedPair],
-) -> Result<u64, Memory>
-    requires marks { AreMarksOf desk.now marks.now }
-    requires pairs { All (IsRunPair (length desk.now.runs)) pairs.now }
-    requires few { length pairs.now ≤ CLAIM_LIMIT }
-    ensures bytes { IfOk result (λ bytes. bytes ≡
-        sum (topic_lengths (M.measured measure.now) desk.now marks.now pairs.now)) }
-    ensures few { IfOk result (λ bytes. bytes ≤ 75078653264400 * TOPIC_LIMIT) }
-{
-    desk.valid();
-    let mut bytes = 0;
-    for topic in 0..desk.topic_count() {
-        bytes += topic_length(alloc, measure, desk, marks, topic, pairs)?;
+impl<'s, 'a, M: Measure> StandingPairs<'s, 'a, M> {
+    /// The lines of all topics with the documents that lists of the pairs pick, and these lists.
+    pub fn topics_length(&self, alloc: Global) -> Result<u64, Memory>
+        ensures bytes { let s = self.now.standing.now in
+            IfOk result (λ bytes. bytes ≡
+            sum (topic_lengths (M.measured s.table.now.measure) s.desk.now s.marks.now
+            self.now.pairs.now)) }
+        ensures few { IfOk result (λ bytes. bytes ≤ 75078653264400 * TOPIC_LIMIT) }
+    {
+        let desk = self.standing.desk;
+        desk.valid();
+        let mut bytes = 0;
+        for topic in 0..desk.topic_count() {
+            let pairs = TopicPairs {
+                on: self,
+                number: topic,
+            };
+            bytes += pairs.length(alloc)?;
+        }
+        Ok(bytes)
     }
-    Ok(bytes)
 }

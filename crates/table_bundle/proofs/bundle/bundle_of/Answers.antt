@@ -12,7 +12,7 @@ use Rattle.order_bundle.specs.Evidence.{name_at}
 use Rattle.order_bundle.specs.declared.bundle.PairClaim.{PairClaim}
 use Rattle.table_bundle.specs.Drafts.{all_documents, drafts, drafts_on, pairs_in, picked_places, picked_topics, IsRunPair}
 use Rattle.table_bundle.proofs.InOrder.{length-order, order_within}
-use Rattle.table_bundle.proofs.Pairing.{drafts_in, of_runs}
+use Rattle.table_bundle.proofs.Pairing.{drafts_in, few_named, of_runs}
 use Rattle.table_bundle.proofs.Made.{claims_on, made_from}
 use Rattle.table_bundle.proofs.bundle.bundle_of.Goals as goal
 
@@ -27,18 +27,23 @@ named_pairs-requires-clause-some g c = omega (arith, ap length c.deref-2.ensures
 pub named_pairs-requires-clause-few : goal.named_pairs-requires-clause-few
 named_pairs-requires-clause-few g c = omega (arith, ap length c.deref-2.ensures.value, length-order c.args.desk.now c.valid.ensures c.in_ok-order.order.items c.in_ok-order.ensures, c.valid.ensures.runs)
 
-pub all_claims-requires-clause-marks : goal.all_claims-requires-clause-marks
-all_claims-requires-clause-marks g c = subst (AreMarksOf c.args.desk.now) (sym c.rows-rows.ensures) c.requires.marks
+pub invariant_of-standing-clause-marked : goal.invariant_of-standing-clause-marked
+invariant_of-standing-clause-marked g c = subst (AreMarksOf c.args.desk.now) (sym c.rows-rows.ensures) c.requires.marks
 
-pub all_claims-requires-clause-stands : goal.all_claims-requires-clause-stands
-all_claims-requires-clause-stands g c =
+pub invariant_of-standing-clause-stands : goal.invariant_of-standing-clause-stands
+invariant_of-standing-clause-stands g c =
     let table = c.args.table.now in
     subst (λ (ms : List (List Mark)). StandsFor (g.M.Measure.cell_of table.measure) (g.M.Measure.bounds_of table.measure) c.args.desk.now ms table) (sym c.rows-rows.ensures) c.requires.stands
 
-pub all_claims-requires-clause-pairs : goal.all_claims-requires-clause-pairs
-all_claims-requires-clause-pairs g c =
+pub invariant_of-pairs-clause-known : goal.invariant_of-pairs-clause-known
+invariant_of-pairs-clause-known g c =
     let desk = c.args.desk.now in
     subst (All (IsRunPair (length desk.runs))) (sym (c.deref-3.ensures.value ∙ c.in_ok-pairs.ensures ∙ ap pairs_in c.deref-2.ensures.value)) (of_runs desk c.valid.ensures c.in_ok-order.order.items c.in_ok-order.ensures)
+
+pub invariant_of-pairs-clause-few : goal.invariant_of-pairs-clause-few
+invariant_of-pairs-clause-few g c =
+    let pairs_are : c.deref-3.result.now ≡ pairs_in c.in_ok-order.order.items = c.deref-3.ensures.value ∙ c.in_ok-pairs.ensures ∙ ap pairs_in c.deref-2.ensures.value in
+    omega (arith, ap length pairs_are, few_named c.args.desk.now c.valid.ensures c.in_ok-order.order.items c.in_ok-order.ensures)
 
 pub picked_documents-requires : goal.picked_documents-requires
 picked_documents-requires g c =

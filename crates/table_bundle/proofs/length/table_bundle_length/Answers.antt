@@ -31,29 +31,26 @@ named_pairs-requires-clause-some g c = omega (arith, ap length c.deref-2.ensures
 pub named_pairs-requires-clause-few : goal.named_pairs-requires-clause-few
 named_pairs-requires-clause-few g c = omega (arith, ap length c.deref-2.ensures.value, length-order c.args.desk.now c.valid.ensures c.in_ok-order.order.items c.in_ok-order.ensures, c.valid.ensures.runs)
 
-pub count_claims-requires-clause-marks : goal.count_claims-requires-clause-marks
-count_claims-requires-clause-marks g c = subst (AreMarksOf c.args.desk.now) (sym c.rows-rows.ensures) c.requires.marks
+pub invariant_of-standing-clause-marked : goal.invariant_of-standing-clause-marked
+invariant_of-standing-clause-marked g c = subst (AreMarksOf c.args.desk.now) (sym c.rows-rows.ensures) c.requires.marks
 
-pub count_claims-requires-clause-stands : goal.count_claims-requires-clause-stands
-count_claims-requires-clause-stands g c =
+pub invariant_of-standing-clause-stands : goal.invariant_of-standing-clause-stands
+invariant_of-standing-clause-stands g c =
     let table = c.args.table.now in
     subst (λ (ms : List (List Mark)). StandsFor (g.M.Measure.cell_of table.measure) (g.M.Measure.bounds_of table.measure) c.args.desk.now ms table) (sym c.rows-rows.ensures) c.requires.stands
 
-pub topics_length-requires-clause-marks : goal.topics_length-requires-clause-marks
-topics_length-requires-clause-marks g c = subst (AreMarksOf c.args.desk.now) (sym c.rows-rows.ensures) c.requires.marks
-
-pub count_claims-requires-clause-pairs : goal.count_claims-requires-clause-pairs
-count_claims-requires-clause-pairs g c =
+pub invariant_of-all-clause-known : goal.invariant_of-all-clause-known
+invariant_of-all-clause-known g c =
     let desk = c.args.desk.now in
     subst (All (IsRunPair (length desk.runs))) (sym (c.deref-3.ensures.value ∙ c.in_ok-pairs.ensures ∙ ap pairs_in c.deref-2.ensures.value)) (of_runs desk c.valid.ensures c.in_ok-order.order.items c.in_ok-order.ensures)
 
-pub count_claims-requires-clause-few : goal.count_claims-requires-clause-few
-count_claims-requires-clause-few g c =
+pub invariant_of-all-clause-few : goal.invariant_of-all-clause-few
+invariant_of-all-clause-few g c =
     let pairs_are : c.deref-3.result.now ≡ pairs_in c.in_ok-order.order.items = c.deref-3.ensures.value ∙ c.in_ok-pairs.ensures ∙ ap pairs_in c.deref-2.ensures.value in
     omega (arith, ap length pairs_are, few_named c.args.desk.now c.valid.ensures c.in_ok-order.order.items c.in_ok-order.ensures)
 
-pub topics_length-requires-clause-pairs : goal.topics_length-requires-clause-pairs
-topics_length-requires-clause-pairs g c =
+pub invariant_of-open-clause-known : goal.invariant_of-open-clause-known
+invariant_of-open-clause-known g c =
     let table = c.args.table.now in
     let cell = g.M.Measure.cell_of table.measure in
     let desk = c.args.desk.now in
@@ -64,8 +61,8 @@ topics_length-requires-clause-pairs g c =
     let P : NamedPair → Type 0 = IsRunPair (length desk.runs) in
     subst (All P) (sym open_are) (All-from_recursion P (open_pairs cell topics (pairs_in order)) (all_open cell (g.M.Measure.measured table.measure) topics P (pairs_in order) (recursion_from_All P (pairs_in order) (of_runs desk c.valid.ensures order c.in_ok-order.ensures))))
 
-pub topics_length-requires-clause-few : goal.topics_length-requires-clause-few
-topics_length-requires-clause-few g c =
+pub invariant_of-open-clause-few : goal.invariant_of-open-clause-few
+invariant_of-open-clause-few g c =
     let table = c.args.table.now in
     let cell = g.M.Measure.cell_of table.measure in
     let desk = c.args.desk.now in
@@ -125,7 +122,7 @@ returns-clause-bytes g c =
     let order : List ℕ = c.in_ok-order.order.items in
     let topics = topics_under desk marks in
     let count : ClaimCount = c.in_ok-claims.claims in
-    let named : c.name-name.result ≡ name = c.name-name.ensures.name ∙ ap g.M.Measure.measured c.measure-measure.ensures in
+    let named : c.name-name.result ≡ name = c.name-name.ensures.name ∙ ap g.M.Measure.measured c.measure.ensures in
     let valid : IsMeasure name = subst IsMeasure named c.name-name.ensures.built in
     let laws = g.met.M.Measure.laws table.measure valid in
     let pairs_are : c.deref-3.result.now ≡ pairs_in order = c.deref-3.ensures.value ∙ c.in_ok-pairs.ensures ∙ ap pairs_in c.deref-2.ensures.value in
@@ -138,7 +135,7 @@ returns-clause-bytes g c =
     let counting : c.counting_lines-counting.result ≡ length (decimal (length order)) + length (decimal (length desk.topics)) + length (decimal count.claims) + 26 =
     c.counting_lines-counting.ensures.bytes ∙ ap₂ (λ (a b : ℕ). length (decimal a) + length (decimal b) + length (decimal count.claims) + 26) many_runs many_topics in
     let lists : c.in_ok-topics.topics ≡ sum (topic_lengths name desk marks (open_pairs cell topics (pairs_in order))) =
-    c.in_ok-topics.ensures.bytes ∙ ap (λ m. sum (topic_lengths (g.M.Measure.measured m) desk marks c.deref-4.result.now)) c.measure-measure.ensures ∙ ap (λ (ps : List NamedPair). sum (topic_lengths name desk marks ps)) open_are in
+    c.in_ok-topics.ensures.bytes ∙ ap (λ (ps : List NamedPair). sum (topic_lengths name desk marks ps)) open_are in
     let counted : IsCountOf (drafts_on cell name topics (pairs_in order)) count = subst (λ (ps : List NamedPair). IsCountOf (drafts_on cell name topics ps) count) pairs_are c.in_ok-claims.ensures.count in
     subst (λ (ms : List (List Mark)). IsBundleLength (HasCellEnds cell) name desk ms c.args.level (c.opening_length.result + c.names_length.result + c.counting_lines-counting.result + c.in_ok-topics.topics + count.bytes)) c.rows-rows.ensures
     (bundle_length_is name cell (g.M.Measure.bounds_of table.measure) valid laws desk marks c.valid.ensures (subst (AreMarksOf c.args.desk.now) (sym c.rows-rows.ensures) c.requires.marks) c.args.level c.requires.level order c.in_ok-order.ensures c.requires.runs

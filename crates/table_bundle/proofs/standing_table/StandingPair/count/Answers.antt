@@ -20,7 +20,7 @@ use Rattle.table_bundle.specs.Lengths.{if_open, IsCountOf}
 use Rattle.table_bundle.specs.declared.claim_count.ClaimCount.{ClaimCount}
 use Rattle.table_bundle.specs.declared.pairs.NamedPair.{NamedPair}
 use Rattle.table_bundle.proofs.Settled.{none_open}
-use Rattle.table_bundle.proofs.claim_count.count_pair.Goals as goal
+use Rattle.table_bundle.proofs.standing_table.StandingPair.count.Goals as goal
 
 -- an open pair's claim is counted by its first line
 open_count : (cell : List Mark → List ℕ → List ℕ → Cell) (measure : MeasureName) (topics : List Topic) (p : NamedPair) (v : Verdict) (runs : ℕ) → v ≡ Open → runs ≡ length (runs_text p.at.first p.at.second) →
@@ -33,51 +33,51 @@ open_count cell measure topics p v runs is count =
 
 pub count_settled-requires : goal.count_settled-requires
 count_settled-requires g c =
-    let table = c.args.table.now in
+    let table = c.args.self.now.standing.now.table.now in
     let name = g.M.Measure.measured table.measure in
     let cell = g.M.Measure.cell_of table.measure in
-    let p = c.args.pair in
+    let p = c.args.self.now.pair in
     let valid : IsMeasure name = subst IsMeasure (c.name-name.ensures.name ∙ ap g.M.Measure.measured c.measure.ensures) c.name-name.ensures.built in
     let laws = g.met.M.Measure.laws table.measure valid in
-    let told = standing_sums name cell (g.M.Measure.bounds_of table.measure) c.args.desk.now c.args.marks.now p.first p.second c.verdict.ensures.0 table laws c.valid.ensures c.requires.marks c.requires.stands c.verdict.ensures.1 in
-    record { pair = c.requires.pair; marks = c.requires.marks; stands = c.requires.stands; settled = λ e. c.in_default.not-Open (c.verdict.ensures.2 ∙ ap verdict told ∙ e) }
+    let told = standing_sums name cell (g.M.Measure.bounds_of table.measure) c.args.self.now.standing.now.desk.now c.args.self.now.standing.now.marks.now p.first p.second c.verdict.ensures.0 table laws c.valid.ensures c.args.self.now.standing.now.marked c.args.self.now.standing.now.stands c.verdict.ensures.1 in
+    record { settled = λ e. c.in_default.not-Open (c.verdict.ensures.2 ∙ ap verdict told ∙ e) }
 
 pub returns-in_ok-push-in-Open-clause-count : goal.returns-in_ok-push-in-Open-clause-count
 returns-in_ok-push-in-Open-clause-count g c =
-    let table = c.args.table.now in
+    let table = c.args.self.now.standing.now.table.now in
     let name = g.M.Measure.measured table.measure in
     let cell = g.M.Measure.cell_of table.measure in
-    let topics : List Topic = topics_under c.args.desk.now c.args.marks.now in
-    let p = c.args.pair in
+    let topics : List Topic = topics_under c.args.self.now.standing.now.desk.now c.args.self.now.standing.now.marks.now in
+    let p = c.args.self.now.pair in
     let valid : IsMeasure name = subst IsMeasure (c.name-name.ensures.name ∙ ap g.M.Measure.measured c.measure.ensures) c.name-name.ensures.built in
     let laws = g.met.M.Measure.laws table.measure valid in
-    let told = standing_sums name cell (g.M.Measure.bounds_of table.measure) c.args.desk.now c.args.marks.now p.first p.second c.verdict.ensures.0 table laws c.valid.ensures c.requires.marks c.requires.stands c.verdict.ensures.1 in
+    let told = standing_sums name cell (g.M.Measure.bounds_of table.measure) c.args.self.now.standing.now.desk.now c.args.self.now.standing.now.marks.now p.first p.second c.verdict.ensures.0 table laws c.valid.ensures c.args.self.now.standing.now.marked c.args.self.now.standing.now.stands c.verdict.ensures.1 in
     let is : verdict (pair_sums cell topics p.first p.second) ≡ Open = sym (ap verdict told) ∙ sym c.verdict.ensures.2 ∙ c.in-Open.is in
     open_count cell name topics p (verdict (pair_sums cell topics p.first p.second)) c.runs_text_length-bytes.result is c.runs_text_length-bytes.ensures.count
 
 pub returns-in_ok-push-in-Open-clause-undecided : goal.returns-in_ok-push-in-Open-clause-undecided
 returns-in_ok-push-in-Open-clause-undecided g c =
-    let table = c.args.table.now in
+    let table = c.args.self.now.standing.now.table.now in
     let name = g.M.Measure.measured table.measure in
     let cell = g.M.Measure.cell_of table.measure in
-    let topics : List Topic = topics_under c.args.desk.now c.args.marks.now in
-    let p = c.args.pair in
+    let topics : List Topic = topics_under c.args.self.now.standing.now.desk.now c.args.self.now.standing.now.marks.now in
+    let p = c.args.self.now.pair in
     let valid : IsMeasure name = subst IsMeasure (c.name-name.ensures.name ∙ ap g.M.Measure.measured c.measure.ensures) c.name-name.ensures.built in
     let laws = g.met.M.Measure.laws table.measure valid in
-    let told = standing_sums name cell (g.M.Measure.bounds_of table.measure) c.args.desk.now c.args.marks.now p.first p.second c.verdict.ensures.0 table laws c.valid.ensures c.requires.marks c.requires.stands c.verdict.ensures.1 in
+    let told = standing_sums name cell (g.M.Measure.bounds_of table.measure) c.args.self.now.standing.now.desk.now c.args.self.now.standing.now.marks.now p.first p.second c.verdict.ensures.0 table laws c.valid.ensures c.args.self.now.standing.now.marked c.args.self.now.standing.now.stands c.verdict.ensures.1 in
     let is : verdict (pair_sums cell topics p.first p.second) ≡ Open = sym (ap verdict told) ∙ sym c.verdict.ensures.2 ∙ c.in-Open.is in
     c.in_ok-push-in-Open.ensures.items ∙ ap (λ (v : Verdict). c.args.undecided.now.items ++ if_open v p) (sym is)
 
 pub returns-in_ok-count-in_default-clause-undecided : goal.returns-in_ok-count-in_default-clause-undecided
 returns-in_ok-count-in_default-clause-undecided g c =
-    let table = c.args.table.now in
+    let table = c.args.self.now.standing.now.table.now in
     let name = g.M.Measure.measured table.measure in
     let cell = g.M.Measure.cell_of table.measure in
-    let topics : List Topic = topics_under c.args.desk.now c.args.marks.now in
-    let p = c.args.pair in
+    let topics : List Topic = topics_under c.args.self.now.standing.now.desk.now c.args.self.now.standing.now.marks.now in
+    let p = c.args.self.now.pair in
     let valid : IsMeasure name = subst IsMeasure (c.name-name.ensures.name ∙ ap g.M.Measure.measured c.measure.ensures) c.name-name.ensures.built in
     let laws = g.met.M.Measure.laws table.measure valid in
-    let told = standing_sums name cell (g.M.Measure.bounds_of table.measure) c.args.desk.now c.args.marks.now p.first p.second c.verdict.ensures.0 table laws c.valid.ensures c.requires.marks c.requires.stands c.verdict.ensures.1 in
+    let told = standing_sums name cell (g.M.Measure.bounds_of table.measure) c.args.self.now.standing.now.desk.now c.args.self.now.standing.now.marks.now p.first p.second c.verdict.ensures.0 table laws c.valid.ensures c.args.self.now.standing.now.marked c.args.self.now.standing.now.stands c.verdict.ensures.1 in
     let other : verdict (pair_sums cell topics p.first p.second) ≢ Open = λ e. c.in_default.not-Open (c.verdict.ensures.2 ∙ ap verdict told ∙ e) in
     let items : List NamedPair = c.args.undecided.now.items in
     sym (append-nil items) ∙ ap (λ (l : List NamedPair). items ++ l) (sym (none_open cell name topics p (verdict (pair_sums cell topics p.first p.second)) other))

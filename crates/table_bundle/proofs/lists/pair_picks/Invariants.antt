@@ -1,9 +1,0 @@
-use Rattle.std.proofs.Common.{◌≡◌, take, map}
-use Rattle.desk_model.specs.Desk.{topics_under}
-use Rattle.table_bundle.specs.Drafts.{picks_on}
-use Rattle.table_bundle.proofs.lists.pair_picks.Given as goal
-
-abbrev pub invariant-loop-topic : goal.invariant-loop-topic
-invariant-loop-topic g l = record {
-  made : l.made.items ≡ map (picks_on (g.M.Measure.measured l.measure) l.first l.second) (take l.topic (topics_under l.desk l.marks));
-}
