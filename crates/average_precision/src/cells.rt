@@ -13,10 +13,9 @@ ghost use Rattle.average_precision.specs.Rooms.{AreRunsKept, IsKept};
 
 use crate::average_precision::AveragePrecision;
 use crate::classes::{KeptClasses, mark_run};
-use crate::crossing::crossed;
 use crate::kept::{KeptRuns, TopicRuns};
 use crate::numbers::{PairRun, RunNumbers};
-use crate::pair::{Leasts, cell_of, known_run, leasts_between};
+use crate::pair::{Leasts, cell_of, known_run, leasts_between, scores_in};
 use crate::runs::ChosenRun;
 use desk_model::PairPlaces;
 use measure_core::{CellRoom, Class, CrossScores, KeptCell, RunCandidates, RunPair, Steps};
@@ -177,7 +176,7 @@ impl AveragePrecision {
         let row = run as usize * count as usize;
         for other in 0..count {
             let docs = runs.on.rankings.ranking(other).docs();
-            scores[row + other as usize] = crossed(true, docs, &marked, &self.parts);
+            scores[row + other as usize] = scores_in(docs, &marked, &self.parts);
         }
     }
 

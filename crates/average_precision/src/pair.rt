@@ -1,9 +1,11 @@
 //! The cell of two runs from what is known of each.
-ghost use Rattle.std.specs.Prelude.{◌≡◌, ℕ, List, length};
+ghost use Rattle.std.specs.Prelude.{◌≡◌, ℕ, ◌*◌, ◌≤◌, List, length};
+ghost use Rattle.desk_model.specs.Limits.{PARTS_OF_ONE, RANK_LIMIT};
 ghost use Rattle.desk_model.specs.Ranking.{IsRanking};
 ghost use Rattle.desk_model.specs.declared.types.Mark.{Mark as M};
 ghost use Rattle.topic_counts.specs.Ends.{IsShort};
 ghost use Rattle.average_precision.specs.Classes.{AreNumbers, IsLeast};
+ghost use Rattle.average_precision.specs.Crossed.{AreCrossed};
 ghost use Rattle.average_precision.specs.Numbers.{average_cell};
 ghost use Rattle.average_precision.specs.Pairs.{IsPairRun};
 
@@ -11,7 +13,7 @@ use crate::crossing::{Classes, crossed};
 use crate::least::{are_same, least_of};
 use crate::numbers::{Least, PairRun, RunNumbers};
 use crate::table::Parts;
-use measure_core::Cell;
+use measure_core::{Cell, CrossScores};
 use topic_counts::Span;
 
 /// The ends of the least difference of two runs, and of the same runs swapped.
@@ -48,6 +50,17 @@ pub fn known_run<C: Classes>(classes: &C, parts: &Parts) -> RunNumbers
     }
 }
 
+/// The scores of a ranking in a run's two candidates, rounded outward. The loop has more registers where it stands alone.
+#[inline(never)]
+pub fn scores_in<C: Classes>(docs: &[u32], classes: &C, parts: &Parts) -> CrossScores
+    requires { IsRanking (length (C.marks classes.now)) docs.now }
+    ensures scores { AreCrossed (C.marks classes.now) (C.run classes.now) docs.now result }
+    ensures high_small { result.in_high ≤ RANK_LIMIT * PARTS_OF_ONE }
+    ensures low_small { result.in_low ≤ RANK_LIMIT * PARTS_OF_ONE }
+{
+    crossed(true, docs, classes, parts)
+}
+
 /// A run of a pair, by its classes and the other's documents.
 fn pair_run<C: Classes>(classes: &C, rival: &[u32], parts: &Parts) -> PairRun
     requires { IsRanking (length (C.marks classes.now)) rival.now }
@@ -55,7 +68,7 @@ fn pair_run<C: Classes>(classes: &C, rival: &[u32], parts: &Parts) -> PairRun
 {
     PairRun {
         numbers: known_run(classes, parts),
-        other: crossed(true, rival, classes, parts),
+        other: scores_in(rival, classes, parts),
     }
 }
 
