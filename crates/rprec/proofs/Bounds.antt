@@ -107,7 +107,7 @@ pub record AreEnds (p : RunPair) (start end : ℕ) : Type 0 where
   pub first : slice_index_or p.first.now.numbers start 0 ≡ pack (first_counts p (10 * start))
   pub begun : slice_index_or p.second.now.numbers start 0 ≡ pack (second_counts p (10 * start))
   pub ended : slice_index_or p.second.now.numbers end 0 ≡ pack (second_counts p (10 * end))
-  pub both : slice_index_or p.both.now.numbers start 0 ≡ shared_count p (10 * start)
+  pub both : slice_index_or p.both.now start 0 ≡ shared_count p (10 * start)
   pub some : shared_count p (10 * start) ≤ (second_counts p (10 * start)).unjudged
   pub later : (second_counts p (10 * start)).unjudged ≤ (second_counts p (10 * end)).unjudged
 
@@ -131,9 +131,9 @@ ends_at p chosen next h order high = ends_are p ((p.all.relevant + chosen) / 10)
 -- the counts in them
 pub record AreEndCounts (p : RunPair) (start end : ℕ) : Type 0 where
   pub first : (unpack (slice_index_or p.first.now.numbers start 0)).relevant ≡ (first_counts p (10 * start)).relevant
-  pub begun : (unpack (slice_index_or p.second.now.numbers start 0 - slice_index_or p.both.now.numbers start 0)).unjudged ≡ (second_counts p (10 * start)).unjudged - shared_count p (10 * start)
-  pub second : (unpack (slice_index_or p.second.now.numbers end 0 - slice_index_or p.both.now.numbers start 0)).relevant ≡ (second_counts p (10 * end)).relevant
-  pub ended : (unpack (slice_index_or p.second.now.numbers end 0 - slice_index_or p.both.now.numbers start 0)).unjudged ≡ (second_counts p (10 * end)).unjudged - shared_count p (10 * start)
+  pub begun : (unpack (slice_index_or p.second.now.numbers start 0 - slice_index_or p.both.now start 0)).unjudged ≡ (second_counts p (10 * start)).unjudged - shared_count p (10 * start)
+  pub second : (unpack (slice_index_or p.second.now.numbers end 0 - slice_index_or p.both.now start 0)).relevant ≡ (second_counts p (10 * end)).relevant
+  pub ended : (unpack (slice_index_or p.second.now.numbers end 0 - slice_index_or p.both.now start 0)).unjudged ≡ (second_counts p (10 * end)).unjudged - shared_count p (10 * start)
 
 -- each number holds them
 pub end_counts : (p : RunPair) (start end : ℕ) → IsPair p → AreEnds p start end → AreEndCounts p start end
@@ -185,7 +185,7 @@ choice_bounded p start end place next first begun second ended low high h b lt a
     all = count_rises (λ d. is_unjudged (mark_at p.marks.now d)) p.b.now depth (10 * end) (omega (arith, before, lt))
 
     shared : shared_count p (10 * start) ≤ shared_count p depth
-    shared = sum_rises p.shared.now.counts (10 * start) depth (omega (arith, after))
+    shared = sum_rises p.shared.now (10 * start) depth (omega (arith, after))
 
     own : (prefixes p depth).second.unjudged + shared_count p depth ≡ (second_counts p depth).unjudged
     own = h.shared.second depth (omega (arith, before, lt, b.short))

@@ -69,25 +69,27 @@ counted_one counts k place u in_counts = by_test (nat_eq place k) refl
     by_test true e = subst (λ (m : ℕ). get_or (set counts k (get_or counts k 0 + u)) m 0 ≡ get_or counts m 0 + u) (sym (same e)) (get_or-set_same counts k (get_or counts k 0 + u) 0 in_counts)
     by_test false e = get_or-set_other counts k place (get_or counts k 0 + u) 0 (apart e) ∙ (let none : get_or counts place 0 ≡ get_or counts place 0 + 0 = omega arith in none)
 
-raise_first : (marks : List Mark) (xs ys : List ℕ) (f s : List Bool) (counts : List ℕ) (k u : ℕ) → AreCounted marks xs ys f s counts → length xs ≤ 10000 → k < length xs → k < length f → get_or f k false ≡ false → u ≡ one_where (is_unjudged (mark_at marks (get_or xs k 0))) →
+raise_first : (marks : List Mark) (xs ys : List ℕ) (f s : List Bool) (counts : List ℕ) (k u : ℕ) → AreCounted marks xs ys f s counts → k < length xs → k < length f → get_or f k false ≡ false → u ≡ one_where (is_unjudged (mark_at marks (get_or xs k 0))) →
     AreCounted marks xs ys (set f k true) s (set counts k (get_or counts k 0 + u))
-raise_first marks xs ys f s counts k u h short in_docs in_flags down e = record {
-  long = length-set counts k (get_or counts k 0 + u) ∙ h.long;
+raise_first marks xs ys f s counts k u h in_docs in_flags down e = record {
+  first_fit = omega (arith, length-set counts k (get_or counts k 0 + u), h.first_fit);
+  second_fit = omega (arith, length-set counts k (get_or counts k 0 + u), h.second_fit);
   known = h.known;
   each = λ place.
-      let more = counted_one counts k place u (omega (arith, h.long, in_docs, short)) in
+      let more = counted_one counts k place u (omega (arith, h.first_fit, in_docs)) in
       let raised = raised_one marks xs f k place in_docs in_flags down in
       let same : (if nat_eq place k then u else 0) ≡ (if nat_eq place k then one_where (is_unjudged (mark_at marks (get_or xs k 0))) else 0) = ap (λ (n : ℕ). if nat_eq place k then n else 0) e in
       omega (arith, more, raised, same, h.each place);
 }
 
-raise_second : (marks : List Mark) (xs ys : List ℕ) (f s : List Bool) (counts : List ℕ) (k u : ℕ) → AreCounted marks xs ys f s counts → length ys ≤ 10000 → k < length ys → k < length s → get_or s k false ≡ false → u ≡ one_where (is_unjudged (mark_at marks (get_or ys k 0))) →
+raise_second : (marks : List Mark) (xs ys : List ℕ) (f s : List Bool) (counts : List ℕ) (k u : ℕ) → AreCounted marks xs ys f s counts → k < length ys → k < length s → get_or s k false ≡ false → u ≡ one_where (is_unjudged (mark_at marks (get_or ys k 0))) →
     AreCounted marks xs ys f (set s k true) (set counts k (get_or counts k 0 + u))
-raise_second marks xs ys f s counts k u h short in_docs in_flags down e = record {
-  long = length-set counts k (get_or counts k 0 + u) ∙ h.long;
+raise_second marks xs ys f s counts k u h in_docs in_flags down e = record {
+  first_fit = omega (arith, length-set counts k (get_or counts k 0 + u), h.first_fit);
+  second_fit = omega (arith, length-set counts k (get_or counts k 0 + u), h.second_fit);
   known = h.known;
   each = λ place.
-      let more = counted_one counts k place u (omega (arith, h.long, in_docs, short)) in
+      let more = counted_one counts k place u (omega (arith, h.second_fit, in_docs)) in
       let raised = raised_one marks ys s k place in_docs in_flags down in
       let same : (if nat_eq place k then u else 0) ≡ (if nat_eq place k then one_where (is_unjudged (mark_at marks (get_or ys k 0))) else 0) = ap (λ (n : ℕ). if nat_eq place k then n else 0) e in
       omega (arith, more, raised, same, h.each place);
@@ -107,9 +109,9 @@ record AreDown (xs ys : List ℕ) (x y : Placed) (f s : List Bool) : Type 0 wher
   pub first_down : x.doc ≡ y.doc → get_or f (x.rank - 1) false ≡ false
   pub second_down : x.doc ≡ y.doc → get_or s (y.rank - 1) false ≡ false
 
-counted_next : (marks : List Mark) (xs ys : List ℕ) (x y : Placed) (f s : List Bool) (counts : List ℕ) → length xs ≤ 10000 → length ys ≤ 10000 → AreDown xs ys x y f s → AreCounted marks xs ys f s counts →
+counted_next : (marks : List Mark) (xs ys : List ℕ) (x y : Placed) (f s : List Bool) (counts : List ℕ) → AreDown xs ys x y f s → AreCounted marks xs ys f s counts →
     AreCounted marks xs ys (entered (λ place. place) x y f) (entered (λ place. place + 1) y x s) (counts_entered marks x y counts)
-counted_next marks xs ys x y f s counts sx sy d h = by_test (nat_eq x.doc y.doc) refl
+counted_next marks xs ys x y f s counts d h = by_test (nat_eq x.doc y.doc) refl
   where
     k : ℕ
     k = max x.rank y.rank - 1
@@ -131,7 +133,7 @@ counted_next marks xs ys x y f s counts sx sy d h = by_test (nat_eq x.doc y.doc)
         let place : x.rank - 1 ≡ k = grind (arith, nat_tests, t) in
         let other : nat_le x.rank (y.rank - 1 + 1) ≡ false = grind (arith, nat_tests, t, d.first.0, d.second.0) in
         let is : u ≡ one_where (is_unjudged (mark_at marks (get_or xs (x.rank - 1) 0))) = ap (λ (n : ℕ). one_where (is_unjudged (mark_at marks n))) (sym d.first.1.1) in
-        let raised = raise_first marks xs ys f s counts (x.rank - 1) u h sx (omega (arith, d.first.0, d.first.1.0)) (omega (arith, d.first.0, d.first.1.0, d.first_long)) (d.first_down (same_doc x.doc y.doc e)) is in
+        let raised = raise_first marks xs ys f s counts (x.rank - 1) u h (omega (arith, d.first.0, d.first.1.0)) (omega (arith, d.first.0, d.first.1.0, d.first_long)) (d.first_down (same_doc x.doc y.doc e)) is in
         same_counted marks xs ys _ _ _ _ _ _
         (sym (ap (λ (b : Bool). if b then flagged (λ place. place) x.rank y.rank f else f) e ∙ ap (λ (b : Bool). if b then set f (x.rank - 1) true else f) t))
         (sym (ap (λ (b : Bool). if b then flagged (λ place. place + 1) y.rank x.rank s else s) (swapped_facts x.doc y.doc true e) ∙ ap (λ (b : Bool). if b then set s (y.rank - 1) true else s) other))
@@ -141,7 +143,7 @@ counted_next marks xs ys x y f s counts sx sy d h = by_test (nat_eq x.doc y.doc)
         let place : y.rank - 1 ≡ k = grind (arith, nat_tests, t, d.first.0) in
         let other : nat_le x.rank (y.rank - 1 + 1) ≡ true = grind (arith, nat_tests, t, d.first.0, d.second.0) in
         let is : u ≡ one_where (is_unjudged (mark_at marks (get_or ys (y.rank - 1) 0))) = ap (λ (n : ℕ). one_where (is_unjudged (mark_at marks n))) (same_doc x.doc y.doc e ∙ sym d.second.1.1) in
-        let raised = raise_second marks xs ys f s counts (y.rank - 1) u h sy (omega (arith, d.second.0, d.second.1.0)) (omega (arith, d.second.0, d.second.1.0, d.second_long)) (d.second_down (same_doc x.doc y.doc e)) is in
+        let raised = raise_second marks xs ys f s counts (y.rank - 1) u h (omega (arith, d.second.0, d.second.1.0)) (omega (arith, d.second.0, d.second.1.0, d.second_long)) (d.second_down (same_doc x.doc y.doc e)) is in
         same_counted marks xs ys _ _ _ _ _ _
         (sym (ap (λ (b : Bool). if b then flagged (λ place. place) x.rank y.rank f else f) e ∙ ap (λ (b : Bool). if b then set f (x.rank - 1) true else f) t))
         (sym (ap (λ (b : Bool). if b then flagged (λ place. place + 1) y.rank x.rank s else s) (swapped_facts x.doc y.doc true e) ∙ ap (λ (b : Bool). if b then set s (y.rank - 1) true else s) other))
@@ -194,7 +196,7 @@ counted_step marks part elsewhere xs ys es fs i j d f s counts hi hj w h =
     let y = get_or fs j d in
     let here : IsWalk part elsewhere xs ys (x ∷ drop (i + 1) es) (y ∷ drop (j + 1) fs) f s =
     subst (λ (l : List Placed). IsWalk part elsewhere xs ys l (y ∷ drop (j + 1) fs) f s) (opened es i d hi) (subst (λ (l : List Placed). IsWalk part elsewhere xs ys (drop i es) l f s) (opened fs j d hj) w) in
-    counted_next marks xs ys x y f s counts w.first_short w.second_short (down_here part elsewhere xs ys x y (drop (i + 1) es) (drop (j + 1) fs) f s here) h
+    counted_next marks xs ys x y f s counts (down_here part elsewhere xs ys x y (drop (i + 1) es) (drop (j + 1) fs) f s here) h
 
 -- ---- what the code needs to know
 at_most_1 : (marks : List Mark) (docs : List ℕ) (flags : List Bool) (place : ℕ) → flagged_at marks docs flags place ≤ 1
@@ -216,9 +218,9 @@ known_first marks part elsewhere xs ys es fs i d f s counts hi w h =
     subst (λ (n : ℕ). n < length marks) place.1.1 (h.known (x.rank - 1) 0 (omega (arith, place.0, place.1.0)))
 
 -- ---- before the first step and after the last one
-pub counted_start : (marks : List Mark) (xs ys : List ℕ) (f s : List Bool) (counts : List ℕ) → ((place : ℕ) → get_or f place false ≡ false) → ((place : ℕ) → get_or s place false ≡ false) → length counts ≡ 10000 → All (λ doc. doc < length marks) xs → ((place : ℕ) → get_or counts place 0 ≡ 0) →
+pub counted_start : (marks : List Mark) (xs ys : List ℕ) (f s : List Bool) (counts : List ℕ) → ((place : ℕ) → get_or f place false ≡ false) → ((place : ℕ) → get_or s place false ≡ false) → length xs ≤ length counts → length ys ≤ length counts → All (λ doc. doc < length marks) xs → ((place : ℕ) → get_or counts place 0 ≡ 0) →
     AreCounted marks xs ys f s counts
-counted_start marks xs ys f s counts df ds long known none = record { long = long; known = known; each = λ place. omega (arith, none place, nothing xs f place (df place), nothing ys s place (ds place)) }
+counted_start marks xs ys f s counts df ds first_fit second_fit known none = record { first_fit = first_fit; second_fit = second_fit; known = known; each = λ place. omega (arith, none place, nothing xs f place (df place), nothing ys s place (ds place)) }
   where
     nothing : (docs : List ℕ) (flags : List Bool) (place : ℕ) → get_or flags place false ≡ false → flagged_at marks docs flags place ≡ 0
     nothing docs flags place down =

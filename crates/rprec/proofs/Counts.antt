@@ -209,10 +209,10 @@ unpacked_packed f first second = ap (λ (c : Counts). both c (unpack (pack f.sec
 
 -- ---- lists of sums
 -- the next of some sums is put into their list
-pub sums_next : (f : ℕ → ℕ) (numbers : List ℕ) (block number : ℕ) → length numbers ≡ 1001 → block < 1000 → ((k : ℕ) → k ≤ block → get_or numbers k 0 ≡ f k) → number ≡ f (block + 1) → (k : ℕ) → k ≤ block + 1 → get_or (set numbers (block + 1) number) k 0 ≡ f k
-sums_next f numbers block number long lt each e k le = elim (cases_lt k (block + 1)) [
+pub sums_next : (f : ℕ → ℕ) (numbers : List ℕ) (block number : ℕ) → block + 1 < length numbers → ((k : ℕ) → k ≤ block → get_or numbers k 0 ≡ f k) → number ≡ f (block + 1) → (k : ℕ) → k ≤ block + 1 → get_or (set numbers (block + 1) number) k 0 ≡ f k
+sums_next f numbers block number lt each e k le = elim (cases_lt k (block + 1)) [
   | inl less ↦ get_or-set_other numbers (block + 1) k number 0 (λ h. absurd (omega (arith, h, less))) ∙ each k (omega (arith, less))
   | inr more ↦
       let same : block + 1 ≡ k = omega (arith, le, more) in
-      subst (λ (n : ℕ). get_or (set numbers (block + 1) number) n 0 ≡ f n) same (get_or-set_same numbers (block + 1) number 0 (omega (arith, long, lt)) ∙ e)
+      subst (λ (n : ℕ). get_or (set numbers (block + 1) number) n 0 ≡ f n) same (get_or-set_same numbers (block + 1) number 0 lt ∙ e)
 ]

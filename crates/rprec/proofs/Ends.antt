@@ -22,7 +22,7 @@ use Rattle.topic_counts.specs.declared.counts.Counts.{Counts}
 use Rattle.measure_laws.proofs.Ratios.{out_of}
 use Rattle.topic_counts.proofs.Ratio.{ratio_read}
 use Rattle.rprec.specs.declared.greedy.DepthCandidate.{DepthCandidate}
-use Rattle.rprec.specs.Greedy.{AreTopic, IsLeast}
+use Rattle.rprec.specs.Greedy.{AreTopic, IsLeast, IsWithinOne}
 use Rattle.measure_laws.proofs.LeastDifferences.{among_few}
 use Rattle.rprec.proofs.Choices.{all_open}
 
@@ -52,3 +52,9 @@ nothing_ranked n = record { distinct = tt; within = All-nil (λ doc. doc < n); s
 -- the counts of all documents
 pub topic_is : (marks : List Mark) (all : Counts) → all.relevant ≡ true_count (with_picked marks (λ _. false)) (length marks) → all.relevant + all.unjudged ≡ true_count (with_picked marks (λ _. true)) (length marks) → AreTopic marks all
 topic_is marks all e f = record { relevant = e; unjudged = omega (arith, e, f, all_open marks) }
+
+-- the difference of a least candidate is one of two shares
+pub within_one : (marks : List Mark) (a b : List ℕ) (c : DepthCandidate) → IsLeast marks a b c → IsWithinOne c
+within_one marks a b c h =
+    let truth = greedy_truth marks a b c.count in
+    record { low = omega (arith, h.gains.same, among_few truth c.count a, among_few truth c.count b); high = omega (arith, h.gains.same, among_few truth c.count a, among_few truth c.count b) }

@@ -110,10 +110,10 @@ ranks_after part xs es doc r h f d s e = elim (same_or_not d doc) [
 ]
 
 -- the ranks of the next document
-pub rank_within : (part : ℕ → Bool) (xs : List ℕ) (es : List Placed) (doc : ℕ) (r : Option ℕ) → Taken es doc r → AreRanksOf part xs es → length xs ≤ 10000 → IsRankWithin 10000 r
+pub rank_within : (part : ℕ → Bool) (xs : List ℕ) (es : List Placed) (doc n : ℕ) (r : Option ℕ) → Taken es doc r → AreRanksOf part xs es → length xs ≤ n → IsRankWithin n r
 unfolding AreRanksOf
-rank_within part xs es doc None h f short = tt
-rank_within part xs es doc (Some r) h f short = let here = rank_place xs doc r (f doc r (sym h.here)).0 in (here.0, omega (arith, here.1.0))
+rank_within part xs es doc n None h f short = tt
+rank_within part xs es doc n (Some r) h f short = let here = rank_place xs doc r (f doc r (sym h.here)).0 in (here.0, omega (arith, here.1.0))
 
 flag_kept : (depth : ℕ → ℕ) (x y : Option ℕ) (flags : List Bool) (place : ℕ) → ((r : ℕ) → x ≡ Some r → place ≢ r - 1) → get_or (raised depth x y flags) place false ≡ get_or flags place false
 flag_kept depth None y flags place f = refl
@@ -287,8 +287,8 @@ walk_next part elsewhere xs ys x y es fs f s dx dy w = elim (same_or_not x.doc y
         same_walk part elsewhere xs ys _ (left x y es) _ (left y x fs) _ (entered (λ place. place) x y f) _ (entered (λ place. place + 1) y x s) (after_none y.doc x es more ∙ sym (left_by false x y es t.1.0)) (after_head y fs ∙ sym (left_by true y x fs t.0)) (sym (entered_by false (λ place. place) x y f t.1.1.1)) (sym (entered_by false (λ place. place + 1) y x s t.1.1.0)) here
 
 -- the ranks of its first places
-pub head_rank : (part : ℕ → Bool) (xs : List ℕ) (x : Placed) (es : List Placed) → IsAscending (x ∷ es) → AreRanksOf part xs (x ∷ es) → length xs ≤ 10000 → (1 ≤ x.rank) × (x.rank ≤ 10000)
-head_rank part xs x es h f short = rank_within part xs (x ∷ es) x.doc (Some x.rank) (taken_head x es h) f short
+pub head_rank : (part : ℕ → Bool) (xs : List ℕ) (x : Placed) (es : List Placed) (n : ℕ) → IsAscending (x ∷ es) → AreRanksOf part xs (x ∷ es) → length xs ≤ n → (1 ≤ x.rank) × (x.rank ≤ n)
+head_rank part xs x es n h f short = rank_within part xs (x ∷ es) x.doc n (Some x.rank) (taken_head x es h) f short
 
 pub opened : (es : List Placed) (i : ℕ) (d : Placed) → i < length es → drop i es ≡ get_or es i d ∷ drop (i + 1) es
 opened es i d h = let next : suc i ≡ i + 1 = omega arith in drop-cons es i d h ∙ ap (λ (k : ℕ). get_or es i d ∷ drop k es) next
@@ -310,13 +310,13 @@ walk_step part elsewhere xs ys es fs i j p q d f s dx dy hi hj ep eq w =
     let here = same_walk part elsewhere xs ys (drop i es) (x ∷ drop (i + 1) es) (drop j fs) (y ∷ drop (j + 1) fs) f f s s (opened es i d hi) (opened fs j d hj) refl refl w in
     same_walk part elsewhere xs ys _ (drop (i + p) es) _ (drop (j + q) fs) _ (entered (λ place. place) x y f) _ (entered (λ place. place + 1) y x s) (sym (left_drop es i p d y hi ep)) (sym (left_drop fs j q d x hj eq)) refl refl (walk_next part elsewhere xs ys x y (drop (i + 1) es) (drop (j + 1) fs) f s dx dy here)
 
-pub rank_first : (part elsewhere : ℕ → Bool) (xs ys : List ℕ) (es fs : List Placed) (i : ℕ) (d : Placed) (f s : List Bool) → i < length es → IsWalk part elsewhere xs ys (drop i es) fs f s → length xs ≤ 10000 → (1 ≤ (get_or es i d).rank) × ((get_or es i d).rank ≤ 10000)
-rank_first part elsewhere xs ys es fs i d f s h w short =
-    head_rank part xs (get_or es i d) (drop (i + 1) es) (subst IsAscending (opened es i d h) w.first_ascends) (subst (AreRanksOf part xs) (opened es i d h) w.first_ranks) short
+pub rank_first : (part elsewhere : ℕ → Bool) (xs ys : List ℕ) (es fs : List Placed) (i n : ℕ) (d : Placed) (f s : List Bool) → i < length es → IsWalk part elsewhere xs ys (drop i es) fs f s → length xs ≤ n → (1 ≤ (get_or es i d).rank) × ((get_or es i d).rank ≤ n)
+rank_first part elsewhere xs ys es fs i n d f s h w short =
+    head_rank part xs (get_or es i d) (drop (i + 1) es) n (subst IsAscending (opened es i d h) w.first_ascends) (subst (AreRanksOf part xs) (opened es i d h) w.first_ranks) short
 
-pub rank_second : (part elsewhere : ℕ → Bool) (xs ys : List ℕ) (es fs : List Placed) (j : ℕ) (d : Placed) (f s : List Bool) → j < length fs → IsWalk part elsewhere xs ys es (drop j fs) f s → length ys ≤ 10000 → (1 ≤ (get_or fs j d).rank) × ((get_or fs j d).rank ≤ 10000)
-rank_second part elsewhere xs ys es fs j d f s h w short =
-    head_rank part ys (get_or fs j d) (drop (j + 1) fs) (subst IsAscending (opened fs j d h) w.second_ascends) (subst (AreRanksOf part ys) (opened fs j d h) w.second_ranks) short
+pub rank_second : (part elsewhere : ℕ → Bool) (xs ys : List ℕ) (es fs : List Placed) (j n : ℕ) (d : Placed) (f s : List Bool) → j < length fs → IsWalk part elsewhere xs ys es (drop j fs) f s → length ys ≤ n → (1 ≤ (get_or fs j d).rank) × ((get_or fs j d).rank ≤ n)
+rank_second part elsewhere xs ys es fs j n d f s h w short =
+    head_rank part ys (get_or fs j d) (drop (j + 1) fs) n (subst IsAscending (opened fs j d h) w.second_ascends) (subst (AreRanksOf part ys) (opened fs j d h) w.second_ranks) short
 
 -- ---- the next documents of both lists
 -- the counts with them, of which some unjudged ones are now in both

@@ -14,3 +14,4 @@ pub mod Pairs
 pub mod Bounds
 pub mod Taken
 pub mod Shares
+pub mod Units

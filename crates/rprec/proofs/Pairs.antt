@@ -23,7 +23,7 @@ second_counts p depth = counts_of p.marks.now (take depth p.b.now)
 
 -- how many unjudged ones both have there
 abbrev pub shared_count : RunPair → ℕ → ℕ
-shared_count p depth = sum (take depth p.shared.now.counts)
+shared_count p depth = sum (take depth p.shared.now)
 
 -- two numbers
 abbrev pub of_numbers : ℕ → ℕ → Packed
@@ -81,6 +81,8 @@ pair_swapped p h = record {
   second = h.first;
   shared = record { first = h.shared.second; second = h.shared.first };
   both = h.both;
+  places = h.places;
+  blocks = h.blocks;
   first_short = h.second_short;
   second_short = h.first_short;
   some = h.some;

@@ -25,7 +25,8 @@ here marks xs ys n place = if nat_lt place n then met marks ys (take (place + 1)
 
 -- the counts after so many documents of the second list
 pub record AreSharedTo (n : ℕ) (marks : List Mark) (xs ys counts : List ℕ) : Type 0 where
-  pub long : length counts ≡ 10000
+  pub first_fit : length xs ≤ length counts
+  pub second_fit : length ys ≤ length counts
   pub each : (place : ℕ) → get_or counts place 0 ≡ before marks xs ys n place + here marks xs ys n place
 
 module _ (marks : List Mark) (xs ys : List ℕ) (n : ℕ) (first : IsDistinct nat_eq xs) (second : IsDistinct nat_eq ys) (lt : n < length ys) where
@@ -217,14 +218,15 @@ module _ (marks : List Mark) (xs ys : List ℕ) (n : ℕ) (first : IsDistinct na
   gained (suc s) e place = elim (cases_lt n s) [ inl later ↦ gained_later s e later place | inr earlier ↦ gained_earlier s e earlier place ]
 
   -- the counts after it
-  pub shared_next : (r : ℕ) (counts after : List ℕ) → rank_or_none r ≡ rank xs doc → max r (n + 1) ≤ 10000 → after ≡ counted marks (nat_lt 0 r) doc (max r (n + 1)) counts → AreSharedTo n marks xs ys counts → AreSharedTo (n + 1) marks xs ys after
+  pub shared_next : (r : ℕ) (counts after : List ℕ) → rank_or_none r ≡ rank xs doc → max r (n + 1) ≤ length counts → after ≡ counted marks (nat_lt 0 r) doc (max r (n + 1)) counts → AreSharedTo n marks xs ys counts → AreSharedTo (n + 1) marks xs ys after
   unfolding HasGained
   shared_next r counts after e few is h =
       let k : ℕ = max r (n + 1) - 1 in
       let u : ℕ = one_where (nat_lt 0 r && is_unjudged (mark_at marks doc)) in
-      let in_counts : k < length counts = omega (arith, h.long, few) in
+      let in_counts : k < length counts = omega (arith, few) in
       subst (λ (l : List ℕ). AreSharedTo (n + 1) marks xs ys l) (sym is) (record {
-        long = length-set counts k (get_or counts k 0 + u) ∙ h.long;
+        first_fit = omega (arith, length-set counts k (get_or counts k 0 + u), h.first_fit);
+        second_fit = omega (arith, length-set counts k (get_or counts k 0 + u), h.second_fit);
         each = λ place. let at = counted_one counts k place u in_counts in let more = gained r e place in omega (arith, at, more, h.each place);
       })
 
@@ -242,9 +244,10 @@ few_shared n marks xs ys counts h place = omega (arith, h.each place, met_few xs
     here_few true = met_few ys (take (place + 1) xs) place
     here_few false = omega arith
 
-pub shared_start : (marks : List Mark) (xs ys counts : List ℕ) → ((place : ℕ) → get_or counts place 0 ≡ 0) → length counts ≡ 10000 → AreSharedTo 0 marks xs ys counts
-shared_start marks xs ys counts none long = record {
-  long = long;
+pub shared_start : (marks : List Mark) (xs ys counts : List ℕ) → ((place : ℕ) → get_or counts place 0 ≡ 0) → length xs ≤ length counts → length ys ≤ length counts → AreSharedTo 0 marks xs ys counts
+shared_start marks xs ys counts none first_fit second_fit = record {
+  first_fit = first_fit;
+  second_fit = second_fit;
   each = λ place.
       let low : min place 0 ≡ 0 = omega arith in
       let nothing : before marks xs ys 0 place ≡ 0 = ap (λ (k : ℕ). met marks xs (take k ys) place) low ∙ empty (nat_lt place (length xs)) place in

@@ -212,16 +212,16 @@ walk_stepped marks part elsewhere xs ys es fs i j p q d counts counts' hi hj ep 
 -- what the next step of a walk needs to know of its places
 pub record AreNextPlaces (marks : List Mark) (x y : Placed) (counts : List ℕ) : Type 0 where
   pub first_low : 1 ≤ x.rank
-  pub first_high : x.rank ≤ 10000
+  pub first_high : x.rank ≤ length counts
   pub second_low : 1 ≤ y.rank
-  pub second_high : y.rank ≤ 10000
+  pub second_high : y.rank ≤ length counts
   pub known : x.doc < length marks
   pub few : (place : ℕ) → get_or counts place 0 ≤ 2
 
 pub next_places : (marks : List Mark) (part elsewhere : ℕ → Bool) (xs ys : List ℕ) (es fs : List Placed) (i j : ℕ) (d : Placed) (counts : List ℕ) → i < length es → j < length fs → IsCountedWalk marks part elsewhere xs ys (drop i es) (drop j fs) counts → AreNextPlaces marks (get_or es i d) (get_or fs j d) counts
 next_places marks part elsewhere xs ys es fs i j d counts hi hj w =
-    let first = rank_first part elsewhere xs ys es (drop j fs) i d w.in_second w.in_first hi w.walk w.walk.first_short in
-    let second = rank_second part elsewhere xs ys (drop i es) fs j d w.in_second w.in_first hj w.walk w.walk.second_short in
+    let first = rank_first part elsewhere xs ys es (drop j fs) i (length counts) d w.in_second w.in_first hi w.walk w.counted.first_fit in
+    let second = rank_second part elsewhere xs ys (drop i es) fs j (length counts) d w.in_second w.in_first hj w.walk w.counted.second_fit in
     record {
       first_low = first.0;
       first_high = first.1;
@@ -233,16 +233,16 @@ next_places marks part elsewhere xs ys es fs i j d counts hi hj w =
 
 -- before the first step of both
 pub counted_strands_start : (marks : List Mark) (middle : ℕ) (xs ys : List ℕ) (all every es fs gs hs : List Placed) (counts : List ℕ) → IsRanking (length marks) xs → IsRanking (length marks) ys → AreParts middle all es gs → AreParts middle every fs hs →
-    ((doc : ℕ) → lookup all doc ≡ rank xs doc) → ((doc : ℕ) → lookup every doc ≡ rank ys doc) → ((place : ℕ) → get_or counts place 0 ≡ 0) → length counts ≡ 10000 →
+    ((doc : ℕ) → lookup all doc ≡ rank xs doc) → ((doc : ℕ) → lookup every doc ≡ rank ys doc) → ((place : ℕ) → get_or counts place 0 ≡ 0) → length xs ≤ length counts → length ys ≤ length counts →
     AreCountedStrands marks (is_below middle) (is_above middle) xs ys es fs gs hs counts
-counted_strands_start marks middle xs ys all every es fs gs hs counts rx ry h k ex ey none long =
+counted_strands_start marks middle xs ys all every es fs gs hs counts rx ry h k ex ey none first_fit second_fit =
     let down : List Bool = replicate 10000 false in
     let size : length down ≡ 10000 = length-replicate 10000 false in
     record {
       in_second = down;
       in_first = down;
       strands = strands_start middle xs ys all every es fs gs hs down down rx.short ry.short rx.distinct ry.distinct (omega (arith, size, rx.short)) (omega (arith, size, ry.short)) h k ex ey (all_down 10000) (all_down 10000);
-      counted = counted_start marks xs ys down down counts (all_down 10000) (all_down 10000) long rx.within none;
+      counted = counted_start marks xs ys down down counts (all_down 10000) (all_down 10000) first_fit second_fit rx.within none;
     }
 
 -- after the last step of both

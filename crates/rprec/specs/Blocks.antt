@@ -1,5 +1,5 @@
 -- What is known of two runs at the ends of blocks of 10 documents.
-use Rattle.std.specs.Prelude.{◌≡◌, ℕ, ◌+◌, ◌*◌, ◌≤◌, false, List, length, take, count_by, sum, slice_index_or}
+use Rattle.std.specs.Prelude.{◌≡◌, ℕ, ◌+◌, ◌*◌, ◌<◌, ◌≤◌, false, List, length, take, count_by, sum, slice_index_or}
 use Rattle.desk_model.specs.Completion.{with_picked}
 use Rattle.desk_model.specs.Limits.{DOCUMENT_LIMIT, RANK_LIMIT}
 use Rattle.desk_model.specs.Mark.{is_unjudged, mark_at}
@@ -34,6 +34,8 @@ pub record IsPairOf (marks : List Mark) (docs others sums other_sums both_sums c
   pub second : AreBlockSums marks others other_sums
   pub shared : AreSharedBelow marks docs others counts
   pub both : AreSharedSums counts both_sums longest
+  pub places : longest ≤ length counts
+  pub blocks : longest < 10 * length both_sums
   pub first_short : length docs ≤ longest
   pub second_short : length others ≤ longest
   pub some : 1 ≤ longest
@@ -50,6 +52,8 @@ swapped_is h = record {
   second = h.first;
   shared = record { first = h.shared.second; second = h.shared.first };
   both = h.both;
+  places = h.places;
+  blocks = h.blocks;
   first_short = h.second_short;
   second_short = h.first_short;
   some = h.some;

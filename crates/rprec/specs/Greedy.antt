@@ -72,6 +72,11 @@ pub record IsSmallCandidate (c : DepthCandidate) : Type 0 where
   pub first_few : c.first ≤ RANK_LIMIT
   pub second_few : c.second ≤ RANK_LIMIT
 
+-- a candidate whose difference is from -1 to 1
+pub record IsWithinOne (c : DepthCandidate) : Type 0 where
+  pub low : c.second ≤ c.first + max 1 c.count
+  pub high : c.first ≤ c.second + max 1 c.count
+
 -- the best so far, against the choices where the second run's own unjudged documents are used up, and all but the first run's own
 abbrev pub best_beyond : Prefixes → Counts → ℕ → DepthCandidate → DepthCandidate
 best_beyond prefixes all chosen best =

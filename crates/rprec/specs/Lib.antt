@@ -7,3 +7,5 @@ pub mod Walk
 pub mod Packed
 pub mod Sums
 pub mod Blocks
+pub mod Found
+pub mod Rooms

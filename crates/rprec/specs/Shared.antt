@@ -1,7 +1,8 @@
 -- What two lists share, place by place.
 use Rattle.std.specs.Prelude.{◌≡◌, ℕ, ◌+◌, ◌-◌, ◌&&◌, max, nat_eq, nat_lt, if◌then◌else◌, Bool, List, length, take, slice_index, slice_index_or, slice_set}
 use Rattle.desk_model.specs.Mark.{is_unjudged, mark_at}
-use Rattle.desk_model.specs.Ranking.{is_in}
+use Rattle.desk_model.specs.Placed.{lookup, IsAscending}
+use Rattle.desk_model.specs.Ranking.{is_in, rank}
 use Rattle.desk_model.specs.declared.placed.Placed.{Placed}
 use Rattle.desk_model.specs.declared.types.Mark.{Mark}
 
@@ -21,3 +22,8 @@ counted marks is_shared doc rank counts =
 -- the counts after two places: one more at the later rank, where they are of one unjudged document
 abbrev pub entered : List Mark → Placed → Placed → List ℕ → List ℕ
 entered marks x y counts = counted marks (nat_eq x.doc y.doc) x.doc (max x.rank y.rank) counts
+
+-- the documents of a list with their ranks, ascending by document
+pub record AreByDocument (docs : List ℕ) (places : List Placed) : Type 0 where
+  pub ascending : IsAscending places
+  pub ranks : (doc : ℕ) → lookup places doc ≡ rank docs doc

@@ -8,7 +8,7 @@ use Rattle.rprec.specs.Greedy.{candidate, prefixes_of}
 
 -- what is told of two runs is theirs
 abbrev pub IsPair : RunPair → Type 0
-IsPair pair = IsPairOf pair.marks.now pair.a.now pair.b.now pair.first.now.numbers pair.second.now.numbers pair.both.now.numbers pair.shared.now.counts pair.longest pair.all
+IsPair pair = IsPairOf pair.marks.now pair.a.now pair.b.now pair.first.now.numbers pair.second.now.numbers pair.both.now pair.shared.now pair.longest pair.all
 
 -- the counts of their first documents
 abbrev pub prefixes : RunPair → ℕ → Prefixes

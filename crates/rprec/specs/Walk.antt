@@ -43,7 +43,8 @@ flagged_at marks docs flags place = if (nat_lt place (length docs) && slice_inde
 
 -- for each place of two lists, how many unjudged documents are flagged there
 pub record AreCounted (marks : List Mark) (xs ys : List ℕ) (in_second in_first : List Bool) (counts : List ℕ) : Type 0 where
-  pub long : length counts ≡ RANK_LIMIT
+  pub first_fit : length xs ≤ length counts
+  pub second_fit : length ys ≤ length counts
   pub known : All (λ doc. doc < length marks) xs
   pub each : (place : ℕ) → slice_index_or counts place 0 ≡ flagged_at marks xs in_second place + flagged_at marks ys in_first place
 

@@ -73,7 +73,7 @@ impl<'p> RunPair<'p> {
         let relevant = self.all.relevant;
         let start = (relevant + chosen) / BLOCK;
         let end = (relevant + next - 1) / BLOCK + 1;
-        let both = self.both.numbers[start as usize];
+        let both = self.both[start as usize];
         let first = counts_in(self.first.numbers[start as usize]).relevant;
         let begun = counts_in(self.second.numbers[start as usize] - both);
         let ended = counts_in(self.second.numbers[end as usize] - both);

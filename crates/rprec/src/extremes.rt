@@ -1,15 +1,12 @@
 ghost use Rattle.std.specs.Prelude.{◌≡◌, ◌+◌, ◌≤◌, length};
-ghost use Rattle.desk_model.specs.Limits.{RANK_LIMIT};
-ghost use Rattle.measure_laws.specs.RprecCase.{IsSmallestAttained};
 ghost use Rattle.rprec.specs.Greedy.{IsLeast};
 ghost use Rattle.rprec.specs.Picks.{AreWanted, IsLeastCase};
 ghost use Rattle.rprec.specs.Sums.{prefixes, steps_of};
 
 use crate::greedy::{Small, best_beyond, greedy_choice};
-use crate::known::KnownPair;
 use crate::pair::RunPair;
 use crate::prefixes::Prefixes;
-use crate::sums::sums_of_shared;
+use crate::room::PairFinding;
 use crate::values::{LeastCase, Wanted, wanted_of};
 
 /// The least candidate of two runs, and that of the swapped runs, whose difference is the greatest
@@ -25,16 +22,6 @@ pub struct Extremes {
 pub struct Cases {
     pub least: LeastCase,
     pub most: LeastCase,
-}
-
-/// How many documents the longer of two runs has, and at least 1.
-fn longest(known: &KnownPair) -> u32
-    ensures first { length known.now.a.now ≤ result }
-    ensures second { length known.now.b.now ≤ result }
-    ensures positive { 1 ≤ result }
-    ensures few { result ≤ RANK_LIMIT }
-{
-    known.a.len().max(known.b.len()).max(1) as u32
 }
 
 impl<'p> RunPair<'p> {
@@ -113,73 +100,36 @@ impl<'p> RunPair<'p> {
     }
 }
 
-/// The least case of two runs: the completion with the least difference of all, and of these one with the smallest number
-/// of relevant documents. No number of relevant documents is left out.
-pub fn find_least(known: &KnownPair) -> LeastCase
-    ensures { IsLeastCase known.now.marks.now known.now.a.now known.now.b.now result }
-{
-    let longest = longest(known);
-    let both = sums_of_shared(known.shared, longest);
-    let pair = RunPair {
-        a: known.a,
-        b: known.b,
-        first: known.first,
-        second: known.second,
-        both: &both,
-        shared: known.shared,
-        marks: known.marks,
-        all: known.all,
-        longest,
-    };
-    pair.least_of_all()
+/// The least candidate, and that of the swapped runs.
+impl PairFinding for Extremes {
+    ghost use Rattle.rprec.specs.Found.{AreLeastChoices};
+
+    ghost is_of = { AreLeastChoices };
+
+    fn find(pair: &RunPair) -> Extremes {
+        pair.extremes()
+    }
 }
 
-/// The same for two runs and for the runs swapped.
-pub fn find_cases(known: &KnownPair) -> Cases
-    ensures least { IsLeastCase known.now.marks.now known.now.a.now known.now.b.now result.least }
-    ensures most { IsLeastCase known.now.marks.now known.now.b.now known.now.a.now result.most }
-{
-    let longest = longest(known);
-    let both = sums_of_shared(known.shared, longest);
-    let pair = RunPair {
-        a: known.a,
-        b: known.b,
-        first: known.first,
-        second: known.second,
-        both: &both,
-        shared: known.shared,
-        marks: known.marks,
-        all: known.all,
-        longest,
-    };
-    pair.cases()
+/// The least case: the completion with the least difference of all, and of these one with the smallest number of
+/// relevant documents. No number of relevant documents is left out.
+impl PairFinding for LeastCase {
+    ghost use Rattle.rprec.specs.Picks.{IsLeastCase};
+
+    ghost is_of = { λ case marks a b. IsLeastCase marks a b case };
+
+    fn find(pair: &RunPair) -> LeastCase {
+        pair.least_of_all()
+    }
 }
 
-/// The least candidates of two runs and of the runs swapped.
-pub fn find_extremes(known: &KnownPair) -> Extremes
-    ensures least { IsLeast known.now.marks.now known.now.a.now known.now.b.now
-        result.least.candidate }
-    ensures most { IsLeast known.now.marks.now known.now.b.now known.now.a.now
-        result.most.candidate }
-    ensures least_first { IsSmallestAttained known.now.marks.now known.now.a.now known.now.b.now
-        result.least.candidate.count }
-    ensures most_first { IsSmallestAttained known.now.marks.now known.now.b.now known.now.a.now
-        result.most.candidate.count }
-    ensures low { known.now.all.relevant ≤ result.least.candidate.count }
-    ensures most_low { known.now.all.relevant ≤ result.most.candidate.count }
-{
-    let longest = longest(known);
-    let both = sums_of_shared(known.shared, longest);
-    let pair = RunPair {
-        a: known.a,
-        b: known.b,
-        first: known.first,
-        second: known.second,
-        both: &both,
-        shared: known.shared,
-        marks: known.marks,
-        all: known.all,
-        longest,
-    };
-    pair.extremes()
+/// The least case, and that of the swapped runs.
+impl PairFinding for Cases {
+    ghost use Rattle.rprec.specs.Found.{AreLeastCases};
+
+    ghost is_of = { AreLeastCases };
+
+    fn find(pair: &RunPair) -> Cases {
+        pair.cases()
+    }
 }

@@ -5,14 +5,16 @@
 pub mod blocks;
 pub mod extremes;
 pub mod greedy;
-mod known;
+pub mod known;
 mod lists;
 pub mod pair;
 mod pair_lists;
 pub mod prefixes;
+pub mod room;
 pub mod rprec;
 pub mod search;
 pub mod shared;
+pub mod spans;
 pub mod sums;
 pub mod values;
 

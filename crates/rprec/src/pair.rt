@@ -2,8 +2,6 @@ ghost use Rattle.std.proofs.Props.{props};
 ghost use Rattle.rprec.specs.Blocks.{IsPairOf};
 
 use crate::prefixes::{MarkedDocs, Packed, Prefixes, next_number};
-use crate::shared::Shared;
-use crate::sums::SharedSums;
 use desk_model::Mark;
 use measure_core::{BLOCK, RunSums};
 use topic_counts::counts::Counts;
@@ -17,17 +15,17 @@ pub struct RunPair<'p> {
     pub first: &'p RunSums,
     /// The sums of the second run.
     pub second: &'p RunSums,
-    /// The sums of what both share.
-    pub both: &'p SharedSums,
-    /// What both share, place by place.
-    pub shared: &'p Shared,
+    /// For each number of blocks, from 0, how many unjudged documents both share up to there.
+    pub both: &'p [u32],
+    /// The same at each place, counted there and not before.
+    pub shared: &'p [u8],
     pub marks: &'p [Mark],
     /// The counts of all documents of the topic.
     pub all: Counts,
     /// How many documents the longer run has, and at least 1.
     pub longest: u32,
     pub ghost is: { IsPairOf marks.now a.now b.now first.now.numbers second.now.numbers
-        both.now.numbers shared.now.counts longest all } by { Prim.hlevel props },
+        both.now shared.now longest all } by { Prim.hlevel props },
 }
 
 impl<'p> RunPair<'p> {
@@ -65,7 +63,7 @@ impl<'p> RunPair<'p> {
         requires { 10 * block ≤ self.now.longest }
         ensures { result ≡ packed_of (prefixes self.now (10 * block)) }
     {
-        let both = self.both.numbers[block as usize];
+        let both = self.both[block as usize];
         Packed {
             first: self.first.numbers[block as usize] - both,
             second: self.second.numbers[block as usize] - both,
@@ -78,7 +76,7 @@ impl<'p> RunPair<'p> {
         requires depth { depth < self.now.longest }
         ensures { result ≡ packed_of (prefixes self.now (depth + 1)) }
     {
-        let both = u32::from(self.shared.counts[depth as usize]);
+        let both = u32::from(self.shared[depth as usize]);
         let marks = self.marks;
         let one = next_number(
             &MarkedDocs {

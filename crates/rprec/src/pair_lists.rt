@@ -10,14 +10,14 @@ ghost use Rattle.measure_core.specs.Ranks.{AreRanksIn, AreRunSums, AreTopicCount
 ghost use Rattle.measure_core.specs.Rooms.{IsRoomFor};
 ghost use Rattle.rprec.specs.Blocks.{AreBlockSums};
 
-use crate::extremes::{Extremes, find_extremes};
+use crate::extremes::Extremes;
 use crate::known::{KnownPair, SummedPair};
 use crate::lists::count_chosen;
 use crate::prefixes::MarkedDocs;
-use crate::shared::Shared;
+use crate::room::find;
 use crate::sums::sums_of_run;
 use desk_model::Memory;
-use measure_core::{ListRoom, ListSizes, MarkedPair, MarkedRankings, RankedPair, RunPair, RunSums};
+use measure_core::{ListRoom, ListSizes, MarkedRankings, RankedPair, RunPair, RunSums};
 use std::alloc::Global;
 use topic_counts::counts::Counts;
 
@@ -32,23 +32,17 @@ fn extremes_of(summed: &SummedPair, ranks: &[u32], all: Counts) -> Extremes
     ensures least_low { all.relevant ≤ result.least.candidate.count }
     ensures most_low { all.relevant ≤ result.most.candidate.count }
 {
-    let marks = summed.marks;
-    let pair = MarkedPair {
-        a: summed.a,
-        b: summed.b,
-        marks,
-    };
-    let shared = Shared::by_ranks(&pair, ranks);
-    let known = KnownPair {
+    find(&KnownPair {
         a: summed.a.docs(),
         b: summed.b.docs(),
-        marks,
+        marks: summed.marks,
+        first_places: summed.a.by_doc(),
+        second_places: summed.b.by_doc(),
+        ranks: Some(ranks),
         first: summed.first,
         second: summed.second,
-        shared: &shared,
         all,
-    };
-    find_extremes(&known)
+    })
 }
 
 /// Counts the unjudged documents that the least cases of two runs and of the swapped runs make relevant, and answers how

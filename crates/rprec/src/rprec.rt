@@ -12,16 +12,16 @@ ghost use Rattle.rprec.specs.Greedy.{AreTopic, IsLeast};
 ghost use Rattle.rprec.specs.Picks.{IsLeastCase};
 ghost use Rattle.rprec.specs.Blocks.{AreBlockSums};
 
-use crate::extremes::{Cases, find_cases, find_extremes, find_least};
-use crate::greedy::Small;
+use crate::extremes::Cases;
 use crate::known::{KnownPair, SummedPair};
 use crate::lists::push_chosen;
 use crate::pair_lists::{count_by_sums, count_cases};
 use crate::prefixes::MarkedDocs;
-use crate::shared::Shared;
+use crate::room::{PairFinding, find};
+use crate::spans::UNIT;
 use crate::sums::sums_of_run;
 use crate::values::{LeastCase, values};
-use desk_model::{Mark, MeasureName, Memory, Ranking};
+use desk_model::{Mark, MeasureName, Memory, Placed, Ranking};
 use measure_core::{
     Cell, CellRoom, KeptCell, KeptPair, ListRoom, ListSizes, MarkedPair, MarkedRankings, MarkedRun,
     Measure, RankedMeasure, RunPair, RunSums, RunWeights, SetApart, Shift, Steps, TopicRankings,
@@ -29,12 +29,9 @@ use measure_core::{
 };
 use std::alloc::Global;
 use std::sync::ledger::Ledger;
+use topic_counts::Span;
 use topic_counts::counts::{Counts, is_among_first};
 use topic_counts::topic::all_documents;
-use topic_counts::{Span, span_of};
-
-/// How many units make a score of 1.
-const UNIT: i128 = 1_000_000_000_000_000_000;
 
 /// The measure `Rprec`. Its unit is 10^18.
 #[derive(Drop)]
@@ -50,19 +47,6 @@ impl Rprec {
     }
 }
 
-/// The ends of the difference of a candidate, in units.
-fn span(c: Small) -> Span
-    ensures { (marks : List M) (a b : List ℕ) → IsLeast marks a b c.candidate →
-        result ≡ exact_least R marks a b }
-{
-    let c = c.candidate;
-    span_of(
-        i128::from(c.first) - i128::from(c.second),
-        i128::from(c.count.max(1)),
-        UNIT,
-    )
-}
-
 /// The counts of all documents of a topic.
 fn topic(marks: &[Mark]) -> Counts
     requires { length marks.now ≤ DOCUMENT_LIMIT }
@@ -70,17 +54,6 @@ fn topic(marks: &[Mark]) -> Counts
     ensures few { result.relevant + result.unjudged ≤ DOCUMENT_LIMIT }
 {
     all_documents(marks)
-}
-
-/// The ends of the least and the greatest difference, in units.
-fn cell_of(known: &KnownPair) -> Cell
-    ensures { result ≡ exact_cell R known.now.marks.now known.now.a.now known.now.b.now }
-{
-    let extremes = find_extremes(known);
-    Cell {
-        least: span(extremes.least),
-        most: span(extremes.most).negate(),
-    }
 }
 
 /// The sums of a run.
@@ -94,21 +67,22 @@ fn sums_of(run: &Ranking, marks: &[Mark]) -> RunSums
     })
 }
 
-/// The least case of two runs.
-fn least_of(pair: &MarkedPair) -> LeastCase
-    ensures { IsLeastCase pair.now.marks.now pair.now.a.now pair.now.b.now result }
+/// What is to be found of two runs, by walks over the documents of both.
+fn find_between<F: PairFinding>(pair: &MarkedPair) -> F
+    ensures { F.is_of result pair.now.marks.now pair.now.a.now pair.now.b.now }
 {
     let marks = pair.marks;
-    let shared = Shared::between(pair);
     let first = sums_of(pair.a, marks);
     let second = sums_of(pair.b, marks);
-    find_least(&KnownPair {
+    find(&KnownPair {
         a: pair.a.docs(),
         b: pair.b.docs(),
         marks,
+        first_places: pair.a.by_doc(),
+        second_places: pair.b.by_doc(),
+        ranks: None,
         first: &first,
         second: &second,
-        shared: &shared,
         all: topic(marks),
     })
 }
@@ -119,7 +93,7 @@ fn least_values(alloc: Global, pair: &MarkedPair) -> Result<Vec<bool>, Memory>
         AreValues (rprec_truth pair.now.marks.now pair.now.a.now pair.now.b.now)
         (length pair.now.marks.now) values.items) }
 {
-    let least = least_of(pair);
+    let least: LeastCase = find_between(pair);
     values(alloc, least.wanted, least.count, pair.a, pair.b, pair.marks)
 }
 
@@ -129,28 +103,8 @@ fn push_least(alloc: Global, pair: &MarkedPair, docs: &mut Vec<u32>) -> Result<(
         added_documents pair.now.marks.now
         (rprec_truth pair.now.marks.now pair.now.a.now pair.now.b.now)) }
 {
-    let least = least_of(pair);
+    let least: LeastCase = find_between(pair);
     push_chosen(alloc, least.count, least.wanted, pair, docs)
-}
-
-/// The least cases of two runs and of the swapped runs, by one walk over both runs.
-fn cases_of(pair: &MarkedPair) -> Cases
-    ensures least { IsLeastCase pair.now.marks.now pair.now.a.now pair.now.b.now result.least }
-    ensures most { IsLeastCase pair.now.marks.now pair.now.b.now pair.now.a.now result.most }
-{
-    let marks = pair.marks;
-    let shared = Shared::between(pair);
-    let first = sums_of(pair.a, marks);
-    let second = sums_of(pair.b, marks);
-    find_cases(&KnownPair {
-        a: pair.a.docs(),
-        b: pair.b.docs(),
-        marks,
-        first: &first,
-        second: &second,
-        shared: &shared,
-        all: topic(marks),
-    })
 }
 
 /// Appends the unjudged documents that the least cases of two runs and of the swapped runs make relevant, each ascending.
@@ -167,7 +121,7 @@ fn push_cases(
         added_documents pair.now.marks.now
         (rprec_truth pair.now.marks.now pair.now.b.now pair.now.a.now)) }
 {
-    let cases = cases_of(pair);
+    let cases: Cases = find_between(pair);
     let low = cases.least;
     push_chosen(alloc, low.count, low.wanted, pair, least)?;
     let high = cases.most;
@@ -199,20 +153,15 @@ impl RankedMeasure for Rprec {
     }
 
     fn ranked_cell(&self, apart: &SetApart, kept: KeptPair<'_>) -> Cell {
-        let marks = apart.marks;
-        let pair = MarkedPair {
-            a: apart.a,
-            b: apart.b,
-            marks,
-        };
-        let shared = Shared::by_ranks(&pair, apart.ranks);
-        cell_of(&KnownPair {
+        find(&KnownPair {
             a: apart.a.docs(),
             b: apart.b.docs(),
-            marks,
+            marks: apart.marks,
+            first_places: apart.a.by_doc(),
+            second_places: apart.b.by_doc(),
+            ranks: Some(apart.ranks),
             first: kept.sums.first,
             second: kept.sums.second,
-            shared: &shared,
             all: apart.all,
         })
     }
@@ -234,7 +183,7 @@ impl Measure for Rprec {
     }
 
     fn unit(&self) -> i128 {
-        UNIT
+        i128::from(UNIT)
     }
 
     fn cell<L: Ledger>(
@@ -245,35 +194,26 @@ impl Measure for Rprec {
         steps: &mut Steps<L>,
     ) -> Cell {
         steps.tick();
-        let shared = Shared::between(&MarkedPair { a, b, marks });
-        let first = sums_of(a, marks);
-        let second = sums_of(b, marks);
-        cell_of(&KnownPair {
-            a: a.docs(),
-            b: b.docs(),
-            marks,
-            first: &first,
-            second: &second,
-            shared: &shared,
-            all: topic(marks),
-        })
+        find_between(&MarkedPair { a, b, marks })
     }
 
     fn bounds(&self, a: &Ranking, marks: &[Mark]) -> Span {
         let nothing: &[u32] = &[];
-        let shared = Shared::none();
+        let no_places: &[Placed] = &[];
         let first = sums_of(a, marks);
         let second = sums_of_run(&MarkedDocs {
             docs: nothing,
             marks,
         });
-        let cell = cell_of(&KnownPair {
+        let cell: Cell = find(&KnownPair {
             a: a.docs(),
             b: nothing,
             marks,
+            first_places: a.by_doc(),
+            second_places: no_places,
+            ranks: None,
             first: &first,
             second: &second,
-            shared: &shared,
             all: topic(marks),
         });
         Span {

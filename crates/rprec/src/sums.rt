@@ -4,14 +4,7 @@ ghost use Rattle.rprec.specs.Packed.{pack};
 ghost use Rattle.rprec.specs.Blocks.{AreSharedSums, AreBlockSums, counts_of};
 
 use crate::prefixes::{MarkedDocs, number_at};
-use crate::shared::Shared;
 use measure_core::{BLOCK, RunSums};
-
-/// For each number of blocks, from 0, how many unjudged documents two runs share up to there.
-#[derive(Drop)]
-pub struct SharedSums {
-    pub numbers: [u32; 1001],
-}
 
 /// The counts of a run's documents up to the end of a block that they fill, from those up to its start. No test of how
 /// many there are stands between them, since each block has as many.
@@ -73,31 +66,34 @@ pub fn sums_of_run(run: &MarkedDocs) -> RunSums
 }
 
 /// How many documents are shared up to the end of a block, from those up to its start.
-fn with_block(number: u32, block: u32, shared: &Shared) -> u32
-    requires few { (place : ℕ) → slice_index_or shared.now.counts place 0 ≤ 2 }
+fn with_block(number: u32, block: u32, counts: &[u8]) -> u32
+    requires few { (place : ℕ) → slice_index_or counts.now place 0 ≤ 2 }
     requires block { block < 1000 }
-    requires number { number ≡ sum (take (10 * block) shared.now.counts) }
-    ensures { result ≡ sum (take (10 * (block + 1)) shared.now.counts) }
+    requires whole { 10 * (block + 1) ≤ length counts.now }
+    requires number { number ≡ sum (take (10 * block) counts.now) }
+    ensures { result ≡ sum (take (10 * (block + 1)) counts.now) }
 {
     let start = block * BLOCK;
     let mut longer = number;
     for place in start..start + BLOCK {
-        longer = longer + u32::from(shared.counts[place as usize]);
+        longer = longer + u32::from(counts[place as usize]);
     }
     longer
 }
 
-/// How many documents are shared at the end of each block, up to a depth.
-pub fn sums_of_shared(shared: &Shared, depth: u32) -> SharedSums
-    requires few { (place : ℕ) → slice_index_or shared.now.counts place 0 ≤ 2 }
+/// Makes `sums`, for each number of blocks, from 0, up to a depth, how many documents are shared up to there, from how
+/// many are at each place.
+pub fn sum_shared(counts: &[u8], depth: u32, sums: &mut [u32])
+    requires few { (place : ℕ) → slice_index_or counts.now place 0 ≤ 2 }
     requires depth { depth ≤ RANK_LIMIT }
-    ensures { AreSharedSums shared.now.counts result.numbers depth }
+    requires places { depth ≤ length counts.now }
+    requires blocks { depth < 10 * length sums.old }
+    ensures { AreSharedSums counts.now sums.new depth }
 {
-    let mut numbers = [0; 1001];
     let mut number = 0;
+    sums[0] = 0;
     for block in 0..depth / BLOCK {
-        number = with_block(number, block, shared);
-        numbers[block as usize + 1] = number;
+        number = with_block(number, block, counts);
+        sums[block as usize + 1] = number;
     }
-    SharedSums { numbers }
 }

@@ -12,8 +12,8 @@ returns-clause-least c =
     let b = c.args.pair.now.b.now in
     let before = c.args.least.now.items in
     let now = c.push_chosen.new.docs.items in
-    let high = added_documents marks (greedy_truth marks b a c.cases_of-cases.result.most.count) in
-    let made : now ≡ before ++ added_documents marks (rprec_truth marks a b) = subst (λ (r : ℕ). now ≡ before ++ added_documents marks (greedy_truth marks a b r)) c.cases_of-cases.ensures.least.count c.in_ok-push_chosen.ensures in
+    let high = added_documents marks (greedy_truth marks b a c.find_between-cases.result.most.count) in
+    let made : now ≡ before ++ added_documents marks (rprec_truth marks a b) = subst (λ (r : ℕ). now ≡ before ++ added_documents marks (greedy_truth marks a b r)) c.find_between-cases.ensures.least.count c.in_ok-push_chosen.ensures in
     IfOk-weaker c.push_chosen-2.result (λ _. c.push_chosen-2.new.docs.items ≡ c.args.most.now.items ++ high) (λ _. now ≡ before ++ added_documents marks (rprec_truth marks a b)) (λ _ _. made) c.push_chosen-2.ensures
 
 pub returns-clause-most : goal.returns-clause-most
@@ -21,4 +21,4 @@ returns-clause-most c =
     let marks = c.args.pair.now.marks.now in
     let before = c.args.most.now.items in
     let now = c.push_chosen-2.new.docs.items in
-    subst (λ (r : ℕ). OnOk c.push_chosen-2.result (now ≡ before ++ added_documents marks (greedy_truth marks c.args.pair.now.b.now c.args.pair.now.a.now r))) c.cases_of-cases.ensures.most.count c.push_chosen-2.ensures
+    subst (λ (r : ℕ). OnOk c.push_chosen-2.result (now ≡ before ++ added_documents marks (greedy_truth marks c.args.pair.now.b.now c.args.pair.now.a.now r))) c.find_between-cases.ensures.most.count c.push_chosen-2.ensures

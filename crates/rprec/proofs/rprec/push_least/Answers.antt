@@ -9,4 +9,4 @@ returns c =
     let marks = c.args.pair.now.marks.now in
     let before = c.args.docs.now.items in
     let now = c.push_chosen.new.docs.items in
-    subst (λ (r : ℕ). OnOk c.push_chosen.result (now ≡ before ++ added_documents marks (greedy_truth marks c.args.pair.now.a.now c.args.pair.now.b.now r))) c.least_of-least.ensures.count c.push_chosen.ensures
+    subst (λ (r : ℕ). OnOk c.push_chosen.result (now ≡ before ++ added_documents marks (greedy_truth marks c.args.pair.now.a.now c.args.pair.now.b.now r))) c.find_between-least.ensures.count c.push_chosen.ensures

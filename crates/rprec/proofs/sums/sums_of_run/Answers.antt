@@ -12,7 +12,7 @@ loop-block-preserved c =
     record {
       number = number.ensures;
       long = length-set c.loop-block.numbers (c.loop-block.block + 1) number.result ∙ c.loop-block.invariant.long;
-      each = sums_next f c.loop-block.numbers c.loop-block.block number.result c.loop-block.invariant.long (omega (arith, c.loop-block-test.true, c.args.run.now.met.short)) c.loop-block.invariant.each number.ensures;
+      each = sums_next f c.loop-block.numbers c.loop-block.block number.result (omega (arith, c.loop-block.invariant.long, c.loop-block-test.true, c.args.run.now.met.short)) c.loop-block.invariant.each number.ensures;
     }
 
 pub with_rest-all-requires-clause-number : goal.with_rest-all-requires-clause-number

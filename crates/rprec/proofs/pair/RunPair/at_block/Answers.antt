@@ -21,8 +21,8 @@ returns c =
     let p = c.args.self.now in
     let block = c.args.block in
     let both = c.args.self.now.is.both.each block c.requires in
-    let first : slice_index_or p.first.now.numbers block 0 - slice_index_or p.both.now.numbers block 0 ≡ pack (prefixes p (10 * block)).first =
+    let first : slice_index_or p.first.now.numbers block 0 - slice_index_or p.both.now block 0 ≡ pack (prefixes p (10 * block)).first =
     omega (arith, both, c.args.self.now.is.first.each block (omega (arith, c.requires, c.args.self.now.is.few)), first_packed p (10 * block) c.args.self.now.is (omega (arith, c.requires, c.args.self.now.is.few))) in
-    let second : slice_index_or p.second.now.numbers block 0 - slice_index_or p.both.now.numbers block 0 ≡ pack (prefixes p (10 * block)).second =
+    let second : slice_index_or p.second.now.numbers block 0 - slice_index_or p.both.now block 0 ≡ pack (prefixes p (10 * block)).second =
     omega (arith, both, c.args.self.now.is.second.each block (omega (arith, c.requires, c.args.self.now.is.few)), second_packed p (10 * block) c.args.self.now.is (omega (arith, c.requires, c.args.self.now.is.few))) in
-    ap (λ (n : ℕ). of_numbers n (slice_index_or p.second.now.numbers block 0 - slice_index_or p.both.now.numbers block 0)) first ∙ ap (of_numbers (pack (prefixes p (10 * block)).first)) second
+    ap (λ (n : ℕ). of_numbers n (slice_index_or p.second.now.numbers block 0 - slice_index_or p.both.now block 0)) first ∙ ap (of_numbers (pack (prefixes p (10 * block)).first)) second

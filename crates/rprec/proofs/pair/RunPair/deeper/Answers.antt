@@ -24,7 +24,7 @@ overflow_sub-result c =
     let d = c.args.depth in
     let here = first_packed p d c.args.self.now.is (omega (arith, c.args.self.now.is.few, c.requires.depth)) in
     let next = first_packed p (d + 1) c.args.self.now.is (omega (arith, c.args.self.now.is.few, c.requires.depth)) in
-    omega (arith, ap (λ (n : Packed). n.first) c.requires.packed, here, next, number_adds p.marks.now p.a.now d c.next_number-one.result c.next_number-one.ensures, sum_more p.shared.now.counts d, c.from-both.ensures)
+    omega (arith, ap (λ (n : Packed). n.first) c.requires.packed, here, next, number_adds p.marks.now p.a.now d c.next_number-one.result c.next_number-one.ensures, sum_more p.shared.now d, c.from-both.ensures)
 
 pub overflow_sub-result-2 : goal.overflow_sub-result-2
 overflow_sub-result-2 c =
@@ -32,7 +32,7 @@ overflow_sub-result-2 c =
     let d = c.args.depth in
     let here = second_packed p d c.args.self.now.is (omega (arith, c.args.self.now.is.few, c.requires.depth)) in
     let next = second_packed p (d + 1) c.args.self.now.is (omega (arith, c.args.self.now.is.few, c.requires.depth)) in
-    omega (arith, ap (λ (n : Packed). n.second) c.requires.packed, here, next, number_adds p.marks.now p.b.now d c.next_number-two.result c.next_number-two.ensures, sum_more p.shared.now.counts d, c.from-both.ensures)
+    omega (arith, ap (λ (n : Packed). n.second) c.requires.packed, here, next, number_adds p.marks.now p.b.now d c.next_number-two.result c.next_number-two.ensures, sum_more p.shared.now d, c.from-both.ensures)
 
 pub returns : goal.returns
 returns c =
@@ -46,7 +46,7 @@ returns c =
       first_packed p d c.args.self.now.is (omega (arith, c.args.self.now.is.few, c.requires.depth)),
       first_packed p (d + 1) c.args.self.now.is (omega (arith, c.args.self.now.is.few, c.requires.depth)),
       number_adds p.marks.now p.a.now d c.next_number-one.result c.next_number-one.ensures,
-      sum_more p.shared.now.counts d,
+      sum_more p.shared.now d,
       c.from-both.ensures,
     ) in
     let second : c.args.packed.second + c.next_number-two.result - both ≡ pack (prefixes p (d + 1)).second =
@@ -56,7 +56,7 @@ returns c =
       second_packed p d c.args.self.now.is (omega (arith, c.args.self.now.is.few, c.requires.depth)),
       second_packed p (d + 1) c.args.self.now.is (omega (arith, c.args.self.now.is.few, c.requires.depth)),
       number_adds p.marks.now p.b.now d c.next_number-two.result c.next_number-two.ensures,
-      sum_more p.shared.now.counts d,
+      sum_more p.shared.now d,
       c.from-both.ensures,
     ) in
     ap (λ (n : ℕ). of_numbers n (c.args.packed.second + c.next_number-two.result - both)) first ∙ ap (of_numbers (pack (prefixes p (d + 1)).first)) second
