@@ -1,4 +1,3 @@
-pub mod Cutting
 pub mod Mapped
 pub mod RowFiles
 pub mod Zipped

@@ -1,8 +1,12 @@
 -- Tests on the elements of a list that is seen through a function.
 use Rattle.std.proofs.Common.{◌≡◌, ℕ, ◌+◌, List, [], ◌∷◌, refl, ap, ap₂, sym, ◌∙◌}
-use Rattle.std.specs.Prelude.{Bool, map, sum_by, ◌||◌}
+use Rattle.std.specs.Prelude.{Bool, true, false, not, map, sum_by, ◌||◌}
 use Rattle.std.specs.List.{list_any}
 use Rattle.std.proofs.lemmas.List.Sums.{sum_by-cons}
+
+pub not-true : (b : Bool) → not b ≡ true → b ≡ false
+not-true true e = sym e
+not-true false e = refl
 
 pub list_any-map : {A B : Type 0} (test : B → Bool) (f : A → B) (xs : List A) → list_any (λ x. test (f x)) xs ≡ list_any test (map f xs)
 list_any-map test f [] = refl

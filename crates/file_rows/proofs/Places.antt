@@ -1,14 +1,12 @@
 -- The place of a topic among the topics.
-use Rattle.std.proofs.Common.{◌≡◌, ℕ, zero, suc, ◌+◌, ◌<◌, ◌≤◌, List, [], ◌∷◌, ◌++◌, length, get_or, set, true, false, cond, refl, ap, ap₂, sym, subst, ◌∙◌, arith, inl, inr, ◌⊎◌}
-use Rattle.std.specs.Prelude.{Bool, not, ◌||◌, map, Option, Some, None, option_map, position, nat_lt, is_some}
+use Rattle.std.proofs.Common.{◌≡◌, ℕ, zero, suc, ◌+◌, ◌<◌, ◌≤◌, List, [], ◌∷◌, ◌++◌, length, true, false, cond, refl, ap, ap₂, sym, subst, ◌∙◌, arith, inl, inr, ◌⊎◌}
+use Rattle.std.specs.Prelude.{Bool, not, ◌||◌, Option, Some, None, option_map, position, nat_lt, is_some}
 use Rattle.std.specs.List.{list_any, position_or_len}
 use Rattle.std.specs.Str.{bytes_eq}
 use Rattle.std.proofs.lemmas.Bool.{lt-ltb, ltb-true, le-ltb, ltb-false}
-use Rattle.std.proofs.lemmas.List.{map-append, length-map, get_or_default}
 use Rattle.small_lemmas.proofs.Tests.{neither}
-use Rattle.file_rows.proofs.Mapped.{list_any-map}
 use Rattle.file_rows.specs.Rows.{Row}
-use Rattle.file_rows.specs.Grouped.{names_of, is_topic, rows_at, place_of, documents_seen, Valued, TopicRows, valued_of, rows_in, with_valued, with_row_on}
+use Rattle.file_rows.specs.Grouped.{names_of, is_topic, rows_at, place_of, Valued, TopicRows, valued_of, rows_in, with_valued, with_row_on}
 use Rattle.file_rows.proofs.RowFiles.{topic_with}
 
 later : (b : Bool) (n m : ℕ) → nat_lt n m ≡ b → cond (nat_lt (1 + n) (suc m)) (Some (1 + n)) None ≡ option_map suc (cond b (Some n) None)
@@ -106,31 +104,8 @@ pub members_at-new : (ts : List TopicRows) (name : List ℕ) → rows_at (ts ++ 
 members_at-new [] name = refl
 members_at-new (x ∷ ts) name = members_at-new ts name
 
--- the names of the documents of one topic
-get_or-documents_seen : (ts : List TopicRows) (t : ℕ) → get_or (documents_seen ts) t [] ≡ map (λ (valued : Valued). valued.document) (rows_at ts t)
-get_or-documents_seen [] t = refl
-get_or-documents_seen (x ∷ ts) zero = refl
-get_or-documents_seen (x ∷ ts) (suc t) = get_or-documents_seen ts t
-
-documents_seen-with_member : (ts : List TopicRows) (t : ℕ) (m : Valued) → documents_seen (with_valued ts t m) ≡ set (documents_seen ts) t (get_or (documents_seen ts) t [] ++ m.document ∷ [])
-documents_seen-with_member [] t m = refl
-documents_seen-with_member (x ∷ ts) zero m =
-    ap (λ ds. ds ∷ documents_seen ts) (map-append (λ (valued : Valued). valued.document) x.rows (m ∷ []))
-documents_seen-with_member (x ∷ ts) (suc t) m =
-    ap (λ us. map (λ (valued : Valued). valued.document) x.rows ∷ us) (documents_seen-with_member ts t m)
-
--- what was seen in a topic's place
-seen_at : (ts : List TopicRows) (seen : List (List (List ℕ))) (t : ℕ) (x : List (List ℕ)) → seen ≡ documents_seen ts → t < length ts → x ≡ get_or seen t x → x ≡ get_or (documents_seen ts) t []
-seen_at ts seen t x e lt f =
-    let size = ap length e in
-    f ∙ get_or_default seen t x [] (omega (arith, size, length-map ts (λ topic. map (λ (valued : Valued). valued.document) topic.rows))) ∙ ap (λ xs. get_or xs t []) e
-
--- whether a document was seen in its topic
-pub any-seen : (ts : List TopicRows) (seen : List (List (List ℕ))) (t : ℕ) (x : List (List ℕ)) (document : List ℕ) → seen ≡ documents_seen ts → t < length ts → x ≡ get_or seen t x → list_any (bytes_eq document) x ≡ list_any (λ member. bytes_eq document member.document) (rows_at ts t)
-any-seen ts seen t x document e lt f =
-    ap (list_any (bytes_eq document)) (seen_at ts seen t x e lt f ∙ get_or-documents_seen ts t) ∙ sym (list_any-map (bytes_eq document) (λ (valued : Valued). valued.document) (rows_at ts t))
-
--- a document that is put into its topic is seen there
-pub seen_more : (ts : List TopicRows) (seen : List (List (List ℕ))) (t : ℕ) (x x' : List (List ℕ)) (m : Valued) → seen ≡ documents_seen ts → t < length ts → x ≡ get_or seen t x → x' ≡ x ++ m.document ∷ [] → set seen t x' ≡ documents_seen (with_valued ts t m)
-seen_more ts seen t x x' m e lt f g =
-    ap₂ (λ xs y. set xs t y) e (g ∙ ap (λ xs. xs ++ m.document ∷ []) (seen_at ts seen t x e lt f)) ∙ sym (documents_seen-with_member ts t m)
+-- one more row leaves the names of the topics
+pub names_of-with_valued : (ts : List TopicRows) (t : ℕ) (valued : Valued) → names_of (with_valued ts t valued) ≡ names_of ts
+names_of-with_valued [] t valued = refl
+names_of-with_valued (x ∷ ts) zero valued = refl
+names_of-with_valued (x ∷ ts) (suc t) valued = ap (λ ns. x.name ∷ ns) (names_of-with_valued ts t valued)

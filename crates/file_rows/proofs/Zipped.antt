@@ -1,12 +1,13 @@
 -- Documents with their grades or scores, and topics with their members, which are kept in two lists.
 use Rattle.std.proofs.Common.{◌≡◌, ℕ, zero, suc, ◌+◌, ◌<◌, ◌≤◌, List, [], ◌∷◌, ◌++◌, length, get_or, set, refl, ap, ap₂, sym, ◌∙◌, arith}
 use Rattle.std.specs.Prelude.{map, sum_by, ℤ}
-use Rattle.std.specs.List.{zip}
+use Rattle.std.specs.List.{list_any, zip}
+use Rattle.std.specs.Str.{bytes_eq}
 use Rattle.std.proofs.lemmas.List.{get_or_default, length-append, length-map, length-set, map-append}
 use Rattle.std.proofs.lemmas.List.Sums.{sum_by-cons, sum_by_push}
 use Rattle.std.proofs.lemmas.Slice.Zip.{firsts-zip, seconds-zip}
-use Rattle.file_rows.proofs.Mapped.{map-map, sum_by-map}
-use Rattle.file_rows.specs.Grouped.{names_of, bytes_in, rows_at, Valued, TopicRows, with_valued}
+use Rattle.file_rows.proofs.Mapped.{list_any-map, map-map, sum_by-map}
+use Rattle.file_rows.specs.Grouped.{names_of, bytes_in, rows_at, stands_in, Valued, TopicRows, with_valued}
 use Rattle.file_rows.specs.Names.{valued_in, topics_in}
 use Rattle.file_rows.proofs.RowFiles.{counted, Holds, topic_with, valued}
 
@@ -33,6 +34,11 @@ members_in-append ds vs d v e = ap (map (λ pair. valued pair.0 pair.1)) (zip_pu
 
 pub bytes_in-members_in : (ds : List (List ℕ)) (vs : List ℤ) → length ds ≡ length vs → bytes_in (valued_in ds vs) ≡ sum_by length ds
 bytes_in-members_in ds vs e = sum_by-map length (λ (valued : Valued). valued.document) (valued_in ds vs) ∙ ap (sum_by length) (documents-members_in ds vs e)
+
+-- a document is one of those
+pub stands_in-members : (document : List ℕ) (ds : List (List ℕ)) (vs : List ℤ) → length ds ≡ length vs → stands_in document (valued_in ds vs) ≡ list_any (bytes_eq document) ds
+stands_in-members document ds vs e =
+    list_any-map (bytes_eq document) (λ (valued : Valued). valued.document) (valued_in ds vs) ∙ ap (list_any (bytes_eq document)) (documents-members_in ds vs e)
 
 -- the members of a topic are those that stand in its place
 members_at-topics_in : (ns : List (List ℕ)) (js : List (List Valued)) (t : ℕ) → length ns ≡ length js → rows_at (topics_in ns js) t ≡ get_or js t []

@@ -81,6 +81,6 @@ without_rows name (topic ∷ topics) = if bytes_eq name topic.name then record {
 abbrev pub place_of : List ℕ → List TopicRows → Option ℕ
 place_of name topics = position (bytes_eq name) (names_of topics)
 
--- the names of the documents of each topic
-abbrev pub documents_seen : List TopicRows → List (List (List ℕ))
-documents_seen topics = map (λ topic. map (λ valued. valued.document) topic.rows) topics
+-- whether a document is one of those of rows
+abbrev pub stands_in : List ℕ → List Valued → Bool
+stands_in document rows = list_any (λ valued. bytes_eq document valued.document) rows

@@ -1,18 +1,19 @@
 // Rows that are grouped by their topics.
-ghost use Rattle.std.specs.Prelude.{◌≡◌, ◌≤◌, ◌+◌, ◌^◌, ◌<◌, [], ◌∷◌, ◌++◌, length, position, slice_get, Some, MatchOption, IfOk, OnOk, OnErr, false};
+ghost use Rattle.std.specs.Prelude.{◌≡◌, ◌≤◌, ◌<◌, [], length, position, slice_get, Some, MatchOption};
 ghost use Rattle.std.specs.Str.{bytes_eq};
-ghost use Rattle.file_rows.specs.Grouped.{is_topic, names_of, rows_at, rows_in, row_count, name_bytes_in, with_valued, without_rows, emptied};
+ghost use Rattle.file_rows.specs.Grouped.{is_topic, names_of, rows_at, rows_in, row_count, name_bytes_in, without_rows, emptied};
+ghost use Rattle.file_rows.specs.Names.{topics_in, IsCounted};
 
-use crate::name_set::NameSet;
 use crate::value::RowValue;
 use crate::valued_rows::ValuedRows;
-use std::alloc::{AllocError, Global};
+use name_table::DistinctNames;
+use std::alloc::Global;
 use std::marker::Model;
 
 /// The rows of a file, grouped by their topics. Topics, and the rows of one topic, are numbered from 0 in the order of the file.
 #[derive(Drop)]
 pub struct GroupedRows<V: RowValue> {
-    topics: NameSet,
+    topics: DistinctNames,
     grouped: Vec<ValuedRows<V>>,
     rows: u32,
     name_bytes: u32,
@@ -31,15 +32,21 @@ impl<V: RowValue> Model for GroupedRows<V> {
 }
 
 impl<V: RowValue> GroupedRows<V> {
-    /// No topic. It takes no memory.
-    pub fn new(alloc: Global) -> GroupedRows<V>
-        ensures { result ≡ [] }
+    // Topics and the rows of each.
+    pub(crate) fn of(
+        topics: DistinctNames,
+        grouped: Vec<ValuedRows<V>>,
+        rows: u32,
+        name_bytes: u32,
+    ) -> GroupedRows<V>
+        requires { IsCounted topics grouped.items rows name_bytes }
+        ensures { result ≡ topics_in topics grouped.items }
     {
         GroupedRows {
-            topics: NameSet::new(alloc),
-            grouped: Vec::new(alloc),
-            rows: 0,
-            name_bytes: 0,
+            topics,
+            grouped,
+            rows,
+            name_bytes,
         }
     }
 
@@ -68,7 +75,7 @@ impl<V: RowValue> GroupedRows<V> {
     pub fn has_topic(&self, name: &[u8]) -> bool
         ensures { result ≡ is_topic name.now self.now }
     {
-        self.topics.contains(name)
+        self.topics.place(name).is_some()
     }
 
     /// The name of topic `t`.
@@ -106,44 +113,6 @@ impl<V: RowValue> GroupedRows<V> {
         }
     }
 
-    /// Puts a topic with no row at the end. It fails only where memory runs out, and then changes nothing.
-    pub fn add_topic(&mut self, alloc: Global, name: &[u8]) -> Result<(), AllocError>
-        requires { is_topic name.now self.old ≡ false }
-        ensures ok { OnOk result (self.new ≡ self.old ++ record { name = name.now; rows = [] } ∷
-            []) }
-        ensures err { OnErr result (self.new ≡ self.old) }
-    {
-        self.grouped.reserve(1)?;
-        let rows = no_rows(alloc, &self.grouped)?;
-        self.topics.add(alloc, name)?;
-        self.grouped.push_reserved(rows);
-        Ok(())
-    }
-
-    /// Puts a row at the end of topic `t`. It fails only where memory runs out, and then changes nothing.
-    pub fn add_row(&mut self, t: usize, document: &[u8], value: V) -> Result<(), AllocError>
-        requires topic { t < length self.old }
-        requires rows { row_count self.old + 1 < 2 ^ 32 }
-        requires names { name_bytes_in self.old + length document.now < 2 ^ 32 }
-        ensures ok { OnOk result (self.new ≡
-            with_valued self.old t (record { document = document.now; value = V.number value })) }
-        ensures err { OnErr result (self.new ≡ self.old) }
-    {
-        let grouped = &mut self.grouped[t];
-        grouped.push(document, value)?;
-        self.rows += 1;
-        self.name_bytes += document.len() as u32;
-        Ok(())
-    }
-
-    /// The same rows, in no more room than they take. It fails only where memory runs out.
-    pub fn packed(mut self, alloc: Global) -> Result<GroupedRows<V>, AllocError>
-        ensures { IfOk result (λ packed. packed ≡ self) }
-    {
-        self.grouped = packed_all(alloc, &self.grouped)?;
-        Ok(self)
-    }
-
     /// Gives back the rows of a topic, where it is there. The topic stays, and has no row then.
     pub fn forget(&mut self, alloc: Global, name: &[u8])
         ensures { self.new ≡ without_rows name.now self.old }
@@ -166,31 +135,4 @@ impl<V: RowValue> GroupedRows<V> {
         self.rows -= rows;
         self.name_bytes -= name_bytes;
     }
-}
-
-// No row of a new topic, and room for as many as the topic before it has, since the topics of a file mostly have about as many.
-fn no_rows<V: RowValue>(
-    alloc: Global,
-    before: &[ValuedRows<V>],
-) -> Result<ValuedRows<V>, AllocError>
-    ensures { IfOk result (λ rows. rows ≡ []) }
-{
-    match before.last() {
-        Some(last) => ValuedRows::with_room_of(alloc, last),
-        None => Ok(ValuedRows::new(alloc)),
-    }
-}
-
-// Copies of the rows of topics, in no more room than they take.
-fn packed_all<V: RowValue>(
-    alloc: Global,
-    grouped: &[ValuedRows<V>],
-) -> Result<Vec<ValuedRows<V>>, AllocError>
-    ensures { IfOk result (λ packed. packed.items ≡ grouped.now) }
-{
-    let mut packed = Vec::with_capacity(alloc, grouped.len())?;
-    for topic in grouped {
-        packed.push(topic.packed(alloc)?)?;
-    }
-    Ok(packed)
 }

@@ -1,10 +1,11 @@
 // The rows of a topic.
-ghost use Rattle.std.specs.Prelude.{◌≡◌, ◌+◌, ◌^◌, ◌<◌, [], ◌∷◌, ◌++◌, length, option_map, slice_get, Some, IfOk, OnOk, OnErr};
+ghost use Rattle.std.specs.Prelude.{◌≡◌, ◌<◌, [], length, map, option_map, slice_get, Some};
 ghost use Rattle.file_rows.specs.Grouped.{bytes_in};
+ghost use Rattle.file_rows.specs.Names.{valued_in};
 
-use crate::names::NumberedNames;
 use crate::value::RowValue;
-use std::alloc::{AllocError, Global};
+use name_table::NumberedNames;
+use std::alloc::Global;
 use std::marker::Model;
 
 /// Documents with their values, in the order of the file. They are numbered from 0.
@@ -37,14 +38,12 @@ impl<V: RowValue> ValuedRows<V> {
         }
     }
 
-    /// No document, and room for as many as other rows have, with their names. It fails only where memory runs out.
-    pub fn with_room_of(alloc: Global, other: &ValuedRows<V>) -> Result<ValuedRows<V>, AllocError>
-        ensures { IfOk result (λ rows. rows ≡ []) }
+    // Documents and their values.
+    pub(crate) fn of(documents: NumberedNames, values: Vec<V>) -> ValuedRows<V>
+        requires { length documents ≡ length values.items }
+        ensures { result ≡ valued_in documents (map V.number values.items) }
     {
-        Ok(ValuedRows {
-            documents: NumberedNames::with_room(alloc, other.len(), other.name_bytes())?,
-            values: Vec::with_capacity(alloc, other.len())?,
-        })
+        ValuedRows { documents, values }
     }
 
     /// How many documents there are.
@@ -52,16 +51,6 @@ impl<V: RowValue> ValuedRows<V> {
         ensures { result ≡ length self.now }
     {
         self.values.len()
-    }
-
-    /// A copy, in no more room than the rows take. It fails only where memory runs out.
-    pub fn packed(&self, alloc: Global) -> Result<ValuedRows<V>, AllocError>
-        ensures { IfOk result (λ packed. packed ≡ self.now) }
-    {
-        Ok(ValuedRows {
-            documents: self.documents.packed(alloc)?,
-            values: Vec::from_slice(alloc, &self.values)?,
-        })
     }
 
     /// The bytes of the names of all documents together.
@@ -85,18 +74,5 @@ impl<V: RowValue> ValuedRows<V> {
         ensures { option_map (λ d. d.value) (slice_get self.now i) ≡ Some (V.number result.now) }
     {
         &self.values[i]
-    }
-
-    /// Puts a document at the end. It fails only where memory runs out, and then changes nothing.
-    pub fn push(&mut self, document: &[u8], value: V) -> Result<(), AllocError>
-        requires { bytes_in self.old + length document.now < 2 ^ 32 }
-        ensures ok { OnOk result (self.new ≡ self.old ++
-            record { document = document.now; value = V.number value } ∷ []) }
-        ensures err { OnErr result (self.new ≡ self.old) }
-    {
-        self.values.reserve(1)?;
-        self.documents.push(document)?;
-        self.values.push_reserved(value);
-        Ok(())
     }
 }

@@ -1,14 +1,15 @@
 -- What a table finds once one more name is entered.
-use Rattle.std.proofs.Common.{inl, inr, ◌≡◌, ℕ, ◌+◌, ◌<◌, ◌≤◌, ◌⊎◌, List, [], ◌∷◌, ◌++◌, length, length-append, Some, None, refl, ap, sym, ◌∙◌, arith, set, subst, true, false, position, unwrap_or}
-use Rattle.std.specs.Prelude.{Bool, Option, is_some}
-use Rattle.std.specs.List.{list_any}
+use Rattle.std.proofs.Common.{inl, inr, ◌≡◌, ℕ, ◌+◌, ◌<◌, ◌≤◌, ◌⊎◌, List, [], ◌∷◌, ◌++◌, length, length-append, Some, None, refl, ap, ap₂, sym, ◌∙◌, arith, set, subst, true, false, position, unwrap_or}
+use Rattle.std.specs.Prelude.{Bool, Option, map}
 use Rattle.std.specs.Str.{bytes_eq}
 use Rattle.std.proofs.lemmas.Slice.Eq.{bytes_eq-Decides}
 use Rattle.name_table.specs.declared.table.Slot.{Slot}
 use Rattle.name_table.specs.declared.table.TheConstants.{REACH}
-use Rattle.name_table.specs.Finds.{FindsIn}
+use Rattle.std.proofs.lemmas.List.{map-append, length_push}
+use Rattle.name_table.specs.declared.table.NameTable.{NameTable}
+use Rattle.name_table.specs.Finds.{FindsIn, Finds, FindsAll}
 use Rattle.name_table.specs.Table.{start_of, hash_of, name_at, number_in, AreTaken, IsFree, Stands, StandsByName}
-use Rattle.name_table.proofs.Positions.{last_name, some_position}
+use Rattle.name_table.proofs.Positions.{last_name, not_there}
 use Rattle.name_table.proofs.Finding.{finds_more}
 use Rattle.name_table.proofs.Slots.{slot_entered, name_kept}
 
@@ -32,10 +33,6 @@ not_kept names i slots rest within f = by (number_in (name_at names i) rest) ref
         let same = f.different k i (omega (arith, within, less)) within was.1 in
         absurd (omega (arith, same, less))
     by None e = e
-
--- a name that is not in the list has no place
-not_there : (names : List (List ℕ)) (name : List ℕ) → position (bytes_eq name) names ≡ None → list_any (bytes_eq name) names ≡ false
-not_there names name missing = sym (some_position (bytes_eq name) names) ∙ ap is_some missing
 
 one_more : (names : List (List ℕ)) (name : List ℕ) → length names < length (names ++ name ∷ [])
 one_more names name = let size : length (names ++ name ∷ []) ≡ length names + 1 = length-append names (name ∷ []) in omega (arith, size)
@@ -98,3 +95,17 @@ was_there None number i e less = absurd (omega (arith, e, less))
 pub was_missing : (found : Option ℕ) (number i : ℕ) → number ≡ unwrap_or found i → i ≤ number → ((k : ℕ) → found ≡ Some k → k < i) → found ≡ None
 was_missing (Some k) number i e least below = let less = below k refl in absurd (omega (arith, e, least, less))
 was_missing None number i e least below = refl
+
+-- a table of all names of a list finds those of one that has one more
+pub finds_pushed : (names pushed : List (List ℕ)) (name : List ℕ) (table : NameTable) → pushed ≡ names ++ name ∷ [] → Finds (names ++ name ∷ []) (length names + 1) table → FindsAll pushed table
+finds_pushed names pushed name table e f =
+    subst (λ ns. FindsAll ns table) (sym e) (subst (λ n. Finds (names ++ name ∷ []) n table) (sym (length_push names name)) f)
+
+-- the hashes of a list that stays
+pub hashed_still : (names kept : List (List ℕ)) (hashes others : List ℕ) → kept ≡ names → others ≡ hashes → hashes ≡ map hash_of names → others ≡ map hash_of kept
+hashed_still names kept hashes others e f h = f ∙ h ∙ sym (ap (map hash_of) e)
+
+-- and of one that has one more name
+pub hashed_more : (names pushed : List (List ℕ)) (hashes more : List ℕ) (name : List ℕ) (hash : ℕ) → pushed ≡ names ++ name ∷ [] → more ≡ hashes ++ hash ∷ [] → hash ≡ hash_of name → hashes ≡ map hash_of names → more ≡ map hash_of pushed
+hashed_more names pushed hashes more name hash e f g h =
+    f ∙ ap₂ (λ hs k. hs ++ k ∷ []) h g ∙ sym (ap (map hash_of) e ∙ map-append hash_of names (name ∷ []))

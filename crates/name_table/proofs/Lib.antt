@@ -3,3 +3,4 @@ pub mod Slots
 pub mod ByName
 pub mod Finding
 pub mod Entering
+pub mod Cutting

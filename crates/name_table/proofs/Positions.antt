@@ -119,6 +119,14 @@ some_position test xs = by (list_any test xs) refl
     by true e = ap is_some (found_position test xs e) ∙ sym e
     by false e = ap is_some (missing_position test xs e) ∙ sym e
 
+-- a name that has a place is in the list
+pub is_there : (name : List ℕ) (names : List (List ℕ)) (i : ℕ) → position (bytes_eq name) names ≡ Some i → list_any (bytes_eq name) names ≡ true
+is_there name names i e = sym (some_position (bytes_eq name) names) ∙ ap is_some e
+
+-- a name that has none is not
+pub not_there : (names : List (List ℕ)) (name : List ℕ) → position (bytes_eq name) names ≡ None → list_any (bytes_eq name) names ≡ false
+not_there names name e = sym (some_position (bytes_eq name) names) ∙ ap is_some e
+
 added_place : {A : Type 0} (test : A → Bool) (xs : List A) (x : A) → test x ≡ true → (list_any test (xs ++ x ∷ []) ≡ true) × (position_or_len test (xs ++ x ∷ []) ≡ position_or_len test xs)
 added_place test [] x e = (rw e refl, rw e refl)
 added_place test (y ∷ ys) x e = at (test y) (added_place test ys x e)

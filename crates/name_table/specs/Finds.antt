@@ -1,5 +1,5 @@
 -- What a table finds.
-use Rattle.std.specs.Prelude.{◌≡◌, ℕ, ◌+◌, ◌-◌, ◌<◌, ◌≤◌, ◌⊎◌, List, length, position, Some, None}
+use Rattle.std.specs.Prelude.{◌≡◌, ℕ, ◌+◌, ◌-◌, ◌<◌, ◌≤◌, ◌⊎◌, List, length, map, position, Some, None}
 use Rattle.std.specs.Str.{bytes_eq}
 use Rattle.name_table.specs.declared.table.NameTable.{NameTable}
 use Rattle.name_table.specs.declared.table.SearchEnd.{SearchEnd}
@@ -22,6 +22,15 @@ pub record FindsIn (names : List (List ℕ)) (count : ℕ) (slots : List Slot) (
 -- a table finds the first names of a list, so many, and nothing else
 abbrev pub Finds : List (List ℕ) → ℕ → NameTable → Type 0
 Finds names count table = FindsIn names count table.slots.items table.rest
+
+-- a table finds all names of a list, and nothing else
+abbrev pub FindsAll : List (List ℕ) → NameTable → Type 0
+FindsAll names table = Finds names (length names) table
+
+-- a table finds all names of a list, whose hashes stand beside it
+pub record AreFound (names : List (List ℕ)) (hashes : List ℕ) (table : NameTable) : Type 0 where
+  pub finds : FindsAll names table
+  pub hashed : hashes ≡ map hash_of names
 
 -- what the end of a search through the slots within reach says of a name: its number, the empty slot where it would stand, or that the slots
 -- are all taken and its number stands by name, if anywhere

@@ -1,11 +1,16 @@
-//! Lists of names that are searched by name in a bounded number of steps, whatever the names are.
+//! Lists of names: in one row of bytes, and such as are searched by name in a bounded number of steps, whatever the names are.
 #![tactic(auto)]
 
 mod by_name;
+mod distinct_names;
 mod hash;
 mod named;
 mod named_set;
+mod names;
+mod numbered_names;
 mod table;
 
+pub use distinct_names::DistinctNames;
 pub use named::Named;
 pub use named_set::NamedSet;
+pub use numbered_names::NumberedNames;

@@ -22,15 +22,14 @@ pub struct NamedSet<K: Named> {
 }
 
 impl<K: Named> Model for NamedSet<K> {
-    ghost use Rattle.std.specs.Prelude.{◌≡◌, List, ℕ, map, length};
-    ghost use Rattle.name_table.specs.Finds.{Finds};
-    ghost use Rattle.name_table.specs.Table.{hash_of};
+    ghost use Rattle.std.specs.Prelude.{List, ℕ, map};
+    ghost use Rattle.name_table.specs.Finds.{AreFound};
 
     ghost Value = { List (List ℕ) };
 
     ghost view = { λ s. map K.name s.keys.items };
 
-    ghost invariant = { λ s. Finds (map K.name s.keys.items) (length s.keys.items) s.table × (s.hashes.items ≡ map (λ key. hash_of (K.name key)) s.keys.items) };
+    ghost invariant = { λ s. AreFound (map K.name s.keys.items) s.hashes.items s.table };
 }
 
 impl<K: Named> NamedSet<K> {

@@ -2,10 +2,10 @@
 ghost use Rattle.std.specs.Prelude.{◌≡◌, ◌+◌, ◌*◌, ◌^◌, ◌<◌, ◌≤◌, ◌∷◌, ◌++◌, ℕ, List, [], map, length, position, set, IfSome, IfNone, IfOk, OnOk, OnErr};
 ghost use Rattle.std.specs.Str.{bytes_eq};
 ghost use Rattle.name_table.specs.Table.{hash_of, start_of, name_at, AreDifferent, AreTaken, IsFree};
-ghost use Rattle.name_table.specs.Finds.{Finds, IsEndOf};
+ghost use Rattle.name_table.specs.Finds.{Finds, FindsAll, IsEndOf};
 
 use crate::by_name::NumbersByName;
-use crate::named::Named;
+use crate::names::Names;
 use std::alloc::{AllocError, Global};
 
 // How many slots, from the first that its hash names on, a name may stand in.
@@ -70,15 +70,15 @@ impl NameTable {
     }
 
     // The number of a name among those of the table.
-    pub(crate) fn find<K: Named>(&self, keys: &[K], name: &[u8], hash: u32) -> Option<usize>
-        requires table { Finds (map K.name keys.now) (length keys.now) self.now }
+    pub(crate) fn find<N: Names>(&self, names: &N, name: &[u8], hash: u32) -> Option<usize>
+        requires table { FindsAll (N.names names.now) self.now }
         requires hash { hash ≡ hash_of name.now }
-        ensures { result ≡ position (bytes_eq name.now) (map K.name keys.now) }
+        ensures { result ≡ position (bytes_eq name.now) (N.names names.now) }
     {
-        if keys.is_empty() {
+        if names.count() == 0 {
             return None;
         }
-        match self.search(keys, name, hash) {
+        match self.search(names, name, hash) {
             SearchEnd::Found(i) => Some(i),
             SearchEnd::Vacant(_) => None,
             SearchEnd::Beyond => self.rest.get(name),
@@ -87,28 +87,28 @@ impl NameTable {
 
     // The number of a name among those of the table. A name that is not there is entered behind them. It fails only where memory runs
     // out, and then changes nothing.
-    pub(crate) fn find_or_enter<K: Named>(
+    pub(crate) fn find_or_enter<N: Names>(
         &mut self,
         alloc: Global,
-        keys: &[K],
+        names: &N,
         name: &[u8],
         hash: u32,
     ) -> Result<Option<usize>, AllocError>
-        requires table { Finds (map K.name keys.now) (length keys.now) self.old }
+        requires table { FindsAll (N.names names.now) self.old }
         requires room { REACH < length self.old.slots.items }
         requires hash { hash ≡ hash_of name.now }
-        requires fits { length keys.now + 1 < 2 ^ 32 }
+        requires fits { length (N.names names.now) + 1 < 2 ^ 32 }
         ensures number { IfOk result (λ found. found ≡
-            position (bytes_eq name.now) (map K.name keys.now)) }
+            position (bytes_eq name.now) (N.names names.now)) }
         ensures found { IfOk result (λ found.
-            IfSome found (λ _. Finds (map K.name keys.now) (length keys.now) self.new)) }
+            IfSome found (λ _. FindsAll (N.names names.now) self.new)) }
         ensures entered { IfOk result (λ found.
-            IfNone found (Finds (map K.name keys.now ++ name.now ∷ []) (length keys.now + 1)
+            IfNone found (Finds (N.names names.now ++ name.now ∷ []) (length (N.names names.now) + 1)
             self.new)) }
         ensures unchanged { OnErr result (self.new ≡ self.old) }
     {
-        let i = keys.len();
-        match self.search(keys, name, hash) {
+        let i = names.count();
+        match self.search(names, name, hash) {
             SearchEnd::Found(found) => Ok(Some(found)),
             SearchEnd::Vacant(at) => {
                 self.fill(at, hash, i);
@@ -152,33 +152,33 @@ impl NameTable {
 
     // Makes room for one more name, so that at most half of the slots are taken. The names that are kept by name do not count, so that
     // they are seldom entered anew.
-    pub(crate) fn make_room<K: Named>(
+    pub(crate) fn make_room<N: Names>(
         &mut self,
         alloc: Global,
-        keys: &[K],
+        names: &N,
         hashes: &[u32],
     ) -> Result<(), AllocError>
-        requires table { Finds (map K.name keys.now) (length keys.now) self.old }
-        requires hashes { hashes.now ≡ map (λ key. hash_of (K.name key)) keys.now }
-        ensures table { Finds (map K.name keys.now) (length keys.now) self.new }
+        requires table { FindsAll (N.names names.now) self.old }
+        requires hashes { hashes.now ≡ map hash_of (N.names names.now) }
+        ensures table { FindsAll (N.names names.now) self.new }
         ensures room { OnOk result (REACH < length self.new.slots.items) }
-        ensures fits { OnOk result (length keys.now + 1 < 2 ^ 32) }
+        ensures fits { OnOk result (length (N.names names.now) + 1 < 2 ^ 32) }
     {
-        if keys.len() >= MOST_NAMES {
+        if names.count() >= MOST_NAMES {
             return Err(AllocError);
         }
         if self.slots.len() <= REACH || self.taken >= (self.slots.len() - REACH) / 2 {
-            *self = built(alloc, keys, hashes)?;
+            *self = built(alloc, names, hashes)?;
         }
         Ok(())
     }
 
     // Where a search for a name ends.
-    fn search<K: Named>(&self, keys: &[K], name: &[u8], hash: u32) -> SearchEnd
-        requires table { Finds (map K.name keys.now) (length keys.now) self.now }
+    pub(crate) fn search<N: Names>(&self, names: &N, name: &[u8], hash: u32) -> SearchEnd
+        requires table { FindsAll (N.names names.now) self.now }
         requires room { REACH < length self.now.slots.items }
         requires hash { hash ≡ hash_of name.now }
-        ensures { IsEndOf (map K.name keys.now) self.now name.now result }
+        ensures { IsEndOf (N.names names.now) self.now name.now result }
     {
         let start = self.start(hash);
         for at in start..start + REACH {
@@ -188,7 +188,7 @@ impl NameTable {
             }
             if slot.hash == hash {
                 let i = slot.number as usize - 1;
-                if keys[i].bytes() == name {
+                if names.name(i) == name {
                     return SearchEnd::Found(i);
                 }
             }
@@ -197,7 +197,7 @@ impl NameTable {
     }
 
     // Fills an empty slot with name `i`.
-    fn fill(&mut self, at: usize, hash: u32, i: usize)
+    pub(crate) fn fill(&mut self, at: usize, hash: u32, i: usize)
         requires within { at < length self.old.slots.items }
         requires fits { i + 1 < 2 ^ 32 }
         ensures slots { self.new.slots.items ≡
@@ -256,16 +256,16 @@ fn slots_for(names: usize) -> Result<usize, AllocError>
 }
 
 // A table of all names, with room for as many more.
-fn built<K: Named>(alloc: Global, keys: &[K], hashes: &[u32]) -> Result<NameTable, AllocError>
-    requires different { AreDifferent (map K.name keys.now) }
-    requires hashes { hashes.now ≡ map (λ key. hash_of (K.name key)) keys.now }
-    requires fits { length keys.now + 1 < 2 ^ 32 }
-    ensures table { IfOk result (λ table. Finds (map K.name keys.now) (length keys.now) table) }
+fn built<N: Names>(alloc: Global, names: &N, hashes: &[u32]) -> Result<NameTable, AllocError>
+    requires different { AreDifferent (N.names names.now) }
+    requires hashes { hashes.now ≡ map hash_of (N.names names.now) }
+    requires fits { length (N.names names.now) + 1 < 2 ^ 32 }
+    ensures table { IfOk result (λ table. FindsAll (N.names names.now) table) }
     ensures room { IfOk result (λ table. REACH < length table.slots.items) }
 {
-    let mut table = NameTable::with_room(alloc, 2 * keys.len())?;
-    for i in 0..keys.len() {
-        table.enter(alloc, keys[i].bytes(), hashes[i], i)?;
+    let mut table = NameTable::with_room(alloc, 2 * names.count())?;
+    for i in 0..names.count() {
+        table.enter(alloc, names.name(i), hashes[i], i)?;
     }
     Ok(table)
 }

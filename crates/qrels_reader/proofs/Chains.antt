@@ -3,7 +3,6 @@ use Rattle.std.proofs.Common.{◌≡◌, ℕ, ◌+◌, List, [], ◌∷◌, leng
 use Rattle.std.specs.Prelude.{Bool, not, ◌||◌, ◌&&◌, ◌==◌, Some, None, is_none, Result, Ok, Err, OnOk, IfErr, nat_lt, nat_le}
 use Rattle.std.specs.List.{list_any, list_all}
 use Rattle.std.specs.Result.{result_map_both}
-use Rattle.std.specs.Str.{bytes_eq}
 use Rattle.std.proofs.lemmas.Bool.{lt-ltb, lt-leb}
 use Rattle.desk_text.specs.Lines.{is_bad, is_blank, is_separator, fields_of}
 use Rattle.desk_text.specs.declared.line.TheConstants.{LONGEST_LINE}
@@ -14,12 +13,12 @@ use Rattle.file_rows.specs.declared.fault.FileFault.TheVariants.{Line, Memory}
 use Rattle.file_rows.specs.declared.limits.TheConstants.{MOST_NAME_BYTES}
 use Rattle.file_rows.specs.Reading.{IsTooLong, unless, checked, and_then, field, is_long, read_line}
 use Rattle.file_rows.specs.Rows.{Row}
-use Rattle.file_rows.specs.Grouped.{TopicRows, grouped, with_row_on, rows_in, is_topic, row_count, name_bytes_in}
+use Rattle.file_rows.specs.Grouped.{TopicRows, grouped, with_row_on, is_topic, row_count, name_bytes_in}
 use Rattle.file_rows.proofs.Chains.{read_whole, read_refused}
 use Rattle.file_rows.proofs.Grouping.{grouped-append, repeated, is_topic-grouped, length-grouped, row_count-grouped, name_bytes_in-grouped}
 use Rattle.qrels_reader.specs.declared.limits.TheConstants.{MOST_TOPICS, MOST_QRELS_ROWS}
 use Rattle.qrels_reader.specs.Rows.{row_of, grade_of, form_faults, row_faults, read_row}
-use Rattle.qrels_reader.specs.Grouped.{faults_after}
+use Rattle.qrels_reader.specs.Grouped.{limits_after, faults_after}
 use Rattle.qrels_reader.specs.Reader.{ReadsLine}
 
 -- what the tests of a line's form give
@@ -27,11 +26,10 @@ pub form_is : (line : List ℕ) (a b c d e : Bool) → nat_lt LONGEST_LINE (leng
     → unless (form_faults line) (row_of line) ≡ unless ((a, LineTooLong) ∷ (b, BadByte) ∷ (c, BadFieldCount) ∷ (d, NameTooLong) ∷ (e, BadGrade) ∷ []) (row_of line)
 form_is line a b c d e p q r s t = λ i. unless ((p i, LineTooLong) ∷ (q i, BadByte) ∷ (r i, BadFieldCount) ∷ (s i, NameTooLong) ∷ (t i, BadGrade) ∷ []) (row_of line)
 
--- and those of a row
-pub row_is : (ts : List TopicRows) (row : Row) (a b c d : Bool) → list_any (λ valued. bytes_eq row.document valued.document) (rows_in row.topic ts) ≡ a → (not (is_topic row.topic ts) && nat_le MOST_TOPICS (length ts)) ≡ b
-    → nat_le MOST_QRELS_ROWS (row_count ts) ≡ c → nat_lt MOST_NAME_BYTES (name_bytes_in ts + length row.document) ≡ d
-    → checked (faults_after ts row) ≡ unless ((a, RepeatedDocument) ∷ (b, TooManyTopics) ∷ (c, TooManyRows) ∷ (d, TooManyNameBytes) ∷ []) (tt {0})
-row_is ts row a b c d p q r s = λ i. unless ((p i, RepeatedDocument) ∷ (q i, TooManyTopics) ∷ (r i, TooManyRows) ∷ (s i, TooManyNameBytes) ∷ []) (tt {0})
+-- and those of the limits
+pub limits_are : (ts : List TopicRows) (row : Row) (a b c : Bool) → (not (is_topic row.topic ts) && nat_le MOST_TOPICS (length ts)) ≡ a → nat_le MOST_QRELS_ROWS (row_count ts) ≡ b → nat_lt MOST_NAME_BYTES (name_bytes_in ts + length row.document) ≡ c
+    → checked (limits_after ts row) ≡ unless ((a, TooManyTopics) ∷ (b, TooManyRows) ∷ (c, TooManyNameBytes) ∷ []) (tt {0})
+limits_are ts row a b c p q r = λ i. unless ((p i, TooManyTopics) ∷ (q i, TooManyRows) ∷ (r i, TooManyNameBytes) ∷ []) (tt {0})
 
 -- the faults of a row are those after the topics of the rows before it
 faults_are : (ts : List TopicRows) (rows : List Row) (row : Row) → ts ≡ grouped rows → row_faults rows row ≡ faults_after ts row

@@ -18,14 +18,18 @@ use Rattle.qrels_reader.specs.declared.limits.TheConstants.{MOST_TOPICS, MOST_QR
 abbrev pub qrels_of : List ℕ → Result (List TopicRows) FileFault
 qrels_of bytes = and_then (rows_of read_row bytes) (λ rows. if length rows == 0 then Err NoTopics else Ok (grouped rows))
 
--- what is wrong with a row after the rows of these topics, in the order in which it is told
-abbrev pub faults_after : List TopicRows → Row → List (Bool × LineFault)
-faults_after topics row =
-    (list_any (λ valued. bytes_eq row.document valued.document) (rows_in row.topic topics), RepeatedDocument)
-    ∷ (not (is_topic row.topic topics) && nat_le MOST_TOPICS (length topics), TooManyTopics)
+-- the limits that a row would pass after the rows of these topics, in the order in which they are told
+abbrev pub limits_after : List TopicRows → Row → List (Bool × LineFault)
+limits_after topics row =
+    (not (is_topic row.topic topics) && nat_le MOST_TOPICS (length topics), TooManyTopics)
     ∷ (nat_le MOST_QRELS_ROWS (row_count topics), TooManyRows)
     ∷ (nat_lt MOST_NAME_BYTES (name_bytes_in topics + length row.document), TooManyNameBytes)
     ∷ []
+
+-- what is wrong with a row there: first, that its document is repeated
+abbrev pub faults_after : List TopicRows → Row → List (Bool × LineFault)
+faults_after topics row =
+    (list_any (λ valued. bytes_eq row.document valued.document) (rows_in row.topic topics), RepeatedDocument) ∷ limits_after topics row
 
 -- what holds of the topics of a file that was read: there is one at least, they and the documents of each have names that differ, and the
 -- limits hold

@@ -1,8 +1,8 @@
 -- What a reader of a qrels file has read.
-use Rattle.std.specs.Prelude.{◌≡◌, ◌⊎◌, ℕ, List, [], length, Option, Some, None, Result, Ok, Err}
+use Rattle.std.specs.Prelude.{◌≡◌, ◌⊎◌, ℕ, List, [], length, Option, Result, Ok, Err}
 use Rattle.file_rows.specs.Reading.{read_line, with_row, rows_from, IsReadTo}
 use Rattle.file_rows.specs.Rows.{Row}
-use Rattle.file_rows.specs.Grouped.{TopicRows, grouped, documents_seen}
+use Rattle.file_rows.specs.Grouped.{TopicRows, grouped}
 use Rattle.file_rows.specs.declared.fault.FileFault.{FileFault}
 use Rattle.file_rows.specs.declared.fault.FileFault.TheVariants.{Memory}
 use Rattle.qrels_reader.specs.Rows.{read_row}
@@ -12,10 +12,6 @@ use Rattle.qrels_reader.specs.declared.line.RowText.{RowText}
 -- the row that is said by the parts of a line
 abbrev pub row_said : RowText → Row
 row_said row = record { topic = row.topic.now; document = row.document.now; value = row.grade }
-
--- the documents that were seen are those of the topics
-abbrev pub IsTracked : RowReader → Type 0
-IsTracked reader = reader.seen.items ≡ documents_seen reader.groups
 
 -- a line was read after some rows: the topics are those of these rows and the line's, or the answer is the line's fault, or memory ran out
 abbrev pub ReadsLine : ℕ → List Row → List ℕ → Result (Unit {0}) FileFault → List TopicRows → Type 0
@@ -32,8 +28,3 @@ pub record Gathers (reader : RowReader) (lines : List (List ℕ)) : Type 0 where
 -- lines were read; a fault that is kept is the first, unless memory ran out
 abbrev pub HasRead : Option FileFault → RowReader → List (List ℕ) → Type 0
 HasRead fault reader = IsReadTo read_row (Gathers reader) fault
-
--- unless a fault is kept, more lines can be read
-abbrev pub IsReady : Option FileFault → RowReader → Type 0
-IsReady None reader = IsTracked reader
-IsReady (Some fault) reader = Unit {0}

@@ -1,24 +1,12 @@
 -- The place of a topic among the topics.
-use Rattle.std.proofs.Common.{◌≡◌, ℕ, zero, suc, List, [], ◌∷◌, ◌++◌, length, true, false, cond, refl, ap, sym, subst, arith, inl, inr}
-use Rattle.std.specs.Prelude.{Bool, All, map, Some, None}
+use Rattle.std.proofs.Common.{◌≡◌, ℕ, List, [], ◌∷◌, ◌++◌, true, false, cond, sym, subst, arith, inl, inr}
+use Rattle.std.specs.Prelude.{Bool, All, Some, None}
 use Rattle.std.specs.Str.{bytes_eq}
 use Rattle.std.proofs.lemmas.List.Elements.{All-cons, All-head, All-tail}
 use Rattle.file_rows.specs.Rows.{Row}
-use Rattle.file_rows.specs.Grouped.{Valued, TopicRows, valued_of, names_of, with_valued, with_row_on}
-use Rattle.file_rows.specs.Grouped.{documents_seen, place_of}
+use Rattle.file_rows.specs.Grouped.{TopicRows, valued_of, names_of, place_of, with_row_on}
 use Rattle.desk_model.proofs.Names.{same_name}
 use Rattle.file_rows.proofs.Places.{located}
-
--- one more row leaves the names of the topics
-pub names_of-with_scored : (ts : List TopicRows) (t : ℕ) (valued : Valued) → names_of (with_valued ts t valued) ≡ names_of ts
-names_of-with_scored [] t valued = refl
-names_of-with_scored (x ∷ ts) zero valued = refl
-names_of-with_scored (x ∷ ts) (suc t) valued = ap (λ ns. x.name ∷ ns) (names_of-with_scored ts t valued)
-
--- the documents of a new topic at the end
-pub seen_new : (ts : List TopicRows) (name : List ℕ) (valued : Valued) → documents_seen (with_valued (ts ++ record { name = name; rows = [] } ∷ []) (length ts) valued) ≡ documents_seen ts ++ (valued.document ∷ []) ∷ []
-seen_new [] name valued = refl
-seen_new (x ∷ ts) name valued = ap (λ ds. map (λ (j : Valued). j.document) x.rows ∷ ds) (seen_new ts name valued)
 
 -- a property of the names of topics that have a place holds of a name that has one
 pub placed_has : (P : List ℕ → Type 0) (name : List ℕ) (ts : List TopicRows) (t : ℕ) → All P (names_of ts) → place_of name ts ≡ Some t → P name

@@ -3,7 +3,7 @@ use Rattle.std.specs.Prelude.{◌≡◌, true, All, ◌⊎◌, ℕ, ◌+◌, ◌
 use Rattle.desk_text.specs.Lines.{is_blank}
 use Rattle.file_rows.specs.Reading.{read_line, with_row, rows_from, IsReadTo}
 use Rattle.file_rows.specs.Rows.{Row}
-use Rattle.file_rows.specs.Grouped.{TopicRows, Valued, valued_of, with_valued, grouped, names_of, is_topic, place_of, documents_seen, row_count, name_bytes_in}
+use Rattle.file_rows.specs.Grouped.{TopicRows, grouped, names_of, is_topic, place_of, row_count, name_bytes_in}
 use Rattle.file_rows.specs.declared.fault.FileFault.{FileFault}
 use Rattle.file_rows.specs.declared.fault.FileFault.TheVariants.{Memory, NoTag}
 use Rattle.file_rows.specs.declared.limits.TheConstants.{MOST_NAME_BYTES}
@@ -33,22 +33,11 @@ given_or None tag = tag
 abbrev pub name_in : RowReader → Option (List ℕ)
 name_in reader = given_or (given_in reader.beside) reader.tag
 
--- the documents that were seen are those of the topics, and the place of the topic that was looked up last is known
-pub record IsTracked (gathered : Gathered) : Type 0 where
-  pub seen : gathered.seen.items ≡ documents_seen gathered.kept
-  pub last : gathered.last ≡ place_of gathered.last_topic.items gathered.kept
+-- the place of the topic that was looked up last is known
+abbrev pub IsTracked : Gathered → Type 0
+IsTracked gathered = gathered.last ≡ place_of gathered.last_topic.items gathered.kept
 
--- the documents of topics after one more of a topic that has a place
-abbrev pub documents_noted : List TopicRows → Option ℕ → Valued → List (List (List ℕ))
-documents_noted topics None valued = documents_seen topics
-documents_noted topics (Some t) valued = documents_seen (with_valued topics t valued)
-
--- the same, where the document of the next row was seen already, if its topic has a place
-pub record IsNoted (place : Option ℕ) (row : Row) (gathered : Gathered) : Type 0 where
-  pub seen : gathered.seen.items ≡ documents_noted gathered.kept place (valued_of row)
-  pub last : gathered.last ≡ place_of gathered.last_topic.items gathered.kept
-
--- the documents that were seen are those of the topics, these stand in the qrels, and the limits hold
+-- the place of the topic that was looked up last is known, the topics stand in the qrels, and the limits hold
 pub record IsSound (reader : RowReader) : Type 0 where
   pub tracked : IsTracked reader.gathered
   pub known : All (λ name. is_topic name reader.beside.qrels.now ≡ true) (names_of reader.gathered.kept)

@@ -239,12 +239,8 @@ impl<'q> RowReader<'q> {
             return Ok(());
         }
         let room = self.room(place, row);
-        let is_repeated = self.gathered.note(place, row)?;
-        match first_fault(is_repeated, room) {
-            Ok(()) => {
-                self.gathered.put(place, row)?;
-                Ok(())
-            }
+        match self.gathered.put(place, row, room)? {
+            Ok(()) => Ok(()),
             Err(fault) => Err(FileFault::Line {
                 line: self.lines,
                 fault,
@@ -295,16 +291,4 @@ fn given_or(given: Option<Name>, tag: Option<Name>) -> Option<Name>
     ensures { result ≡ given_or given tag }
 {
     given.or(tag)
-}
-
-// A repeated document is told before a limit.
-fn first_fault(is_repeated: bool, room: Result<(), LineFault>) -> Result<(), LineFault>
-    ensures first { result ≡ (if is_repeated then Err LineFault.RepeatedDocument else room) }
-    ensures none { OnOk result (room ≡ Ok (tt {0})) }
-{
-    if is_repeated {
-        Err(LineFault::RepeatedDocument)
-    } else {
-        room
-    }
 }

@@ -8,7 +8,7 @@ use crate::packed::PackedName;
 use crate::pair::{first_name, second_name};
 use crate::row::RowRef;
 use crate::written::Written;
-use file_rows::NumberedNames;
+use name_table::NumberedNames;
 use std::alloc::{AllocError, Global};
 use std::marker::Model;
 

@@ -7,5 +7,5 @@ use Rattle.file_rows.proofs.grouped_rows.GroupedRows.has_topic.Goals as goal
 
 pub returns : goal.returns
 returns g c =
-    c.contains.ensures
+    c.is_some.ensures ∙ c.place.ensures.found
     ∙ ap (list_any (bytes_eq c.args.name.now)) (sym (names_held (holding c.self.invariant c.self.view_is)))

@@ -8,5 +8,4 @@ use Rattle.name_table.proofs.named_set.NamedSet.found.Goals as goal
 pub returns-clause-found : goal.returns-clause-found
 returns-clause-found g c =
     let name = c.args.name.now in
-    ap is_some c.find.ensures ∙ some_position (bytes_eq name) (map g.K.Named.name c.deref.result.now)
-    ∙ ap (λ keys. list_any (bytes_eq name) (map g.K.Named.name keys)) c.deref.ensures.value ∙ ap (list_any (bytes_eq name)) c.self.view_is
+    ap is_some c.find.ensures ∙ some_position (bytes_eq name) (map g.K.Named.name c.self.inside.keys.items) ∙ ap (list_any (bytes_eq name)) c.self.view_is

@@ -1,6 +1,4 @@
-use Rattle.std.proofs.Common.{[], ◌≡◌, ◌<◌, ◌≤◌, ◌+◌, ◌-◌, ap, sym, ◌∙◌, subst, arith, length, Some, ℕ, true≢false}
-use Rattle.std.specs.Prelude.{map}
-use Rattle.std.proofs.lemmas.List.{get_or-map, length-map}
+use Rattle.std.proofs.Common.{◌≡◌, ◌<◌, ◌≤◌, ◌+◌, ◌-◌, ap, sym, ◌∙◌, subst, arith, length, Some, ℕ, true≢false}
 use Rattle.std.proofs.lemmas.Slice.Eq.{bytes_eq-Decides}
 use Rattle.name_table.specs.declared.table.TheConstants.{REACH}
 use Rattle.name_table.specs.Finds.{FindsIn}
@@ -11,12 +9,11 @@ use Rattle.name_table.proofs.table.NameTable.search.Goals.{then-slot-hash+else-e
 
 pub returns-then-slot-eq0 : goal.returns-then-slot-eq0
 returns-then-slot-eq0 g c =
-    let names = map g.K.Named.name c.args.keys.now in
+    let names = g.N.Names.names c.args.names.now in
     let slots = c.args.self.now.slots.items in
     let name = c.args.name.now in
     let at : ℕ = c.loop-at.at in
-    let all = length-map c.args.keys.now g.K.Named.name in
-    let finds : FindsIn names (length names) slots c.args.self.now.rest = subst (λ n. FindsIn names n slots c.args.self.now.rest) (sym all) c.requires.table in
+    let finds : FindsIn names (length names) slots c.args.self.now.rest = c.requires.table in
     let first : c.start-start.result ≡ start_of slots (hash_of name) = c.start-start.ensures.start ∙ ap (start_of slots) c.requires.hash in
     let passed = subst (λ from. ArePassed names slots name from at) first c.loop-at.invariant in
     let within : at < length slots = omega arith in
@@ -32,31 +29,28 @@ returns-then-slot-eq0 g c =
 
 pub returns-then-eq : goal.returns-then-eq
 returns-then-eq g c =
-    let names = map g.K.Named.name c.args.keys.now in
+    let names = g.N.Names.names c.args.names.now in
     let slots = c.args.self.now.slots.items in
     let name = c.args.name.now in
     let at : ℕ = c.loop-at.at in
-    let all = length-map c.args.keys.now g.K.Named.name in
-    let finds : FindsIn names (length names) slots c.args.self.now.rest = subst (λ n. FindsIn names n slots c.args.self.now.rest) (sym all) c.requires.table in
+    let finds : FindsIn names (length names) slots c.args.self.now.rest = c.requires.table in
     let within : at < length slots = omega arith in
     let read = slot_read slots at c.index-slot.result.now within c.index-slot.ensures in
     let number : number_at slots at ≡ c.index-slot.result.now.number = ap (λ s. s.number) read in
     let apart = c.if-slot-eq0.false in
     let some : 0 < number_at slots at = omega (arith, number, apart) in
     let holds = (c.requires.table.in_slots at some).0 in
-    let key = get_or-map g.K.Named.name c.args.keys.now (c.index-slot.result.now.number - 1) c.index-keys-i.result [] (omega (arith, number, holds, some)) in
     let is : name_at names (number_at slots at - 1) ≡ name =
-    ap (λ n. name_at names (n - 1)) number ∙ key ∙ ap g.K.Named.name (sym c.index-keys-i.is) ∙ sym c.bytes.ensures ∙ (bytes_eq-Decides c.bytes.result.now name).0 (sym c.eq.ensures ∙ c.if-eq.true) in
+    ap (λ n. name_at names (n - 1)) number ∙ c.name.ensures ∙ (bytes_eq-Decides c.name.result.now name).0 (sym c.eq.ensures ∙ c.if-eq.true) in
     found_in_slot names slots c.args.self.now.rest name at finds some is ∙ ap (λ n. Some (n - 1)) number
 
 pub loop-at-preserved : goal.loop-at-preserved
 loop-at-preserved g c =
-    let names = map g.K.Named.name c.args.keys.now in
+    let names = g.N.Names.names c.args.names.now in
     let slots = c.args.self.now.slots.items in
     let name = c.args.name.now in
     let at : ℕ = c.loop-at.at in
-    let all = length-map c.args.keys.now g.K.Named.name in
-    let finds : FindsIn names (length names) slots c.args.self.now.rest = subst (λ n. FindsIn names n slots c.args.self.now.rest) (sym all) c.requires.table in
+    let finds : FindsIn names (length names) slots c.args.self.now.rest = c.requires.table in
     let within : at < length slots = omega arith in
     let read = slot_read slots at c.index-slot.result.now within c.index-slot.ensures in
     let number : number_at slots at ≡ c.index-slot.result.now.number = ap (λ s. s.number) read in
@@ -65,9 +59,8 @@ loop-at-preserved g c =
     let holds = (c.requires.table.in_slots at some).0 in
     let other : name_at names (number_at slots at - 1) ≡ name → ⊥ = elim c.if-slot-hash.branch [
       | then-slot-hash+else-eq w ↦ λ is.
-          let key = get_or-map g.K.Named.name c.args.keys.now (c.index-slot.result.now.number - 1) w.index-keys-i.result [] (omega (arith, number, holds, some)) in
-          let read : w.bytes.result.now ≡ name = w.bytes.ensures ∙ ap g.K.Named.name w.index-keys-i.is ∙ sym key ∙ ap (λ n. name_at names (n - 1)) (sym number) ∙ is in
-          true≢false (sym ((bytes_eq-Decides w.bytes.result.now name).1 read) ∙ sym w.eq.ensures ∙ w.if-eq.false)
+          let read : w.name.result.now ≡ name = sym w.name.ensures ∙ ap (λ n. name_at names (n - 1)) (sym number) ∙ is in
+          true≢false (sym ((bytes_eq-Decides w.name.result.now name).1 read) ∙ sym w.eq.ensures ∙ w.if-eq.false)
       | else-slot-hash w ↦
           other_hash names slots c.args.self.now.rest name at finds some
           (λ same. w.if-slot-hash.false (sym (ap (λ s. s.hash) read) ∙ same ∙ sym c.requires.hash))
@@ -76,11 +69,10 @@ loop-at-preserved g c =
 
 pub returns : goal.returns
 returns g c =
-    let names = map g.K.Named.name c.args.keys.now in
+    let names = g.N.Names.names c.args.names.now in
     let slots = c.args.self.now.slots.items in
     let name = c.args.name.now in
-    let all = length-map c.args.keys.now g.K.Named.name in
-    let finds : FindsIn names (length names) slots c.args.self.now.rest = subst (λ n. FindsIn names n slots c.args.self.now.rest) (sym all) c.requires.table in
+    let finds : FindsIn names (length names) slots c.args.self.now.rest = c.requires.table in
     let first : c.start-start.result ≡ start_of slots (hash_of name) = c.start-start.ensures.start ∙ ap (start_of slots) c.requires.hash in
     let end : c.loop-at.at ≡ c.start-start.result + REACH = omega arith in
     let passed = subst (λ from. ArePassed names slots name from (from + REACH)) first (subst (ArePassed names slots name c.start-start.result) end c.loop-at.invariant) in

@@ -2,18 +2,12 @@ use Rattle.std.proofs.Common.{◌++◌, ◌∷◌, [], ap, sym, subst, ◌∙◌
 use Rattle.std.specs.Prelude.{is_some}
 use Rattle.file_rows.proofs.ReadOn.{stays}
 use Rattle.qrels_reader.specs.Rows.{read_row}
-use Rattle.qrels_reader.specs.Reader.{Gathers, HasRead, IsReady}
+use Rattle.qrels_reader.specs.Reader.{Gathers, HasRead}
 use Rattle.qrels_reader.proofs.Progress.{gathered, refused}
 use Rattle.qrels_reader.proofs.row_reader.RowReaderLineReader.read.Goals as goal
 
-pub read_next-requires : goal.read_next-requires
-read_next-requires c = subst (λ f. IsReady f c.args.self.now) c.in-None.is c.requires
-
 pub returns-in-Some-clause-read : goal.returns-in-Some-clause-read
 returns-in-Some-clause-read c before h = stays read_row (Gathers c.args.self.now) c.args.self.now.fault before (c.args.line.now ∷ []) (ap is_some c.in-Some.is) h
-
-pub returns-in-Ok-clause-ready : goal.returns-in-Ok-clause-ready
-returns-in-Ok-clause-ready c = subst (λ f. IsReady f c.read_next.new.self) (sym (c.in-Ok.ensures.fault ∙ c.in-None.is)) c.in-Ok.ensures.tracked
 
 pub returns-in-Ok-clause-read : goal.returns-in-Ok-clause-read
 returns-in-Ok-clause-read c before h =

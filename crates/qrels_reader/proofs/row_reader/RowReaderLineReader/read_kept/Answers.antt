@@ -11,4 +11,4 @@ returns-in-Some-clause-read c before line e h =
 
 pub returns-in-None-clause-read : goal.returns-in-None-clause-read
 returns-in-None-clause-read c before line e h =
-    c.read_long.ensures.read before line (long_line line (sym (ap (option_map (λ (bytes : Bor (List ℕ)). bytes.now)) c.in-None.is) ∙ e)) h
+    c.read_long.ensures before line (long_line line (sym (ap (option_map (λ (bytes : Bor (List ℕ)). bytes.now)) c.in-None.is) ∙ e)) h

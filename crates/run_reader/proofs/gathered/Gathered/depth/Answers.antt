@@ -5,7 +5,7 @@ use Rattle.run_reader.proofs.gathered.Gathered.depth.Goals as goal
 pub returns-in-Some : goal.returns-in-Some
 returns-in-Some c =
     let at = at_name c.args.self.now.kept c.args.topic.now c.in-Some.t (sym c.requires.place ∙ c.in-Some.is) in
-    c.len.ensures ∙ ap length (c.at.ensures.rows ∙ at.1)
+    c.len.ensures ∙ ap length (c.at.ensures ∙ at.1)
 
 pub returns-in-None : goal.returns-in-None
 returns-in-None c =

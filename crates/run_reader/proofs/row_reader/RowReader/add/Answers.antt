@@ -1,10 +1,8 @@
-use Rattle.std.proofs.Common.{◌≡◌, ◌+◌, ◌≤◌, ◌⊎◌, List, true, false, refl, ap, ap₂, sym, subst, ◌∙◌, inl, inr, length, arith}
+use Rattle.std.proofs.Common.{◌≡◌, ◌+◌, ◌≤◌, ◌⊎◌, List, true, false, refl, ap, sym, subst, ◌∙◌, inl, inr, length, arith}
 use Rattle.std.specs.Prelude.{Bool, not, All, OnOk, IfErr, IsErrAnd, Result, Ok, Err, if◌then◌else◌}
-use Rattle.std.specs.List.{list_any}
-use Rattle.std.specs.Str.{bytes_eq}
 use Rattle.std.proofs.lemmas.Bool.{not-false}
 use Rattle.std.proofs.lemmas.Result.{IfOk-from_err}
-use Rattle.file_rows.specs.Grouped.{is_topic, rows_in, TopicRows}
+use Rattle.file_rows.specs.Grouped.{is_topic, rows_in, stands_in, TopicRows}
 use Rattle.file_rows.specs.Reading.{checked}
 use Rattle.file_rows.specs.Rows.{Row}
 use Rattle.file_rows.specs.declared.fault.FileFault.{FileFault}
@@ -24,41 +22,15 @@ use Rattle.run_reader.proofs.Places.{names_with}
 use Rattle.run_reader.proofs.row_reader.RowReader.add.Goals as goal
 
 -- the first fault after the topics, where these stay
-first_told : {looked kept : List TopicRows} {repeated : Bool} {room first : Result (Unit {0}) LineFault} (used : Used) (row : Row) → looked ≡ kept
-    → repeated ≡ list_any (λ valued. bytes_eq row.document valued.document) (rows_in row.topic looked) → room ≡ checked (limits_after used looked row)
-    → first ≡ (if repeated then Err RepeatedDocument else room) → first ≡ checked (faults_after used kept row)
-first_told used row same e f g = g ∙ ap₂ (λ b r. if b then Err RepeatedDocument else r) e f ∙ ap (λ ts. checked (faults_after used ts row)) same
+first_told : {looked kept : List TopicRows} {room first : Result (Unit {0}) LineFault} (used : Used) (row : Row) → looked ≡ kept → room ≡ checked (limits_after used looked row)
+    → first ≡ (if stands_in row.document (rows_in row.topic looked) then Err RepeatedDocument else room) → first ≡ checked (faults_after used kept row)
+first_told {looked} used row same e f =
+    f ∙ ap (λ r. if stands_in row.document (rows_in row.topic looked) then Err RepeatedDocument else r) e ∙ ap (λ ts. checked (faults_after used ts row)) same
 
-pub returns-in_ok-put-in-Ok-clause-sound : goal.returns-in_ok-put-in-Ok-clause-sound
-returns-in_ok-put-in-Ok-clause-sound c =
-    let reader = c.args.self.now in
-    let row = row_said c.args.row.now in
-    let looked = c.place.new.self.kept in
-    let added : c.put.new.self.kept ≡ with_row_on looked row = c.in_ok-put-in-Ok.ensures.added ∙ ap (λ ts. with_row_on ts row) c.in_ok-is_repeated.ensures.kept in
-    let known : is_topic row.topic reader.beside.qrels.now ≡ true = not-false (is_topic row.topic reader.beside.qrels.now) (sym c.lacks.ensures ∙ c.if-lacks.false) in
-    let few : reader.beside.used.rows + row_count looked + 1 ≤ MOST_RUN_ROWS = subst (λ r. OnOk r (reader.beside.used.rows + row_count looked + 1 ≤ MOST_RUN_ROWS)) c.in-Ok.ensures.none c.room-room.ensures.few in
-    let small : reader.beside.used.name_bytes + name_bytes_in looked + length row.document ≤ MOST_NAME_BYTES =
-    subst (λ r. OnOk r (reader.beside.used.name_bytes + name_bytes_in looked + length row.document ≤ MOST_NAME_BYTES)) c.in-Ok.ensures.none c.room-room.ensures.small in
-    let names = subst (λ ts. All (λ name. is_topic name reader.beside.qrels.now ≡ true) (names_of ts)) (sym c.place.ensures.kept) c.requires.known in
-    record {
-      tracked = c.in_ok-put-in-Ok.ensures.tracked;
-      known = subst (λ ts. All (λ name. is_topic name reader.beside.qrels.now ≡ true) (names_of ts)) (sym added) (names_with (λ name. is_topic name reader.beside.qrels.now ≡ true) looked row names known);
-      few = (let rows = ap row_count added in omega (arith, row_count-with_row looked row, few));
-      small = (let bytes = ap name_bytes_in added in omega (arith, name_bytes_in-with_row looked row, small));
-    }
-
-pub returns-in_ok-put-in-Ok-clause-right : goal.returns-in_ok-put-in-Ok-clause-right
-returns-in_ok-put-in-Ok-clause-right c _ =
-    let row = row_said c.args.row.now in
-    sym (first_told c.args.self.now.beside.used row c.place.ensures.kept c.in_ok-is_repeated.ensures.repeated c.room-room.ensures.fault c.first_fault.ensures.first) ∙ c.in-Ok.is
-
-pub returns-in-Err-clause-wrong : goal.returns-in-Err-clause-wrong
-returns-in-Err-clause-wrong c =
-    let reader = c.args.self.now in
-    let row = row_said c.args.row.now in
-    let known : is_topic row.topic reader.beside.qrels.now ≡ true = not-false (is_topic row.topic reader.beside.qrels.now) (sym c.lacks.ensures ∙ c.if-lacks.false) in
-    let told = first_told reader.beside.used row c.place.ensures.kept c.in_ok-is_repeated.ensures.repeated c.room-room.ensures.fault c.first_fault.ensures.first in
-    inr (c.in-Err.fault, known, sym told ∙ c.in-Err.is, refl)
+-- a row without a fault passes no limit
+passes_none : (repeated : Bool) (room first : Result (Unit {0}) LineFault) (done : Unit {0}) → first ≡ (if repeated then Err RepeatedDocument else room) → first ≡ Ok done → room ≡ Ok done
+passes_none false room first done is fine = sym is ∙ fine
+passes_none true room first done is fine = let no : Err RepeatedDocument ≡ Ok done = sym is ∙ fine in absurd (cc)
 
 -- a reader stays sound while the topics stay
 still_sound : (reader : RowReader) (gathered : Gathered) → gathered.kept ≡ reader.gathered.kept → IsTracked gathered → IsSound reader → IsSound (record reader { gathered = gathered })
@@ -68,10 +40,6 @@ still_sound reader gathered same tracked sound = record {
   few = subst (λ ts. reader.beside.used.rows + row_count ts ≤ MOST_RUN_ROWS) (sym same) sound.few;
   small = subst (λ ts. reader.beside.used.name_bytes + name_bytes_in ts ≤ MOST_NAME_BYTES) (sym same) sound.small;
 }
-
-not_repeated : (repeated : Bool) (room first : Result (Unit {0}) LineFault) → first ≡ (if repeated then Err RepeatedDocument else room) → first ≡ Ok (tt {0}) → repeated ≡ false
-not_repeated false room first is fine = refl
-not_repeated true room first is fine = let no : Err RepeatedDocument ≡ Ok (tt {0}) = sym is ∙ fine in absurd (cc)
 
 in_memory : {T : Type 0} (W : FileFault → Type 0) (r : Result T FileFault) → IsErrAnd r (λ e. e ≡ Memory) → IfErr r (λ e. (e ≡ Memory) ⊎ W e)
 in_memory W (Ok x) is = tt
@@ -114,60 +82,6 @@ returns-in_err-place-clause-beside c = refl
 pub returns-in_err-place-clause-fault : goal.returns-in_err-place-clause-fault
 returns-in_err-place-clause-fault c = refl
 
-pub returns-in_err-is_repeated-clause-dropped : goal.returns-in_err-is_repeated-clause-dropped
-returns-in_err-is_repeated-clause-dropped c = IfOk-from_err c.from_residual-in_err-is_repeated.result _ c.from_residual-in_err-is_repeated.ensures.0
-
-pub returns-in_err-is_repeated-clause-right : goal.returns-in_err-is_repeated-clause-right
-returns-in_err-is_repeated-clause-right c = IfOk-from_err c.from_residual-in_err-is_repeated.result _ c.from_residual-in_err-is_repeated.ensures.0
-
-pub returns-in_err-is_repeated-clause-added : goal.returns-in_err-is_repeated-clause-added
-returns-in_err-is_repeated-clause-added c = IfOk-from_err c.from_residual-in_err-is_repeated.result _ c.from_residual-in_err-is_repeated.ensures.0
-
-pub returns-in_err-is_repeated-clause-sound : goal.returns-in_err-is_repeated-clause-sound
-returns-in_err-is_repeated-clause-sound c = IfOk-from_err c.from_residual-in_err-is_repeated.result _ c.from_residual-in_err-is_repeated.ensures.0
-
-pub returns-in_err-is_repeated-clause-lines : goal.returns-in_err-is_repeated-clause-lines
-returns-in_err-is_repeated-clause-lines c = IfOk-from_err c.from_residual-in_err-is_repeated.result _ c.from_residual-in_err-is_repeated.ensures.0
-
-pub returns-in_err-is_repeated-clause-wrong : goal.returns-in_err-is_repeated-clause-wrong
-returns-in_err-is_repeated-clause-wrong c = in_memory _ c.from_residual-in_err-is_repeated.result c.from_residual-in_err-is_repeated.ensures.1
-
-pub returns-in_err-is_repeated-clause-tag : goal.returns-in_err-is_repeated-clause-tag
-returns-in_err-is_repeated-clause-tag c = refl
-
-pub returns-in_err-is_repeated-clause-beside : goal.returns-in_err-is_repeated-clause-beside
-returns-in_err-is_repeated-clause-beside c = refl
-
-pub returns-in_err-is_repeated-clause-fault : goal.returns-in_err-is_repeated-clause-fault
-returns-in_err-is_repeated-clause-fault c = refl
-
-pub returns-in_err-put-in-Ok-clause-dropped : goal.returns-in_err-put-in-Ok-clause-dropped
-returns-in_err-put-in-Ok-clause-dropped c = IfOk-from_err c.from_residual-in_err-put-in-Ok.result _ c.from_residual-in_err-put-in-Ok.ensures.0
-
-pub returns-in_err-put-in-Ok-clause-right : goal.returns-in_err-put-in-Ok-clause-right
-returns-in_err-put-in-Ok-clause-right c = IfOk-from_err c.from_residual-in_err-put-in-Ok.result _ c.from_residual-in_err-put-in-Ok.ensures.0
-
-pub returns-in_err-put-in-Ok-clause-added : goal.returns-in_err-put-in-Ok-clause-added
-returns-in_err-put-in-Ok-clause-added c = IfOk-from_err c.from_residual-in_err-put-in-Ok.result _ c.from_residual-in_err-put-in-Ok.ensures.0
-
-pub returns-in_err-put-in-Ok-clause-sound : goal.returns-in_err-put-in-Ok-clause-sound
-returns-in_err-put-in-Ok-clause-sound c = IfOk-from_err c.from_residual-in_err-put-in-Ok.result _ c.from_residual-in_err-put-in-Ok.ensures.0
-
-pub returns-in_err-put-in-Ok-clause-lines : goal.returns-in_err-put-in-Ok-clause-lines
-returns-in_err-put-in-Ok-clause-lines c = IfOk-from_err c.from_residual-in_err-put-in-Ok.result _ c.from_residual-in_err-put-in-Ok.ensures.0
-
-pub returns-in_err-put-in-Ok-clause-wrong : goal.returns-in_err-put-in-Ok-clause-wrong
-returns-in_err-put-in-Ok-clause-wrong c = in_memory _ c.from_residual-in_err-put-in-Ok.result c.from_residual-in_err-put-in-Ok.ensures.1
-
-pub returns-in_err-put-in-Ok-clause-tag : goal.returns-in_err-put-in-Ok-clause-tag
-returns-in_err-put-in-Ok-clause-tag c = refl
-
-pub returns-in_err-put-in-Ok-clause-beside : goal.returns-in_err-put-in-Ok-clause-beside
-returns-in_err-put-in-Ok-clause-beside c = refl
-
-pub returns-in_err-put-in-Ok-clause-fault : goal.returns-in_err-put-in-Ok-clause-fault
-returns-in_err-put-in-Ok-clause-fault c = refl
-
 pub lacks-requires-clause-sound : goal.lacks-requires-clause-sound
 lacks-requires-clause-sound c = still_sound c.args.self.now c.place.new.self c.place.ensures.kept c.in_ok-place.ensures.tracked c.requires
 
@@ -207,75 +121,29 @@ returns-then-lacks-clause-beside c = refl
 pub returns-then-lacks-clause-fault : goal.returns-then-lacks-clause-fault
 returns-then-lacks-clause-fault c = refl
 
-pub note-requires-clause-tracked : goal.note-requires-clause-tracked
-note-requires-clause-tracked c = c.in_ok-place.ensures.tracked
-
-pub note-requires-clause-place : goal.note-requires-clause-place
-note-requires-clause-place c = c.in_ok-place.ensures.place ∙ ap (place_of c.args.row.now.topic.now) (sym c.place.ensures.kept)
-
-pub put-requires-clause-noted : goal.put-requires-clause-noted
-put-requires-clause-noted c = c.in_ok-is_repeated.ensures.noted (not_repeated c.in_ok-is_repeated.is_repeated c.room-room.result c.first_fault.result c.first_fault.ensures.first c.in-Ok.is)
-
-pub put-requires-clause-place : goal.put-requires-clause-place
-put-requires-clause-place c = c.in_ok-place.ensures.place ∙ ap (place_of c.args.row.now.topic.now) (sym (c.in_ok-is_repeated.ensures.kept ∙ c.place.ensures.kept))
-
-pub returns-in_ok-put-in-Ok-clause-dropped : goal.returns-in_ok-put-in-Ok-clause-dropped
-returns-in_ok-put-in-Ok-clause-dropped c unknown = has_or_lacks c.lacks.result (is_topic c.args.row.now.topic.now c.args.self.now.beside.qrels.now) c.if-lacks.false c.lacks.ensures unknown
-
-pub returns-in_ok-put-in-Ok-clause-added : goal.returns-in_ok-put-in-Ok-clause-added
-returns-in_ok-put-in-Ok-clause-added c _ = c.in_ok-put-in-Ok.ensures.added ∙ ap (λ ts. with_row_on ts (row_said c.args.row.now)) (c.in_ok-is_repeated.ensures.kept ∙ c.place.ensures.kept)
-
-pub returns-in_ok-put-in-Ok-clause-wrong : goal.returns-in_ok-put-in-Ok-clause-wrong
-returns-in_ok-put-in-Ok-clause-wrong c = tt
-
-pub returns-in_ok-put-in-Ok-clause-lines : goal.returns-in_ok-put-in-Ok-clause-lines
-returns-in_ok-put-in-Ok-clause-lines c = refl
-
-pub returns-in_ok-put-in-Ok-clause-tag : goal.returns-in_ok-put-in-Ok-clause-tag
-returns-in_ok-put-in-Ok-clause-tag c = refl
-
-pub returns-in_ok-put-in-Ok-clause-beside : goal.returns-in_ok-put-in-Ok-clause-beside
-returns-in_ok-put-in-Ok-clause-beside c = refl
-
-pub returns-in_ok-put-in-Ok-clause-fault : goal.returns-in_ok-put-in-Ok-clause-fault
-returns-in_ok-put-in-Ok-clause-fault c = refl
-
-pub returns-in-Err-clause-dropped : goal.returns-in-Err-clause-dropped
-returns-in-Err-clause-dropped c = tt
-
-pub returns-in-Err-clause-right : goal.returns-in-Err-clause-right
-returns-in-Err-clause-right c = tt
-
-pub returns-in-Err-clause-added : goal.returns-in-Err-clause-added
-returns-in-Err-clause-added c = tt
-
-pub returns-in-Err-clause-sound : goal.returns-in-Err-clause-sound
-returns-in-Err-clause-sound c = tt
-
-pub returns-in-Err-clause-lines : goal.returns-in-Err-clause-lines
-returns-in-Err-clause-lines c = tt
-
-pub returns-in-Err-clause-tag : goal.returns-in-Err-clause-tag
-returns-in-Err-clause-tag c = refl
-
-pub returns-in-Err-clause-beside : goal.returns-in-Err-clause-beside
-returns-in-Err-clause-beside c = refl
-
-pub returns-in-Err-clause-fault : goal.returns-in-Err-clause-fault
-returns-in-Err-clause-fault c = refl
-
-pub put-requires-clause-rows : goal.put-requires-clause-rows
-put-requires-clause-rows c =
+pub returns-in-Ok-clause-sound : goal.returns-in-Ok-clause-sound
+returns-in-Ok-clause-sound c =
     let reader = c.args.self.now in
+    let row = row_said c.args.row.now in
     let looked = c.place.new.self.kept in
-    let few : reader.beside.used.rows + row_count looked + 1 ≤ MOST_RUN_ROWS = subst (λ r. OnOk r (reader.beside.used.rows + row_count looked + 1 ≤ MOST_RUN_ROWS)) c.in-Ok.ensures.none c.room-room.ensures.few in
-    omega (arith, ap row_count c.in_ok-is_repeated.ensures.kept, few)
+    let added : c.put.new.self.kept ≡ with_row_on looked row = subst (λ told. OnOk told (c.put.new.self.kept ≡ with_row_on looked row)) c.in-Ok.is c.in_ok-put.ensures.added in
+    let known : is_topic row.topic reader.beside.qrels.now ≡ true = not-false (is_topic row.topic reader.beside.qrels.now) (sym c.lacks.ensures ∙ c.if-lacks.false) in
+    let fits : c.room-room.result ≡ Ok c.in-Ok.field-0 = passes_none (stands_in row.document (rows_in row.topic looked)) c.room-room.result c.in_ok-put.field-0 c.in-Ok.field-0 c.in_ok-put.ensures.told c.in-Ok.is in
+    let few : reader.beside.used.rows + row_count looked + 1 ≤ MOST_RUN_ROWS = subst (λ r. OnOk r (reader.beside.used.rows + row_count looked + 1 ≤ MOST_RUN_ROWS)) fits c.room-room.ensures.few in
+    let small : reader.beside.used.name_bytes + name_bytes_in looked + length row.document ≤ MOST_NAME_BYTES =
+    subst (λ r. OnOk r (reader.beside.used.name_bytes + name_bytes_in looked + length row.document ≤ MOST_NAME_BYTES)) fits c.room-room.ensures.small in
+    let names = subst (λ ts. All (λ name. is_topic name reader.beside.qrels.now ≡ true) (names_of ts)) (sym c.place.ensures.kept) c.requires.known in
+    record {
+      tracked = subst (λ told. OnOk told (IsTracked c.put.new.self)) c.in-Ok.is c.in_ok-put.ensures.tracked;
+      known = subst (λ ts. All (λ name. is_topic name reader.beside.qrels.now ≡ true) (names_of ts)) (sym added) (names_with (λ name. is_topic name reader.beside.qrels.now ≡ true) looked row names known);
+      few = (let rows = ap row_count added in omega (arith, row_count-with_row looked row, few));
+      small = (let bytes = ap name_bytes_in added in omega (arith, name_bytes_in-with_row looked row, small));
+    }
 
-pub put-requires-clause-names : goal.put-requires-clause-names
-put-requires-clause-names c =
+pub returns-in-Err-clause-wrong : goal.returns-in-Err-clause-wrong
+returns-in-Err-clause-wrong c =
     let reader = c.args.self.now in
-    let document = c.args.row.now.document.now in
-    let looked = c.place.new.self.kept in
-    let small : reader.beside.used.name_bytes + name_bytes_in looked + length document ≤ MOST_NAME_BYTES =
-    subst (λ r. OnOk r (reader.beside.used.name_bytes + name_bytes_in looked + length document ≤ MOST_NAME_BYTES)) c.in-Ok.ensures.none c.room-room.ensures.small in
-    omega (arith, ap name_bytes_in c.in_ok-is_repeated.ensures.kept, small)
+    let row = row_said c.args.row.now in
+    let known : is_topic row.topic reader.beside.qrels.now ≡ true = not-false (is_topic row.topic reader.beside.qrels.now) (sym c.lacks.ensures ∙ c.if-lacks.false) in
+    let told = first_told reader.beside.used row c.place.ensures.kept c.room-room.ensures.fault c.in_ok-put.ensures.told in
+    inr (c.in-Err.fault, known, sym told ∙ c.in-Err.is, refl)

@@ -1,6 +1,5 @@
 use Rattle.std.proofs.Common.{◌≡◌, length, ap, sym, subst, ◌∙◌, arith}
 use Rattle.std.specs.Prelude.{◌≤◌}
-use Rattle.sheet_merge.specs.Sheet.{merged}
 use Rattle.sheet_merge.specs.declared.limits.TheConstants.{ENTRY_LIMIT}
 use Rattle.sheet_merge.proofs.Again.{merged-none}
 use Rattle.sheet_merge.proofs.sheet.Sheet.take_in.Goals as goal
