@@ -12,7 +12,7 @@ use Rattle.desk_model.specs.declared.types.Mark.{Mark}
 use Rattle.desk_model.specs.declared.types.Totals.{Totals}
 use Rattle.topic_counts.specs.declared.span.Span.{Span}
 use Rattle.measure_core.specs.declared.cell.Cell.{Cell}
-use Rattle.pair_table.specs.Kept.{Kept, TopicNumbers, StandsFor, StandsElsewhere, all_numbers, numbers_on, topic_at, kept_totals, kept_bounds}
+use Rattle.pair_table.specs.Kept.{HeldSums, Kept, TopicNumbers, SumsStandFor, StandsFor, StandsElsewhere, table_sums, all_numbers, numbers_on, topic_at, kept_totals, kept_bounds}
 use Rattle.pair_table.proofs.DeskTopics.{topic_at_there}
 use Rattle.pair_table.proofs.Keeping.{length-all_numbers, totals_stand, bounds_stand}
 
@@ -58,12 +58,29 @@ numbers_elsewhere cell bound desk marks topic row table known h =
     let f : Topic → TopicNumbers = numbers_on cell bound (length desk.runs) in
     let later : List (List Mark) = slice_set marks topic row in
     record {
-      runs = h.runs;
+      runs = h.sums.runs;
       count = ap length h.topics ∙ length-all_numbers cell bound desk marks known;
       others = λ t apart. ap (λ (l : List TopicNumbers). slice_get l t) h.topics ∙ slice_get-map f (topics_under desk marks) t
           ∙ ap (option_map f) (sym (numbered_same (λ (p : ℕ × List Mark). topic_of desk p.0 p.1) 0 later marks t (set_elsewhere marks topic t row apart)))
           ∙ sym (slice_get-map f (topics_under desk later) t);
     }
+
+-- sums of the numbers of all topics stand for the desk and the marks
+pub sums_stand : {M : Type 0} (cell : List Mark → List ℕ → List ℕ → Cell) (bound : List Mark → List ℕ → Span) (desk : Desk) (marks : List (List Mark)) (sums : HeldSums M) → sums.runs ≡ length desk.runs →
+    sums.totals ≡ kept_totals (length desk.runs) (all_numbers cell bound desk marks) → sums.bounds ≡ kept_bounds (length desk.runs) (all_numbers cell bound desk marks) → SumsStandFor cell bound desk marks sums
+sums_stand cell bound desk marks sums runs totals bounds = record {
+  runs = runs;
+  totals = totals ∙ totals_stand cell bound (length desk.runs) (topics_under desk marks);
+  bounds = bounds ∙ bounds_stand cell bound (length desk.runs) (topics_under desk marks);
+}
+
+-- a table that was made stands for its desk and marks
+pub made_stands : {M : Type 0} (cell : List Mark → List ℕ → List ℕ → Cell) (bound : List Mark → List ℕ → Span) (desk : Desk) (marks : List (List Mark)) (new : Kept M) → new.runs ≡ length desk.runs → new.topics ≡ all_numbers cell bound desk marks →
+    new.totals ≡ kept_totals (length desk.runs) new.topics → new.bounds ≡ kept_bounds (length desk.runs) new.topics → StandsFor cell bound desk marks new
+made_stands cell bound desk marks new runs topics totals bounds = record {
+  sums = sums_stand cell bound desk marks (table_sums new) runs (totals ∙ ap (kept_totals (length desk.runs)) topics) (bounds ∙ ap (kept_bounds (length desk.runs)) topics);
+  topics = topics;
+}
 
 -- a table whose other topics have the numbers under marks stands for them, once the one topic has its numbers and the sums are those of all
 pub changed_stands : {M : Type 0} (cell : List Mark → List ℕ → List ℕ → Cell) (bound : List Mark → List ℕ → Span) (desk : Desk) (marks : List (List Mark)) (topic : ℕ) (old new : Kept M) → AreMarksOf desk marks → topic < length desk.topics →
@@ -74,26 +91,11 @@ changed_stands cell bound desk marks topic old new known lt h runs topics totals
     let whole : new.topics ≡ all_numbers cell bound desk marks =
     topics ∙ set_agrees old.topics (all_numbers cell bound desk marks) topic (f (topic_at desk marks topic)) (h.count ∙ sym (length-all_numbers cell bound desk marks known))
     (map_there f (topics_under desk marks) topic (topic_at desk marks topic) (topic_at_there desk marks topic known lt)) h.others in
-    record {
-      runs = runs ∙ h.runs;
-      topics = whole;
-      totals = totals ∙ ap (kept_totals (length desk.runs)) whole ∙ totals_stand cell bound (length desk.runs) (topics_under desk marks);
-      bounds = bounds ∙ ap (kept_bounds (length desk.runs)) whole ∙ bounds_stand cell bound (length desk.runs) (topics_under desk marks);
-    }
-
--- a table that was made stands for its desk and marks
-pub made_stands : {M : Type 0} (cell : List Mark → List ℕ → List ℕ → Cell) (bound : List Mark → List ℕ → Span) (desk : Desk) (marks : List (List Mark)) (new : Kept M) → new.runs ≡ length desk.runs → new.topics ≡ all_numbers cell bound desk marks →
-    new.totals ≡ kept_totals (length desk.runs) new.topics → new.bounds ≡ kept_bounds (length desk.runs) new.topics → StandsFor cell bound desk marks new
-made_stands cell bound desk marks new runs topics totals bounds = record {
-  runs = runs;
-  topics = topics;
-  totals = totals ∙ ap (kept_totals (length desk.runs)) topics ∙ totals_stand cell bound (length desk.runs) (topics_under desk marks);
-  bounds = bounds ∙ ap (kept_bounds (length desk.runs)) topics ∙ bounds_stand cell bound (length desk.runs) (topics_under desk marks);
-}
+    made_stands cell bound desk marks new (runs ∙ h.runs) whole totals bounds
 
 -- two tables of one measure that stand for the same are the same
 pub standing_are_one : {M : Type 0} (cell : List Mark → List ℕ → List ℕ → Cell) (bound : List Mark → List ℕ → Span) (desk : Desk) (marks : List (List Mark)) (a b : Kept M) → a.measure ≡ b.measure → StandsFor cell bound desk marks a → StandsFor cell bound desk marks b → a ≡ b
-standing_are_one {M = M} cell bound desk marks a b same h k = kept_same _ _ _ _ _ b same (h.runs ∙ sym k.runs) (h.topics ∙ sym k.topics) (h.totals ∙ sym k.totals) (h.bounds ∙ sym k.bounds)
+standing_are_one {M = M} cell bound desk marks a b same h k = kept_same _ _ _ _ _ b same (h.sums.runs ∙ sym k.sums.runs) (h.topics ∙ sym k.topics) (h.sums.totals ∙ sym k.sums.totals) (h.sums.bounds ∙ sym k.sums.bounds)
   where
     kept_same : (m : M) (r : ℕ) (ts : List TopicNumbers) (us : List Totals) (vs : List Span) (x : Kept M) → m ≡ x.measure → r ≡ x.runs → ts ≡ x.topics → us ≡ x.totals → vs ≡ x.bounds →
         (let y : Kept M = record { measure = m; runs = r; topics = ts; totals = us; bounds = vs } in y) ≡ x

@@ -13,17 +13,16 @@ use Rattle.desk_model.proofs.DeskTopics.{length-topics_under}
 use Rattle.desk_model.specs.Limits.{RUN_LIMIT, TOPIC_LIMIT}
 use Rattle.desk_model.specs.Order.{Topic}
 use Rattle.desk_model.specs.Pairs.{pairs_of}
-use Rattle.desk_model.specs.Verdict.{totals_of, verdict}
+use Rattle.desk_model.specs.Verdict.{totals_of}
 use Rattle.desk_model.specs.declared.types.Mark.{Mark}
 use Rattle.desk_model.specs.declared.types.Totals.{Totals}
-use Rattle.desk_model.specs.declared.types.Verdict.{Verdict}
 use Rattle.topic_counts.specs.Ends.{IsShort}
 use Rattle.topic_counts.specs.declared.span.Span.{Span}
 use Rattle.topic_counts.proofs.Spans.{span_same}
 use Rattle.measure_laws.specs.Shares.{IsModest}
 use Rattle.measure_core.specs.Laws.{CellIsModest, SpanIsModest}
 use Rattle.measure_core.specs.declared.cell.Cell.{Cell}
-use Rattle.pair_table.specs.Kept.{TopicNumbers, AllSums, kept_sums, sums_with, sums_without, SumsCanGrow, numbers_on, all_numbers, AreTopicNumbers, IsCellOf, with_cell, without_cell, with_span, without_span, no_totals, no_bounds, kept_totals, kept_bounds, each_with, sums_by, AreWithin, SpanIsWithin, IsAtMostInSize, AreModestTotals, TotalsCanGrow, BoundsCanGrow, IsKeptTable}
+use Rattle.pair_table.specs.Kept.{TopicNumbers, AllSums, kept_sums, sums_with, sums_without, SumsCanGrow, numbers_on, all_numbers, AreTopicNumbers, IsCellOf, with_cell, without_cell, with_span, without_span, no_totals, no_bounds, kept_totals, kept_bounds, each_with, sums_by, AreWithin, SpanIsWithin, IsAtMostInSize, AreModestTotals, TotalsCanGrow, BoundsCanGrow, AreSumsFor}
 use Rattle.pair_table.specs.Sums.{all_pair_sums, all_run_sums, pair_sums, run_sums, run_numbers}
 use Rattle.pair_table.proofs.Adding.{totals_same, within_step, within_near}
 use Rattle.measure_core.proofs.RunPairs.{length-run_numbers}
@@ -267,27 +266,15 @@ pub cells_more : (runs i j t : ℕ) (cells : List Cell) (topics : List TopicNumb
 cells_more runs i j t cells topics cell kept h there is =
     subst (AllZip (IsCellOf runs i j) (cells ++ cell ∷ [])) (sym (take-there topics t kept there)) (zips_more (IsCellOf runs i j) cells (take t topics) cell kept h is)
 
--- ---- what a table keeps
-pub kept_again : (runs : ℕ) (topics : List TopicNumbers) (totals : List Totals) (verdicts : List Verdict) (bounds : List Span) → runs ≤ RUN_LIMIT → length topics ≤ TOPIC_LIMIT → All (AreTopicNumbers runs) topics →
-    totals ≡ kept_totals runs topics → bounds ≡ kept_bounds runs topics → verdicts ≡ map verdict totals → IsKeptTable runs topics totals verdicts bounds
-kept_again runs topics totals verdicts bounds few few_topics numbers sums summed made = record {
+-- ---- the sums of topics
+pub sums_fit : (runs : ℕ) (topics : List TopicNumbers) → runs ≤ RUN_LIMIT → length topics ≤ TOPIC_LIMIT → All (AreTopicNumbers runs) topics → AreSumsFor runs (kept_sums runs topics)
+sums_fit runs topics few few_topics numbers = record {
   few = few;
-  few_topics = few_topics;
-  numbers = numbers;
-  sums = sums;
-  summed_bounds = summed;
-  each_pair = ap length sums ∙ length-totals runs topics numbers;
-  each_run = ap length summed ∙ length-bounds runs topics numbers;
-  each_verdict = made;
-  near_sums = subst (All AreModestTotals) (sym sums) (near_totals runs topics numbers few_topics);
-  near_bounds = subst (All IsShort) (sym summed) (near_bounds runs topics numbers few_topics);
+  each_pair = length-totals runs topics numbers;
+  each_run = length-bounds runs topics numbers;
+  near_sums = near_totals runs topics numbers few_topics;
+  near_bounds = near_bounds runs topics numbers few_topics;
 }
-
-pub kept_along : (runs : ℕ) (topics ts : List TopicNumbers) (totals us : List Totals) (verdicts vs : List Verdict) (bounds bs : List Span) → topics ≡ ts → totals ≡ us → verdicts ≡ vs → bounds ≡ bs → IsKeptTable runs ts us vs bs →
-    IsKeptTable runs topics totals verdicts bounds
-kept_along runs topics ts totals us verdicts vs bounds bs e f p q h =
-    subst (λ l. IsKeptTable runs l totals verdicts bounds) (sym e)
-    (subst (λ l. IsKeptTable runs ts l verdicts bounds) (sym f) (subst (λ l. IsKeptTable runs ts us l bounds) (sym p) (subst (λ l. IsKeptTable runs ts us vs l) (sym q) h)))
 
 -- a list of one element everywhere
 pub constant : {A B : Type 0} (y : B) (xs : List A) (ys : List B) → length ys ≡ length xs → All (λ z. z ≡ y) ys → ys ≡ map (λ (_ : A). y) xs

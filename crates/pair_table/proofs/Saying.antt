@@ -17,7 +17,8 @@ use Rattle.measure_core.specs.declared.cell.Cell.{Cell}
 use Rattle.order_certificate.specs.declared.certificate.Certificate.{Certificate}
 use Rattle.pair_table.specs.Numbers.{HasCellEnds, AreEndsBy, ArePairSums}
 use Rattle.pair_table.specs.Evidence.{SaysOfVerdict, IsCertificateOf}
-use Rattle.pair_table.specs.Kept.{Kept, AreSumsOf, StandsFor}
+use Rattle.pair_table.specs.Kept.{HeldSums, Kept, AreSumsOf, SumsStandFor, table_sums}
+use Rattle.pair_table.specs.Made.{IsSumsOf, IsTableOf}
 use Rattle.pair_table.specs.Sums.{cell_ends, pair_sums}
 use Rattle.pair_table.proofs.Swapped.{exact_in_both}
 use Rattle.pair_table.proofs.Zips.{zip_made}
@@ -35,12 +36,12 @@ cells_named cell topics a b =
     let f : Topic → Ends = λ topic. ends_of (cell topic.marks (topic.ranking a) (topic.ranking b)) in
     zip_made (λ e topic. e ≡ f topic) f topics (each_itself f topics)
 
--- the sums of a table that stands for a desk under marks
-pub standing_sums : {M : Type 0} (name : MeasureName) (cell : List Mark → List ℕ → List ℕ → Cell) (bounds : List Mark → List ℕ → Span) (desk : Desk) (marks : List (List Mark)) (i j : ℕ) (sums : Totals) (table : Kept M) →
-    MeetsLaws name cell bounds → IsDesk desk → AreMarksOf desk marks → StandsFor cell bounds desk marks table → AreSumsOf table.runs table.totals i j sums → sums ≡ pair_sums cell (topics_under desk marks) i j
-standing_sums name cell bounds desk marks i j sums table laws is_desk known stands h =
-    exact_in_both name cell bounds desk marks i j sums laws is_desk known
-    (subst (λ ts. AreSumsOf (length desk.runs) ts i j sums) stands.totals (subst (λ n. AreSumsOf n table.totals i j sums) stands.runs h))
+-- the sums of two runs, where those of a table stand for a desk under marks
+pub standing_sums : {M : Type 0} (name : MeasureName) (cell : List Mark → List ℕ → List ℕ → Cell) (bounds : List Mark → List ℕ → Span) (desk : Desk) (marks : List (List Mark)) (i j : ℕ) (totals : Totals) (sums : HeldSums M) →
+    MeetsLaws name cell bounds → IsDesk desk → AreMarksOf desk marks → SumsStandFor cell bounds desk marks sums → AreSumsOf sums.runs sums.totals i j totals → totals ≡ pair_sums cell (topics_under desk marks) i j
+standing_sums name cell bounds desk marks i j totals sums laws is_desk known stands h =
+    exact_in_both name cell bounds desk marks i j totals laws is_desk known
+    (subst (λ ts. AreSumsOf (length desk.runs) ts i j totals) stands.totals (subst (λ n. AreSumsOf n sums.totals i j totals) stands.runs h))
 
 pub summed_cells : (cell : List Mark → List ℕ → List ℕ → Cell) (topics : List Topic) (a b : ℕ) (sums : Totals) → sums ≡ pair_sums cell topics a b → ArePairSums (HasCellEnds cell) topics a b sums
 unfolding pair_sums
@@ -53,3 +54,8 @@ answered_by cell measure desk marks level a b c sums v e is said = record {
   summed = summed_cells cell (topics_under desk marks) a b sums e;
   says = subst (SaysOfVerdict (HasCellEnds cell) measure desk marks level a b c) is said;
 }
+
+-- the sums of a table of a name's measure are those of the name
+pub sums_too : {M : Type 0} (measured : MeasureName) (cell : List Mark → List ℕ → List ℕ → Cell) (bound : List Mark → List ℕ → Span) (name : MeasureName) (desk : Desk) (marks : List (List Mark)) (table : Kept M) →
+    IsTableOf measured cell bound name desk marks table → IsSumsOf measured cell bound name desk marks (table_sums table)
+sums_too measured cell bound name desk marks table h = record { made = h.made; stands = h.stands.sums }

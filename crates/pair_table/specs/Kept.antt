@@ -114,6 +114,19 @@ abbrev pub sums_without : AllSums → TopicNumbers → AllSums
 sums_without s t = record { totals = each_with without_cell s.totals t.cells; bounds = each_with without_span s.bounds t.bounds }
 
 -- ---- a table
+-- a measure, how many runs there are, the sums of each pair in pair order, and the sums of each run's bounds
+pub record HeldSums (M : Type 0) : Type 0 where
+  pub measure : M
+  pub runs : ℕ
+  pub totals : List Totals
+  pub bounds : List Span
+
+-- sums stand for a desk under marks: they are of the desk's runs, and those of a measure with these cells and bounds over the topics
+pub record SumsStandFor {M : Type 0} (cell : List Mark → List ℕ → List ℕ → Cell) (bound : List Mark → List ℕ → Span) (desk : Desk) (marks : List (List Mark)) (sums : HeldSums M) : Type 0 where
+  pub runs : sums.runs ≡ length desk.runs
+  pub totals : sums.totals ≡ all_pair_sums cell (topics_under desk marks) (length desk.runs)
+  pub bounds : sums.bounds ≡ all_run_sums bound (topics_under desk marks) (length desk.runs)
+
 -- a measure, how many runs there are, the numbers of each topic, the sums of each pair in pair order, and the sums of each run's bounds
 pub record Kept (M : Type 0) : Type 0 where
   pub measure : M
@@ -122,12 +135,14 @@ pub record Kept (M : Type 0) : Type 0 where
   pub totals : List Totals
   pub bounds : List Span
 
--- a table stands for a desk under marks: it has the desk's runs, the numbers of a measure with these cells and bounds on each topic, and their sums
+-- the sums of a table
+abbrev pub table_sums : {M : Type 0} → Kept M → HeldSums M
+table_sums table = record { measure = table.measure; runs = table.runs; totals = table.totals; bounds = table.bounds }
+
+-- a table stands for a desk under marks: its sums do, and it has the numbers of the measure on each topic
 pub record StandsFor {M : Type 0} (cell : List Mark → List ℕ → List ℕ → Cell) (bound : List Mark → List ℕ → Span) (desk : Desk) (marks : List (List Mark)) (table : Kept M) : Type 0 where
-  pub runs : table.runs ≡ length desk.runs
+  pub sums : SumsStandFor cell bound desk marks (table_sums table)
   pub topics : table.topics ≡ all_numbers cell bound desk marks
-  pub totals : table.totals ≡ all_pair_sums cell (topics_under desk marks) (length desk.runs)
-  pub bounds : table.bounds ≡ all_run_sums bound (topics_under desk marks) (length desk.runs)
 
 -- a table is of a desk, and has the numbers under marks on each topic but one
 pub record StandsElsewhere {M : Type 0} (cell : List Mark → List ℕ → List ℕ → Cell) (bound : List Mark → List ℕ → Span) (desk : Desk) (marks : List (List Mark)) (topic : ℕ) (table : Kept M) : Type 0 where
@@ -167,15 +182,22 @@ BoundsCanGrow bounds = All (SpanIsWithin (TOPIC_LIMIT + 1)) bounds
 abbrev pub SumsCanGrow : AllSums → Type 0
 SumsCanGrow s = TotalsCanGrow s.totals × BoundsCanGrow s.bounds
 
--- numbers for each topic, their sums for each pair and run, and a verdict for each sums
-pub record IsKeptTable (runs : ℕ) (topics : List TopicNumbers) (totals : List Totals) (verdicts : List Verdict) (bounds : List Span) : Type 0 where
+-- sums for each pair of so many runs and for each run, all of them from -10^30 to 10^30
+pub record AreSumsFor (runs : ℕ) (s : AllSums) : Type 0 where
   pub few : runs ≤ RUN_LIMIT
+  pub each_pair : length s.totals ≡ length (pairs_of (run_numbers runs))
+  pub each_run : length s.bounds ≡ runs
+  pub near_sums : All AreModestTotals s.totals
+  pub near_bounds : All IsShort s.bounds
+
+-- such sums, and the verdict of each pair's
+pub record AreHeldSums (runs : ℕ) (s : AllSums) (verdicts : List Verdict) : Type 0 where
+  pub sums : AreSumsFor runs s
+  pub each_verdict : verdicts ≡ map verdict s.totals
+
+-- numbers for each topic, and their sums for each pair and run
+pub record IsKeptTable {M : Type 0} (topics : List TopicNumbers) (sums : HeldSums M) : Type 0 where
   pub few_topics : length topics ≤ TOPIC_LIMIT
-  pub numbers : All (AreTopicNumbers runs) topics
-  pub sums : totals ≡ kept_totals runs topics
-  pub summed_bounds : bounds ≡ kept_bounds runs topics
-  pub each_pair : length totals ≡ length (pairs_of (run_numbers runs))
-  pub each_run : length bounds ≡ runs
-  pub each_verdict : verdicts ≡ map verdict totals
-  pub near_sums : All AreModestTotals totals
-  pub near_bounds : All IsShort bounds
+  pub numbers : All (AreTopicNumbers sums.runs) topics
+  pub totals : sums.totals ≡ kept_totals sums.runs topics
+  pub bounds : sums.bounds ≡ kept_bounds sums.runs topics

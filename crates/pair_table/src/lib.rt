@@ -13,11 +13,13 @@ pub mod settled;
 pub mod smaller_depths;
 mod sums;
 pub mod table;
+pub mod table_sums;
 mod topics;
 pub mod two_runs;
 mod witness;
 
 pub use evidence::EvidenceFault;
-pub use made::table_on;
+pub use made::{sums_on, table_on};
 pub use table::Table;
+pub use table_sums::TableSums;
 pub use two_runs::TwoRuns;

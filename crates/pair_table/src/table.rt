@@ -6,14 +6,15 @@ ghost use Rattle.desk_model.specs.Verdict.{verdict};
 ghost use Rattle.desk_model.specs.declared.types.Totals.{Totals as Sums};
 ghost use Rattle.topic_counts.specs.Ends.{IsShort};
 ghost use Rattle.pair_table.specs.Sums.{run_numbers, all_pair_sums, all_run_sums};
-ghost use Rattle.pair_table.specs.Kept.{TopicNumbers, IsCellOf, StandsFor, StandsElsewhere, AreSumsOf, AreModestTotals};
+ghost use Rattle.pair_table.specs.Kept.{TopicNumbers, IsCellOf, StandsFor, StandsElsewhere, AreSumsOf, AreModestTotals, table_sums};
 
 use crate::kept::KeptTopic;
 use crate::marked_topic::MarkedTopic;
 use crate::sums::KeptSums;
-use crate::topics::{evaluate_topics, most_documents, renew_topic, topic_rooms};
+use crate::table_sums::{TableSums, verdict_room};
+use crate::topics::{evaluate_topics, most_documents, topic_rooms};
 use crate::two_runs::TwoRuns;
-use desk_model::{Desk, Marks, Memory, Totals, Verdict, verdict_of};
+use desk_model::{Desk, Marks, Memory, Totals, Verdict};
 use measure_core::{Cell, CellRoom, Measure, Steps};
 use std::alloc::Global;
 use std::marker::Model;
@@ -26,11 +27,8 @@ use topic_counts::Span;
 /// Runs are numbered from 0. Pairs are in the order (0, 1), (0, 2), .. up to the last two runs.
 #[derive(Drop)]
 pub struct Table<M: Measure> {
-    measure: M,
-    runs: u32,
     topics: Vec<KeptTopic>,
-    sums: KeptSums,
-    verdicts: Vec<Verdict>,
+    sums: TableSums<M>,
     // What the measure finds the cells of a topic in.
     room: CellRoom,
 }
@@ -40,18 +38,9 @@ impl<M: Measure> Model for Table<M> {
 
     ghost Value = { Kept M };
 
-    ghost view = { λ t. record { measure = t.measure; runs = t.runs; topics = t.topics.items; totals = t.sums.totals; bounds = t.sums.bounds } };
+    ghost view = { λ t. record { measure = t.sums.measure; runs = t.sums.runs; topics = t.topics.items; totals = t.sums.totals; bounds = t.sums.bounds } };
 
-    ghost invariant = { λ t. IsKeptTable t.runs t.topics.items t.sums.totals t.verdicts.items t.sums.bounds };
-}
-
-fn fill_verdicts(verdicts: &mut [Verdict], totals: &[Totals])
-    requires { length verdicts.old ≡ length totals.now }
-    ensures { verdicts.new ≡ map verdict totals.now }
-{
-    for place in 0..totals.len() {
-        verdicts[place] = verdict_of(&totals[place]);
-    }
+    ghost invariant = { λ t. IsKeptTable t.topics.items t.sums };
 }
 
 impl<M: Measure> Table<M> {
@@ -86,20 +75,13 @@ impl<M: Measure> Table<M> {
         let rows = marks.rows();
         let mut topics = topic_rooms(alloc, desk)?;
         let mut sums = KeptSums::new(alloc, desk)?;
+        let verdicts = verdict_room(alloc, desk)?;
         let runs = desk.run_count();
-        let mut verdicts = vec![in alloc; Verdict::Close; (runs * (runs - 1) / 2) as usize]?;
         let mut room = CellRoom::new(alloc, most_documents(desk), runs)?;
         evaluate_topics(&mut topics, &measure, desk, rows, &mut room, steps);
         sums.add_topics(&topics, runs);
-        fill_verdicts(&mut verdicts, sums.totals());
-        Ok(Table {
-            measure,
-            runs,
-            topics,
-            sums,
-            verdicts,
-            room,
-        })
+        let sums = TableSums::of_sums(measure, runs, sums, verdicts);
+        Ok(Table { topics, sums, room })
     }
 
     /// Takes over new marks of one topic, by its number: the table is as one that is made anew for the desk
@@ -124,17 +106,11 @@ impl<M: Measure> Table<M> {
         ensures steps { steps.new ≡ steps.old + pair_count (length desk.now.runs) }
     {
         // The laws speak of measures that have a name.
-        let _name = self.measure.name();
+        let measure = self.sums.measure();
+        let _name = measure.name();
         let topic = MarkedTopic::of(desk, marks.rows(), topic);
-        renew_topic(
-            &mut self.topics,
-            &mut self.sums,
-            &self.measure,
-            &topic,
-            &mut self.room,
-            steps,
-        );
-        fill_verdicts(&mut self.verdicts, self.sums.totals());
+        self.sums
+            .renew(&mut self.topics, &topic, &mut self.room, steps);
     }
 
     /// The cells of two different runs, one for each topic. Those of (j, i) are those of (i, j) swapped.
@@ -162,7 +138,7 @@ impl<M: Measure> Table<M> {
             IsCellOf self.now.runs i j result kept }
     {
         let pair = TwoRuns {
-            runs: self.runs,
+            runs: self.sums.runs(),
             first: i,
             second: j,
         };
@@ -178,7 +154,7 @@ impl<M: Measure> Table<M> {
         ensures { (sums : Sums) × AreSumsOf self.now.runs self.now.totals i j sums ×
             (result ≡ verdict sums) }
     {
-        verdict_of(&self.totals(i, j))
+        self.sums.verdict(i, j)
     }
 
     /// The sums of two different runs. Those of (j, i) are those of (i, j) swapped: least and greatest change places, and each end is negated.
@@ -188,19 +164,14 @@ impl<M: Measure> Table<M> {
         requires second { j < self.now.runs }
         ensures { AreSumsOf self.now.runs self.now.totals i j result }
     {
-        let pair = TwoRuns {
-            runs: self.runs,
-            first: i,
-            second: j,
-        };
-        pair.sums_in(self.sums.totals())
+        self.sums.totals(i, j)
     }
 
     /// The verdict of each pair, in pair order.
     pub fn verdicts(&self) -> &[Verdict]
         ensures { result.now ≡ map verdict self.now.totals }
     {
-        &self.verdicts
+        self.sums.verdicts()
     }
 
     /// The sums of each pair, in pair order.
@@ -209,7 +180,7 @@ impl<M: Measure> Table<M> {
         ensures count { length result.now ≡ length (pairs_of (run_numbers self.now.runs)) }
         ensures near { All AreModestTotals result.now }
     {
-        self.sums.totals()
+        self.sums.all_totals()
     }
 
     /// The sums of a run's bounds.
@@ -218,7 +189,7 @@ impl<M: Measure> Table<M> {
         ensures bounds { slice_get self.now.bounds i ≡ Some result }
         ensures near { IsShort result }
     {
-        self.sums.bounds()[i as usize]
+        self.sums.run_bounds(i)
     }
 
     /// The sums of each run's bounds, in run order.
@@ -227,13 +198,20 @@ impl<M: Measure> Table<M> {
         ensures count { length result.now ≡ self.now.runs }
         ensures near { All IsShort result.now }
     {
-        self.sums.bounds()
+        self.sums.all_bounds()
     }
 
     /// The measure of the table.
     pub fn measure(&self) -> &M
         ensures { result.now ≡ self.now.measure }
     {
-        &self.measure
+        self.sums.measure()
+    }
+
+    /// The sums of the table alone, with its verdicts.
+    pub fn sums(&self) -> &TableSums<M>
+        ensures { result.now ≡ table_sums self.now }
+    {
+        &self.sums
     }
 }

@@ -12,7 +12,7 @@ cell_of-requires g c =
     let t = c.loop-topic.topic in
     let table = c.self.inside in
     let within : t < length table.topics.items = grind (arith, common_steps) in
-    let own = subst (AreTopicNumbers table.runs) (sym c.index-kept.ensures) (c.self.invariant.numbers t c.index-kept.result.now within) in
+    let own = subst (AreTopicNumbers table.sums.runs) (sym c.index-kept.ensures) (c.self.invariant.numbers t c.index-kept.result.now within) in
     own.each_run ∙ ap (λ (k : Kept _). k.runs) c.self.view_is ∙ sym c.requires
 
 pub loop-topic-preserved : goal.loop-topic-preserved

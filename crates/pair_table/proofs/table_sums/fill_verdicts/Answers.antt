@@ -3,7 +3,7 @@ use Rattle.std.proofs.lemmas.Option.{slice_get-get_or}
 use Rattle.desk_model.specs.Verdict.{verdict}
 use Rattle.desk_model.specs.declared.types.Totals.{Totals}
 use Rattle.measure_core.proofs.Filling.{filled_none, filled_more, filled_whole}
-use Rattle.pair_table.proofs.table.fill_verdicts.Goals as goal
+use Rattle.pair_table.proofs.table_sums.fill_verdicts.Goals as goal
 
 pub loop-place-init : goal.loop-place-init
 loop-place-init c = record { filled = filled_none verdict (λ _. Unit {0}) c.args.totals.now c.args.verdicts.now }
