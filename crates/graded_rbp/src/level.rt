@@ -1,4 +1,4 @@
-// The table of one level.
+// The sums of the table of one level.
 ghost use Rattle.std.specs.Prelude.{◌≡◌, ◌+◌, ◌*◌, ℕ, length, map, IfOk, OnOk, OnErr};
 ghost use Rattle.desk_model.specs.Desk.{pair_count};
 ghost use Rattle.desk_model.specs.MeasureText.{IsMeasure};
@@ -10,31 +10,31 @@ ghost use Rattle.graded_rbp.specs.Score.{GradedMeasure, binary};
 
 use desk_model::{Desk, Marks, MeasureName, Memory};
 use measure_core::{Maker, Steps};
-use pair_table::{Table, table_on};
+use pair_table::{TableSums, sums_on};
 use std::alloc::Global;
 use std::sync::ledger::Ledger;
 
-/// The table of a measure over a desk, under the marks of the judgements file at a level: under rank-biased precision
-/// its sums and bounds are those of the level. It is one step for each pair and topic, and none where memory runs out.
+/// The sums of the table of a measure over a desk, under the marks of the judgements file at a level: under rank-biased
+/// precision they are those of the level. It is one step for each pair and topic, and none where memory runs out.
 ///
 /// # Errors
 /// `Memory`: out of memory.
-pub fn level_table<P: Maker, L: Ledger>(
+pub fn level_sums<P: Maker, L: Ledger>(
     alloc: Global,
     desk: &Desk,
     level: u32,
     name: MeasureName,
     maker: &P,
     steps: &mut Steps<L>,
-) -> Result<Table<P::Made>, Memory>
+) -> Result<TableSums<P::Made>, Memory>
     requires measure { IsMeasure name }
-    ensures runs { IfOk result (λ table. table.runs ≡ length desk.now.runs) }
-    ensures totals { IfOk result (λ table. (m : GradedMeasure) → name ≡ binary m →
-        table.totals ≡ map (λ (pair : ℕ × ℕ).
+    ensures runs { IfOk result (λ sums. sums.runs ≡ length desk.now.runs) }
+    ensures totals { IfOk result (λ sums. (m : GradedMeasure) → name ≡ binary m →
+        sums.totals ≡ map (λ (pair : ℕ × ℕ).
         level_totals m pair.0 pair.1 (graded_topics desk.now) level)
         (pairs_of (run_numbers (length desk.now.runs)))) }
-    ensures bounds { IfOk result (λ table. (m : GradedMeasure) → name ≡ binary m →
-        table.bounds ≡ map (λ run. level_bounds m run (graded_topics desk.now) level)
+    ensures bounds { IfOk result (λ sums. (m : GradedMeasure) → name ≡ binary m →
+        sums.bounds ≡ map (λ run. level_bounds m run (graded_topics desk.now) level)
         (run_numbers (length desk.now.runs))) }
     ensures steps { OnOk result (steps.new ≡ steps.old + pair_count (length desk.now.runs) *
         length desk.now.topics) }
@@ -42,5 +42,5 @@ pub fn level_table<P: Maker, L: Ledger>(
 {
     desk.valid();
     let marks = Marks::of_file(alloc, desk, level, None)?;
-    table_on(alloc, desk, &marks, name, maker, steps)
+    sums_on(alloc, desk, &marks, name, maker, steps)
 }

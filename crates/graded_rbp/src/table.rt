@@ -11,7 +11,7 @@ ghost use Rattle.pair_table.specs.Sums.{run_numbers};
 ghost use Rattle.graded_rbp.specs.Kept.{StandsByGrades};
 ghost use Rattle.graded_rbp.specs.Score.{GradedMeasure, IsBiased, GREATEST_LIMIT, binary};
 
-use crate::level::level_table;
+use crate::level::level_sums;
 use crate::sums::{add_bounds, add_totals};
 use desk_model::{Desk, MeasureName, Memory, Totals, Verdict, verdict_of};
 use measure_core::{Maker, Measure, Steps};
@@ -30,7 +30,7 @@ pub struct GradedTable<M: Measure> {
     runs: u32,
     totals: Vec<Totals>,
     bounds: Vec<Span>,
-    // The table of a level is given back once its sums are added.
+    // The sums of a level are given back once they are added.
     of: PhantomData<M>,
 }
 
@@ -96,9 +96,9 @@ impl<M: Measure> GradedTable<M> {
         let runs = desk.run_count();
         let (mut totals, mut bounds) = sum_rooms(alloc, runs * (runs - 1) / 2, runs)?;
         for done in 0..greatest {
-            let table = level_table(alloc, desk, done + 1, measure, maker, steps)?;
-            add_totals(&mut totals, table.all_totals());
-            add_bounds(&mut bounds, table.all_bounds());
+            let sums = level_sums(alloc, desk, done + 1, measure, maker, steps)?;
+            add_totals(&mut totals, sums.all_totals());
+            add_bounds(&mut bounds, sums.all_bounds());
         }
         Ok(GradedTable {
             runs,

@@ -35,7 +35,7 @@ add_totals-requires-clause-count g c =
     let b = biased_by c.args.measure c.requires.biased in
     let desk = c.args.desk.now in
     ap length (c.deref_mut.ensures.value ∙ c.loop-done.invariant.totals b.0 b.1) ∙ length-all_totals (up_to b.0 c.loop-done.done) desk
-    ∙ sym (c.all_totals.ensures.count ∙ ap (λ n. length (pairs_of (run_numbers n))) c.in_ok-table.ensures.runs)
+    ∙ sym (c.all_totals.ensures.count ∙ ap (λ n. length (pairs_of (run_numbers n))) c.in_ok-sums.ensures.runs)
 
 pub add_totals-requires-clause-near : goal.add_totals-requires-clause-near
 add_totals-requires-clause-near g c =
@@ -58,24 +58,24 @@ loop-done-preserved g c =
     let n = length c.args.desk.now.runs in
     let topics = graded_topics c.args.desk.now in
     let done = c.loop-done.done in
-    let table = c.in_ok-table.table in
+    let sums = c.in_ok-sums.sums in
     let totals : List Totals = c.add_totals.new.totals in
     let size : length totals ≡ length c.loop-done.totals.items = c.add_totals.auto.totals ∙ ap length c.deref_mut.ensures.value in
     let totals_is = with_items_is c.loop-done.totals totals (omega (arith, size, c.loop-done.totals.ok.0)) in
-    let totals_made : totals ≡ each_with with_totals c.loop-done.totals.items table.totals =
+    let totals_made : totals ≡ each_with with_totals c.loop-done.totals.items sums.totals =
     c.add_totals.ensures ∙ ap (λ (xs : List Totals). each_with with_totals xs c.all_totals.result.now) c.deref_mut.ensures.value ∙ ap (λ (ys : List Totals). each_with with_totals c.loop-done.totals.items ys) c.all_totals.ensures.totals in
     let bounds : List Span = c.add_bounds.new.bounds in
     let bounds_size : length bounds ≡ length c.loop-done.bounds.items = c.add_bounds.auto.bounds ∙ ap length c.deref_mut-in-loop-done.ensures.value in
     let bounds_is = with_items_is c.loop-done.bounds bounds (omega (arith, bounds_size, c.loop-done.bounds.ok.0)) in
-    let bounds_made : bounds ≡ each_with with_span c.loop-done.bounds.items table.bounds =
+    let bounds_made : bounds ≡ each_with with_span c.loop-done.bounds.items sums.bounds =
     c.add_bounds.ensures ∙ ap (λ (xs : List Span). each_with with_span xs c.all_bounds.result.now) c.deref_mut-in-loop-done.ensures.value ∙ ap (λ (ys : List Span). each_with with_span c.loop-done.bounds.items ys) c.all_bounds.ensures.bounds in
     let cells = pair_count n * length c.args.desk.now.topics in
     record {
-      totals = λ m e. totals_is ∙ totals_made ∙ ap (λ (xs : List Totals). each_with with_totals xs table.totals) (before.totals m e)
-          ∙ ap (λ (ys : List Totals). each_with with_totals (all_graded_totals (up_to m done) c.args.desk.now) ys) (c.in_ok-table.ensures.totals m e) ∙ totals_more m done topics (pairs_of (run_numbers n));
-      bounds = λ m e. bounds_is ∙ bounds_made ∙ ap (λ (xs : List Span). each_with with_span xs table.bounds) (before.bounds m e)
-          ∙ ap (λ (ys : List Span). each_with with_span (all_graded_bounds (up_to m done) c.args.desk.now) ys) (c.in_ok-table.ensures.bounds m e) ∙ bounds_more m done topics (run_numbers n);
-      steps = c.in_ok-table.ensures.steps ∙ ap (λ s. s + cells) before.steps ∙ steps_more c.args.steps.now cells done;
+      totals = λ m e. totals_is ∙ totals_made ∙ ap (λ (xs : List Totals). each_with with_totals xs sums.totals) (before.totals m e)
+          ∙ ap (λ (ys : List Totals). each_with with_totals (all_graded_totals (up_to m done) c.args.desk.now) ys) (c.in_ok-sums.ensures.totals m e) ∙ totals_more m done topics (pairs_of (run_numbers n));
+      bounds = λ m e. bounds_is ∙ bounds_made ∙ ap (λ (xs : List Span). each_with with_span xs sums.bounds) (before.bounds m e)
+          ∙ ap (λ (ys : List Span). each_with with_span (all_graded_bounds (up_to m done) c.args.desk.now) ys) (c.in_ok-sums.ensures.bounds m e) ∙ bounds_more m done topics (run_numbers n);
+      steps = c.in_ok-sums.ensures.steps ∙ ap (λ s. s + cells) before.steps ∙ steps_more c.args.steps.now cells done;
     }
 
 pub invariant_of-result : goal.invariant_of-result
