@@ -27,7 +27,7 @@ module _ {M : Type 0} (name : MeasureName) (cell : List Mark → List ℕ → Li
   length-kept = ap length h.stands.topics ∙ length-map (topics_under desk marks) (numbers_on cell bounds (length desk.runs)) ∙ length-topics_under desk marks h.known
 
   pub kept_runs : table.runs ≡ length desk.runs
-  kept_runs = h.stands.runs
+  kept_runs = h.stands.sums.runs
 
   first_of : {X : Type 0} (x y : X) (xs ys : List X) → x ∷ xs ≡ y ∷ ys → x ≡ y
   first_of x y xs ys e = cc
@@ -44,7 +44,7 @@ module _ {M : Type 0} (name : MeasureName) (cell : List Mark → List ℕ → Li
       let in_marks : t < length marks = omega (arith, in_t, length-marks desk marks h.known) in
       let stands : slice_get table.topics t ≡ Some (numbers_on cell bounds n at) = ap (λ ts. slice_get ts t) h.stands.topics ∙ map_there (numbers_on cell bounds n) (topics_under desk marks) t at (topic_at_there desk marks t h.known in_t) in
       let same : kept ≡ numbers_on cell bounds n at = same_some kept (numbers_on cell bounds n at) (sym there ∙ stands) in
-      let is_of : IsCellOf n i j c (numbers_on cell bounds n at) = subst (IsCellOf n i j c) same (subst (λ m. IsCellOf m i j c kept) h.stands.runs is) in
+      let is_of : IsCellOf n i j c (numbers_on cell bounds n at) = subst (IsCellOf n i j c) same (subst (λ m. IsCellOf m i j c kept) h.stands.sums.runs is) in
       let met = met_at desk marks h.valid h.known j i t (get_or marks t []) in_j in_i (slice_get-get_or marks t [] in_marks) in
       first_of (ends_of c) (ends_of (cell at.marks (at.ranking i) (at.ranking j))) [] [] (cells_stand name cell bounds laws n i j (c ∷ []) (at ∷ []) (met, tt) (is_of, tt))
 

@@ -53,12 +53,12 @@ module _ {M : Type 0} (name : MeasureName) (cell : List Mark → List ℕ → Li
   -- a verdict for each pair
   pub length-verdicts : length (map verdict table.totals) ≡ length (pairs_of (run_numbers (length desk.runs)))
   length-verdicts =
-      length-map table.totals verdict ∙ ap length h.stands.totals ∙ length-map (pairs_of (run_numbers (length desk.runs))) (λ (pair : ℕ × ℕ). pair_sums cell (topics_under desk marks) pair.0 pair.1)
+      length-map table.totals verdict ∙ ap length h.stands.sums.totals ∙ length-map (pairs_of (run_numbers (length desk.runs))) (λ (pair : ℕ × ℕ). pair_sums cell (topics_under desk marks) pair.0 pair.1)
 
   -- no run of the table is certified above itself
   pub never_of_table : (a : ℕ) → IsCertifiedIn (compared desk marks table.totals) a a → ⊥
   never_of_table =
-      subst (λ (totals : List Totals). (a : ℕ) → IsCertifiedIn (compared desk marks totals) a a → ⊥) (sym h.stands.totals)
+      subst (λ (totals : List Totals). (a : ℕ) → IsCertifiedIn (compared desk marks totals) a a → ⊥) (sym h.stands.sums.totals)
       (never_certified name (topics_under desk marks) _ (measured_above name desk marks h.named h.valid h.known cell bounds laws))
 
   -- rows of the chains of its verdicts

@@ -18,7 +18,7 @@ cell-cell-requires g c =
     let pair = c.args.pair.now in
     let table = c.args.table.now in
     let M = g.M.Measure in
-    let runs = c.requires.stands.runs in
+    let runs = c.requires.stands.sums.runs in
     let long = length-kept (M.measured table.measure) (M.cell_of table.measure) (M.bounds_of table.measure) pair.desk.now c.args.marks.now table c.requires in
     record {
       different = pair.different;
