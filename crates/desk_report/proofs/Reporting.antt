@@ -22,7 +22,7 @@ use Rattle.order_bundle.specs.Scoped.{IsScoped, scoped_text}
 use Rattle.order_bundle.specs.declared.any_certificate.AnyCertificate.TheVariants.{One}
 use Rattle.order_certificate.specs.declared.certificate.Certificate.{Certificate}
 use Rattle.pair_table.specs.Evidence.{IsAnswered}
-use Rattle.pair_table.specs.Kept.{Kept, AreSumsOf, AreModestTotals}
+use Rattle.pair_table.specs.Kept.{HeldSums, AreSumsOf, AreModestTotals}
 use Rattle.pair_table.specs.Numbers.{HasCellEnds, ArePairNumbers, AreNumbersIn}
 use Rattle.pair_table.specs.Sums.{run_numbers, swapped_totals}
 use Rattle.pair_table.specs.declared.evidence.EvidenceFault.{EvidenceFault}
@@ -81,7 +81,7 @@ kept_next_is desk marks weights proposal s text valid known next over marked of 
     }
 
 -- ---- texts
-module _ {M : Type 0} (measured : MeasureName) (cell : List Mark → List ℕ → List ℕ → Cell) (bounds : List Mark → List ℕ → Span) (desk : Desk) (valid : IsDesk desk) (table : Kept M) (s : Subject) (of : IsSubjectOf measured cell bounds desk table s) where
+module _ {M : Type 0} (measured : MeasureName) (cell : List Mark → List ℕ → List ℕ → Cell) (bounds : List Mark → List ℕ → Span) (desk : Desk) (valid : IsDesk desk) (sums : HeldSums M) (s : Subject) (of : IsSubjectOf measured cell bounds desk sums s) where
   valid_too : IsDesk s.desk
   valid_too = subst IsDesk (sym of.over) valid
 
@@ -91,57 +91,57 @@ module _ {M : Type 0} (measured : MeasureName) (cell : List Mark → List ℕ �
   named_too : (run : ℕ) (name : List ℕ) → slice_get desk.runs run ≡ Some name → name ≡ run_name s.desk run
   named_too run name is = named_run desk run name is ∙ ap (λ d. run_name d run) (sym of.over)
 
-  pub table_numbers : AreNumbersIn s.measure s.desk s.marks table.bounds table.totals
+  pub table_numbers : AreNumbersIn s.measure s.desk s.marks sums.bounds sums.totals
   table_numbers =
-      subst (λ b. AreNumbersIn s.measure s.desk s.marks b table.totals) (sym of.on.stands.bounds)
+      subst (λ b. AreNumbersIn s.measure s.desk s.marks b sums.totals) (sym of.on.stands.bounds)
       (subst (AreNumbersIn s.measure s.desk s.marks _) (sym of.on.stands.totals) (table_named s.measure cell bounds s.desk s.marks of.on.made.numbers valid_too of.marked))
 
-  pub table_is : (level : ℕ) (depth : Option ℕ) (name : MeasureName) (unit : ℤ) (text : List ℕ) → s.level ≡ level → s.depth ≡ depth → name ≡ measured → unit ≡ pos (unit_of measured) → text ≡ table_text desk name level depth unit table.bounds table.totals → IsTableText s text
+  pub table_is : (level : ℕ) (depth : Option ℕ) (name : MeasureName) (unit : ℤ) (text : List ℕ) → s.level ≡ level → s.depth ≡ depth → name ≡ measured → unit ≡ pos (unit_of measured) → text ≡ table_text desk name level depth unit sums.bounds sums.totals → IsTableText s text
   table_is level depth name unit text at under named units is = record {
     valid = valid_too;
-    bounds = table.bounds;
-    totals = table.totals;
+    bounds = sums.bounds;
+    totals = sums.totals;
     numbers = table_numbers;
-    is = is ∙ ap (λ d. table_text d name level depth unit table.bounds table.totals) (sym of.over)
-        ∙ ap (λ m. table_text s.desk m level depth unit table.bounds table.totals) (named ∙ of.on.made.named)
-        ∙ ap (λ l. table_text s.desk s.measure l depth unit table.bounds table.totals) (sym at)
-        ∙ ap (λ o. table_text s.desk s.measure s.level o unit table.bounds table.totals) (sym under)
-        ∙ ap (λ u. table_text s.desk s.measure s.level s.depth u table.bounds table.totals) (units ∙ ap (λ m. pos (unit_of m)) of.on.made.named);
+    is = is ∙ ap (λ d. table_text d name level depth unit sums.bounds sums.totals) (sym of.over)
+        ∙ ap (λ m. table_text s.desk m level depth unit sums.bounds sums.totals) (named ∙ of.on.made.named)
+        ∙ ap (λ l. table_text s.desk s.measure l depth unit sums.bounds sums.totals) (sym at)
+        ∙ ap (λ o. table_text s.desk s.measure s.level o unit sums.bounds sums.totals) (sym under)
+        ∙ ap (λ u. table_text s.desk s.measure s.level s.depth u sums.bounds sums.totals) (units ∙ ap (λ m. pos (unit_of m)) of.on.made.named);
   }
 
-  pub next_is : (marks : List (List Mark)) (measure : MeasureName) (verdicts : List Verdict) (proposal : Option Proposal) (text : List ℕ) → s.marks ≡ marks → measure ≡ measured → verdicts ≡ map verdict table.totals →
+  pub next_is : (marks : List (List Mark)) (measure : MeasureName) (verdicts : List Verdict) (proposal : Option Proposal) (text : List ℕ) → s.marks ≡ marks → measure ≡ measured → verdicts ≡ map verdict sums.totals →
       IsNext (record { measure = measure; desk = desk; marks = marks; verdicts = verdicts }) proposal → text ≡ ended (next_line desk proposal) → IsNextText s text
   next_is marks measure verdicts proposal text marked named decided next is =
       let name : measure ≡ s.measure = named ∙ of.on.made.named in
-      let same : record { measure = measure; desk = desk; marks = marks; verdicts = verdicts } ≡ standing_of s table.totals =
+      let same : record { measure = measure; desk = desk; marks = marks; verdicts = verdicts } ≡ standing_of s sums.totals =
       λ i. record { measure = name i; desk = sym of.over i; marks = sym marked i; verdicts = decided i } in
       record {
         valid = valid_too;
-        totals = table.totals;
+        totals = sums.totals;
         summed = table_numbers.pairs;
         proposal = proposal;
         next = subst (λ (standing : Standing). IsNext standing proposal) same next;
         is = is ∙ ap (λ d. ended (next_line d proposal)) (sym of.over);
       }
 
-  pair_numbers : (a b : ℕ) (sums : Totals) → MeetsLaws measured cell bounds → AreRuns desk a b → AreSumsOf table.runs table.totals a b sums → ArePairNumbers s.measure (topics_under s.desk s.marks) a b sums
-  pair_numbers a b sums laws runs h =
+  pair_numbers : (a b : ℕ) (totals : Totals) → MeetsLaws measured cell bounds → AreRuns desk a b → AreSumsOf sums.runs sums.totals a b totals → ArePairNumbers s.measure (topics_under s.desk s.marks) a b totals
+  pair_numbers a b totals laws runs h =
       let topics = topics_under s.desk s.marks in
       let there = runs_too a b runs in
-      subst (ArePairNumbers s.measure topics a b) (sym (standing_sums measured cell bounds s.desk s.marks a b sums table laws valid_too of.marked of.on.stands h))
+      subst (ArePairNumbers s.measure topics a b) (sym (standing_sums measured cell bounds s.desk s.marks a b totals sums laws valid_too of.marked of.on.stands h))
       (pair_named s.measure cell bounds of.on.made.numbers topics a b (topics_met s.desk s.marks valid_too of.marked a b there.first there.second))
 
-  pub pair_is : (a b : ℕ) (sums : Totals) (parts : ℕ) (x y : List ℕ) (text : List ℕ) → MeetsLaws measured cell bounds → AreRuns desk a b → AreSumsOf table.runs table.totals a b sums → parts ≡ unit_of measured * length desk.topics →
-      slice_get desk.runs a ≡ Some x → slice_get desk.runs b ≡ Some y → text ≡ ended (pair_line parts x y sums) → IsPairText s a b text
-  pair_is a b sums parts x y text laws runs h units first second is =
+  pub pair_is : (a b : ℕ) (totals : Totals) (parts : ℕ) (x y : List ℕ) (text : List ℕ) → MeetsLaws measured cell bounds → AreRuns desk a b → AreSumsOf sums.runs sums.totals a b totals → parts ≡ unit_of measured * length desk.topics →
+      slice_get desk.runs a ≡ Some x → slice_get desk.runs b ≡ Some y → text ≡ ended (pair_line parts x y totals) → IsPairText s a b text
+  pair_is a b totals parts x y text laws runs h units first second is =
       let same : parts ≡ unit_of s.measure * length s.desk.topics = units ∙ ap (λ m. unit_of m * length desk.topics) of.on.made.named ∙ ap (λ (d : Desk). unit_of s.measure * length d.topics) (sym of.over) in
       record {
         valid = valid_too;
         runs = runs_too a b runs;
-        totals = sums;
-        summed = pair_numbers a b sums laws runs h;
-        is = is ∙ ap (λ p. ended (pair_line p x y sums)) same ∙ ap (λ n. ended (pair_line (unit_of s.measure * length s.desk.topics) n y sums)) (named_too a x first)
-            ∙ ap (λ n. ended (pair_line (unit_of s.measure * length s.desk.topics) (run_name s.desk a) n sums)) (named_too b y second);
+        totals = totals;
+        summed = pair_numbers a b totals laws runs h;
+        is = is ∙ ap (λ p. ended (pair_line p x y totals)) same ∙ ap (λ n. ended (pair_line (unit_of s.measure * length s.desk.topics) n y totals)) (named_too a x first)
+            ∙ ap (λ n. ended (pair_line (unit_of s.measure * length s.desk.topics) (run_name s.desk a) n totals)) (named_too b y second);
       }
 
   answered_by_name : (level a b : ℕ) (marks : List (List Mark)) (answer : Result Certificate EvidenceFault) → s.level ≡ level → s.marks ≡ marks → AreRuns desk a b → IsAnswered (HasCellEnds cell) measured desk marks level a b answer →
@@ -165,15 +165,15 @@ module _ {M : Type 0} (measured : MeasureName) (cell : List Mark → List ℕ �
     is = is ∙ ap (λ o. scoped_text (record { depth = o; body = One c })) (sym under);
   }
 
-  pub close_is : (level a b : ℕ) (marks : List (List Mark)) → s.level ≡ level → s.marks ≡ marks → AreRuns desk a b → (sums : Totals) (x y text : List ℕ) → IsAnswered (HasCellEnds cell) measured desk marks level a b (Err (Close sums)) →
-      slice_get desk.runs a ≡ Some x → slice_get desk.runs b ≡ Some y → text ≡ ended (close_line x y sums) → IsCloseText s a b text
-  close_is level a b marks at marked runs sums x y text h first second is =
-      let answer = answered_by_name level a b marks (Err (Close sums)) at marked runs h in
+  pub close_is : (level a b : ℕ) (marks : List (List Mark)) → s.level ≡ level → s.marks ≡ marks → AreRuns desk a b → (totals : Totals) (x y text : List ℕ) → IsAnswered (HasCellEnds cell) measured desk marks level a b (Err (Close totals)) →
+      slice_get desk.runs a ≡ Some x → slice_get desk.runs b ≡ Some y → text ≡ ended (close_line x y totals) → IsCloseText s a b text
+  close_is level a b marks at marked runs totals x y text h first second is =
+      let answer = answered_by_name level a b marks (Err (Close totals)) at marked runs h in
       record {
         valid = valid_too;
         runs = runs_too a b runs;
-        totals = sums;
+        totals = totals;
         summed = answer.0;
         close = answer.1;
-        is = is ∙ ap (λ n. ended (close_line n y sums)) (named_too a x first) ∙ ap (λ n. ended (close_line (run_name s.desk a) n sums)) (named_too b y second);
+        is = is ∙ ap (λ n. ended (close_line n y totals)) (named_too a x first) ∙ ap (λ n. ended (close_line (run_name s.desk a) n totals)) (named_too b y second);
       }

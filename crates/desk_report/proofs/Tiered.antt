@@ -16,7 +16,7 @@ use Rattle.desk_model.proofs.Words.{IsWord, name_word, fields_word, fields_last}
 use Rattle.topic_counts.specs.declared.span.Span.{Span}
 use Rattle.measure_core.specs.declared.cell.Cell.{Cell}
 use Rattle.order_bundle.specs.Scoped.{depth_lines}
-use Rattle.pair_table.specs.Kept.{Kept}
+use Rattle.pair_table.specs.Kept.{HeldSums}
 use Rattle.pair_table.specs.Numbers.{HasCellEnds}
 use Rattle.order_tiers.specs.Holding.{CoverHolds}
 use Rattle.order_tiers.specs.Order.{Ordered, IsOrderBy, IsOrderIn, CoverIsWithin, compared}
@@ -68,12 +68,12 @@ number_word : (n : ℕ) → IsWord (decimal n)
 number_word n = signed_word (pos n)
 
 -- ---- the text of a table
-pub tiers_is : {M : Type 0} (measured : MeasureName) (cell : List Mark → List ℕ → List ℕ → Cell) (bounds : List Mark → List ℕ → Span) (desk : Desk) (valid : IsDesk desk) (table : Kept M) (s : Subject) (of : IsSubjectOf measured cell bounds desk table s)
+pub tiers_is : {M : Type 0} (measured : MeasureName) (cell : List Mark → List ℕ → List ℕ → Cell) (bounds : List Mark → List ℕ → Span) (desk : Desk) (valid : IsDesk desk) (sums : HeldSums M) (s : Subject) (of : IsSubjectOf measured cell bounds desk sums s)
     (level : ℕ) (depth : Option ℕ) (name : MeasureName) (marks : List (List Mark)) (order : Ordered) (text : List ℕ) → s.level ≡ level → s.depth ≡ depth → s.marks ≡ marks → name ≡ measured →
-    IsOrderBy (HasCellEnds cell) (compared desk marks table.totals) order → text ≡ tiers_text desk name level depth order → IsTiersText s text
-tiers_is measured cell bounds desk valid table s of level depth name marks order text at under marked named is_order is =
-    let own : IsOrderBy (HasCellEnds cell) (compared s.desk s.marks table.totals) order =
-    subst (λ ms. IsOrderBy (HasCellEnds cell) (compared s.desk ms table.totals) order) (sym marked) (subst (λ d. IsOrderBy (HasCellEnds cell) (compared d marks table.totals) order) (sym of.over) is_order) in
+    IsOrderBy (HasCellEnds cell) (compared desk marks sums.totals) order → text ≡ tiers_text desk name level depth order → IsTiersText s text
+tiers_is measured cell bounds desk valid sums s of level depth name marks order text at under marked named is_order is =
+    let own : IsOrderBy (HasCellEnds cell) (compared s.desk s.marks sums.totals) order =
+    subst (λ ms. IsOrderBy (HasCellEnds cell) (compared s.desk ms sums.totals) order) (sym marked) (subst (λ d. IsOrderBy (HasCellEnds cell) (compared d marks sums.totals) order) (sym of.over) is_order) in
     let valid_too = subst IsDesk (sym of.over) valid in
     record {
       valid = valid_too;

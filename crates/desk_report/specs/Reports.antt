@@ -15,8 +15,8 @@ use Rattle.order_bundle.specs.declared.scoped.Scoped.{Scoped}
 use Rattle.order_bundle.specs.declared.any_certificate.AnyCertificate.TheVariants.{One}
 use Rattle.order_certificate.specs.declared.certificate.Certificate.{Certificate}
 use Rattle.pair_table.specs.Evidence.{IsCertificateOf}
-use Rattle.pair_table.specs.Kept.{Kept}
-use Rattle.pair_table.specs.Made.{IsTableOf}
+use Rattle.pair_table.specs.Kept.{HeldSums, Kept}
+use Rattle.pair_table.specs.Made.{IsSumsOf, IsTableOf}
 use Rattle.pair_table.specs.Numbers.{AreNumbersIn, ArePairNumbers, AreAllPairNumbers}
 use Rattle.next_document.specs.Kept.{HeldTotals as Weights, AreKeptFor}
 use Rattle.next_document.specs.Proposal.{Standing, IsNext}
@@ -46,11 +46,15 @@ cells_of desk = pair_count (length desk.runs) * length desk.topics
 abbrev pub IsTableOn : {M : Type 0} → MeasureName → (List Mark → List ℕ → List ℕ → Cell) → (List Mark → List ℕ → Span) → Subject → Kept M → Type 0
 IsTableOn measured cell bound s table = IsTableOf measured cell bound s.measure s.desk s.marks table
 
--- what a table over a desk speaks of
-pub record IsSubjectOf {M : Type 0} (measured : MeasureName) (cell : List Mark → List ℕ → List ℕ → Cell) (bound : List Mark → List ℕ → Span) (desk : Desk) (table : Kept M) (s : Subject) : Type 0 where
+-- so are the sums of a table
+abbrev pub IsSumsOn : {M : Type 0} → MeasureName → (List Mark → List ℕ → List ℕ → Cell) → (List Mark → List ℕ → Span) → Subject → HeldSums M → Type 0
+IsSumsOn measured cell bound s sums = IsSumsOf measured cell bound s.measure s.desk s.marks sums
+
+-- what the sums of a table over a desk speak of
+pub record IsSubjectOf {M : Type 0} (measured : MeasureName) (cell : List Mark → List ℕ → List ℕ → Cell) (bound : List Mark → List ℕ → Span) (desk : Desk) (sums : HeldSums M) (s : Subject) : Type 0 where
   pub over : s.desk ≡ desk
   pub marked : AreMarksOf s.desk s.marks
-  pub on : IsTableOn measured cell bound s table
+  pub on : IsSumsOn measured cell bound s sums
 
 -- the text is the table of the desk
 pub record IsTableText (s : Subject) (text : List ℕ) : Type 0 where

@@ -7,8 +7,8 @@ ghost use Rattle.next_document.specs.Kept.{AreKeptFor};
 ghost use Rattle.order_bundle.specs.Scoped.{IsScope, scoped_text};
 ghost use Rattle.order_bundle.specs.declared.any_certificate.AnyCertificate.TheVariants.{One};
 ghost use Rattle.order_certificate.specs.Certificate.{IsCertificate};
-ghost use Rattle.pair_table.specs.Kept.{StandsFor};
-ghost use Rattle.desk_report.specs.Reports.{Subject, subject, IsTableOn, IsSubjectOf, IsTableText, IsPairText, IsCertifiedAs, IsNextText, AreWeightsOf, AreRuns, cells_of};
+ghost use Rattle.pair_table.specs.Kept.{StandsFor, table_sums};
+ghost use Rattle.desk_report.specs.Reports.{Subject, subject, IsSubjectOf, IsTableText, IsPairText, IsCertifiedAs, IsNextText, AreWeightsOf, AreRuns, cells_of};
 
 use crate::{Grading, close_line, next_line_text, pair_line, table_text};
 use desk_model::{Desk, Marks, MeasureName, Memory};
@@ -18,7 +18,7 @@ use order_bundle::{
     AnyCertificate, BundleFault, Scoped, scoped_certificates_have_texts, write_scoped,
 };
 use order_certificate::Certificate;
-use pair_table::{EvidenceFault, Table};
+use pair_table::{EvidenceFault, Table, TableSums};
 use std::alloc::Global;
 use std::sync::ledger::Ledger;
 
@@ -31,9 +31,9 @@ pub enum Certified {
     Close(Vec<u8>),
 }
 
-/// The text of a table over a desk: its head with the measure, the level, the depth where there is one, and how many
-/// topics and runs there are, a line for each run and a line for each pair. It speaks of the marks for which the table
-/// stands.
+/// The text of a table over a desk by its sums: its head with the measure, the level, the depth where there is one, and
+/// how many topics and runs there are, a line for each run and a line for each pair. It speaks of the marks for which the
+/// sums stand.
 ///
 /// # Errors
 /// `Memory`: out of memory.
@@ -41,17 +41,17 @@ pub fn table_report<M: Measure>(
     alloc: Global,
     desk: &Desk,
     grading: Grading,
-    table: &Table<M>,
+    sums: &TableSums<M>,
 ) -> Result<Vec<u8>, Memory>
-    requires { table.now.runs ≡ length desk.now.runs }
+    requires { sums.now.runs ≡ length desk.now.runs }
     ensures { IfOk result (λ text. (s : Subject) → s.level ≡ grading.level →
         s.depth ≡ grading.depth →
-        IsSubjectOf (M.measured table.now.measure) (M.cell_of table.now.measure)
-        (M.bounds_of table.now.measure) desk.now table.now s →
+        IsSubjectOf (M.measured sums.now.measure) (M.cell_of sums.now.measure)
+        (M.bounds_of sums.now.measure) desk.now sums.now s →
         IsTableText s text.items) }
 {
     desk.valid();
-    let measure = table.measure();
+    let measure = sums.measure();
     let name = measure.name();
     let text = table_text(
         alloc,
@@ -60,36 +60,36 @@ pub fn table_report<M: Measure>(
         grading.level(),
         grading.depth(),
         measure.unit(),
-        table.all_bounds(),
-        table.all_totals(),
+        sums.all_bounds(),
+        sums.all_totals(),
     )?;
     Ok(text)
 }
 
 /// The pair line of two different runs of a desk, numbered from 0, with its line feed: the first run stands first,
-/// whichever comes first in the desk. It speaks of the marks for which the table stands.
+/// whichever comes first in the desk. It speaks of the marks for which the sums stand.
 ///
 /// # Errors
 /// `Memory`: out of memory.
 pub fn pair_report<M: Measure>(
     alloc: Global,
     desk: &Desk,
-    table: &Table<M>,
+    sums: &TableSums<M>,
     first: u32,
     second: u32,
 ) -> Result<Vec<u8>, Memory>
     requires runs { AreRuns desk.now first second }
-    requires table { table.now.runs ≡ length desk.now.runs }
+    requires sums { sums.now.runs ≡ length desk.now.runs }
     ensures { IfOk result (λ text. (s : Subject) →
-        IsSubjectOf (M.measured table.now.measure) (M.cell_of table.now.measure)
-        (M.bounds_of table.now.measure) desk.now table.now s →
+        IsSubjectOf (M.measured sums.now.measure) (M.cell_of sums.now.measure)
+        (M.bounds_of sums.now.measure) desk.now sums.now s →
         IsPairText s first second text.items) }
 {
-    let measure = table.measure();
+    let measure = sums.measure();
     // The laws speak of measures that have a name, and of sums that are not large.
-    let (_name, _sums) = (measure.name(), table.all_totals());
+    let (_name, _sums) = (measure.name(), sums.all_totals());
     let topics = desk.topic_count();
-    let totals = table.totals(first, second);
+    let totals = sums.totals(first, second);
     let text = pair_line(
         alloc,
         desk.run_name(first),
@@ -145,7 +145,7 @@ pub fn certified_report<M: Measure>(
     ensures { IfOk result (λ answer. (s : Subject) → s.level ≡ grading.level →
         s.depth ≡ grading.depth → s.marks ≡ marks.now.rows →
         IsSubjectOf (M.measured table.now.measure) (M.cell_of table.now.measure)
-        (M.bounds_of table.now.measure) desk.now table.now s →
+        (M.bounds_of table.now.measure) desk.now (table_sums table.now) s →
         IsCertifiedAs s first second answer) }
 {
     desk.valid();
@@ -171,19 +171,19 @@ pub fn next_report<M: Measure>(
     alloc: Global,
     desk: &Desk,
     marks: &Marks,
-    table: &Table<M>,
+    sums: &TableSums<M>,
 ) -> Result<Vec<u8>, Memory>
     requires marks { AreMarksOf desk.now marks.now.rows }
-    requires table { table.now.runs ≡ length desk.now.runs }
+    requires sums { sums.now.runs ≡ length desk.now.runs }
     ensures { IfOk result (λ text. (s : Subject) → s.marks ≡ marks.now.rows →
-        IsSubjectOf (M.measured table.now.measure) (M.cell_of table.now.measure)
-        (M.bounds_of table.now.measure) desk.now table.now s →
+        IsSubjectOf (M.measured sums.now.measure) (M.cell_of sums.now.measure)
+        (M.bounds_of sums.now.measure) desk.now sums.now s →
         IsNextText s text.items) }
 {
     desk.valid();
-    // A table has sums for each pair.
-    let _sums = table.all_totals();
-    let proposal = next(table.measure(), desk, marks, table.verdicts());
+    // There are sums for each pair.
+    let _sums = sums.all_totals();
+    let proposal = next(sums.measure(), desk, marks, sums.verdicts());
     let text = next_line_text(alloc, desk, proposal.as_ref())?;
     Ok(text)
 }

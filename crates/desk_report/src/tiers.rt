@@ -1,7 +1,7 @@
 // The printed tiers of the runs of a table.
 ghost use Rattle.std.specs.Prelude.{◌≡◌, ◌++◌, ◌∷◌, [], All, length, map, flat_map, codes, decimal, IfOk, OnOk};
 ghost use Rattle.desk_model.specs.Desk.{AreMarksOf};
-ghost use Rattle.pair_table.specs.Kept.{StandsFor};
+ghost use Rattle.pair_table.specs.Kept.{StandsFor, table_sums};
 ghost use Rattle.order_tiers.specs.Order.{CoverIsWithin};
 ghost use Rattle.desk_report.specs.Reports.{Subject, IsSubjectOf};
 ghost use Rattle.desk_report.specs.Table.{ended};
@@ -129,7 +129,7 @@ pub fn tiers_report<M: Measure>(
     ensures { IfOk result (λ text. (s : Subject) → s.level ≡ grading.level →
         s.depth ≡ grading.depth → s.marks ≡ marks.now.rows →
         IsSubjectOf (M.measured table.now.measure) (M.cell_of table.now.measure)
-        (M.bounds_of table.now.measure) desk.now table.now s →
+        (M.bounds_of table.now.measure) desk.now (table_sums table.now) s →
         IsTiersText s text.items) }
 {
     desk.valid();

@@ -13,9 +13,9 @@ use Rattle.desk_report.proofs.reports.next_report.Goals as goal
 
 pub next-proposal-requires-clause-verdicts : goal.next-proposal-requires-clause-verdicts
 next-proposal-requires-clause-verdicts g c =
-    let totals = c.args.table.now.totals in
+    let totals = c.args.sums.now.totals in
     ap length c.verdicts.ensures ∙ length-map totals verdict ∙ ap length (sym c.all_totals-sums.ensures.totals) ∙ c.all_totals-sums.ensures.count
-    ∙ ap (λ n. length (pairs_of (run_numbers n))) c.requires.table ∙ length-pairs_of c.args.desk.now.runs 0
+    ∙ ap (λ n. length (pairs_of (run_numbers n))) c.requires.sums ∙ length-pairs_of c.args.desk.now.runs 0
 
 pub next_line_text-requires-clause-topic : goal.next_line_text-requires-clause-topic
 next_line_text-requires-clause-topic g c =
@@ -27,9 +27,9 @@ next_line_text-requires-clause-doc g c =
 
 pub returns : goal.returns
 returns g c = λ s marked of.
-    let table = c.args.table.now in
+    let sums = c.args.sums.now in
     let desk = c.args.desk.now in
     let M = g.M.Measure in
     let proposal = c.next-proposal.result in
-    next_is (M.measured table.measure) (M.cell_of table.measure) (M.bounds_of table.measure) desk c.valid.ensures table s of c.args.marks.now.rows (M.measured c.measure.result.now) c.verdicts.result.now proposal c.in_ok-text.text.items marked
+    next_is (M.measured sums.measure) (M.cell_of sums.measure) (M.bounds_of sums.measure) desk c.valid.ensures sums s of c.args.marks.now.rows (M.measured c.measure.result.now) c.verdicts.result.now proposal c.in_ok-text.text.items marked
     (ap M.measured c.measure.ensures) c.verdicts.ensures c.next-proposal.ensures.next (c.in_ok-text.ensures ∙ ap (λ o. ended (next_line desk o)) c.as_ref.ensures.value)

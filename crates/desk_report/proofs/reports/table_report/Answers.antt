@@ -14,14 +14,14 @@ table_text-requires-clause-totals_count g c = c.all_totals.ensures.count ∙ ap 
 
 pub returns : goal.returns
 returns g c = λ s at under of.
-    let table = c.args.table.now in
+    let sums = c.args.sums.now in
     let M = g.M.Measure in
     let measured = ap M.measured c.measure-measure.ensures in
-    let unit : c.unit.result ≡ pos (unit_of (M.measured table.measure)) = c.unit.ensures ∙ ap (λ m. pos (unit_of m)) measured in
+    let unit : c.unit.result ≡ pos (unit_of (M.measured sums.measure)) = c.unit.ensures ∙ ap (λ m. pos (unit_of m)) measured in
     let given : to_z w128 (of_z w128 c.unit.result) ≡ c.unit.result = omega (arith, ints) in
-    table_is (M.measured table.measure) (M.cell_of table.measure) (M.bounds_of table.measure) c.args.desk.now c.valid.ensures table s of c.level.result c.depth.result c.name-name.result c.unit.result c.in_ok-text.text.items
+    table_is (M.measured sums.measure) (M.cell_of sums.measure) (M.bounds_of sums.measure) c.args.desk.now c.valid.ensures sums s of c.level.result c.depth.result c.name-name.result c.unit.result c.in_ok-text.text.items
     (at ∙ sym c.level.ensures.value) (under ∙ sym c.depth.ensures.value) (c.name-name.ensures.name ∙ measured) unit
     (c.in_ok-text.ensures
     ∙ ap (λ u. table_text c.args.desk.now c.name-name.result c.level.result c.depth.result u c.all_bounds.result.now c.all_totals.result.now) given
     ∙ ap (λ bs. table_text c.args.desk.now c.name-name.result c.level.result c.depth.result c.unit.result bs c.all_totals.result.now) c.all_bounds.ensures.bounds
-    ∙ ap (λ ts. table_text c.args.desk.now c.name-name.result c.level.result c.depth.result c.unit.result table.bounds ts) c.all_totals.ensures.totals)
+    ∙ ap (λ ts. table_text c.args.desk.now c.name-name.result c.level.result c.depth.result c.unit.result sums.bounds ts) c.all_totals.ensures.totals)
