@@ -14,7 +14,7 @@ use Rattle.next_document.specs.Kept.{HeldTotals as Weights, AreKeptFor}
 use Rattle.next_document.proofs.Elsewhere.{were_kept}
 use Rattle.desk_report.specs.Reports.{Subject, IsSubjectOf, AreWeightsOf}
 use Rattle.desk_report.proofs.Reporting.{table_numbers}
-use Rattle.pair_table.specs.Kept.{Kept, StandsFor}
+use Rattle.pair_table.specs.Kept.{Kept, StandsFor, table_sums}
 use Rattle.pair_table.specs.Sums.{pair_sums, run_numbers}
 use Rattle.pair_table.proofs.PairNumbers.{length-pairs_of}
 use Rattle.session_replies.specs.State.{Numbers, AreWeightsFor, WereWeightsFor}
@@ -23,7 +23,7 @@ use Rattle.session_replies.specs.State.{Numbers, AreWeightsFor, WereWeightsFor}
 pub verdict_each : {M : Type 0} (cell : List Mark → List ℕ → List ℕ → Cell) (bound : List Mark → List ℕ → Span) (desk : Desk) (marks : List (List Mark)) (table : Kept M) → StandsFor cell bound desk marks table →
     length (map verdict table.totals) ≡ length (pairs_of desk.runs)
 verdict_each cell bound desk marks table h =
-    length-map table.totals verdict ∙ ap length h.totals
+    length-map table.totals verdict ∙ ap length h.sums.totals
     ∙ length-map (pairs_of (run_numbers (length desk.runs))) (λ (pair : ℕ × ℕ). pair_sums cell (topics_under desk marks) pair.0 pair.1) ∙ length-pairs_of desk.runs 0
 
 -- totals that are there were those of marks that differ in one topic, for the marks with another mark of one document
@@ -46,10 +46,10 @@ weights_where_none n desk marks (Some weights) (Some t) made none h = absurd (cc
 
 -- ---- what is said of totals that are there
 pub weights_ready : {M : Type 0} (measured : MeasureName) (cell : List Mark → List ℕ → List ℕ → Cell) (bound : List Mark → List ℕ → Span) (desk : Desk) (marks : List (List Mark)) (table : Kept M) (weights : Weights) (s : Subject) → IsDesk desk →
-    AreKeptFor measured desk marks weights × (weights.verdicts ≡ map verdict table.totals) → s.marks ≡ marks → IsSubjectOf measured cell bound desk table s → AreWeightsOf s weights
+    AreKeptFor measured desk marks weights × (weights.verdicts ≡ map verdict table.totals) → s.marks ≡ marks → IsSubjectOf measured cell bound desk (table_sums table) s → AreWeightsOf s weights
 weights_ready measured cell bound desk marks table weights s valid h marked of = record {
   totals = table.totals;
-  summed = (table_numbers measured cell bound desk valid table s of).pairs;
+  summed = (table_numbers measured cell bound desk valid (table_sums table) s of).pairs;
   decided = h.1;
   kept = subst (λ m. AreKeptFor m s.desk s.marks weights) of.on.made.named
       (subst (λ d. AreKeptFor measured d s.marks weights) (sym of.over) (subst (λ ms. AreKeptFor measured desk ms weights) (sym marked) h.0));

@@ -3,7 +3,7 @@ ghost use Rattle.std.specs.Prelude.{◌≡◌, ◌+◌, ◌≤◌, Some, IfOk, I
 ghost use Rattle.desk_model.specs.Desk.{AreMarksOf};
 ghost use Rattle.desk_model.specs.Name.{number_of};
 ghost use Rattle.desk_report.specs.Reports.{Subject, IsSubjectOf, IsNextText, AreRuns};
-ghost use Rattle.pair_table.specs.Kept.{StandsFor};
+ghost use Rattle.pair_table.specs.Kept.{StandsFor, table_sums};
 ghost use Rattle.session_replies.specs.Replies.{refusal, subject_after, IsRunRefusal};
 ghost use Rattle.session_replies.specs.State.{setting_of, IsSetting, IsReadyForLine, Keeps, IsReported, AreReportedRuns, AreWeightsFor, owed, word_of, shown_text};
 
@@ -126,13 +126,14 @@ fn report_text<M: Measure>(
     ensures { IfOk result (λ text. (s : Subject) → s.level ≡ given.now.grading.level →
         s.depth ≡ given.now.grading.depth → s.marks ≡ marks.now.rows →
         IsSubjectOf (M.measured table.now.measure) (M.cell_of table.now.measure)
-        (M.bounds_of table.now.measure) given.now.desk.now table.now s →
+        (M.bounds_of table.now.measure) given.now.desk.now (table_sums table.now) s →
         IsReported s report text.items) }
 {
     let (desk, grading) = (given.desk, given.grading);
+    let sums = table.sums();
     match report {
-        TableRequest::Table => table_report(alloc, desk, grading, table),
-        TableRequest::Pair((first, second)) => pair_report(alloc, desk, table, first, second),
+        TableRequest::Table => table_report(alloc, desk, grading, sums),
+        TableRequest::Pair((first, second)) => pair_report(alloc, desk, sums, first, second),
         TableRequest::Certificate((first, second)) => {
             let answer = certified_report(alloc, desk, marks, grading, table, first, second)?;
             Ok(shown(answer))
@@ -222,7 +223,7 @@ fn next_text<M: Measure>(
     ensures kept { IsSome weights.old → IsSome weights.new }
     ensures text { IfOk result (λ text. (s : Subject) → s.marks ≡ marks.now.rows →
         IsSubjectOf (M.measured table.now.measure) (M.cell_of table.now.measure)
-        (M.bounds_of table.now.measure) desk.now table.now s →
+        (M.bounds_of table.now.measure) desk.now (table_sums table.now) s →
         IsNextText s text.items) }
 {
     desk.valid();
