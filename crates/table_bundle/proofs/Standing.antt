@@ -17,4 +17,4 @@ pub standing_cells : {M : Type 0} (name : MeasureName) (cell : List Mark → Lis
     StandsFor cell bounds desk marks table → (i j : ℕ) → i < length desk.runs → j < length desk.runs → (cells : List Cell) → AllZip (IsCellOf table.runs i j) cells table.topics → map ends_of cells ≡ cell_ends cell (topics_under desk marks) i j
 standing_cells name cell bounds desk marks table laws is_desk known stands i j in_i in_j cells h =
     cells_stand name cell bounds laws (length desk.runs) i j cells (topics_under desk marks) (topics_met desk marks is_desk known j i in_j in_i)
-    (subst (λ (ts : List TopicNumbers). AllZip (IsCellOf (length desk.runs) i j) cells ts) stands.topics (subst (λ n. AllZip (IsCellOf n i j) cells table.topics) stands.runs h))
+    (subst (λ (ts : List TopicNumbers). AllZip (IsCellOf (length desk.runs) i j) cells ts) stands.topics (subst (λ n. AllZip (IsCellOf n i j) cells table.topics) stands.sums.runs h))

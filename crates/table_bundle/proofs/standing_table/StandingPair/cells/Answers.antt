@@ -17,7 +17,7 @@ returns g c =
     let bounds = g.M.Measure.bounds_of table.measure in
     let valid : IsMeasure name = subst IsMeasure (c.name-name.ensures.name ∙ ap g.M.Measure.measured c.measure-measure.ensures) c.name-name.ensures.built in
     let laws = g.met.M.Measure.laws table.measure valid in
-    let same = c.run_count.ensures.count ∙ sym s.stands.runs in
+    let same = c.run_count.ensures.count ∙ sym s.stands.sums.runs in
     IfOk-weaker c.cells.result _ _ (λ cells zipped.
     standing_cells name cell bounds s.desk.now s.marks.now table laws c.run_count.ensures.desk s.marked s.stands a b c.args.self.now.known.first c.args.self.now.known.second cells.items
     (subst (λ n. AllZip (IsCellOf n a b) cells.items table.topics) same zipped)) c.cells.ensures

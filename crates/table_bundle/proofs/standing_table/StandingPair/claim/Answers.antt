@@ -4,6 +4,7 @@ use Rattle.desk_model.specs.MeasureText.{IsMeasure}
 use Rattle.desk_model.specs.Verdict.{verdict}
 use Rattle.desk_model.specs.declared.types.Verdict.{Verdict}
 use Rattle.order_bundle.specs.declared.bundle.PairClaim.{PairClaim}
+use Rattle.pair_table.specs.Kept.{table_sums}
 use Rattle.pair_table.specs.Sums.{pair_sums}
 use Rattle.pair_table.proofs.Saying.{standing_sums}
 use Rattle.table_bundle.specs.Drafts.{draft_by}
@@ -19,7 +20,7 @@ returns-in-Close g c =
     let topics = topics_under c.args.self.now.standing.now.desk.now c.args.self.now.standing.now.marks.now in
     let valid : IsMeasure name = subst IsMeasure (c.name-name.ensures.name ∙ ap g.M.Measure.measured c.measure-measure.ensures) c.name-name.ensures.built in
     let laws = g.met.M.Measure.laws table.measure valid in
-    let told = standing_sums name cell bounds c.args.self.now.standing.now.desk.now c.args.self.now.standing.now.marks.now c.args.self.now.pair.first c.args.self.now.pair.second c.verdict.ensures.0 table laws c.valid.ensures c.args.self.now.standing.now.marked c.args.self.now.standing.now.stands c.verdict.ensures.1 in
+    let told = standing_sums name cell bounds c.args.self.now.standing.now.desk.now c.args.self.now.standing.now.marks.now c.args.self.now.pair.first c.args.self.now.pair.second c.verdict.ensures.0 (table_sums table) laws c.valid.ensures c.args.self.now.standing.now.marked c.args.self.now.standing.now.stands.sums c.verdict.ensures.1 in
     let close = sym (ap verdict told) ∙ sym c.verdict.ensures.2 ∙ c.in-Close.is in
     sym (ap (draft_by cell name topics (c.args.self.now.pair.at.first, c.args.self.now.pair.at.second) c.args.self.now.pair.first c.args.self.now.pair.second) close)
 
@@ -38,7 +39,7 @@ returns g c =
     let topics = topics_under desk marks in
     let valid : IsMeasure name = subst IsMeasure (c.name-name.ensures.name ∙ ap g.M.Measure.measured c.measure-measure.ensures) c.name-name.ensures.built in
     let laws = g.met.M.Measure.laws table.measure valid in
-    let told = standing_sums name cell bounds desk marks a b c.verdict.ensures.0 table laws c.valid.ensures c.args.self.now.standing.now.marked c.args.self.now.standing.now.stands c.verdict.ensures.1 in
+    let told = standing_sums name cell bounds desk marks a b c.verdict.ensures.0 (table_sums table) laws c.valid.ensures c.args.self.now.standing.now.marked c.args.self.now.standing.now.stands.sums c.verdict.ensures.1 in
     let judged : verdict (pair_sums cell topics a b) ≡ c.verdict.result = sym (ap verdict told) ∙ sym c.verdict.ensures.2 in
     let draft : Verdict → Option PairClaim = draft_by cell name topics (i, j) a b in
     elim c.match-verdict.branch [

@@ -12,6 +12,7 @@ use Rattle.desk_model.specs.declared.types.Verdict.TheVariants.{Open}
 use Rattle.measure_core.specs.declared.cell.Cell.{Cell}
 use Rattle.order_bundle.specs.Bundle.{runs_text}
 use Rattle.order_bundle.proofs.Counting.{one_more_line}
+use Rattle.pair_table.specs.Kept.{table_sums}
 use Rattle.pair_table.specs.Sums.{pair_sums}
 use Rattle.pair_table.proofs.Saying.{standing_sums}
 use Rattle.table_bundle.specs.Bundles.{if_held}
@@ -39,7 +40,7 @@ count_settled-requires g c =
     let p = c.args.self.now.pair in
     let valid : IsMeasure name = subst IsMeasure (c.name-name.ensures.name ∙ ap g.M.Measure.measured c.measure.ensures) c.name-name.ensures.built in
     let laws = g.met.M.Measure.laws table.measure valid in
-    let told = standing_sums name cell (g.M.Measure.bounds_of table.measure) c.args.self.now.standing.now.desk.now c.args.self.now.standing.now.marks.now p.first p.second c.verdict.ensures.0 table laws c.valid.ensures c.args.self.now.standing.now.marked c.args.self.now.standing.now.stands c.verdict.ensures.1 in
+    let told = standing_sums name cell (g.M.Measure.bounds_of table.measure) c.args.self.now.standing.now.desk.now c.args.self.now.standing.now.marks.now p.first p.second c.verdict.ensures.0 (table_sums table) laws c.valid.ensures c.args.self.now.standing.now.marked c.args.self.now.standing.now.stands.sums c.verdict.ensures.1 in
     record { settled = λ e. c.in_default.not-Open (c.verdict.ensures.2 ∙ ap verdict told ∙ e) }
 
 pub returns-in_ok-push-in-Open-clause-count : goal.returns-in_ok-push-in-Open-clause-count
@@ -51,7 +52,7 @@ returns-in_ok-push-in-Open-clause-count g c =
     let p = c.args.self.now.pair in
     let valid : IsMeasure name = subst IsMeasure (c.name-name.ensures.name ∙ ap g.M.Measure.measured c.measure.ensures) c.name-name.ensures.built in
     let laws = g.met.M.Measure.laws table.measure valid in
-    let told = standing_sums name cell (g.M.Measure.bounds_of table.measure) c.args.self.now.standing.now.desk.now c.args.self.now.standing.now.marks.now p.first p.second c.verdict.ensures.0 table laws c.valid.ensures c.args.self.now.standing.now.marked c.args.self.now.standing.now.stands c.verdict.ensures.1 in
+    let told = standing_sums name cell (g.M.Measure.bounds_of table.measure) c.args.self.now.standing.now.desk.now c.args.self.now.standing.now.marks.now p.first p.second c.verdict.ensures.0 (table_sums table) laws c.valid.ensures c.args.self.now.standing.now.marked c.args.self.now.standing.now.stands.sums c.verdict.ensures.1 in
     let is : verdict (pair_sums cell topics p.first p.second) ≡ Open = sym (ap verdict told) ∙ sym c.verdict.ensures.2 ∙ c.in-Open.is in
     open_count cell name topics p (verdict (pair_sums cell topics p.first p.second)) c.runs_text_length-bytes.result is c.runs_text_length-bytes.ensures.count
 
@@ -64,7 +65,7 @@ returns-in_ok-push-in-Open-clause-undecided g c =
     let p = c.args.self.now.pair in
     let valid : IsMeasure name = subst IsMeasure (c.name-name.ensures.name ∙ ap g.M.Measure.measured c.measure.ensures) c.name-name.ensures.built in
     let laws = g.met.M.Measure.laws table.measure valid in
-    let told = standing_sums name cell (g.M.Measure.bounds_of table.measure) c.args.self.now.standing.now.desk.now c.args.self.now.standing.now.marks.now p.first p.second c.verdict.ensures.0 table laws c.valid.ensures c.args.self.now.standing.now.marked c.args.self.now.standing.now.stands c.verdict.ensures.1 in
+    let told = standing_sums name cell (g.M.Measure.bounds_of table.measure) c.args.self.now.standing.now.desk.now c.args.self.now.standing.now.marks.now p.first p.second c.verdict.ensures.0 (table_sums table) laws c.valid.ensures c.args.self.now.standing.now.marked c.args.self.now.standing.now.stands.sums c.verdict.ensures.1 in
     let is : verdict (pair_sums cell topics p.first p.second) ≡ Open = sym (ap verdict told) ∙ sym c.verdict.ensures.2 ∙ c.in-Open.is in
     c.in_ok-push-in-Open.ensures.items ∙ ap (λ (v : Verdict). c.args.undecided.now.items ++ if_open v p) (sym is)
 
@@ -77,7 +78,7 @@ returns-in_ok-count-in_default-clause-undecided g c =
     let p = c.args.self.now.pair in
     let valid : IsMeasure name = subst IsMeasure (c.name-name.ensures.name ∙ ap g.M.Measure.measured c.measure.ensures) c.name-name.ensures.built in
     let laws = g.met.M.Measure.laws table.measure valid in
-    let told = standing_sums name cell (g.M.Measure.bounds_of table.measure) c.args.self.now.standing.now.desk.now c.args.self.now.standing.now.marks.now p.first p.second c.verdict.ensures.0 table laws c.valid.ensures c.args.self.now.standing.now.marked c.args.self.now.standing.now.stands c.verdict.ensures.1 in
+    let told = standing_sums name cell (g.M.Measure.bounds_of table.measure) c.args.self.now.standing.now.desk.now c.args.self.now.standing.now.marks.now p.first p.second c.verdict.ensures.0 (table_sums table) laws c.valid.ensures c.args.self.now.standing.now.marked c.args.self.now.standing.now.stands.sums c.verdict.ensures.1 in
     let other : verdict (pair_sums cell topics p.first p.second) ≢ Open = λ e. c.in_default.not-Open (c.verdict.ensures.2 ∙ ap verdict told ∙ e) in
     let items : List NamedPair = c.args.undecided.now.items in
     sym (append-nil items) ∙ ap (λ (l : List NamedPair). items ++ l) (sym (none_open cell name topics p (verdict (pair_sums cell topics p.first p.second)) other))
