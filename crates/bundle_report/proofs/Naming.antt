@@ -10,7 +10,7 @@ use Rattle.measure_core.specs.declared.cell.Cell.{Cell}
 use Rattle.order_bundle.specs.Bundle.{Bundle}
 use Rattle.order_bundle.specs.Scoped.{IsScoped, scoped_text}
 use Rattle.order_bundle.specs.declared.any_certificate.AnyCertificate.TheVariants.{Many}
-use Rattle.pair_table.specs.Kept.{Kept}
+use Rattle.pair_table.specs.Kept.{HeldSums}
 use Rattle.pair_table.specs.Numbers.{HasCellEnds}
 use Rattle.table_bundle.specs.Bundles.{IsBundleOf}
 use Rattle.desk_report.specs.Reports.{Subject, IsSubjectOf}
@@ -22,9 +22,9 @@ BundlesAreOfNames =
     (name : MeasureName) (cell : List Mark → List ℕ → List ℕ → Cell) (bounds : List Mark → List ℕ → Span) (desk : Desk) (marks : List (List Mark)) (level : ℕ) (b : Bundle) →
     AreNumbersOfName name cell bounds → IsDesk desk → AreMarksOf desk marks → IsBundleOf (HasCellEnds cell) name desk marks level b → IsBundleOf (HasEnds name) name desk marks level b
 
-pub bundle_on : BundlesAreOfNames → {M : Type 0} (measured : MeasureName) (cell : List Mark → List ℕ → List ℕ → Cell) (bounds : List Mark → List ℕ → Span) (desk : Desk) (table : Kept M) (s : Subject) (level : ℕ) (marks : List (List Mark)) →
-    IsDesk desk → s.level ≡ level → s.marks ≡ marks → IsSubjectOf measured cell bounds desk table s → (b : Bundle) → IsBundleOf (HasCellEnds cell) measured desk marks level b → IsBundleOn s b
-bundle_on by_name measured cell bounds desk table s level marks valid at marked of b h =
+pub bundle_on : BundlesAreOfNames → {M : Type 0} (measured : MeasureName) (cell : List Mark → List ℕ → List ℕ → Cell) (bounds : List Mark → List ℕ → Span) (desk : Desk) (sums : HeldSums M) (s : Subject) (level : ℕ) (marks : List (List Mark)) →
+    IsDesk desk → s.level ≡ level → s.marks ≡ marks → IsSubjectOf measured cell bounds desk sums s → (b : Bundle) → IsBundleOf (HasCellEnds cell) measured desk marks level b → IsBundleOn s b
+bundle_on by_name measured cell bounds desk sums s level marks valid at marked of b h =
     let there : IsDesk s.desk = subst IsDesk (sym of.over) valid in
     let moved : IsBundleOf (HasCellEnds cell) s.measure s.desk s.marks s.level b =
     subst (λ m. IsBundleOf (HasCellEnds cell) m s.desk s.marks s.level b) of.on.made.named

@@ -2,7 +2,7 @@
 ghost use Rattle.std.specs.Prelude.{◌≡◌, ◌≤◌, length, IfOk};
 ghost use Rattle.desk_model.specs.Desk.{AreMarksOf};
 ghost use Rattle.desk_report.specs.Reports.{Subject, IsSubjectOf};
-ghost use Rattle.pair_table.specs.Kept.{StandsFor};
+ghost use Rattle.pair_table.specs.Kept.{StandsFor, table_sums};
 ghost use Rattle.bundle_report.specs.Bundled.{IsBundledAs};
 
 use desk_model::{Desk, Marks, Memory};
@@ -46,7 +46,7 @@ pub fn bundle_report<M: Measure>(
     ensures { IfOk result (λ answer. (s : Subject) → s.level ≡ grading.level →
         s.depth ≡ grading.depth → s.marks ≡ marks.now.rows →
         IsSubjectOf (M.measured table.now.measure) (M.cell_of table.now.measure)
-        (M.bounds_of table.now.measure) desk.now table.now s →
+        (M.bounds_of table.now.measure) desk.now (table_sums table.now) s →
         IsBundledAs s answer) }
 {
     desk.valid();

@@ -4,6 +4,7 @@ use Rattle.order_bundle.specs.Bundle.{Bundle, bundle_text}
 use Rattle.order_bundle.specs.Scoped.{scoped_text}
 use Rattle.order_bundle.specs.declared.any_certificate.AnyCertificate.TheVariants.{Many}
 use Rattle.order_bundle.specs.declared.scoped.Scoped.{Scoped}
+use Rattle.pair_table.specs.Kept.{table_sums}
 use Rattle.bundle_report.proofs.Naming.{bundle_on, length_is_on, text_is_on, within_on}
 use Rattle.bundle_report.proofs.report.bundle_report.Goals as goal
 
@@ -21,7 +22,7 @@ returns-then-bytes-gt-LONGEST_TEXT g c = λ s at under marked of.
     let each = found.each found.bundle found.of_table in
     record {
       bundle = found.bundle;
-      on = bundle_on c.bundles_are_of_names.ensures (M.measured table.measure) (M.cell_of table.measure) (M.bounds_of table.measure) c.args.desk.now table s c.level-level.result c.args.marks.now.rows c.valid.ensures (at ∙ sym c.level-level.ensures.value) marked of found.bundle found.of_table;
+      on = bundle_on c.bundles_are_of_names.ensures (M.measured table.measure) (M.cell_of table.measure) (M.bounds_of table.measure) c.args.desk.now (table_sums table) s c.level-level.result c.args.marks.now.rows c.valid.ensures (at ∙ sym c.level-level.ensures.value) marked of found.bundle found.of_table;
       counted = length_is_on s found.bundle depth _ (under ∙ sym c.depth-depth.ensures.value) (omega (arith, is, each, c.depth_length.ensures.count));
       long = c.if-bytes-gt-LONGEST_TEXT.true;
     }
@@ -34,7 +35,7 @@ returns-in-Ok g c = λ s at under marked of.
     let depth = c.depth-depth.result in
     record {
       bundle = bundle;
-      on = bundle_on c.bundles_are_of_names.ensures (M.measured table.measure) (M.cell_of table.measure) (M.bounds_of table.measure) c.args.desk.now table s c.level-level.result c.args.marks.now.rows c.valid.ensures (at ∙ sym c.level-level.ensures.value) marked of bundle c.in_ok-bundle.ensures;
+      on = bundle_on c.bundles_are_of_names.ensures (M.measured table.measure) (M.cell_of table.measure) (M.bounds_of table.measure) c.args.desk.now (table_sums table) s c.level-level.result c.args.marks.now.rows c.valid.ensures (at ∙ sym c.level-level.ensures.value) marked of bundle c.in_ok-bundle.ensures;
       within = within_on s bundle depth (under ∙ sym c.depth-depth.ensures.value) (record { scope = c.depth-depth.ensures.within; body = c.in_ok-bundle.ensures.form });
       is = text_is_on s bundle depth c.in-Ok.text.items (under ∙ sym c.depth-depth.ensures.value) (c.scoped_certificates_have_texts.ensures.written c.in-Ok.text.items (record { depth = depth; body = Many bundle }) c.in-Ok.ensures.text);
       short = c.in-Ok.ensures.short;
@@ -49,7 +50,7 @@ returns-in-Err-TooLong g c = λ s at under marked of.
     let fault = rw c.in-Err-TooLong.field-0-is at c.in-Err-TooLong.ensures.fault in
     record {
       bundle = bundle;
-      on = bundle_on c.bundles_are_of_names.ensures (M.measured table.measure) (M.cell_of table.measure) (M.bounds_of table.measure) c.args.desk.now table s c.level-level.result c.args.marks.now.rows c.valid.ensures (at ∙ sym c.level-level.ensures.value) marked of bundle c.in_ok-bundle.ensures;
+      on = bundle_on c.bundles_are_of_names.ensures (M.measured table.measure) (M.cell_of table.measure) (M.bounds_of table.measure) c.args.desk.now (table_sums table) s c.level-level.result c.args.marks.now.rows c.valid.ensures (at ∙ sym c.level-level.ensures.value) marked of bundle c.in_ok-bundle.ensures;
       counted = length_is_on s bundle depth _ (under ∙ sym c.depth-depth.ensures.value) fault.0;
       long = fault.1;
     }
