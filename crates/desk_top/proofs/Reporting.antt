@@ -21,7 +21,9 @@ use Rattle.desk_files.specs.declared.stop.Stop.{Stop as KeptStop}
 use Rattle.desk_files.specs.declared.stop.Stop.TheVariants as kept
 use Rattle.desk_files.proofs.Opening.{may_open_qrels}
 use Rattle.desk_files.proofs.Checking.{check_opens_qrels}
-use Rattle.desk_report.specs.Reports.{Subject, cells_of, IsSubjectOf, IsCertifiedAs}
+use Rattle.desk_report.specs.Reports.{Subject, cells_of, IsSubjectOf, IsSumsOn, IsCertifiedAs}
+use Rattle.pair_table.specs.Kept.{HeldSums, StandsFor, table_sums}
+use Rattle.pair_table.proofs.Saying.{sums_too}
 use Rattle.bundle_report.specs.Bundled.{IsBundledAs}
 use Rattle.bundle_report.specs.declared.report.Bundled.{Bundled}
 use Rattle.bundle_report.specs.declared.report.Bundled.TheVariants as bundled
@@ -34,7 +36,7 @@ use Rattle.desk_top.specs.declared.status.Status.TheVariants.{Done, Close, Refus
 use Rattle.desk_top.specs.Status.{GoesWithText}
 use Rattle.desk_top.specs.Answer.{About, OfRuns}
 use Rattle.desk_top.specs.Outcome.{Outcome, Prints, Refuses}
-use Rattle.desk_top.specs.Report.{sources_of, subject_of, shown_as, IsShownAs, IsTabled}
+use Rattle.desk_top.specs.Report.{marks_in, sources_of, subject_of, shown_as, IsDeskFor, IsShownAs, IsTabled}
 use Rattle.desk_top.specs.declared.work.DeskTable.{DeskTable}
 use Rattle.desk_top.specs.Loading.{Loading, MayCome, OpensFiles, loading_from, desk_loading, check_loading}
 use Rattle.desk_top.specs.Meaning.{Meaning, desk_meaning, PrintsCertificate, PrintsAllPairs}
@@ -129,10 +131,21 @@ all_shown_makes job rows desk ranked before after counted (bundled.TooLong bytes
 all_shown_makes job rows desk ranked before after counted (bundled.TooLong bytes) is (made.Prints text status) shown = absurd shown
 all_shown_makes job rows desk ranked before after counted (bundled.TooLong bytes) is (made.Holds other measure grading) shown = absurd shown
 
+-- what the sums of a desk speak of, and its marks
+module _ (job : Job) (known : Option Files) (desk : Desk) (marks : List (List Mark)) (is : IsDeskFor job known desk marks) where
+  pub desk_subject : {M : Type 0} (measured : MeasureName) (cell : List Mark → List ℕ → List ℕ → Cell) (bound : List Mark → List ℕ → Span) (sums : HeldSums M) → IsSumsOn measured cell bound (subject_of job desk) sums → IsSubjectOf measured cell bound desk sums (subject_of job desk)
+  desk_subject measured cell bound sums on = record { over = refl; marked = marks_known job.level job.depth desk is.ranked.valid; on = on }
+
+  pub desk_marks : AreMarksOf desk marks
+  desk_marks = subst (AreMarksOf desk) (sym is.marked) (marks_known job.level job.depth desk is.ranked.valid)
+
 -- what a desk with its table speaks of
 module _ {M : Type 0} (measured : MeasureName) (cell : List Mark → List ℕ → List ℕ → Cell) (bound : List Mark → List ℕ → Span) (job : Job) (known : Option Files) (on : DeskTable M) (is : IsTabled measured cell bound job known on) where
-  pub tabled_subject : IsSubjectOf measured cell bound on.desk on.table (subject_of job on.desk)
-  tabled_subject = record { over = refl; marked = marks_known job.level job.depth on.desk is.ranked.valid; on = is.table }
+  pub tabled_subject : IsSubjectOf measured cell bound on.desk (table_sums on.table) (subject_of job on.desk)
+  tabled_subject = desk_subject job known on.desk on.marks.rows is.of_files measured cell bound (table_sums on.table) (sums_too measured cell bound job.measure on.desk (marks_in job on.desk) on.table is.table)
 
   pub tabled_marks : AreMarksOf on.desk on.marks.rows
-  tabled_marks = subst (AreMarksOf on.desk) (sym is.marked) (marks_known job.level job.depth on.desk is.ranked.valid)
+  tabled_marks = desk_marks job known on.desk on.marks.rows is.of_files
+
+  pub tabled_stands : StandsFor cell bound on.desk on.marks.rows on.table
+  tabled_stands = subst (λ marks. StandsFor cell bound on.desk marks on.table) (sym is.of_files.marked) is.table.stands

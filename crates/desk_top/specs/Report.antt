@@ -85,11 +85,15 @@ pub record HasDeskOf (rows : Loaded) (fact : Desk → Type 0) : Type 0 where
   pub ranked : IsDeskOf rows.qrels rows.runs desk
   pub holds : fact desk
 
--- the desk of the files of a job, the marks that they give, and the table of the measure
-pub record IsTabled {M : Type 0} (measured : MeasureName) (cell : List Mark → List ℕ → List ℕ → Cell) (bound : List Mark → List ℕ → Span) (job : Job) (known : Option Files) (on : DeskTable M) : Type 0 where
+-- the desk of the files of a job, and the marks that they give
+pub record IsDeskFor (job : Job) (known : Option Files) (desk : Desk) (marks : List (List Mark)) : Type 0 where
   pub rows : Loaded
   pub read : Reads known (sources_of job) rows
-  pub ranked : IsDeskOf rows.qrels rows.runs on.desk
-  pub runs : length on.desk.runs ≡ length job.runs
-  pub marked : on.marks.rows ≡ marks_in job on.desk
+  pub ranked : IsDeskOf rows.qrels rows.runs desk
+  pub runs : length desk.runs ≡ length job.runs
+  pub marked : marks ≡ marks_in job desk
+
+-- the same, and the table of the measure
+pub record IsTabled {M : Type 0} (measured : MeasureName) (cell : List Mark → List ℕ → List ℕ → Cell) (bound : List Mark → List ℕ → Span) (job : Job) (known : Option Files) (on : DeskTable M) : Type 0 where
+  pub of_files : IsDeskFor job known on.desk on.marks.rows
   pub table : IsTableOn measured cell bound (subject_of job on.desk) on.table

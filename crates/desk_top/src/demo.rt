@@ -3,7 +3,7 @@ ghost use Rattle.std.specs.Prelude.{◌≡◌, IfOk, IfErr};
 ghost use Rattle.desk_files.specs.declared.stop.Stop.TheVariants.{Memory as NoMemory};
 ghost use Rattle.desk_model.specs.Desk.{IsDesk};
 ghost use Rattle.desk_outside.specs.Seen.{Shelf as SeenShelf};
-ghost use Rattle.desk_report.specs.Reports.{IsTableOn};
+ghost use Rattle.desk_report.specs.Reports.{IsSumsOn};
 ghost use Rattle.desk_top.specs.Meaning.{demo_meaning};
 ghost use Rattle.desk_top.specs.Showing.{demo_subject, IsShown, IsDemoText, CountsDemo};
 ghost use Rattle.desk_top.specs.Works.{Works};
@@ -16,7 +16,7 @@ use desk_files::Stop;
 use desk_model::{Marks, MeasureName, Memory};
 use desk_report::next_report;
 use measure_core::{Maker, Measure, Steps};
-use pair_table::{Table, table_on};
+use pair_table::{TableSums, sums_on};
 use std::alloc::Global;
 use std::sync::ledger::Ledger;
 
@@ -24,18 +24,18 @@ const LEVEL: u32 = 1;
 
 const DEPTH: u32 = 10;
 
-// The summary of a demo by its table, and after it what is to be judged next.
+// The summary of a demo by the sums of its table, and after it what is to be judged next.
 fn texts_of<M: Measure>(
     alloc: Global,
     seed: u32,
     demo: &DemoDesk,
     marks: &Marks,
-    table: &Table<M>,
+    sums: &TableSums<M>,
 ) -> Result<Vec<u8>, Memory>
     requires valid { IsDesk demo.now.desk }
     requires marks { marks.now.rows ≡ (demo_subject demo.now.desk).marks }
-    requires table { IsTableOn (M.measured table.now.measure) (M.cell_of table.now.measure)
-        (M.bounds_of table.now.measure) (demo_subject demo.now.desk) table.now }
+    requires sums { IsSumsOn (M.measured sums.now.measure) (M.cell_of sums.now.measure)
+        (M.bounds_of sums.now.measure) (demo_subject demo.now.desk) sums.now }
     ensures { IfOk result (λ text. IsShown seed demo.now.desk demo.now.rows text.items) }
 {
     let mut text = summary_text(
@@ -44,9 +44,9 @@ fn texts_of<M: Measure>(
         demo.rows,
         &demo.desk,
         marks.rows(),
-        table.verdicts(),
+        sums.verdicts(),
     )?;
-    let next = next_report(alloc, &demo.desk, marks, table)?;
+    let next = next_report(alloc, &demo.desk, marks, sums)?;
     text.extend_from_slice(&next)?;
     Ok(text)
 }
@@ -63,7 +63,7 @@ fn demo_text<P: Maker, L: Ledger>(
     let demo = demo_desk(tools.alloc, seed)?;
     demo.desk.valid();
     let marks = Marks::of_file(tools.alloc, &demo.desk, LEVEL, None)?;
-    let table = table_on(
+    let sums = sums_on(
         tools.alloc,
         &demo.desk,
         &marks,
@@ -71,7 +71,7 @@ fn demo_text<P: Maker, L: Ledger>(
         tools.maker,
         steps,
     )?;
-    texts_of(tools.alloc, seed, &demo, &marks, &table)
+    texts_of(tools.alloc, seed, &demo, &marks, &sums)
 }
 
 /// The demo of a seed, for which no file is at hand.

@@ -8,7 +8,7 @@ ghost use Rattle.desk_report.specs.Reports.{cells_of};
 ghost use Rattle.desk_words.specs.declared.command.Command.TheVariants as commands;
 ghost use Rattle.desk_top.specs.Loading.{desk_loading, OpensWithin};
 ghost use Rattle.desk_top.specs.Meaning.{meaning_of};
-ghost use Rattle.desk_top.specs.Report.{IsAsked, IsShownAs, IsTabled, shown_as};
+ghost use Rattle.desk_top.specs.Report.{IsAsked, IsDeskFor, IsShownAs, IsTabled, shown_as};
 ghost use Rattle.desk_top.specs.Works.{StopsLoading, Works};
 
 use crate::demo::demo_outcome;
@@ -27,16 +27,41 @@ use desk_outside::Shelf;
 use desk_report::{Certified, Grading, certified_report, table_report, tiers_report};
 use desk_words::{Command, Job};
 use measure_core::{Maker, Measure, Steps};
-use pair_table::{Table, table_on};
+use pair_table::{Table, sums_on, table_on};
 use std::alloc::{AllocError, Global};
 use std::sync::ledger::Ledger;
 
-/// The desk of some files, the marks that they give its documents, and a table of these marks.
+/// The desk of some files, and the marks that they give its documents.
+#[derive(Drop)]
+pub struct JobDesk {
+    pub desk: Desk,
+    pub marks: Marks,
+}
+
+/// The same, and a table of these marks.
 #[derive(Drop)]
 pub struct DeskTable<M: Measure> {
     pub desk: Desk,
     pub marks: Marks,
     pub table: Table<M>,
+}
+
+// The desk of a job with its marks.
+fn marked<'a, F: Shelf>(alloc: Global, job: &'a Job, files: &mut F) -> Result<JobDesk, Stop<'a>>
+    ensures on { IfOk result (λ on.
+        IsDeskFor job.now (F.state files.old).files on.desk on.marks.rows) }
+    ensures stops { IfErr result
+        (StopsLoading (desk_loading job.now) (shelf (F.state files.old) (F.state files.new))) }
+    ensures opened { OpensWithin (desk_loading job.now)
+        (shelf (F.state files.old) (F.state files.new)) }
+    ensures reads { ReadsFiles (extent_of (answer_of result)) (F.state files.old).calls
+        (F.state files.new).calls }
+    ensures files { (F.state files.new).files ≡ (F.state files.old).files }
+{
+    let desk = load_desk(alloc, files, &job.qrels, &job.runs, 1)?;
+    desk.valid();
+    let marks = Marks::of_file(alloc, &desk, job.level, job.depth)?;
+    Ok(JobDesk { desk, marks })
 }
 
 // The desk of a job with its table.
@@ -61,9 +86,7 @@ fn tabled<'a, F: Shelf, P: Maker, L: Ledger>(
         (F.state files.new).calls }
     ensures files { (F.state files.new).files ≡ (F.state files.old).files }
 {
-    let desk = load_desk(tools.alloc, files, &job.qrels, &job.runs, 1)?;
-    desk.valid();
-    let marks = Marks::of_file(tools.alloc, &desk, job.level, job.depth)?;
+    let JobDesk { desk, marks } = marked(tools.alloc, job, files)?;
     let table = table_on(tools.alloc, &desk, &marks, job.measure, tools.maker, steps)?;
     Ok(DeskTable { desk, marks, table })
 }
@@ -84,9 +107,17 @@ pub fn table_outcome<'a, F: Shelf, P: Maker, L: Ledger>(
         (F.state files.new).calls }
     ensures files { (F.state files.new).files ≡ (F.state files.old).files }
 {
-    let on = tabled(tools, job, files, steps)?;
+    let on = marked(tools.alloc, job, files)?;
+    let sums = sums_on(
+        tools.alloc,
+        &on.desk,
+        &on.marks,
+        job.measure,
+        tools.maker,
+        steps,
+    )?;
     let grading = Grading::new(job.level, job.depth);
-    let text = table_report(tools.alloc, &on.desk, grading, &on.table)?;
+    let text = table_report(tools.alloc, &on.desk, grading, &sums)?;
     Ok(Outcome::Prints {
         text,
         status: Status::Done,

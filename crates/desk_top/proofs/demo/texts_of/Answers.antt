@@ -19,17 +19,17 @@ pub returns : goal.returns
 returns g c =
     let demo = c.args.demo.now in
     let desk = demo.desk in
-    let table = c.args.table.now in
+    let sums = c.args.sums.now in
     let M = g.M.Measure in
     let s = demo_subject desk in
     let seed = c.args.seed in
-    let of : IsSubjectOf (M.measured table.measure) (M.cell_of table.measure) (M.bounds_of table.measure) desk table s = record { over = refl; marked = marks_known 1 None desk c.requires.valid; on = c.requires.table } in
+    let of : IsSubjectOf (M.measured sums.measure) (M.cell_of sums.measure) (M.bounds_of sums.measure) desk sums s = record { over = refl; marked = marks_known 1 None desk c.requires.valid; on = c.requires.sums } in
     record {
-      lines = summary_lines seed demo.rows s.marks (map verdict table.totals);
+      lines = summary_lines seed demo.rows s.marks (map verdict sums.totals);
       next = c.in_ok-next.next.items;
       texts = record {
-        totals = table.totals;
-        numbers = (table_numbers (M.measured table.measure) (M.cell_of table.measure) (M.bounds_of table.measure) desk c.requires.valid table s of).pairs;
+        totals = sums.totals;
+        numbers = (table_numbers (M.measured sums.measure) (M.cell_of sums.measure) (M.bounds_of sums.measure) desk c.requires.valid sums s of).pairs;
         summary = refl;
         proposal = c.in_ok-next.ensures s (sym c.requires.marks) of;
       };

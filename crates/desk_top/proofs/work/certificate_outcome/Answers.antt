@@ -7,11 +7,14 @@ use Rattle.desk_top.specs.Meaning.{meaning_of, PrintsCertificate}
 use Rattle.desk_top.specs.Report.{subject_of}
 use Rattle.desk_top.specs.Works.{MakesOutcome, Works}
 use Rattle.desk_files.proofs.InTurn.{files_handed_on, memory_after}
-use Rattle.desk_top.proofs.Reporting.{handed_on, desk_works, desk_memory, shown_makes, tabled_subject, tabled_marks}
+use Rattle.desk_top.proofs.Reporting.{handed_on, desk_works, desk_memory, shown_makes, tabled_subject, tabled_marks, tabled_stands}
 use Rattle.desk_top.proofs.work.certificate_outcome.Goals as goal
 
 pub certified_report-requires-clause-marks : goal.certified_report-requires-clause-marks
 certified_report-requires-clause-marks g c = tabled_marks _ _ _ c.args.job.now _ c.in_ok-on.on c.in_ok-on.ensures.on
+
+pub certified_report-requires-clause-table : goal.certified_report-requires-clause-table
+certified_report-requires-clause-table g c = tabled_stands _ _ _ c.args.job.now _ c.in_ok-on.on c.in_ok-on.ensures.on
 
 pub returns-in_err-answer-clause-works : goal.returns-in_err-answer-clause-works
 returns-in_err-answer-clause-works g c =
@@ -20,7 +23,7 @@ returns-in_err-answer-clause-works g c =
     let is = c.in_ok-on.ensures.on in
     let files = shelf (g.F.Shelf.state c.args.files.now) (g.F.Shelf.state c.tabled.new.files) in
     handed_on (Works (meaning_of (commands.Certify job)) files c.args.steps.now c.tabled.new.steps) c.from_residual-in_err-answer.result kept.Memory c.from_residual-in_err-answer.ensures.1
-    (desk_memory job 2 (Done ∷ Close ∷ []) PrintsCertificate is.rows on.desk is.ranked files is.read _ _ c.in_ok-on.ensures.steps kept.Memory refl)
+    (desk_memory job 2 (Done ∷ Close ∷ []) PrintsCertificate is.of_files.rows on.desk is.of_files.ranked files is.of_files.read _ _ c.in_ok-on.ensures.steps kept.Memory refl)
 
 pub returns-clause-works : goal.returns-clause-works
 returns-clause-works g c =
@@ -28,9 +31,9 @@ returns-clause-works g c =
     let on = c.in_ok-on.on in
     let is = c.in_ok-on.ensures.on in
     let files = shelf (g.F.Shelf.state c.args.files.now) (g.F.Shelf.state c.tabled.new.files) in
-    let answer = c.in_ok-answer.ensures (subject_of job on.desk) (sym c.new-grading.ensures.level) (sym c.new-grading.ensures.depth) (sym is.marked) (tabled_subject _ _ _ job _ on is) in
-    desk_works job 2 (Done ∷ Close ∷ []) PrintsCertificate is.rows on.desk is.ranked files is.read _ _ c.in_ok-on.ensures.steps c.shown.result
-    (subst (MakesOutcome (meaning_of (commands.Certify job)) c.args.steps.now c.tabled.new.steps is.rows) (sym c.shown.ensures) (shown_makes job is.rows on.desk is.ranked _ _ c.in_ok-on.ensures.steps c.in_ok-answer.answer answer))
+    let answer = c.in_ok-answer.ensures (subject_of job on.desk) (sym c.new-grading.ensures.level) (sym c.new-grading.ensures.depth) (sym is.of_files.marked) (tabled_subject _ _ _ job _ on is) in
+    desk_works job 2 (Done ∷ Close ∷ []) PrintsCertificate is.of_files.rows on.desk is.of_files.ranked files is.of_files.read _ _ c.in_ok-on.ensures.steps c.shown.result
+    (subst (MakesOutcome (meaning_of (commands.Certify job)) c.args.steps.now c.tabled.new.steps is.of_files.rows) (sym c.shown.ensures) (shown_makes job is.of_files.rows on.desk is.of_files.ranked _ _ c.in_ok-on.ensures.steps c.in_ok-answer.answer answer))
 
 pub returns-in_err-on-clause-reads : goal.returns-in_err-on-clause-reads
 returns-in_err-on-clause-reads g c = files_handed_on _ _ c.from_residual.result c.in_err-on.field-0.0 c.from_residual.ensures.1 c.in_err-on.ensures.reads

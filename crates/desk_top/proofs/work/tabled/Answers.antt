@@ -1,26 +1,25 @@
-use Rattle.std.specs.Prelude.{IfErr}
-use Rattle.desk_outside.specs.Seen.{shelf}
-use Rattle.desk_top.specs.Loading.{desk_loading}
-use Rattle.desk_top.specs.Report.{sources_of}
-use Rattle.desk_top.specs.Works.{StopsLoading}
+use Rattle.std.proofs.Common.{subst}
+use Rattle.desk_report.specs.Reports.{IsTableOn, subject}
 use Rattle.desk_files.proofs.InTurn.{files_handed_on, memory_after}
-use Rattle.desk_top.proofs.Marking.{marks_known}
-use Rattle.desk_top.proofs.Reporting.{desk_stops, handed_on}
+use Rattle.desk_top.proofs.Reporting.{desk_marks}
 use Rattle.desk_top.proofs.work.tabled.Goals as goal
 
-pub returns-in_err-desk-clause-stops : goal.returns-in_err-desk-clause-stops
-returns-in_err-desk-clause-stops g c =
-    let files = shelf (g.F.Shelf.state c.args.files.now) (g.F.Shelf.state c.load_desk.new.files) in
-    handed_on (λ result. IfErr result (StopsLoading (desk_loading c.args.job.now) files)) c.from_residual.result _ c.from_residual.ensures.1 (desk_stops (sources_of c.args.job.now) files _ c.in_err-desk.ensures.makes)
-
 pub table_on-requires-clause-marks : goal.table_on-requires-clause-marks
-table_on-requires-clause-marks g c = rw c.in_ok-marks.ensures (marks_known c.args.job.now.level c.args.job.now.depth c.in_ok-desk.desk c.valid.ensures)
+table_on-requires-clause-marks g c = desk_marks c.args.job.now _ c.in_ok-desk.field-0.desk c.in_ok-desk.field-0.marks.rows c.in_ok-desk.ensures.on
 
 pub returns-in_err-desk-clause-reads : goal.returns-in_err-desk-clause-reads
 returns-in_err-desk-clause-reads g c = files_handed_on _ _ c.from_residual.result c.in_err-desk.field-0.0 c.from_residual.ensures.1 c.in_err-desk.ensures.reads
 
-pub returns-in_err-marks-clause-reads : goal.returns-in_err-marks-clause-reads
-returns-in_err-marks-clause-reads g c = memory_after _ _ c.from_residual-in_err-marks.result c.from_residual-in_err-marks.ensures.1 c.in_ok-desk.ensures.reads
-
 pub returns-in_err-table-clause-reads : goal.returns-in_err-table-clause-reads
 returns-in_err-table-clause-reads g c = memory_after _ _ c.from_residual-in_err-table.result c.from_residual-in_err-table.ensures.1 c.in_ok-desk.ensures.reads
+
+pub returns-clause-on : goal.returns-clause-on
+returns-clause-on g c =
+    let job = c.args.job.now in
+    let is = c.in_ok-desk.ensures.on in
+    let kept = c.in_ok-table.table in
+    let M = g.P.Made.Measure in
+    record {
+      of_files = is;
+      table = subst (λ marks. IsTableOn (M.measured kept.measure) (M.cell_of kept.measure) (M.bounds_of kept.measure) (subject job.measure job.level job.depth c.in_ok-desk.field-0.desk marks) kept) is.marked c.in_ok-table.ensures.table;
+    }
