@@ -62,7 +62,7 @@ text_passes text h =
     and_from _ _ (digits_pass _ h.whole_digits) (and_from _ _ (digits_pass _ h.fraction_digits) (and_from _ _ (lt-ltb _ _ h.some_digit) (and_from _ _ (digits_pass _ h.power_digits) (power_passes (without_leading_sign text) (mantissa_of text) (without_leading_sign (power_of text)) h.power_digit))))
 
 -- the zeros at the end of a number other than 0
-last_zeros : (fuel number : ℕ) → 0 < number → number ≤ fuel → HasLastZeros number (number / 10 ^ zeros_of fuel number) (zeros_of fuel number)
+pub last_zeros : (fuel number : ℕ) → 0 < number → number ≤ fuel → HasLastZeros number (number / 10 ^ zeros_of fuel number) (zeros_of fuel number)
 unfolding zeros_of
 last_zeros zero number some enough = absurd (omega arith)
 last_zeros (suc fuel) number some enough =

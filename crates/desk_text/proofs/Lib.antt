@@ -11,3 +11,4 @@ pub mod ScoreDigits
 pub mod Sizes
 pub mod Readings
 pub mod Answer
+pub mod PlainNumbers

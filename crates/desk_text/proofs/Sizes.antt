@@ -1,5 +1,5 @@
 -- The size that is made of digits and a power.
-use Rattle.std.proofs.Common.{◌≡◌, ℕ, zero, suc, ◌+◌, ◌*◌, ◌/◌, ◌%◌, ◌^◌, ◌<◌, ◌≤◌, Bool, true, false, refl, sym, ap, ◌∙◌}
+use Rattle.std.proofs.Common.{◌≡◌, ℕ, zero, suc, ◌+◌, ◌-◌, ◌*◌, ◌/◌, ◌%◌, ◌^◌, ◌<◌, ◌≤◌, Bool, true, false, refl, sym, ap, ◌∙◌, arith}
 use Rattle.std.specs.Int.RustNames.{unsigned_abs}
 use Rattle.std.proofs.lemmas.Nat.{mod-mul-add, div-mul-add}
 use Rattle.std.proofs.Math.Nat.{mul-div_cancel, mul_assoc}
@@ -7,6 +7,13 @@ use Rattle.std.proofs.Math.Pow.{pow-add}
 use Rattle.desk_text.specs.Text.{signed}
 use Rattle.desk_text.specs.Key.{first_place, size_value, value_of_key, IsSize}
 use Rattle.desk_text.specs.KeyLaws.{first_place_some, zero_size}
+
+-- zeros go from the power to the digits
+pub zeros_moved : (digits factor places power : ℕ) → factor ≡ 10 ^ places → places ≤ power → digits * factor * 10 ^ (power - places) ≡ digits * 10 ^ power
+zeros_moved digits factor places power is le =
+    let rest = power - places in
+    let whole : places + rest ≡ power = omega arith in
+    mul_assoc digits factor (10 ^ rest) ∙ ap (λ x. digits * x) (ap (λ f. f * 10 ^ rest) is ∙ sym (pow-add 10 places rest) ∙ ap (λ p. 10 ^ p) whole)
 
 sized : (unit power digits value : ℕ) → 0 < unit → unit ≤ digits → digits < 10 * unit → digits * 10 ^ power ≡ value * unit →
     IsSize unit (power * (10 * unit) + digits) × (size_value unit (power * (10 * unit) + digits) ≡ value)

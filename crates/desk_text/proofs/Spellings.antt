@@ -150,7 +150,7 @@ digits_unsigned [] r h some = absurd (omega arith)
 digits_unsigned (c ∷ ds) r h some = let d = digit_from_value c h.0 in (λ e. omega arith, λ e. omega arith)
 
 -- nor does a mantissa
-mantissa_unsigned : (whole fraction mantissa r : List ℕ) → IsMantissa whole fraction mantissa → AllDigits 10 whole → 0 < length whole + length fraction → (get_or (mantissa ++ r) 0 0 ≡ 45 → ⊥) × (get_or (mantissa ++ r) 0 0 ≡ 43 → ⊥)
+pub mantissa_unsigned : (whole fraction mantissa r : List ℕ) → IsMantissa whole fraction mantissa → AllDigits 10 whole → 0 < length whole + length fraction → (get_or (mantissa ++ r) 0 0 ≡ 45 → ⊥) × (get_or (mantissa ++ r) 0 0 ≡ 43 → ⊥)
 mantissa_unsigned [] fraction mantissa r is all some =
     elim is [
       | inl pointed ↦ rw pointed (λ e. omega arith, λ e. omega arith)

@@ -7,6 +7,9 @@ ghost use Rattle.desk_text.specs.Value.{IsPlace};
 /// One more than the greatest number of 30 digits.
 pub const LIMIT: u128 = 1_000_000_000_000_000_000_000_000_000_000;
 
+/// One more than the greatest number of 19 digits, which fits in 64 bits.
+const SHORT_LIMIT: u128 = 10_000_000_000_000_000_000;
+
 /// A number of at most 30 digits times a power of ten.
 #[derive(Clone, Copy)]
 struct Scaled {
@@ -36,6 +39,56 @@ fn raised(number: Scaled, bound: u128, factor: u128, places: u32) -> Scaled
     }
 }
 
+/// A number of at most 19 digits times a power of ten.
+#[derive(Clone, Copy)]
+struct Short {
+    digits: u64,
+    power: u32,
+}
+
+/// The same number, with more digits if these are below the bound.
+fn raised_short(number: Short, bound: u64, factor: u64, places: u32) -> Short
+    requires places { places ≤ number.power }
+    requires factor { factor ≡ 10 ^ places }
+    requires fits { bound * factor ≡ 10 ^ 19 }
+    requires short { number.digits < 10 ^ 19 }
+    ensures same { result.digits * 10 ^ result.power ≡ number.digits * 10 ^ number.power }
+    ensures short { result.digits < 10 ^ 19 }
+    ensures least { min bound (number.digits * factor) ≤ result.digits }
+    ensures low { number.power ≤ result.power + places }
+    ensures high { result.power ≤ number.power }
+{
+    if number.digits < bound {
+        Short {
+            digits: number.digits * factor,
+            power: number.power - places,
+        }
+    } else {
+        number
+    }
+}
+
+/// The same number with 30 digits, whose first is not 0.
+fn aligned_short(number: Short) -> Scaled
+    requires some { 0 < number.digits }
+    requires short { number.digits < 10 ^ 19 }
+    requires places { 29 ≤ number.power }
+    ensures same { result.digits * 10 ^ result.power ≡ number.digits * 10 ^ number.power }
+    ensures first { 10 ^ 29 ≤ result.digits }
+    ensures short { result.digits < 10 ^ 30 }
+    ensures high { result.power ≤ number.power }
+{
+    let number = raised_short(number, 10_000_000_000, 1_000_000_000, 9);
+    let number = raised_short(number, 100_000_000_000_000, 100_000, 5);
+    let number = raised_short(number, 100_000_000_000_000_000, 100, 2);
+    let number = raised_short(number, 1_000_000_000_000_000_000, 10, 1);
+    let number = raised_short(number, 1_000_000_000_000_000_000, 10, 1);
+    Scaled {
+        digits: u128::from(number.digits) * 100_000_000_000,
+        power: number.power - 11,
+    }
+}
+
 /// The same number with 30 digits, whose first is not 0.
 fn aligned(number: Scaled) -> Scaled
     requires some { 0 < number.digits }
@@ -46,6 +99,12 @@ fn aligned(number: Scaled) -> Scaled
     ensures short { result.digits < 10 ^ 30 }
     ensures high { result.power ≤ number.power }
 {
+    if number.digits < SHORT_LIMIT {
+        return aligned_short(Short {
+            digits: number.digits as u64,
+            power: number.power,
+        });
+    }
     let number = raised(number, 1_000_000_000_000_000, 1_000_000_000_000_000, 15);
     let number = raised(number, 100_000_000_000_000_000_000_000, 10_000_000, 7);
     let number = raised(number, 100_000_000_000_000_000_000_000_000, 10_000, 4);

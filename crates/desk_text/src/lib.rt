@@ -7,6 +7,7 @@ mod field;
 mod key;
 mod laws;
 mod line;
+mod mantissa;
 mod number;
 mod places;
 mod score;

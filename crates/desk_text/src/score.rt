@@ -1,4 +1,4 @@
-ghost use Rattle.std.specs.Prelude.{◌≡◌, ◌^◌, ◌<◌, ◌↔◌, ℤ, IsTrue, pos, Result, Some};
+ghost use Rattle.std.specs.Prelude.{◌≡◌, ◌^◌, ◌<◌, ◌≤◌, ◌↔◌, ℤ, IsTrue, pos, neg_ℤ, Result, Some};
 ghost use Rattle.std.proofs.Common.{rules};
 ghost use Rattle.std.specs.Cmp.Rules.{comparing};
 ghost use Rattle.std.specs.Ordering.{int_cmp, int_eq};
@@ -7,6 +7,7 @@ ghost use Rattle.desk_text.specs.Reading.{score_of};
 ghost use Rattle.desk_text.specs.Value.{ReadsAs, IsPlace};
 
 use crate::key;
+use crate::mantissa::{Plain, plain_of};
 use crate::significand::{exponent_of, significand_of};
 use crate::spelling::spelling_of;
 use std::cmp::Ordering;
@@ -45,6 +46,20 @@ impl Score {
         ensures { result ≡ pos 0 }
     {
         Score { key: 0 }
+    }
+
+    /// The number that plain digits make.
+    fn of_plain(plain: Plain) -> Score
+        requires small { plain.mantissa.digits < 10 ^ 19 }
+        requires near { plain.mantissa.places ≤ 19 }
+        ensures { result ≡ scaled plain.is_negative plain.mantissa.digits (neg_ℤ (pos plain.mantissa.places)) }
+    {
+        let number = plain.mantissa;
+        if number.digits == 0 {
+            return Score::zero();
+        }
+        let place = -(number.places as i128);
+        Score::new(plain.is_negative, u128::from(number.digits), place)
     }
 
     /// The number with its sign, in units of ten to the power of -999.
@@ -125,6 +140,16 @@ pub fn read_score(text: &[u8]) -> Result<Score, ScoreFault>
     ensures value { result ≡ score_of text.now }
     ensures reads { ReadsAs text.now result }
     ensures only { (answer : Result ℤ ScoreFault) → ReadsAs text.now answer → answer ≡ result }
+{
+    match plain_of(text) {
+        Some(plain) => Ok(Score::of_plain(plain)),
+        None => read_parts(text),
+    }
+}
+
+/// The score that any text spells, by its parts.
+fn read_parts(text: &[u8]) -> Result<Score, ScoreFault>
+    ensures { ReadsAs text.now result }
 {
     let Some(spelling) = spelling_of(text) else {
         return Err(ScoreFault::BadScore);

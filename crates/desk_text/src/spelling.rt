@@ -16,7 +16,7 @@ pub struct Spelling<'a> {
 }
 
 /// Whether the text begins with `-`, and the text without a sign.
-fn cut_sign(text: &[u8]) -> (bool, &[u8])
+pub fn cut_sign(text: &[u8]) -> (bool, &[u8])
     ensures negative { result.0 ≡ starts_with_minus text.now }
     ensures rest { result.1.now ≡ without_leading_sign text.now }
 {
