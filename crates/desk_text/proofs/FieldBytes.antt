@@ -92,6 +92,10 @@ not_set : (b : Bool) → ◌≡◌ {A = ℕ} (cond b 1 0) 0 → b ≡ false
 not_set true h = absurd (omega (arith, h))
 not_set false h = refl
 
+is_set : (b : Bool) → ◌≡◌ {A = ℕ} (cond b 1 0) 1 → b ≡ true
+is_set true h = refl
+is_set false h = absurd (omega (arith, h))
+
 -- ---- what is known of the first bytes of a line
 -- 16 bits moved to a place: below it there is none
 moved : (more from i : ℕ) → more < 65536 → from + 16 ≤ 64 → bit_at (more * 2 ^ from % 2 ^ 64) i ≡ bit_at (more * 2 ^ from + 0) i
@@ -153,17 +157,22 @@ module _ (line : List ℕ) (first : FirstStops) (from : ℕ) (known : AreFirstSt
     each = λ i le under. clear i le under (ap (λ n. bit_at n (i - from)) z ∙ bit_at-zero (i - from));
   }
 
-  -- the lowest bit that is set is that of the first byte that stands in no field
-  pub first_clear : (r : ℕ) → bit_at (first.bits / 2 ^ from) r ≡ 1 → ((i : ℕ) → i < r → bit_at (first.bits / 2 ^ from) i ≡ 0) → IsInField line from (from + r)
-  first_clear r set below = record {
-    order = omega arith;
-    within = omega (arith, low, known.within);
-    each = λ i le lt. clear i le (omega (arith, lt, low)) (below (i - from) (omega arith));
-  }
+  -- a bit that is set is that of a known byte that stands in no field
+  set_bit : (r : ℕ) → bit_at (first.bits / 2 ^ from) r ≡ 1 → (from + r < first.known) × (is_stop (get_or line (from + r) 0) ≡ true)
+  set_bit r set = by (leb first.known (from + r)) refl
     where
-      low : from + r < first.known
-      low = by (leb first.known (from + r)) refl
-        where
-          by : (far : Bool) → leb first.known (from + r) ≡ far → from + r < first.known
-          by true e = absurd (omega (arith, shifted r, known.none (from + r) (leb-true first.known (from + r) e), set))
-          by false e = leb-false first.known (from + r) e
+      by : (far : Bool) → leb first.known (from + r) ≡ far → (from + r < first.known) × (is_stop (get_or line (from + r) 0) ≡ true)
+      by true e = absurd (omega (arith, shifted r, known.none (from + r) (leb-true first.known (from + r) e), set))
+      by false e = let low = leb-false first.known (from + r) e in (low, is_set _ (sym (known.each (from + r) low) ∙ sym (shifted r) ∙ set))
+
+  -- the lowest bit that is set is that of the first byte that stands in no field
+  pub first_clear : (r : ℕ) → bit_at (first.bits / 2 ^ from) r ≡ 1 → ((i : ℕ) → i < r → bit_at (first.bits / 2 ^ from) i ≡ 0) → IsInField line from (from + r) × (is_stop (get_or line (from + r) 0) ≡ true)
+  first_clear r set below =
+      let found = set_bit r set in (
+        record {
+          order = omega arith;
+          within = omega (arith, found.0, known.within);
+          each = λ i le lt. clear i le (omega (arith, lt, found.0)) (below (i - from) (omega arith));
+        },
+        found.1,
+      )

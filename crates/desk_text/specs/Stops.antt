@@ -1,7 +1,7 @@
 -- What is known of the bytes of a line that stand in no field.
-use Rattle.std.specs.Prelude.{◌≡◌, ℕ, ◌<◌, ◌≤◌, List, length, slice_index, if◌then◌else◌, false}
+use Rattle.std.specs.Prelude.{◌≡◌, ℕ, ◌<◌, ◌≤◌, List, length, drop, slice_index, if◌then◌else◌, false, true}
 use Rattle.std.specs.Int.{bit_at}
-use Rattle.desk_text.specs.Lines.{is_stop}
+use Rattle.desk_text.specs.Lines.{fields_of, is_separator, is_stop}
 use Rattle.desk_text.specs.declared.stops.FirstStops.{FirstStops}
 
 -- of the first bytes of a line it is known which stand in no field
@@ -16,3 +16,11 @@ pub record IsInField (line : List ℕ) (from end : ℕ) : Type 0 where
   pub order : from ≤ end
   pub within : end ≤ length line
   pub each : (i : ℕ) → from ≤ i → i < end → is_stop (slice_index line i) ≡ false
+
+-- separators stand from one place up to another, and none at that one; so the fields from both places on are the same
+pub record AreSkipped (line : List ℕ) (from next : ℕ) : Type 0 where
+  pub order : from ≤ next
+  pub within : next ≤ length line
+  pub separators : (i : ℕ) → from ≤ i → i < next → is_separator (slice_index line i) ≡ true
+  pub start : next < length line → is_separator (slice_index line next) ≡ false
+  pub fields : fields_of (drop from line) ≡ fields_of (drop next line)

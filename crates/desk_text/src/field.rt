@@ -1,9 +1,10 @@
 // The fields of a line.
-ghost use Rattle.std.specs.Prelude.{◌≡◌, ℕ, ◌<◌, ◌≤◌, length, drop, slice_index, position, option_map, IfOk, true, false};
+ghost use Rattle.std.specs.Prelude.{◌≡◌, ◌<◌, ◌≤◌, length, slice_index, position, option_map, IfOk, IfSome, IfNone, false};
 ghost use Rattle.std.specs.List.{list_all};
 ghost use Rattle.std.specs.Result.{result_err};
-ghost use Rattle.desk_text.specs.Lines.{fields_of, is_separator, is_bad, is_blank, AreFields};
+ghost use Rattle.desk_text.specs.Lines.{is_separator, is_bad, is_blank, AreFields};
 ghost use Rattle.desk_text.specs.Places.{count_of, places_of};
+ghost use Rattle.desk_text.specs.Stops.{AreSkipped};
 
 use crate::line::LONGEST_LINE;
 use crate::places::{BadByte, Fields};
@@ -31,12 +32,7 @@ fn has_no_field(line: &[u8]) -> bool
 // Past the separators from a place on.
 fn skip(line: &[u8], from: usize) -> usize
     requires { from ≤ length line.now }
-    ensures fields { fields_of (drop from line.now) ≡ fields_of (drop result line.now) }
-    ensures from { from ≤ result }
-    ensures within { result ≤ length line.now }
-    ensures stops { result < length line.now → is_separator (slice_index line.now result) ≡ false }
-    ensures separators { (i : ℕ) → from ≤ i → i < result →
-        is_separator (slice_index line.now i) ≡ true }
+    ensures { AreSkipped line.now from result }
 {
     let mut at = from;
     while at < line.len() && is_separator(line[at]) {
@@ -45,15 +41,20 @@ fn skip(line: &[u8], from: usize) -> usize
     at
 }
 
-// Whether a byte stands at a place that ends no field.
-fn is_cut(line: &[u8], end: usize) -> bool
+// Where the field behind the separators at a place begins, or None where another byte stands there.
+fn next_start(line: &[u8], end: usize) -> Option<usize>
     requires { end ≤ length line.now }
-    ensures within { result ≡ true → end < length line.now }
-    ensures cut { result ≡ true → is_separator (slice_index line.now end) ≡ false }
-    ensures ends { result ≡ false → end < length line.now →
-        is_separator (slice_index line.now end) ≡ true }
+    ensures some { IfSome result (λ next. AreSkipped line.now end next) }
+    ensures more { IfSome result (λ next. end < length line.now → end < next) }
+    ensures none { IfNone result ((end < length line.now) × (is_separator (slice_index line.now end) ≡ false)) }
 {
-    end < line.len() && !is_separator(line[end])
+    if end == line.len() {
+        return Some(end);
+    }
+    if !is_separator(line[end]) {
+        return None;
+    }
+    Some(skip(line, end + 1))
 }
 
 /// The fields of a line, or its first bad byte: one below 0x21 that is no separator, or 0x7F. It takes no memory.
@@ -68,14 +69,14 @@ pub fn fields(line: &[u8]) -> Result<Fields, BadByte>
     let mut at = skip(line, 0);
     while at < line.len() {
         let end = next_stop(line, first, at);
-        if is_cut(line, end) {
+        let Some(next) = next_start(line, end) else {
             return Err(BadByte { at: end });
-        }
+        };
         if count < 6 {
             places[count] = (at, end);
         }
         count += 1;
-        at = skip(line, end);
+        at = next;
     }
     Ok(Fields { count, places })
 }

@@ -1,5 +1,5 @@
 // Where the bytes of a field end. The first bytes of a line are looked at 16 at a time, once for all its fields.
-ghost use Rattle.std.specs.Prelude.{◌≡◌, ℕ, List, ◌+◌, ◌<◌, ◌≤◌, length, slice_index, if◌then◌else◌, false, true};
+ghost use Rattle.std.specs.Prelude.{◌≡◌, ℕ, List, ◌+◌, ◌<◌, ◌≤◌, length, slice_index, max, if◌then◌else◌, false, true, IfSome, IfNone};
 ghost use Rattle.std.specs.Int.{bit_at};
 ghost use Rattle.desk_text.specs.Lines.{is_stop};
 ghost use Rattle.desk_text.specs.Stops.{AreFirstStops, IsInField};
@@ -76,21 +76,23 @@ impl FirstStops {
         }
     }
 
-    // Past bytes of a field from a place on: to the first known one that stands in no field, or past all known ones.
+    // The first known byte from a place on that stands in no field.
     #[inline(always)]
-    fn past(self, from: usize) -> usize
+    fn find(self, from: usize) -> Option<usize>
         requires { self.known ≤ 64 }
-        ensures { (line : List ℕ) → AreFirstStops line self → from ≤ length line →
-            IsInField line from result }
+        ensures some { IfSome result (λ end. (line : List ℕ) → AreFirstStops line self →
+            IsInField line from end × (is_stop (slice_index line end) ≡ true)) }
+        ensures none { IfNone result ((line : List ℕ) → AreFirstStops line self → from ≤ length line →
+            IsInField line from (max from self.known)) }
     {
         if self.known <= from {
-            return from;
+            return None;
         }
         let found = self.bits >> from;
         if found == 0 {
-            self.known
+            None
         } else {
-            from + found.trailing_zeros() as usize
+            Some(from + found.trailing_zeros() as usize)
         }
     }
 }
@@ -103,7 +105,10 @@ pub(crate) fn next_stop(line: &[u8], first: FirstStops, from: usize) -> usize
     ensures field { IsInField line.now from result }
     ensures stop { result < length line.now → is_stop (slice_index line.now result) ≡ true }
 {
-    let mut at = first.past(from);
+    if let Some(end) = first.find(from) {
+        return end;
+    }
+    let mut at = from.max(first.known);
     while at < line.len() && !is_stop(line[at]) {
         at += 1;
     }
