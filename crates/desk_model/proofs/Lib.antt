@@ -7,6 +7,7 @@ pub mod Exact
 pub mod PrecisionEnds
 pub mod Places
 pub mod Names
+pub mod Halving
 pub mod Nested
 pub mod Decimals
 pub mod PairPlace

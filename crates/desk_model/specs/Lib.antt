@@ -12,6 +12,7 @@ pub mod Verdict
 pub mod Classes
 pub mod Name
 pub mod Placed
+pub mod KeptNames
 pub mod Book
 pub mod Desk
 pub mod MeasureText

@@ -1,14 +1,16 @@
 ghost use Rattle.std.specs.Prelude.{◌≡◌, ◌<◌, ◌≤◌, length, map, slice_get, Some};
 ghost use Rattle.desk_model.specs.Name.{number_of};
 
+use crate::document_names::DocumentNames;
 use crate::name::Name;
+use name_table::NumberedNames;
 use std::marker::Model;
 
 /// A topic: the names of its documents, its universe, and what the judgements file says of each.
 #[derive(Drop)]
 pub struct TopicBook {
     name: Name,
-    docs: Vec<Name>,
+    docs: DocumentNames,
     grades: Vec<Option<i32>>,
 }
 
@@ -17,9 +19,9 @@ impl Model for TopicBook {
 
     ghost Value = { Book };
 
-    ghost view = { λ b. record { name = b.name; docs = b.docs.items; grades = b.grades.items } };
+    ghost view = { λ b. record { name = b.name; docs = b.docs; grades = b.grades.items } };
 
-    ghost invariant = { λ b. IsBook (record { name = b.name; docs = b.docs.items; grades = b.grades.items }) };
+    ghost invariant = { λ b. IsBook (record { name = b.name; docs = b.docs; grades = b.grades.items }) };
 }
 
 impl TopicBook {
@@ -31,7 +33,23 @@ impl TopicBook {
         requires { IsBook (record { name = name; docs = docs.items; grades = grades.items }) }
         ensures { result ≡ record { name = name; docs = docs.items; grades = grades.items } }
     {
-        TopicBook { name, docs, grades }
+        TopicBook {
+            name,
+            docs: DocumentNames::each(docs),
+            grades,
+        }
+    }
+
+    /// The same with the names of the documents in one row of bytes, which takes less room.
+    pub fn of_names(name: Name, docs: NumberedNames, grades: Vec<Option<i32>>) -> TopicBook
+        requires { IsBook (record { name = name; docs = docs; grades = grades.items }) }
+        ensures { result ≡ record { name = name; docs = docs; grades = grades.items } }
+    {
+        TopicBook {
+            name,
+            docs: DocumentNames::in_row(docs),
+            grades,
+        }
     }
 
     /// The topic's name.
@@ -56,7 +74,7 @@ impl TopicBook {
         requires { doc < length self.now.docs }
         ensures { slice_get self.now.docs doc ≡ Some result.now }
     {
-        self.docs[doc as usize].as_bytes()
+        self.docs.get(doc as usize)
     }
 
     /// The grade of a document in the judgements file, and `None` exactly where the file does not list it.
@@ -78,10 +96,6 @@ impl TopicBook {
     pub fn find(&self, name: &[u8]) -> Option<u32>
         ensures { result ≡ number_of self.now.docs name.now }
     {
-        let docs: &[Name] = &self.docs;
-        match docs.binary_search_by(|each| each.compare(name)) {
-            Ok(at) => Some(at as u32),
-            Err(_) => None,
-        }
+        self.docs.find(name)
     }
 }

@@ -4,6 +4,7 @@
 
 pub mod book;
 pub mod desk;
+mod document_names;
 mod file_marks;
 pub mod grading;
 pub mod laws;
