@@ -6,3 +6,4 @@ pub mod Placing
 pub mod Zips
 pub mod Numbers
 pub mod Starts
+pub mod Rows

@@ -8,7 +8,7 @@ mod numbered;
 mod ranked;
 mod universe;
 
-pub use names::{ascending, copied, places};
+pub use names::{ascending, in_one_row, places};
 pub use numbered::Numbered;
 pub use ranked::{RankedNames, order_is_one, ranking};
 pub use universe::{Universe, universe_of};

@@ -1,5 +1,5 @@
 // Names in ascending order.
-ghost use Rattle.std.specs.Prelude.{◌≡◌, ◌≤◌, ◌<◌, ℕ, true, All, IfOk, IsPermutation, length, map, slice_index};
+ghost use Rattle.std.specs.Prelude.{◌≡◌, ◌≤◌, ◌<◌, ◌^◌, ℕ, true, All, IfOk, IfSome, IfNone, IsPermutation, length, map, slice_index, sum_by};
 ghost use Rattle.std.specs.List.{range_with_len};
 ghost use Rattle.desk_model.specs.Limits.{DOCUMENT_LIMIT};
 ghost use Rattle.desk_model.specs.Name.{is_name, AreAscending};
@@ -9,6 +9,7 @@ ghost use Rattle.topic_universe.specs.Sorted.{AreSorted, IsPlaceOf};
 use crate::numbered::Numbered;
 use desk_model::{Memory, Name};
 use file_rows::NameIndex;
+use name_table::NumberedNames;
 use std::alloc::{AllocError, Global};
 
 fn numbered<'n>(alloc: Global, names: &NameIndex<'n>) -> Result<Vec<Numbered<'n>>, AllocError>
@@ -36,8 +37,8 @@ pub(crate) fn sorted<'n>(
     Ok(pairs)
 }
 
-/// Copies of the names, in their order.
-pub fn copied(alloc: Global, pairs: &[Numbered<'_>]) -> Result<Vec<Name>, Memory>
+// Copies of the names, in their order, each with room of its own.
+fn copied(alloc: Global, pairs: &[Numbered<'_>]) -> Result<Vec<Name>, Memory>
     requires { All (λ pair. is_name pair.0.now ≡ true) pairs.now }
     ensures { IfOk result (λ copies. copies.items ≡ map (λ pair. pair.0.now) pairs.now) }
 {
@@ -48,7 +49,42 @@ pub fn copied(alloc: Global, pairs: &[Numbered<'_>]) -> Result<Vec<Name>, Memory
     Ok(copies)
 }
 
-/// Copies of the names in ascending order.
+// The most bytes that one row of names has.
+const MOST_ROW_BYTES: usize = 0xFFFF_FFFF;
+
+// How many bytes the names have together, and `None` exactly where these are too many for one row.
+fn row_bytes(pairs: &[Numbered<'_>]) -> Option<usize>
+    ensures sum { IfSome result (λ bytes. bytes ≡
+        sum_by length (map (λ pair. pair.0.now) pairs.now)) }
+    ensures fits { IfSome result (λ bytes. bytes < 2 ^ 32) }
+    ensures none { IfNone result (2 ^ 32 ≤ sum_by length (map (λ pair. pair.0.now) pairs.now)) }
+{
+    let mut bytes = 0;
+    for pair in pairs {
+        bytes += pair.name().len();
+        if bytes > MOST_ROW_BYTES {
+            return None;
+        }
+    }
+    Some(bytes)
+}
+
+/// Copies of the names, in their order, in one row of bytes. It fails only where memory runs out, or they have 4,294,967,296 bytes or
+/// more together.
+pub fn in_one_row(alloc: Global, pairs: &[Numbered<'_>]) -> Result<NumberedNames, Memory>
+    ensures { IfOk result (λ names. names ≡ map (λ pair. pair.0.now) pairs.now) }
+{
+    let Some(bytes) = row_bytes(pairs) else {
+        return Err(Memory);
+    };
+    let mut names = NumberedNames::with_room(alloc, pairs.len(), bytes)?;
+    for pair in pairs {
+        names.push(pair.name())?;
+    }
+    Ok(names)
+}
+
+/// Copies of the names in ascending order, each with room of its own.
 pub fn ascending(alloc: Global, names: &NameIndex<'_>) -> Result<Vec<Name>, Memory>
     requires { AreDistinctNames names.now }
     ensures ascending { IfOk result (λ sorted. AreAscending sorted.items) }

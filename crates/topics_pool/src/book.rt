@@ -17,7 +17,7 @@ use file_rows::NameIndex;
 use qrels_reader::Qrels;
 use run_reader::RunRows;
 use std::alloc::{AllocError, Global};
-use topic_universe::{Numbered, ascending, copied, places, universe_of};
+use topic_universe::{Numbered, ascending, in_one_row, places, universe_of};
 
 // The grade that topic `t` of the qrels gives a document, where it lists it: its documents have the first numbers.
 fn listed_grade(qrels: &Qrels, t: usize, doc: &Numbered<'_>) -> Option<i32>
@@ -60,16 +60,15 @@ fn graded_book(
     pairs: &[Numbered<'_>],
 ) -> Result<TopicBook, Memory>
     requires topic { t < length qrels.now }
-    requires names { All (λ pair. is_name pair.0.now ≡ true) pairs.now }
     requires numbers { All (λ pair. IsNumberedAfter (rows_at qrels.now t) pair.0.now pair.1)
         pairs.now }
     requires book { IsBook (book_over qrels.now t name.now (map (λ pair. pair.0.now) pairs.now)) }
     ensures { IfOk result (λ book. book ≡
         book_over qrels.now t name.now (map (λ pair. pair.0.now) pairs.now)) }
 {
-    let docs = copied(alloc, pairs)?;
+    let docs = in_one_row(alloc, pairs)?;
     let grades = listed_grades(alloc, qrels, t, pairs)?;
-    Ok(TopicBook::new(Name::copy_of(alloc, name)?, docs, grades))
+    Ok(TopicBook::of_names(Name::copy_of(alloc, name)?, docs, grades))
 }
 
 // The topic of this name, which is topic `t` of the qrels. Each run gets its ranking.

@@ -1,15 +1,14 @@
-use Rattle.std.proofs.Common.{◌≡◌, ◌≤◌, ◌<◌, ℕ, List, true, length, get_or, map, sym, ap, ◌∙◌, subst, arith}
+use Rattle.std.proofs.Common.{◌≡◌, ◌≤◌, ◌<◌, ℕ, List, length, get_or, map, sym, ap, ◌∙◌, subst, arith}
 use Rattle.std.specs.Prelude.{All, IsPermutation, Vec}
 use Rattle.std.specs.List.{AllZip, range_with_len}
 use Rattle.std.specs.declared.alloc.Global.{Global}
-use Rattle.desk_model.specs.Name.{is_name}
 use Rattle.desk_model.specs.Book.{Book, IsBook}
 use Rattle.file_rows.specs.Grouped.{rows_at}
 use Rattle.qrels_reader.specs.declared.limits.TheConstants.{MOST_QRELS_ROWS}
 use Rattle.run_reader.specs.Run.{Run, rows_on_topic}
 use Rattle.topic_universe.specs.Sorted.{IsPlaceOf}
 use Rattle.topic_universe.specs.Universe.{AreRankedNumbers}
-use Rattle.topic_universe.proofs.Placing.{name_of, number_of, same_count, sorted_are_named}
+use Rattle.topic_universe.proofs.Placing.{name_of, number_of, same_count}
 use Rattle.topic_universe.proofs.Zips.{zip-weaker}
 use Rattle.std.proofs.lemmas.Result.{IfOk-from_err}
 use Rattle.topics_pool.specs.Rows.{IsBookOf}
@@ -17,11 +16,6 @@ use Rattle.topics_pool.specs.Made.{AreDocsOf, IsNumberedAfter, book_over}
 use Rattle.topics_pool.proofs.Books.{at_number, is_book, is_book_of, few_documents, numbered_after}
 use Rattle.topics_pool.proofs.Docs.{are_docs}
 use Rattle.topics_pool.proofs.book.topic_book.Goals as goal
-
-pub graded_book-requires-clause-names : goal.graded_book-requires-clause-names
-graded_book-requires-clause-names c =
-    let universe = c.in_ok-universe.ensures in
-    subst (All (λ pair. is_name pair.0.now ≡ true)) (sym c.deref.ensures.value) (sorted_are_named universe.names c.in_ok-universe.universe.pairs.items universe.sorted universe.gathered.names)
 
 pub graded_book-requires-clause-numbers : goal.graded_book-requires-clause-numbers
 graded_book-requires-clause-numbers c =
