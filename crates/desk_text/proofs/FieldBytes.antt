@@ -68,20 +68,25 @@ either p q xs a b k e f =
     by false true = refl
     by false false = refl
 
--- the bits of the bytes that stand in no field
-pub stop_bit : (line : List ℕ) (from a b k : ℕ) → from + 16 ≤ length line → a ≡ mask_l (map (λ x. ltb x 33) (chunk from 16 line)) → b ≡ mask_l (map (λ x. eqb x 127) (chunk from 16 line))
-    → k < 16 → bit_at (bit_or a b) k ≡ cond (is_stop (get_or line (from + k) 0)) 1 0
-stop_bit line from a b k room e f lt =
+-- the bits of the bytes that are low or are 127
+pub mark_bit : (low : ℕ) (line : List ℕ) (from a b k : ℕ) → from + 16 ≤ length line → a ≡ mask_l (map (λ x. ltb x low) (chunk from 16 line)) → b ≡ mask_l (map (λ x. eqb x 127) (chunk from 16 line))
+    → k < 16 → bit_at (bit_or a b) k ≡ cond (ltb (get_or line (from + k) 0) low || eqb (get_or line (from + k) 0) 127) 1 0
+mark_bit low line from a b k room e f lt =
     let xs = chunk from 16 line in
     let long : length xs ≡ 16 = length-chunk from 16 line room in
     let at : get_or xs k 0 ≡ get_or line (from + k) 0 = get_or-chunk from 16 line k 0 lt in
-    either (λ x. ltb x 33) (λ x. eqb x 127) xs a b k e f
-    ∙ ap₂ (λ s t. cond (s || t) 1 0) (get_or-map (λ x. ltb x 33) xs k 0 false (omega arith)) (get_or-map (λ x. eqb x 127) xs k 0 false (omega arith))
-    ∙ ap (λ x. cond (ltb x 33 || eqb x 127) 1 0) at ∙ ap (λ t. cond t 1 0) (sym (stop_is (get_or line (from + k) 0)))
+    either (λ x. ltb x low) (λ x. eqb x 127) xs a b k e f
+    ∙ ap₂ (λ s t. cond (s || t) 1 0) (get_or-map (λ x. ltb x low) xs k 0 false (omega arith)) (get_or-map (λ x. eqb x 127) xs k 0 false (omega arith))
+    ∙ ap (λ x. cond (ltb x low || eqb x 127) 1 0) at
 
-pub few_bits : (line : List ℕ) (from a b : ℕ) → from + 16 ≤ length line → a ≡ mask_l (map (λ x. ltb x 33) (chunk from 16 line)) → b ≡ mask_l (map (λ x. eqb x 127) (chunk from 16 line))
+-- the bits of the bytes that stand in no field
+pub stop_bit : (line : List ℕ) (from a b k : ℕ) → from + 16 ≤ length line → a ≡ mask_l (map (λ x. ltb x 33) (chunk from 16 line)) → b ≡ mask_l (map (λ x. eqb x 127) (chunk from 16 line))
+    → k < 16 → bit_at (bit_or a b) k ≡ cond (is_stop (get_or line (from + k) 0)) 1 0
+stop_bit line from a b k room e f lt = mark_bit 33 line from a b k room e f lt ∙ ap (λ t. cond t 1 0) (sym (stop_is (get_or line (from + k) 0)))
+
+pub few_bits : (low : ℕ) (line : List ℕ) (from a b : ℕ) → from + 16 ≤ length line → a ≡ mask_l (map (λ x. ltb x low) (chunk from 16 line)) → b ≡ mask_l (map (λ x. eqb x 127) (chunk from 16 line))
     → bit_or a b < 65536
-few_bits line from a b room e f = or_lt 16 a b (small (λ x. ltb x 33) a e) (small (λ x. eqb x 127) b f)
+few_bits low line from a b room e f = or_lt 16 a b (small (λ x. ltb x low) a e) (small (λ x. eqb x 127) b f)
   where
     small : (p : ℕ → Bool) (n : ℕ) → n ≡ mask_l (map p (chunk from 16 line)) → n < 2 ^ 16
     small p n e =

@@ -12,3 +12,4 @@ pub mod Sizes
 pub mod Readings
 pub mod Answer
 pub mod PlainNumbers
+pub mod FieldBits

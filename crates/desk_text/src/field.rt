@@ -4,10 +4,11 @@ ghost use Rattle.std.specs.List.{list_all};
 ghost use Rattle.std.specs.Result.{result_err};
 ghost use Rattle.desk_text.specs.Lines.{is_separator, is_bad, is_blank, AreFields};
 ghost use Rattle.desk_text.specs.Places.{count_of, places_of};
-ghost use Rattle.desk_text.specs.Stops.{AreSkipped};
+ghost use Rattle.desk_text.specs.Stops.{AreFirstStops, AreSkipped};
 
 use crate::line::LONGEST_LINE;
 use crate::places::{BadByte, Fields};
+use crate::spaced::{fields_in, is_spaced};
 use crate::stops::{FirstStops, next_stop};
 
 fn is_separator(byte: u8) -> bool
@@ -46,7 +47,8 @@ fn next_start(line: &[u8], end: usize) -> Option<usize>
     requires { end ≤ length line.now }
     ensures some { IfSome result (λ next. AreSkipped line.now end next) }
     ensures more { IfSome result (λ next. end < length line.now → end < next) }
-    ensures none { IfNone result ((end < length line.now) × (is_separator (slice_index line.now end) ≡ false)) }
+    ensures none { IfNone result
+        ((end < length line.now) × (is_separator (slice_index line.now end) ≡ false)) }
 {
     if end == line.len() {
         return Some(end);
@@ -63,9 +65,22 @@ pub fn fields(line: &[u8]) -> Result<Fields, BadByte>
     ensures bad { result_err result ≡
         option_map (λ i. record { at = i }) (position is_bad line.now) }
 {
+    let first = FirstStops::of(line);
+    if is_spaced(line) {
+        return Ok(fields_in(first.in_fields()));
+    }
+    fields_behind(line, first)
+}
+
+// The same, from one byte that stands in no field to the next.
+fn fields_behind(line: &[u8], first: FirstStops) -> Result<Fields, BadByte>
+    requires { AreFirstStops line.now first }
+    ensures ok { IfOk result (λ f. AreFields line.now (count_of f) (places_of f)) }
+    ensures bad { result_err result ≡
+        option_map (λ i. record { at = i }) (position is_bad line.now) }
+{
     let mut count = 0;
     let mut places = [(0, 0); 6];
-    let first = FirstStops::of(line);
     let mut at = skip(line, 0);
     while at < line.len() {
         let end = next_stop(line, first, at);

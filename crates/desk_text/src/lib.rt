@@ -12,6 +12,7 @@ mod number;
 mod places;
 mod score;
 mod significand;
+mod spaced;
 mod spelling;
 mod stops;
 

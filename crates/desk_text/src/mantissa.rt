@@ -39,7 +39,8 @@ fn with_digits(text: &[u8], from: usize, start: u64) -> Reading
     requires small { start < 10 ^ from }
     ensures digits { AreDigitsBehind text.now from start result.end result.number }
     ensures small { result.number < 10 ^ result.end }
-    ensures stop { result.end < length text.now → is_ascii_digit (slice_index text.now result.end) ≡ false }
+    ensures stop { result.end < length text.now →
+        is_ascii_digit (slice_index text.now result.end) ≡ false }
 {
     let mut number = start;
     let mut end = from;
@@ -83,7 +84,8 @@ fn mantissa_of(text: &[u8]) -> Option<Mantissa>
 
 /// The number that a text is, if it has at most 19 bytes besides its sign.
 pub fn plain_of(text: &[u8]) -> Option<Plain>
-    ensures some { IfSome result (λ p. IsPlain text.now p.is_negative p.mantissa.digits p.mantissa.places) }
+    ensures some { IfSome result (λ p.
+        IsPlain text.now p.is_negative p.mantissa.digits p.mantissa.places) }
     ensures small { IfSome result (λ p. p.mantissa.digits < 10 ^ 19) }
     ensures near { IfSome result (λ p. p.mantissa.places ≤ MOST_BYTES) }
     ensures none { IfNone result (¬ (IsShortPlain MOST_BYTES text.now)) }

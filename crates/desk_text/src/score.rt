@@ -52,7 +52,8 @@ impl Score {
     fn of_plain(plain: Plain) -> Score
         requires small { plain.mantissa.digits < 10 ^ 19 }
         requires near { plain.mantissa.places ≤ 19 }
-        ensures { result ≡ scaled plain.is_negative plain.mantissa.digits (neg_ℤ (pos plain.mantissa.places)) }
+        ensures { result ≡ scaled plain.is_negative plain.mantissa.digits
+            (neg_ℤ (pos plain.mantissa.places)) }
     {
         let number = plain.mantissa;
         if number.digits == 0 {

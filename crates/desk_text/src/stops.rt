@@ -1,16 +1,16 @@
 // Where the bytes of a field end. The first bytes of a line are looked at 16 at a time, once for all its fields.
-ghost use Rattle.std.specs.Prelude.{◌≡◌, ℕ, List, ◌+◌, ◌<◌, ◌≤◌, length, slice_index, max, if◌then◌else◌, false, true, IfSome, IfNone};
+ghost use Rattle.std.specs.Prelude.{◌≡◌, ℕ, List, ◌+◌, ◌<◌, ◌≤◌, length, slice_index, max, min, ◌-◌, ◌^◌, if◌then◌else◌, false, true, IfSome, IfNone};
 ghost use Rattle.std.specs.Int.{bit_at};
 ghost use Rattle.desk_text.specs.Lines.{is_stop};
-ghost use Rattle.desk_text.specs.Stops.{AreFirstStops, IsInField};
+ghost use Rattle.desk_text.specs.Stops.{AreFieldBits, AreFirstStops, IsInField, IsSpaced};
 
 use std::simd::prelude::*;
 
 // How many bytes are looked at together.
-const TOGETHER: usize = 16;
+pub(crate) const TOGETHER: usize = 16;
 
 // How many bytes of a line are looked at in this way: as many as a number has bits.
-const MOST_KNOWN: usize = 64;
+pub(crate) const MOST_KNOWN: usize = 64;
 
 /// Whether a byte stands in no field.
 fn is_stop(byte: u8) -> bool
@@ -33,6 +33,14 @@ fn stops(line: &[u8], from: usize) -> u64
     low | delete
 }
 
+// A number whose first bits are set.
+fn low_bits(count: usize) -> u64
+    requires { count < 64 }
+    ensures { result ≡ 2 ^ count - 1 }
+{
+    (1 << count) - 1
+}
+
 /// Which of the first bytes of a line stand in no field.
 #[derive(Clone, Copy)]
 pub(crate) struct FirstStops {
@@ -46,7 +54,8 @@ impl FirstStops {
     /// Those of up to 64 bytes of a line. Of a line of less than 16 bytes nothing is known.
     #[inline(always)]
     pub(crate) fn of(line: &[u8]) -> FirstStops
-        ensures { AreFirstStops line.now result }
+        ensures known { AreFirstStops line.now result }
+        ensures all { 16 ≤ length line.now → result.known ≡ min (length line.now) 64 }
     {
         let none = FirstStops { known: 0, bits: 0 };
         if line.len() < TOGETHER {
@@ -76,14 +85,25 @@ impl FirstStops {
         }
     }
 
+    /// Which bytes of a line stand in a field, where all are known and none is bad.
+    #[inline(always)]
+    pub(crate) fn in_fields(self) -> u64
+        requires { self.known < 64 }
+        ensures bits { (line : List ℕ) → AreFirstStops line self → IsSpaced line →
+            length line ≡ self.known → AreFieldBits line result }
+        ensures few { result < 2 ^ 63 }
+    {
+        !self.bits & low_bits(self.known)
+    }
+
     // The first known byte from a place on that stands in no field.
     #[inline(always)]
     fn find(self, from: usize) -> Option<usize>
         requires { self.known ≤ 64 }
         ensures some { IfSome result (λ end. (line : List ℕ) → AreFirstStops line self →
             IsInField line from end × (is_stop (slice_index line end) ≡ true)) }
-        ensures none { IfNone result ((line : List ℕ) → AreFirstStops line self → from ≤ length line →
-            IsInField line from (max from self.known)) }
+        ensures none { IfNone result ((line : List ℕ) → AreFirstStops line self →
+            from ≤ length line → IsInField line from (max from self.known)) }
     {
         if self.known <= from {
             return None;

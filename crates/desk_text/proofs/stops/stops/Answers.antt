@@ -16,4 +16,4 @@ returns-clause-few c =
     let line = c.args.line.now in
     let from = c.args.from in
     let long = length-chunk from 16 line c.requires in
-    few_bits line from _ _ c.requires (bitmask_splat w8 ltb (chunk from 16 line) 16 33 long (omega arith)) (bitmask_splat w8 eqb (chunk from 16 line) 16 127 long (omega arith))
+    few_bits 33 line from _ _ c.requires (bitmask_splat w8 ltb (chunk from 16 line) 16 33 long (omega arith)) (bitmask_splat w8 eqb (chunk from 16 line) 16 127 long (omega arith))
