@@ -11,6 +11,11 @@ use Rattle.file_rows.specs.Grouped.{names_of, bytes_in, rows_at, stands_in, Valu
 use Rattle.file_rows.specs.Names.{valued_in, topics_in}
 use Rattle.file_rows.proofs.RowFiles.{counted, Holds, topic_with, valued}
 
+-- a list of no length
+pub nothing_left : {X : Type 0} (xs : List X) → length xs ≡ 0 → xs ≡ []
+nothing_left [] h = refl
+nothing_left (x ∷ xs) h = absurd (omega arith)
+
 -- one more pair
 zip_push : {A B : Type 0} (xs : List A) (ys : List B) (x : A) (y : B) → length xs ≡ length ys → zip (xs ++ x ∷ []) (ys ++ y ∷ []) ≡ zip xs ys ++ (x, y) ∷ []
 zip_push [] [] x y e = refl

@@ -8,6 +8,11 @@ use name_table::DistinctNames;
 use std::alloc::{AllocError, Global};
 use std::marker::Model;
 
+// A topic that is not the first of a file has room for so many rows from its first on,
+const LEAST_ROWS: usize = 16;
+// and for so many bytes of their names.
+const LEAST_BYTES: usize = 256;
+
 /// Documents that differ, with their values, in the order of the file. A document that comes again is found as its row is put.
 #[derive(Drop)]
 pub struct DistinctRows<V: RowValue> {
@@ -38,15 +43,17 @@ impl<V: RowValue> DistinctRows<V> {
         }
     }
 
-    /// No document, and room for as many as other rows have, with their names. It fails only where memory runs out.
+    /// No document, and room for as many as other rows have, with their names, and for 16 at least: in a file whose rows go from topic to
+    /// topic the other rows are one row when this topic begins. It fails only where memory runs out.
     pub fn with_room_of(
         alloc: Global,
         other: &DistinctRows<V>,
     ) -> Result<DistinctRows<V>, AllocError>
         ensures { IfOk result (λ rows. rows ≡ []) }
     {
-        let count = other.values.len();
-        let documents = DistinctNames::with_room(alloc, count, other.documents.name_bytes())?;
+        let count = other.values.len().max(LEAST_ROWS);
+        let name_bytes = other.documents.name_bytes().max(LEAST_BYTES);
+        let documents = DistinctNames::with_room(alloc, count, name_bytes)?;
         Ok(DistinctRows {
             documents,
             values: Vec::with_capacity(alloc, count)?,
@@ -84,12 +91,11 @@ impl<V: RowValue> DistinctRows<V> {
         Ok(true)
     }
 
-    /// The rows alone, in no more room than they take. It fails only where memory runs out.
-    pub fn packed(&self, alloc: Global) -> Result<ValuedRows<V>, AllocError>
-        ensures { IfOk result (λ packed. packed ≡ self.now) }
+    /// The rows alone, in which no document is searched.
+    pub fn into_rows(self) -> ValuedRows<V>
+        ensures { result ≡ self }
     {
-        let documents = self.documents.packed(alloc)?;
-        let values = Vec::from_slice(alloc, &self.values)?;
-        Ok(ValuedRows::of(documents, values))
+        let DistinctRows { documents, values } = self;
+        ValuedRows::of(documents.into_names(), values)
     }
 }

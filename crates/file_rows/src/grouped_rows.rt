@@ -113,6 +113,20 @@ impl<V: RowValue> GroupedRows<V> {
         }
     }
 
+    /// The names of the topics, and the rows of each.
+    pub fn into_parts(self) -> (DistinctNames, Vec<ValuedRows<V>>)
+        ensures topics { topics_in result.0 result.1.items ≡ self }
+        ensures each { length result.0 ≡ length result.1.items }
+    {
+        let GroupedRows {
+            topics,
+            grouped,
+            rows: _,
+            name_bytes: _,
+        } = self;
+        (topics, grouped)
+    }
+
     /// Gives back the rows of a topic, where it is there. The topic stays, and has no row then.
     pub fn forget(&mut self, alloc: Global, name: &[u8])
         ensures { self.new ≡ without_rows name.now self.old }

@@ -203,12 +203,18 @@ impl<V: RowValue> GrowingRows<V> {
         Ok(true)
     }
 
-    /// The same rows, in no more room than they take. It fails only where memory runs out.
-    pub fn packed(self, alloc: Global) -> Result<GroupedRows<V>, AllocError>
-        ensures { IfOk result (λ packed. packed ≡ self) }
+    /// The same rows, to which none is added. It fails only where memory runs out.
+    pub fn into_grouped(self, alloc: Global) -> Result<GroupedRows<V>, AllocError>
+        ensures { IfOk result (λ rows. rows ≡ self) }
     {
-        let grouped = packed_all(alloc, &self.grouped)?;
-        Ok(GroupedRows::of(self.topics, grouped, self.rows, self.name_bytes))
+        let GrowingRows {
+            topics,
+            grouped,
+            rows,
+            name_bytes,
+        } = self;
+        let grouped = rows_of_all(alloc, grouped)?;
+        Ok(GroupedRows::of(topics, grouped, rows, name_bytes))
     }
 }
 
@@ -225,16 +231,16 @@ fn no_rows<V: RowValue>(
     }
 }
 
-// Copies of the rows of topics, in no more room than they take.
-fn packed_all<V: RowValue>(
+// The rows of topics, in which no document is searched.
+fn rows_of_all<V: RowValue>(
     alloc: Global,
-    grouped: &[DistinctRows<V>],
+    grouped: Vec<DistinctRows<V>>,
 ) -> Result<Vec<ValuedRows<V>>, AllocError>
-    ensures { IfOk result (λ packed. packed.items ≡ grouped.now) }
+    ensures { IfOk result (λ rows. rows.items ≡ grouped.items) }
 {
-    let mut packed = Vec::with_capacity(alloc, grouped.len())?;
+    let mut rows = Vec::with_capacity(alloc, grouped.len())?;
     for topic in grouped {
-        packed.push(topic.packed(alloc)?)?;
+        rows.push(topic.into_rows())?;
     }
-    Ok(packed)
+    Ok(rows)
 }

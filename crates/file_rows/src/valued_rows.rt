@@ -68,6 +68,13 @@ impl<V: RowValue> ValuedRows<V> {
         self.documents.get(i)
     }
 
+    /// The documents, in their order.
+    pub fn documents(&self) -> &NumberedNames
+        ensures { result.now ≡ map (λ d. d.document) self.now }
+    {
+        &self.documents
+    }
+
     /// The value of document `i`.
     pub fn value(&self, i: usize) -> &V
         requires { i < length self.now }

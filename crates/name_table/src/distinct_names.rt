@@ -96,11 +96,16 @@ impl DistinctNames {
         self.table.find(&self.names, name, hash(name))
     }
 
-    /// A copy of the names alone, in no more room than they take. It fails only where memory runs out.
-    pub fn packed(&self, alloc: Global) -> Result<NumberedNames, AllocError>
-        ensures { IfOk result (λ packed. packed ≡ self.now) }
+    /// The names alone, which are no longer searched.
+    pub fn into_names(self) -> NumberedNames
+        ensures { result ≡ self }
     {
-        self.names.packed(alloc)
+        let DistinctNames {
+            names,
+            hashes: _,
+            table: _,
+        } = self;
+        names
     }
 
     /// Puts a copy of a name at the end where it is not there yet, and answers the number of the name and whether it was not there. It

@@ -191,5 +191,5 @@ fn qrels_from(alloc: Global, groups: GrowingRows<i16>) -> Result<Qrels, FileFaul
     if groups.rows() == 0 {
         return Err(FileFault::NoTopics);
     }
-    Ok(Qrels::new(groups.packed(alloc)?))
+    Ok(Qrels::new(groups.into_grouped(alloc)?))
 }

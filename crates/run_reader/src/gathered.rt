@@ -97,10 +97,10 @@ impl Gathered {
         }
     }
 
-    /// The kept rows, in no more room than they take.
-    pub fn packed(self) -> Result<GroupedRows<Score>, AllocError>
+    /// The kept rows, to which none is added.
+    pub fn into_grouped(self) -> Result<GroupedRows<Score>, AllocError>
         ensures { IfOk result (λ kept. kept ≡ self.kept) }
     {
-        self.kept.packed(self.alloc)
+        self.kept.into_grouped(self.alloc)
     }
 }

@@ -144,7 +144,7 @@ impl<'q> RowReader<'q> {
         let Some(name) = given_or(given, tag) else {
             return Err(FileFault::NoTag);
         };
-        let kept = gathered.packed()?;
+        let kept = gathered.into_grouped()?;
         let used = Used {
             rows: used.rows + kept.rows(),
             name_bytes: used.name_bytes + kept.name_bytes(),

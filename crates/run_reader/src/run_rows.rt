@@ -44,6 +44,19 @@ impl RunRows {
         RunRows { name, kept, used }
     }
 
+    /// The run's name, its kept rows, and what this and the earlier files used.
+    pub fn into_parts(self) -> (Name, GroupedRows<Score>, Used)
+        ensures name { result.0 ≡ self.name }
+        ensures kept { result.1 ≡ self.topics }
+        ensures used { result.2 ≡ self.used }
+        ensures named { is_name result.0 ≡ true }
+        ensures run { IsRun result.1 }
+        ensures within { IsWithinLimits result.2 }
+    {
+        let RunRows { name, kept, used } = self;
+        (name, kept, used)
+    }
+
     /// Gives back the rows of a topic, which has none then. All else stays as it is.
     pub fn forget(&mut self, alloc: Global, topic: &[u8])
         ensures gone { rows_on_topic self.new topic.now ≡ [] }
