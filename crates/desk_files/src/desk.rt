@@ -19,11 +19,11 @@ use desk_model::Desk;
 use desk_outside::Shelf;
 use desk_words::{Path, RunWords};
 use qrels_reader::Qrels;
-use run_reader::RunRows;
 use std::alloc::{AllocError, Global};
-use topics_pool::{DeskFault, MOST_CELLS, build_desk};
+use topic_universe::RankedRun;
+use topics_pool::{DeskFault, MOST_CELLS, desk_of_ranked};
 
-fn copy_names(alloc: Global, runs: &[RunRows]) -> Result<Vec<Vec<u8>>, AllocError>
+fn copy_names(alloc: Global, runs: &[RankedRun]) -> Result<Vec<Vec<u8>>, AllocError>
     ensures { IfOk result (λ names. map (λ each. each.items) names.items ≡ run_names runs.now) }
 {
     let mut names = Vec::with_capacity(alloc, runs.len())?;
@@ -34,7 +34,7 @@ fn copy_names(alloc: Global, runs: &[RunRows]) -> Result<Vec<Vec<u8>>, AllocErro
 }
 
 // Pairs of runs times topics times tables.
-fn cell_count(qrels: &Qrels, runs: &[RunRows], tables: u32) -> u64
+fn cell_count(qrels: &Qrels, runs: &[RankedRun], tables: u32) -> u64
     requires some { 0 < length runs.now }
     requires few { length runs.now ≤ RUN_LIMIT }
     ensures count { result ≡ cells_in_all tables qrels.now runs.now }
@@ -45,7 +45,12 @@ fn cell_count(qrels: &Qrels, runs: &[RunRows], tables: u32) -> u64
 }
 
 // The desk of the rows of files, for so many tables.
-fn join<'a>(alloc: Global, qrels: Qrels, runs: Vec<RunRows>, tables: u32) -> Result<Desk, Stop<'a>>
+fn join<'a>(
+    alloc: Global,
+    qrels: Qrels,
+    runs: Vec<RankedRun>,
+    tables: u32,
+) -> Result<Desk, Stop<'a>>
     requires some { 0 < vec_len runs }
     requires few { vec_len runs ≤ RUN_LIMIT }
     requires rows { total_rows runs.items ≤ MOST_RUN_ROWS }
@@ -59,7 +64,7 @@ fn join<'a>(alloc: Global, qrels: Qrels, runs: Vec<RunRows>, tables: u32) -> Res
 {
     let cells = cell_count(&qrels, &runs, tables);
     let mut names = copy_names(alloc, &runs)?;
-    match build_desk(alloc, qrels, runs) {
+    match desk_of_ranked(alloc, qrels, runs) {
         Ok(desk) => {
             if cells > MOST_CELLS {
                 return Err(Stop::Refused(Refusal::TooManyCells(cells)));

@@ -17,11 +17,13 @@ ghost use Rattle.desk_files.specs.Views.{answer_of};
 
 use crate::files::{feed_file, open_file};
 use crate::stop::{Refusal, Stop};
+use desk_model::Memory;
 use desk_outside::Shelf;
 use desk_words::RunWord;
 use qrels_reader::{FileFault, Qrels, QrelsReader};
 use run_reader::{RunReader, RunRows, Used};
-use std::alloc::{AllocError, Global};
+use std::alloc::Global;
+use topic_universe::RankedRun;
 
 // Why a command stops at a file whose reading ended so.
 fn stop_of<'a>(path: &'a str, fault: FileFault) -> Stop<'a>
@@ -97,13 +99,13 @@ pub fn load_run<'a, F: Shelf>(
     }
 }
 
-/// The rows of all run files, in order.
+/// The runs of all run files, in order. Each is ranked as soon as it is read, and gives back its scores.
 pub fn load_runs<'a, F: Shelf>(
     alloc: Global,
     files: &mut F,
     words: &'a [RunWord],
     qrels: &Qrels,
-) -> Result<Vec<RunRows>, Stop<'a>>
+) -> Result<Vec<RankedRun>, Stop<'a>>
     ensures gives { Gives (F.state files.old).files (F.state files.old).faults
         (F.state files.new).faults (λ runs. runs.items) result (λ held.
         runs_of held qrels.now (used_by qrels.now) words.now) }
@@ -127,16 +129,15 @@ pub fn load_runs<'a, F: Shelf>(
     for word in words {
         let run = load_run(alloc, files, word, qrels, used)?;
         used = run.used();
-        push_run(&mut runs, run)?;
+        push_run(alloc, &mut runs, run)?;
     }
     Ok(runs)
 }
 
-fn push_run(runs: &mut Vec<RunRows>, run: RunRows) -> Result<(), AllocError>
+// Ranks a run, and puts it at the end.
+fn push_run(alloc: Global, runs: &mut Vec<RankedRun>, run: RunRows) -> Result<(), Memory>
     ensures { OnOk result (runs.new.items ≡ runs.old.items ++ run ∷ []) }
 {
-    match runs.push(run) {
-        Ok(()) => Ok(()),
-        Err(_) => Err(AllocError),
-    }
+    runs.push(RankedRun::of(alloc, run)?)?;
+    Ok(())
 }

@@ -7,3 +7,4 @@ pub mod Zips
 pub mod Numbers
 pub mod Starts
 pub mod Rows
+pub mod Topics

@@ -62,7 +62,7 @@ fn belongs_higher(rows: &ValuedRows<Score>, i: usize) -> bool
 }
 
 /// Whether no row stands after one that belongs behind it.
-fn are_in_order(rows: &ValuedRows<Score>) -> bool
+pub fn are_in_order(rows: &ValuedRows<Score>) -> bool
     ensures { result ≡ true → AreInOrder rows.now }
 {
     for i in 1..rows.len() {

@@ -1,11 +1,16 @@
 // The names of a topic's rows in trec_eval's order.
-ghost use Rattle.std.specs.Prelude.{◌≡◌, ◌<◌, ℕ, List, length, IfOk, slice_get, Some};
+ghost use Rattle.std.specs.Prelude.{◌≡◌, ◌<◌, ℕ, List, [], ◌∷◌, ◌++◌, length, map, IfOk, OnOk, slice_get, Some};
+ghost use Rattle.std.specs.List.{IsDistinct};
+ghost use Rattle.std.specs.Str.{bytes_eq};
 ghost use Rattle.file_rows.specs.Grouped.{Valued};
 ghost use Rattle.run_reader.specs.Run.{rows_on_topic};
 ghost use Rattle.topic_universe.specs.Order.{IsTrecOrder};
 
-use crate::entry::{RankedRows, ranked};
+use crate::entry::{RankedRows, are_in_order, ranked};
 use desk_model::Memory;
+use desk_text::Score;
+use file_rows::ValuedRows;
+use name_table::NumberedNames;
 use run_reader::RunRows;
 use std::alloc::Global;
 use std::marker::Model;
@@ -26,6 +31,17 @@ impl<'r> Model for RankedNames<'r> {
 }
 
 impl<'r> RankedNames<'r> {
+    // The names of rows.
+    fn of(alloc: Global, rows: &'r ValuedRows<Score>) -> Result<RankedNames<'r>, Memory>
+        requires { IsDistinct bytes_eq (map (λ row. row.document) rows.now) }
+        ensures { IfOk result (λ names. IsTrecOrder rows.now names) }
+    {
+        match ranked(alloc, rows) {
+            Ok(rows) => Ok(RankedNames { rows }),
+            Err(_) => Err(Memory),
+        }
+    }
+
     /// How many names there are.
     pub fn len(&self) -> usize
         ensures { result ≡ length self.now }
@@ -58,14 +74,59 @@ pub fn ranking<'r>(
     ensures { IfOk result (λ names. IsTrecOrder (rows_on_topic rows.now topic.now) names) }
 {
     match rows.rows_on(topic) {
-        Some(scored) => match ranked(alloc, scored) {
-            Ok(rows) => Ok(RankedNames { rows }),
-            Err(_) => Err(Memory),
-        },
+        Some(scored) => RankedNames::of(alloc, scored),
         None => Ok(RankedNames {
             rows: RankedRows::Sorted(Vec::new(alloc)),
         }),
     }
+}
+
+// The most bytes that the names of a topic have together.
+const MOST_BYTES: usize = 0xFFFF_FFFF;
+
+// Puts a copy of a name at the end. It fails only where memory runs out, or the names would have 4,294,967,296 bytes together.
+fn push_copy(names: &mut NumberedNames, name: &[u8]) -> Result<(), Memory>
+    ensures { OnOk result (names.new ≡ names.old ++ name.now ∷ []) }
+{
+    if names.name_bytes().saturating_add(name.len()) > MOST_BYTES {
+        return Err(Memory);
+    }
+    Ok(names.push(name)?)
+}
+
+// Copies of names, in their order, into room for so many bytes.
+fn copied(
+    alloc: Global,
+    names: &RankedNames<'_>,
+    name_bytes: usize,
+) -> Result<NumberedNames, Memory>
+    ensures { IfOk result (λ copies. copies ≡ names.now) }
+{
+    let mut copies = NumberedNames::with_room(alloc, names.len(), name_bytes)?;
+    for i in 0..names.len() {
+        push_copy(&mut copies, names.get(i))?;
+    }
+    Ok(copies)
+}
+
+// Copies of the names of rows that may stand in any order.
+fn sorted_names(alloc: Global, rows: &ValuedRows<Score>) -> Result<NumberedNames, Memory>
+    requires { IsDistinct bytes_eq (map (λ row. row.document) rows.now) }
+    ensures { IfOk result (λ names. IsTrecOrder rows.now names) }
+{
+    let names = RankedNames::of(alloc, rows)?;
+    Ok(copied(alloc, &names, rows.name_bytes())?)
+}
+
+/// Copies of the names of rows in trec_eval's order, in no more room than they take.
+pub fn names_in_order(alloc: Global, rows: &ValuedRows<Score>) -> Result<NumberedNames, Memory>
+    requires { IsDistinct bytes_eq (map (λ row. row.document) rows.now) }
+    ensures { IfOk result (λ names. IsTrecOrder rows.now names) }
+{
+    if are_in_order(rows) {
+        return Ok(rows.documents().packed(alloc)?);
+    }
+    sorted_names(alloc, rows)
 }
 
 /// The order fixes the list: two lists of names in trec_eval's order over the same rows are one.

@@ -8,11 +8,11 @@ ghost use Rattle.topic_universe.specs.Universe.{listed, retrieved, AreRankedNumb
 
 use crate::names::sorted;
 use crate::numbered::Numbered;
-use crate::{RankedNames, ranking};
+use crate::ranked_run::RankedRun;
 use desk_model::Memory;
 use file_rows::NameIndex;
+use name_table::NumberedNames;
 use qrels_reader::Qrels;
-use run_reader::RunRows;
 use std::alloc::{AllocError, Global};
 
 /// The documents of a topic. A document's number is the place, from 0, at which it was first found: among the qrels' rows, and then
@@ -42,7 +42,7 @@ fn listed_names(alloc: Global, qrels: &Qrels, t: usize) -> Result<NameIndex<'_>,
 fn add_ranked<'n>(
     alloc: Global,
     names: &mut NameIndex<'n>,
-    ranked: &RankedNames<'n>,
+    ranked: &'n NumberedNames,
 ) -> Result<Vec<usize>, AllocError>
     ensures names { OnOk result (names.new ≡ with_names names.old ranked.now) }
     ensures within { IfOk result (λ numbers. All (λ n. n < length names.new) numbers.items) }
@@ -59,7 +59,7 @@ fn add_ranked<'n>(
 fn add_run<'n>(
     alloc: Global,
     names: &mut NameIndex<'n>,
-    run: &'n RunRows,
+    run: &'n RankedRun,
     topic: &[u8],
 ) -> Result<Vec<usize>, Memory>
     requires { AreDistinctNames names.old }
@@ -67,17 +67,17 @@ fn add_run<'n>(
     ensures numbers { IfOk result (λ numbers.
         AreRankedNumbers names.new (rows_on_topic run.now topic.now) numbers.items) }
 {
-    // The documents of the rows are names.
-    let _ = run.rows_on(topic);
-    let ranked = ranking(alloc, run, topic)?;
-    Ok(add_ranked(alloc, names, &ranked)?)
+    match run.names_on(topic) {
+        Some(ranked) => Ok(add_ranked(alloc, names, ranked)?),
+        None => Ok(Vec::new(alloc)),
+    }
 }
 
 // Adds the documents of the runs' rows on a topic, and gives for each run the numbers of its documents, the best first.
 fn add_runs<'n>(
     alloc: Global,
     names: &mut NameIndex<'n>,
-    runs: &'n [RunRows],
+    runs: &'n [RankedRun],
     topic: &[u8],
 ) -> Result<Vec<Vec<usize>>, Memory>
     requires { AreDistinctNames names.old }
@@ -99,7 +99,7 @@ pub fn universe_of<'n>(
     alloc: Global,
     qrels: &'n Qrels,
     t: usize,
-    runs: &'n [RunRows],
+    runs: &'n [RankedRun],
     topic: &[u8],
 ) -> Result<Universe<'n>, Memory>
     requires { t < length qrels.now }

@@ -15,9 +15,8 @@ use crate::runs::forget_topic;
 use desk_model::{Memory, Name, Ranking, TopicBook};
 use file_rows::NameIndex;
 use qrels_reader::Qrels;
-use run_reader::RunRows;
 use std::alloc::{AllocError, Global};
-use topic_universe::{Numbered, ascending, in_one_row, places, universe_of};
+use topic_universe::{Numbered, RankedRun, ascending, in_one_row, places, universe_of};
 
 // The grade that topic `t` of the qrels gives a document, where it lists it: its documents have the first numbers.
 fn listed_grade(qrels: &Qrels, t: usize, doc: &Numbered<'_>) -> Option<i32>
@@ -77,7 +76,7 @@ fn topic_book(
     qrels: &Qrels,
     t: usize,
     name: &[u8],
-    runs: &[RunRows],
+    runs: &[RankedRun],
     rankings: &mut [Vec<Ranking>],
 ) -> Result<TopicBook, Memory>
     requires place { position (bytes_eq name.now) (names_of qrels.now) ≡ Some t }
@@ -117,7 +116,7 @@ fn books_of(
     qrels: &Qrels,
     topics: &NameIndex<'_>,
     names: &[Name],
-    runs: &mut [RunRows],
+    runs: &mut [RankedRun],
     rankings: &mut [Vec<Ranking>],
 ) -> Result<Vec<TopicBook>, Memory>
     requires topics { topics.now ≡ names_of qrels.now }
@@ -147,7 +146,7 @@ fn books_of(
 pub fn topic_books(
     alloc: Global,
     qrels: &Qrels,
-    runs: &mut [RunRows],
+    runs: &mut [RankedRun],
     rankings: &mut [Vec<Ranking>],
 ) -> Result<Vec<TopicBook>, Memory>
     requires rows { total_rows runs.old ≤ MOST_RUN_ROWS }

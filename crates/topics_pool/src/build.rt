@@ -8,14 +8,15 @@ use crate::book::topic_books;
 use crate::fault::DeskFault;
 use crate::limits::MOST_CELLS;
 use crate::rankings::no_rankings;
-use crate::runs::{cell_count, names_of_runs, repeated_run};
+use crate::runs::{cell_count, names_of_runs, ranked_runs, repeated_run};
 use desk_model::{Desk, Memory};
 use qrels_reader::Qrels;
 use run_reader::RunRows;
 use std::alloc::Global;
+use topic_universe::RankedRun;
 
-// The desk of rows that have no fault. The runs give back their rows.
-fn desk_of(alloc: Global, qrels: &Qrels, runs: &mut [RunRows]) -> Result<Desk, Memory>
+// The desk of rows that have no fault. The runs give back their documents.
+fn desk_of(alloc: Global, qrels: &Qrels, runs: &mut [RankedRun]) -> Result<Desk, Memory>
     requires some { 0 < length runs.old }
     requires few { length runs.old ≤ RUN_LIMIT }
     requires rows { total_rows runs.old ≤ MOST_RUN_ROWS }
@@ -31,7 +32,7 @@ fn desk_of(alloc: Global, qrels: &Qrels, runs: &mut [RunRows]) -> Result<Desk, M
 }
 
 // Looks for the first fault of rows.
-fn check_rows(qrels: &Qrels, runs: &[RunRows]) -> Result<(), DeskFault>
+fn check_rows(qrels: &Qrels, runs: &[RankedRun]) -> Result<(), DeskFault>
     requires some { 0 < length runs.now }
     requires few { length runs.now ≤ RUN_LIMIT }
     ensures right { OnOk result (IsNoFault qrels.now runs.now) }
@@ -51,7 +52,11 @@ fn check_rows(qrels: &Qrels, runs: &[RunRows]) -> Result<(), DeskFault>
 ///
 /// `SameName` comes exactly where a run has the name of an earlier one, and tells the first; else `TooManyCells` exactly
 /// where pairs times topics exceed the limit.
-pub fn build_desk(alloc: Global, qrels: Qrels, mut runs: Vec<RunRows>) -> Result<Desk, DeskFault>
+pub fn desk_of_ranked(
+    alloc: Global,
+    qrels: Qrels,
+    mut runs: Vec<RankedRun>,
+) -> Result<Desk, DeskFault>
     requires some { 0 < vec_len runs }
     requires few { vec_len runs ≤ RUN_LIMIT }
     requires rows { total_rows runs.items ≤ MOST_RUN_ROWS }
@@ -61,4 +66,17 @@ pub fn build_desk(alloc: Global, qrels: Qrels, mut runs: Vec<RunRows>) -> Result
 {
     check_rows(&qrels, &runs)?;
     Ok(desk_of(alloc, &qrels, &mut runs)?)
+}
+
+/// The desk of these rows, as `desk_of_ranked` makes it once the runs are ranked.
+pub fn build_desk(alloc: Global, qrels: Qrels, runs: Vec<RunRows>) -> Result<Desk, DeskFault>
+    requires some { 0 < vec_len runs }
+    requires few { vec_len runs ≤ RUN_LIMIT }
+    requires rows { total_rows runs.items ≤ MOST_RUN_ROWS }
+    ensures desk { IfOk result (IsDeskOf qrels runs.items) }
+    ensures right { IfOk result (λ _. IsNoFault qrels runs.items) }
+    ensures fault { IfErr result (IsFaultOf qrels runs.items) }
+{
+    let ranked = ranked_runs(alloc, runs)?;
+    desk_of_ranked(alloc, qrels, ranked)
 }

@@ -9,7 +9,7 @@ mod limits;
 mod rankings;
 mod runs;
 
-pub use build::build_desk;
+pub use build::{build_desk, desk_of_ranked};
 pub use fault::DeskFault;
 pub use laws::{desk_is_one, rows_add_up};
 pub use limits::MOST_CELLS;

@@ -4,8 +4,8 @@ ghost use Rattle.std.specs.List.{AllZip};
 ghost use Rattle.topics_pool.specs.Made.{AreDocsOf, IsRankingOf, AreRankingsOf, HaveOneMore};
 
 use desk_model::{Memory, Ranking, TopicBook};
-use run_reader::RunRows;
 use std::alloc::{AllocError, Global};
+use topic_universe::RankedRun;
 
 // The places of numbers.
 fn placed(alloc: Global, numbers: &[usize], places: &[u32]) -> Result<Vec<u32>, AllocError>
@@ -21,7 +21,7 @@ fn placed(alloc: Global, numbers: &[usize], places: &[u32]) -> Result<Vec<u32>, 
 
 fn topic_ranking(
     alloc: Global,
-    run: &RunRows,
+    run: &RankedRun,
     book: &TopicBook,
     numbers: &[usize],
     places: &[u32],
@@ -30,7 +30,7 @@ fn topic_ranking(
     ensures { IfOk result (λ ranking. IsRankingOf run.now book.now ranking) }
 {
     // The documents of the rows differ, and there are not too many.
-    let _ = run.rows_on(book.name());
+    let _ = run.names_on(book.name());
     let docs = placed(alloc, numbers, places)?;
     Ok(Ranking::new(alloc, docs, book.doc_count())?)
 }
@@ -53,7 +53,7 @@ fn push_ranking(
 /// One more ranking of each run: that of a topic, by the numbers of its documents and their places in the universe.
 pub fn rank_topic(
     alloc: Global,
-    runs: &[RunRows],
+    runs: &[RankedRun],
     book: &TopicBook,
     numbers: &[Vec<usize>],
     places: &[u32],
@@ -75,7 +75,7 @@ pub fn rank_topic(
 /// For each run no ranking yet, and room for one on each topic.
 pub fn no_rankings(
     alloc: Global,
-    runs: &[RunRows],
+    runs: &[RankedRun],
     topics: usize,
 ) -> Result<Vec<Vec<Ranking>>, AllocError>
     ensures { IfOk result (λ rankings.

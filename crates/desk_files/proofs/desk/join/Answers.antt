@@ -57,14 +57,14 @@ returns-in-Err-TooManyCells-clause-joins c =
     let more = more_in_all c.args.tables c.args.qrels c.args.runs.items _ fault c.requires.tables in
     is_excessive c.args.tables c.args.qrels c.args.runs.items c.cell_count-cells.result fault.0 count (omega (arith, more, count))
 
-pub build_desk-requires-clause-some : goal.build_desk-requires-clause-some
-build_desk-requires-clause-some c = c.requires.some
+pub desk_of_ranked-requires-clause-some : goal.desk_of_ranked-requires-clause-some
+desk_of_ranked-requires-clause-some c = c.requires.some
 
-pub build_desk-requires-clause-few : goal.build_desk-requires-clause-few
-build_desk-requires-clause-few c = c.requires.few
+pub desk_of_ranked-requires-clause-few : goal.desk_of_ranked-requires-clause-few
+desk_of_ranked-requires-clause-few c = c.requires.few
 
-pub build_desk-requires-clause-rows : goal.build_desk-requires-clause-rows
-build_desk-requires-clause-rows c = c.requires.rows
+pub desk_of_ranked-requires-clause-rows : goal.desk_of_ranked-requires-clause-rows
+desk_of_ranked-requires-clause-rows c = c.requires.rows
 
 pub returns-in-Err-SameName-clause-runs : goal.returns-in-Err-SameName-clause-runs
 returns-in-Err-SameName-clause-runs c = tt

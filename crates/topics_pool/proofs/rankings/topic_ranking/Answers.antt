@@ -18,6 +18,6 @@ new-requires c =
     let docs = c.in_ok-docs.docs.items in
     let order = subst (λ ds. IsTrecOrder (rows_on_topic run book.name) (doc_names book ds)) (sym c.in_ok-docs.ensures) c.requires.order in
     let within = subst (All (λ doc. doc < length book.docs)) (sym c.in_ok-docs.ensures) c.requires.within in
-    let distinct = subst (λ n. IsDistinct bytes_eq (retrieved n run)) c.name.ensures.name c.rows_on.ensures.distinct in
-    let few = subst (λ n. length (rows_on_topic run n) ≤ MOST_RANKS) c.name.ensures.name c.rows_on.ensures.few in
+    let distinct = subst (λ n. IsDistinct bytes_eq (retrieved n run)) c.name.ensures.name c.names_on.ensures.distinct in
+    let few = subst (λ n. length (rows_on_topic run n) ≤ MOST_RANKS) c.name.ensures.name c.names_on.ensures.few in
     subst (λ n. IsRanking n docs) (sym c.doc_count.ensures.count) (is_ranking run book (doc_names book docs) docs order refl within distinct few)
