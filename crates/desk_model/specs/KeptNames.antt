@@ -1,9 +1,9 @@
 -- How a topic keeps the names of its documents.
 use Rattle.std.specs.Prelude.{ℕ, List}
 use Rattle.desk_model.specs.declared.document_names.KeptNames.{KeptNames}
-use Rattle.desk_model.specs.declared.document_names.KeptNames.TheVariants.{Each, InRow}
+use Rattle.desk_model.specs.declared.document_names.KeptNames.TheVariants.{Each, InBlocks}
 
--- the names, each in room of its own or all in one row of bytes
+-- the names, each in room of its own or all in blocks
 abbrev pub kept_names : KeptNames → List (List ℕ)
 kept_names (Each names) = names.items
-kept_names (InRow names) = names
+kept_names (InBlocks names) = names

@@ -13,6 +13,8 @@ pub mod Classes
 pub mod Name
 pub mod Placed
 pub mod KeptNames
+pub mod FileGrades
+pub mod KeptGrades
 pub mod Book
 pub mod Desk
 pub mod MeasureText

@@ -1,9 +1,11 @@
-ghost use Rattle.std.specs.Prelude.{◌≡◌, ◌<◌, ◌≤◌, length, map, slice_get, Some};
+ghost use Rattle.std.specs.Prelude.{◌≡◌, ◌<◌, ◌≤◌, length, map, slice_get, Some, IfOk};
 ghost use Rattle.desk_model.specs.Name.{number_of};
 
 use crate::document_names::DocumentNames;
+use crate::file_grades::{BlockedGrades, FileGrades};
 use crate::name::Name;
-use name_table::NumberedNames;
+use name_table::BlockedNames;
+use std::alloc::{AllocError, Global};
 use std::marker::Model;
 
 /// A topic: the names of its documents, its universe, and what the judgements file says of each.
@@ -11,7 +13,7 @@ use std::marker::Model;
 pub struct TopicBook {
     name: Name,
     docs: DocumentNames,
-    grades: Vec<Option<i32>>,
+    grades: FileGrades,
 }
 
 impl Model for TopicBook {
@@ -19,9 +21,9 @@ impl Model for TopicBook {
 
     ghost Value = { Book };
 
-    ghost view = { λ b. record { name = b.name; docs = b.docs; grades = b.grades.items } };
+    ghost view = { λ b. record { name = b.name; docs = b.docs; grades = b.grades } };
 
-    ghost invariant = { λ b. IsBook (record { name = b.name; docs = b.docs; grades = b.grades.items }) };
+    ghost invariant = { λ b. IsBook (record { name = b.name; docs = b.docs; grades = b.grades }) };
 }
 
 impl TopicBook {
@@ -36,19 +38,19 @@ impl TopicBook {
         TopicBook {
             name,
             docs: DocumentNames::each(docs),
-            grades,
+            grades: FileGrades::in_row(grades),
         }
     }
 
-    /// The same with the names of the documents in one row of bytes, which takes less room.
-    pub fn of_names(name: Name, docs: NumberedNames, grades: Vec<Option<i32>>) -> TopicBook
-        requires { IsBook (record { name = name; docs = docs; grades = grades.items }) }
-        ensures { result ≡ record { name = name; docs = docs; grades = grades.items } }
+    /// The same with the names of the documents and their grades in blocks, which take less room.
+    pub fn of_blocks(name: Name, docs: BlockedNames, grades: BlockedGrades) -> TopicBook
+        requires { IsBook (record { name = name; docs = docs; grades = grades }) }
+        ensures { result ≡ record { name = name; docs = docs; grades = grades } }
     {
         TopicBook {
             name,
-            docs: DocumentNames::in_row(docs),
-            grades,
+            docs: DocumentNames::in_blocks(docs),
+            grades: FileGrades::in_blocks(grades),
         }
     }
 
@@ -82,14 +84,18 @@ impl TopicBook {
         requires { doc < length self.now.docs }
         ensures { result ≡ file_grade_of self.now doc }
     {
-        self.grades[doc as usize]
+        self.grades.get(doc as usize)
     }
 
-    /// The grades of all documents in the judgements file, by document.
-    pub fn grades(&self) -> &[Option<i32>]
-        ensures { result.now ≡ self.now.grades }
+    /// A copy of the grades of all documents in the judgements file, by document. It fails only where memory runs out.
+    pub fn grades(&self, alloc: Global) -> Result<Vec<Option<i32>>, AllocError>
+        ensures { IfOk result (λ grades. grades.items ≡ self.now.grades) }
     {
-        &self.grades
+        let mut grades = Vec::with_capacity(alloc, self.docs.len())?;
+        for doc in 0..self.doc_count() {
+            grades.push(self.file_grade(doc))?;
+        }
+        Ok(grades)
     }
 
     /// The number of the document with this name, and `None` exactly where no document has it.

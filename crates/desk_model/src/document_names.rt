@@ -4,7 +4,7 @@ ghost use Rattle.desk_model.specs.Limits.{DOCUMENT_LIMIT};
 ghost use Rattle.desk_model.specs.Name.{number_of, AreAscending};
 
 use crate::name::Name;
-use name_table::NumberedNames;
+use name_table::BlockedNames;
 use std::cmp::Ordering;
 use std::marker::Model;
 
@@ -13,8 +13,8 @@ use std::marker::Model;
 pub enum KeptNames {
     // Each in room of its own.
     Each(Vec<Name>),
-    // One behind the other in one row of bytes.
-    InRow(NumberedNames),
+    // One behind the other in blocks.
+    InBlocks(BlockedNames),
 }
 
 // The names of a topic's documents, numbered from 0.
@@ -42,12 +42,12 @@ impl DocumentNames {
         }
     }
 
-    // Names in one row of bytes.
-    pub(crate) fn in_row(names: NumberedNames) -> DocumentNames
+    // Names in blocks.
+    pub(crate) fn in_blocks(names: BlockedNames) -> DocumentNames
         ensures { result ≡ names }
     {
         DocumentNames {
-            kept: KeptNames::InRow(names),
+            kept: KeptNames::InBlocks(names),
         }
     }
 
@@ -57,7 +57,7 @@ impl DocumentNames {
     {
         match &self.kept {
             KeptNames::Each(names) => names.len(),
-            KeptNames::InRow(names) => names.len(),
+            KeptNames::InBlocks(names) => names.len(),
         }
     }
 
@@ -68,7 +68,7 @@ impl DocumentNames {
     {
         match &self.kept {
             KeptNames::Each(names) => names[i].as_bytes(),
-            KeptNames::InRow(names) => names.get(i),
+            KeptNames::InBlocks(names) => names.get(i),
         }
     }
 

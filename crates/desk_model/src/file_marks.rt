@@ -26,10 +26,9 @@ pub fn file_topics(alloc: Global, desk: &Desk, level: u32) -> Result<Vec<Vec<Mar
 fn marks_of_topic(alloc: Global, book: &TopicBook, level: u32) -> Result<Vec<Mark>, AllocError>
     ensures { IfOk result (λ marks. marks.items ≡ file_marks level book.now) }
 {
-    let grades = book.grades();
-    let mut marks = Vec::with_capacity(alloc, grades.len())?;
-    for grade in grades {
-        marks.push(mark(*grade, level, true))?;
+    let mut marks = Vec::with_capacity(alloc, book.doc_count() as usize)?;
+    for doc in 0..book.doc_count() {
+        marks.push(mark(book.file_grade(doc), level, true))?;
     }
     Ok(marks)
 }
@@ -68,10 +67,9 @@ fn closed_marks(
     ensures { IfOk result (λ marks. marks.items ≡
         closed_topic (λ doc. slice_index_or pool.now doc true) (file_marks level book.now)) }
 {
-    let grades = book.grades();
-    let mut marks = Vec::with_capacity(alloc, grades.len())?;
-    for doc in 0..grades.len() {
-        marks.push(mark(grades[doc], level, pool[doc]))?;
+    let mut marks = Vec::with_capacity(alloc, book.doc_count() as usize)?;
+    for doc in 0..book.doc_count() {
+        marks.push(mark(book.file_grade(doc), level, pool[doc as usize]))?;
     }
     Ok(marks)
 }

@@ -5,6 +5,7 @@
 pub mod book;
 pub mod desk;
 mod document_names;
+mod file_grades;
 mod file_marks;
 pub mod grading;
 pub mod laws;
@@ -23,6 +24,7 @@ pub mod types;
 pub use book::TopicBook;
 pub use desk::Desk;
 pub use desk_memory::Memory;
+pub use file_grades::BlockedGrades;
 pub use grading::mark;
 pub use limits::MOST_RUNS;
 pub use marks::{Marks, Rows};

@@ -6,6 +6,7 @@ use crate::desks::desk_of;
 use crate::plain::{Case, Extremes, completes, encloses, extremes_of, score};
 use any_measure::Common;
 use desk_model::{Desk, Totals, Verdict};
+use std::alloc::Global;
 use std::process::Abort;
 use std::test::Fail;
 use topic_counts::Span;
@@ -123,13 +124,21 @@ fn agrees(
         && encloses(found, straight, &TAILS)
 }
 
-fn compare(rt: &impl Abort, desk: &Desk, answers: &Answers, greatest: u32)
+fn compare(
+    rt: &impl Abort,
+    alloc: Global,
+    desk: &Desk,
+    answers: &Answers,
+    greatest: u32,
+) -> Result<(), Fail>
     requires two { length desk.now.runs ≡ 2 }
 {
     let _ = desk.topic_count();
     let lists = (desk.ranking(0, 0).docs(), desk.ranking(1, 0).docs());
-    let agree = agrees(answers, greatest, desk.topic(0).grades(), lists);
+    let grades = desk.topic(0).grades(alloc)?;
+    let agree = agrees(answers, greatest, &grades, lists);
     assert!(rt; agree);
+    Ok(())
 }
 
 #[test]
@@ -138,7 +147,7 @@ fn tables_have_the_extremes_of_every_completion(rt: HostRuntime) -> Result<(), F
         let desk = desk_of(rt.alloc(), *files)?;
         for greatest in 1..4 {
             let answers = ask(&rt, rt.alloc(), &desk, greatest, &Common)?;
-            compare(&rt, &desk, &answers, greatest);
+            compare(&rt, rt.alloc(), &desk, &answers, greatest)?;
         }
     }
     Ok(())

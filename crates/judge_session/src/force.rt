@@ -85,7 +85,8 @@ pub fn all_in_force(
     requires desk { IsSessionOf desk.now changes.now }
     ensures { IfOk result (λ grades. grades.items ≡ grades_in_force desk.now topic changes.now) }
 {
-    let mut grades = all_counted(alloc, desk.topic(topic).grades())?;
+    let file = desk.topic(topic).grades(alloc)?;
+    let mut grades = all_counted(alloc, &file)?;
     replay(&mut grades, changes, topic);
     Ok(grades)
 }

@@ -4,3 +4,4 @@ pub mod ByName
 pub mod Finding
 pub mod Entering
 pub mod Cutting
+pub mod Blocks

@@ -1,3 +1,4 @@
 pub mod Cut
 pub mod Table
 pub mod Finds
+pub mod Blocks

@@ -38,7 +38,7 @@ fn printed(alloc: Global, desk: &Desk) -> Result<Vec<u8>, Fail> {
     let _ = desk.topic_count();
     let book = desk.topic(0);
     let _ = book.doc_count();
-    Ok(qrels_text(alloc, desk, 0, book.grades())?)
+    Ok(qrels_text(alloc, desk, 0, &book.grades(alloc)?)?)
 }
 
 // Whether the judgements of a desk are printed as this text, and of a desk of that text again.

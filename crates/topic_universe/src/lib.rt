@@ -12,7 +12,7 @@ mod ranked_topics;
 mod scored_rows;
 mod universe;
 
-pub use names::{ascending, in_one_row, places};
+pub use names::{ascending, in_blocks, places};
 pub use numbered::Numbered;
 pub use ranked::{RankedNames, order_is_one, ranking};
 pub use ranked_run::RankedRun;

@@ -1,6 +1,7 @@
 // Names in ascending order.
-ghost use Rattle.std.specs.Prelude.{◌≡◌, ◌≤◌, ◌<◌, ◌^◌, ℕ, true, All, IfOk, IfSome, IfNone, IsPermutation, length, map, slice_index, sum_by};
+ghost use Rattle.std.specs.Prelude.{◌≡◌, ◌≤◌, ◌<◌, ◌*◌, ◌/◌, ◌^◌, ℕ, true, All, IfOk, IfSome, IfNone, IsPermutation, flat_map, length, map, slice_index, sum_by, take};
 ghost use Rattle.std.specs.List.{range_with_len};
+ghost use Rattle.name_table.specs.declared.blocked_names.TheConstants.{BLOCK_NAMES};
 ghost use Rattle.desk_model.specs.Limits.{DOCUMENT_LIMIT};
 ghost use Rattle.desk_model.specs.Name.{is_name, AreAscending};
 ghost use Rattle.topic_universe.specs.Names.{AreDistinctNames};
@@ -9,7 +10,7 @@ ghost use Rattle.topic_universe.specs.Sorted.{AreSorted, IsPlaceOf};
 use crate::numbered::Numbered;
 use desk_model::{Memory, Name};
 use file_rows::NameIndex;
-use name_table::NumberedNames;
+use name_table::{BLOCK_NAMES, BlockedNames, NumberedNames};
 use std::alloc::{AllocError, Global};
 
 fn numbered<'n>(alloc: Global, names: &NameIndex<'n>) -> Result<Vec<Numbered<'n>>, AllocError>
@@ -69,9 +70,9 @@ fn row_bytes(pairs: &[Numbered<'_>]) -> Option<usize>
     Some(bytes)
 }
 
-/// Copies of the names, in their order, in one row of bytes. It fails only where memory runs out, or they have 4,294,967,296 bytes or
-/// more together.
-pub fn in_one_row(alloc: Global, pairs: &[Numbered<'_>]) -> Result<NumberedNames, Memory>
+// Copies of the names, in their order, in one row of bytes. It fails only where memory runs out, or they have 4,294,967,296 bytes or
+// more together.
+fn in_one_row(alloc: Global, pairs: &[Numbered<'_>]) -> Result<NumberedNames, Memory>
     ensures { IfOk result (λ names. names ≡ map (λ pair. pair.0.now) pairs.now) }
 {
     let Some(bytes) = row_bytes(pairs) else {
@@ -82,6 +83,31 @@ pub fn in_one_row(alloc: Global, pairs: &[Numbered<'_>]) -> Result<NumberedNames
         names.push(pair.name())?;
     }
     Ok(names)
+}
+
+// Copies of the names of all whole blocks.
+fn whole_blocks(alloc: Global, pairs: &[Numbered<'_>]) -> Result<Vec<NumberedNames>, Memory>
+    ensures count { IfOk result (λ blocks. length blocks.items ≡ length pairs.now / BLOCK_NAMES) }
+    ensures whole { IfOk result (λ blocks. All (λ block. length block ≡ BLOCK_NAMES) blocks.items) }
+    ensures names { IfOk result (λ blocks. flat_map (λ block. block) blocks.items ≡
+        map (λ pair. pair.0.now) (take (BLOCK_NAMES * length blocks.items) pairs.now)) }
+{
+    let mut blocks = Vec::with_capacity(alloc, pairs.len() / BLOCK_NAMES)?;
+    for block in 0..pairs.len() / BLOCK_NAMES {
+        let start = BLOCK_NAMES * block;
+        blocks.push(in_one_row(alloc, &pairs[start..start + BLOCK_NAMES])?)?;
+    }
+    Ok(blocks)
+}
+
+/// Copies of the names, in their order, in blocks. It fails only where memory runs out, or the names of a block have 4,294,967,296
+/// bytes or more together.
+pub fn in_blocks(alloc: Global, pairs: &[Numbered<'_>]) -> Result<BlockedNames, Memory>
+    ensures { IfOk result (λ names. names ≡ map (λ pair. pair.0.now) pairs.now) }
+{
+    let whole = whole_blocks(alloc, pairs)?;
+    let last = in_one_row(alloc, &pairs[BLOCK_NAMES * whole.len()..])?;
+    Ok(BlockedNames::of(whole, last))
 }
 
 /// Copies of the names in ascending order, each with room of its own.

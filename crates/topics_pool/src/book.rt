@@ -1,9 +1,11 @@
 // The topics of a desk.
-ghost use Rattle.std.specs.Prelude.{◌≡◌, ◌≤◌, ◌<◌, [], true, All, Some, IfOk, length, map, position};
+ghost use Rattle.std.specs.Prelude.{◌≡◌, ◌≤◌, ◌<◌, ◌*◌, ◌/◌, [], true, All, Some, IfOk, length, map, position, take};
 ghost use Rattle.std.specs.List.{AllZip, IsDistinct};
 ghost use Rattle.std.specs.Str.{bytes_eq};
 ghost use Rattle.desk_model.specs.Name.{is_name};
 ghost use Rattle.desk_model.specs.Book.{IsBook};
+ghost use Rattle.desk_model.specs.FileGrades.{grades_of, AreWhole};
+ghost use Rattle.name_table.specs.declared.blocked_names.TheConstants.{BLOCK_NAMES};
 ghost use Rattle.file_rows.specs.Grouped.{rows_at, names_of};
 ghost use Rattle.run_reader.specs.declared.limits.TheConstants.{MOST_RUN_ROWS};
 ghost use Rattle.topic_universe.specs.Names.{AreDistinctNames, AreAmong};
@@ -12,11 +14,12 @@ ghost use Rattle.topics_pool.specs.Made.{AreBooksOf, AreRankingsOf, HaveOneMore,
 
 use crate::rankings::rank_topic;
 use crate::runs::forget_topic;
-use desk_model::{Memory, Name, Ranking, TopicBook};
+use desk_model::{BlockedGrades, Memory, Name, Ranking, TopicBook};
 use file_rows::NameIndex;
+use name_table::BLOCK_NAMES;
 use qrels_reader::Qrels;
 use std::alloc::{AllocError, Global};
-use topic_universe::{Numbered, RankedRun, ascending, in_one_row, places, universe_of};
+use topic_universe::{Numbered, RankedRun, ascending, in_blocks, places, universe_of};
 
 // The grade that topic `t` of the qrels gives a document, where it lists it: its documents have the first numbers.
 fn listed_grade(qrels: &Qrels, t: usize, doc: &Numbered<'_>) -> Option<i32>
@@ -50,6 +53,45 @@ fn listed_grades(
     Ok(grades)
 }
 
+// The grades of all whole blocks of the documents.
+fn whole_blocks(
+    alloc: Global,
+    qrels: &Qrels,
+    t: usize,
+    docs: &[Numbered<'_>],
+) -> Result<Vec<Vec<Option<i32>>>, AllocError>
+    requires topic { t < length qrels.now }
+    requires numbers { All (λ doc. IsNumberedAfter (rows_at qrels.now t) doc.0.now doc.1) docs.now }
+    ensures count { IfOk result (λ blocks. length blocks.items ≡ length docs.now / BLOCK_NAMES) }
+    ensures whole { IfOk result (λ blocks. AreWhole blocks.items) }
+    ensures grades { IfOk result (λ blocks. grades_of blocks.items ≡
+        map (λ doc. grade_in (rows_at qrels.now t) doc.0.now)
+        (take (BLOCK_NAMES * length blocks.items) docs.now)) }
+{
+    let mut blocks = Vec::with_capacity(alloc, docs.len() / BLOCK_NAMES)?;
+    for block in 0..docs.len() / BLOCK_NAMES {
+        let start = BLOCK_NAMES * block;
+        blocks.push(listed_grades(alloc, qrels, t, &docs[start..start + BLOCK_NAMES])?)?;
+    }
+    Ok(blocks)
+}
+
+fn grades_in_blocks(
+    alloc: Global,
+    qrels: &Qrels,
+    t: usize,
+    docs: &[Numbered<'_>],
+) -> Result<BlockedGrades, AllocError>
+    requires topic { t < length qrels.now }
+    requires numbers { All (λ doc. IsNumberedAfter (rows_at qrels.now t) doc.0.now doc.1) docs.now }
+    ensures { IfOk result (λ grades. grades ≡
+        map (λ doc. grade_in (rows_at qrels.now t) doc.0.now) docs.now) }
+{
+    let whole = whole_blocks(alloc, qrels, t, docs)?;
+    let last = listed_grades(alloc, qrels, t, &docs[BLOCK_NAMES * whole.len()..])?;
+    Ok(BlockedGrades::of(whole, last))
+}
+
 // The topic of this name over the names of some pairs, with the grades of topic `t` of the qrels.
 fn graded_book(
     alloc: Global,
@@ -65,9 +107,9 @@ fn graded_book(
     ensures { IfOk result (λ book. book ≡
         book_over qrels.now t name.now (map (λ pair. pair.0.now) pairs.now)) }
 {
-    let docs = in_one_row(alloc, pairs)?;
-    let grades = listed_grades(alloc, qrels, t, pairs)?;
-    Ok(TopicBook::of_names(Name::copy_of(alloc, name)?, docs, grades))
+    let docs = in_blocks(alloc, pairs)?;
+    let grades = grades_in_blocks(alloc, qrels, t, pairs)?;
+    Ok(TopicBook::of_blocks(Name::copy_of(alloc, name)?, docs, grades))
 }
 
 // The topic of this name, which is topic `t` of the qrels. Each run gets its ranking.

@@ -11,8 +11,8 @@ use Rattle.judge_session.proofs.force.all_in_force.Goals as goal
 pub replay-requires : goal.replay-requires
 replay-requires c = record {
   counted = λ doc e lt.
-      let gs = c.grades.result.now in
-      let same : c.deref_mut.result.now ≡ map counted_grade gs = c.deref_mut.ensures.value ∙ c.in_ok-grades.ensures in
+      let gs = c.in_ok-file.file.items in
+      let same : c.deref_mut.result.now ≡ map counted_grade gs = c.deref_mut.ensures.value ∙ c.in_ok-grades.ensures ∙ ap (map counted_grade) c.deref.ensures.value in
       subst (λ (xs : List (Option ℤ)). get_or xs doc e ≡ counted_grade (get_or xs doc e)) (sym same)
       (all_counted_once gs doc e (omega (arith, lt, ap length same, length-map gs counted_grade)));
 }
@@ -21,10 +21,10 @@ pub returns : goal.returns
 returns c =
     let topic = c.args.topic in
     let changes = c.args.changes.now in
-    let gs = c.grades.result.now in
+    let gs = c.in_ok-file.file.items in
     let len = c.in_ok-grades.grades.len in
     let r = c.replay.new.grades in
-    let same : c.deref_mut.result.now ≡ map counted_grade gs = c.deref_mut.ensures.value ∙ c.in_ok-grades.ensures in
+    let same : c.deref_mut.result.now ≡ map counted_grade gs = c.deref_mut.ensures.value ∙ c.in_ok-grades.ensures ∙ ap (map counted_grade) c.deref.ensures.value in
     let length-r : length r ≡ len = c.replay.auto.grades ∙ c.deref_mut.ensures.len in
     let length-gs : length gs ≡ len = sym (length-map gs counted_grade) ∙ ap length (sym same) ∙ c.deref_mut.ensures.len in
     let there = get_or_from_slice_get c.args.desk.now.topics topic c.topic.result.now (record { name = []; docs = []; grades = [] }) c.topic.ensures in
@@ -37,4 +37,4 @@ returns c =
     ∙ ap (λ g. counted_grade (grade_after g topic k changes)) (get_or-map counted_grade gs k e e lt)
     ∙ counted-start (get_or gs k e) topic k changes
     ∙ ap (λ j. counted_grade (grade_after (get_or gs k e) topic j changes)) place)
-    ∙ ap (λ fs. map (λ p. counted_grade (grade_after p.1 topic p.0 changes)) (enumerate_from 0 fs)) (c.grades.ensures ∙ ap (λ (book : Book). book.grades) (sym there))
+    ∙ ap (λ fs. map (λ p. counted_grade (grade_after p.1 topic p.0 changes)) (enumerate_from 0 fs)) (c.in_ok-file.ensures ∙ ap (λ (book : Book). book.grades) (sym there))

@@ -13,9 +13,9 @@ same_book qrels t name pairs book named has graded =
     let grades = graded ∙ sym (map-map (grade_in (rows_at qrels t)) name_of (λ (pair : Numbered). grade_in (rows_at qrels t) pair.0.now) (λ pair. refl) pairs) in
     λ i. record { name = named i; docs = has i; grades = grades i }
 
-pub of_names-requires : goal.of_names-requires
-of_names-requires c =
+pub of_blocks-requires : goal.of_blocks-requires
+of_blocks-requires c =
     subst IsBook (sym (same_book c.args.qrels.now c.args.t c.args.name.now c.args.pairs.now _ c.in_ok-copy_of.ensures c.in_ok-docs.ensures c.in_ok-grades.ensures)) c.requires.book
 
 pub returns : goal.returns
-returns c = c.of_names.ensures ∙ same_book c.args.qrels.now c.args.t c.args.name.now c.args.pairs.now _ c.in_ok-copy_of.ensures c.in_ok-docs.ensures c.in_ok-grades.ensures
+returns c = c.of_blocks.ensures ∙ same_book c.args.qrels.now c.args.t c.args.name.now c.args.pairs.now _ c.in_ok-copy_of.ensures c.in_ok-docs.ensures c.in_ok-grades.ensures
