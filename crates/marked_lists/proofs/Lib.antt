@@ -1,1 +1,2 @@
 pub mod Hiding
+pub mod InStep

@@ -6,13 +6,11 @@ ghost use Rattle.measure_core.specs.Laws.{AreMet};
 ghost use Rattle.measure_core.specs.Lists.{added_documents};
 ghost use Rattle.marked_lists.specs.Hidden.{AreHidden};
 
+use crate::own_lists::{LOOKED_UP, push_own};
 use desk_model::{Mark, Memory, Ranking};
-use measure_core::{MarkedPair, push_own};
+use measure_core::MarkedPair;
 use std::alloc::Global;
 use topic_counts::counts::prefix;
-
-/// Up to which k the documents are looked up in the other ranking.
-const LOOKED_UP: u32 = 128;
 
 /// Up to how many documents of a topic a copy of their marks takes less time than a walk over both rankings.
 const COPIED: usize = 100_000;

@@ -18,7 +18,6 @@ pub mod SetBits
 pub mod Pushing
 pub mod Ascending
 pub mod Placed
-pub mod InStep
 pub mod Tallying
 pub mod Splitting
 pub mod Slots

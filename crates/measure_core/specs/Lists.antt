@@ -1,5 +1,5 @@
 -- Lists of the documents that a completion adds to the judged relevant ones.
-use Rattle.std.specs.Prelude.{◌≡◌, ℕ, ◌+◌, ◌<◌, ◌^◌, nat_eq, Bool, ◌&&◌, ◌||◌, List, ◌++◌, length, filter, map, take, slice_index, Option}
+use Rattle.std.specs.Prelude.{◌≡◌, ℕ, ◌+◌, ◌<◌, ◌^◌, nat_eq, Bool, ◌&&◌, List, ◌++◌, length, filter, map, take, slice_index, Option}
 use Rattle.std.specs.List.{count_by, range_with_len}
 use Rattle.desk_model.specs.Mark.{is_unjudged, mark_at}
 use Rattle.desk_model.specs.Ranking.{rank}
@@ -8,9 +8,7 @@ use Rattle.desk_model.specs.Completion.{with_picked}
 use Rattle.desk_model.specs.declared.types.Mark.{Mark}
 use Rattle.desk_model.specs.declared.types.MeasureName.{MeasureName}
 use Rattle.measure_laws.specs.Cases.{least_truth}
-use Rattle.measure_laws.specs.Classes.{open_in, is_among_first}
 use Rattle.measure_laws.specs.Prefixes.{only_second, neutral}
-use Rattle.measure_core.specs.declared.more_lists.More.{More}
 
 -- the unjudged documents that a completion of a topic makes relevant, ascending
 abbrev pub added_documents : List Mark → (ℕ → Bool) → List ℕ
@@ -55,8 +53,3 @@ own_documents k marks a b = added_documents marks (with_picked marks (only_secon
 -- the first ones of those that both or neither have there, so many at most
 abbrev pub first_neutral : ℕ → ℕ → List Mark → List ℕ → List ℕ → List ℕ
 first_neutral k most marks a b = take most (added_documents marks (with_picked marks (neutral k a b)))
-
--- the documents that the second of two rankings alone has among its first k, and with them so many of the first ones of the others
-abbrev pub own_and_more : ℕ → More → List Mark → List ℕ → List ℕ → ℕ → Bool
-own_and_more k more marks a b doc =
-    only_second k a b doc || (is_among_first more.both (open_in marks (neutral k a b)) doc || is_among_first more.first (open_in marks (only_second k b a)) doc)

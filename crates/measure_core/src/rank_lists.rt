@@ -116,7 +116,7 @@ fn put_places<T: RankTest>(
 
 /// Appends the unjudged documents of the second of two lists of places that are listed by their ranks in both, ascending,
 /// by one walk over both.
-pub(crate) fn push_places<T: RankTest>(
+pub fn push_places<T: RankTest>(
     test: &T,
     first: &MarkedPlaces,
     second: &MarkedPlaces,

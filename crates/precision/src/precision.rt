@@ -11,9 +11,10 @@ ghost use Rattle.measure_core.specs.Made.{IsMadeFor};
 
 use crate::own::cell_between;
 use desk_model::{Mark, MeasureName, Memory, Ranking};
+use marked_lists::push_own;
 use measure_core::{
     Cell, CellRoom, KeptCell, MarkedPair, MarkedRankings, Measure, Picks, Shift, Steps,
-    TopicRankings, case_values, own_cells, push_own, shift_one_side,
+    TopicRankings, case_values, own_cells, shift_one_side,
 };
 use std::alloc::Global;
 use std::marker::Model;

@@ -18,11 +18,10 @@ ghost use Rattle.measure_core.specs.Rooms.{IsRoomFor};
 ghost use Rattle.recall.specs.LeastCase.{AreCounts, least_relevant};
 
 use desk_model::{Mark, MeasureName, Memory, Ranking};
-use marked_lists::push_own_marked;
+use marked_lists::{LOOKED_UP, More, count_neutral, count_own, push_own_and_more, push_own_marked};
 use measure_core::{
-    Cell, CellRoom, KeptCell, LOOKED_UP, ListRoom, ListSizes, MarkedPair, MarkedRankings, Measure,
-    More, OwnMeasure, Picks, RankedPair, Shift, Steps, TopicRankings, case_values, count_neutral,
-    count_own, own_cells, push_own_and_more, shift_one_side,
+    Cell, CellRoom, KeptCell, ListRoom, ListSizes, MarkedPair, MarkedRankings, Measure, OwnMeasure,
+    Picks, RankedPair, Shift, Steps, TopicRankings, case_values, own_cells, shift_one_side,
 };
 use std::alloc::Global;
 use std::marker::Model;

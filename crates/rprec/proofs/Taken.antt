@@ -12,9 +12,10 @@ use Rattle.desk_model.proofs.Counts.{one_if}
 use Rattle.measure_laws.specs.Classes.{is_among_first, open_in, size_of}
 use Rattle.measure_laws.specs.Prefixes.{only_second, neutral}
 use Rattle.measure_laws.proofs.RprecEnds.{count_more}
-use Rattle.measure_core.specs.Lists.{added_documents, own_and_more}
-use Rattle.measure_core.specs.declared.more_lists.More.{More}
-use Rattle.measure_core.proofs.InStep.{size_more}
+use Rattle.measure_core.specs.Lists.{added_documents}
+use Rattle.marked_lists.specs.More.{own_and_more}
+use Rattle.marked_lists.specs.declared.more_lists.More.{More}
+use Rattle.marked_lists.proofs.InStep.{size_more}
 use Rattle.measure_core.proofs.Pushing.{among_many, among_none, filter_same, open_picked}
 use Rattle.rprec.specs.Picks.{picks}
 use Rattle.rprec.specs.declared.values.Wanted.{Wanted}

@@ -7,8 +7,8 @@ ghost use Rattle.rprec.specs.Picks.{others, AreWanted};
 
 use crate::values::Wanted;
 use desk_model::Memory;
-use marked_lists::push_own_marked;
-use measure_core::{MarkedPair, More, RankedPair, count_neutral, count_own, push_own_and_more};
+use marked_lists::{More, count_neutral, count_own, push_own_and_more, push_own_marked};
+use measure_core::{MarkedPair, RankedPair};
 use std::alloc::Global;
 use topic_counts::counts::Counts;
 

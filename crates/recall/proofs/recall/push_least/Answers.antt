@@ -9,8 +9,9 @@ use Rattle.desk_model.specs.declared.types.Mark.{Mark}
 use Rattle.measure_laws.specs.Cases.{picked_where, recall_pick}
 use Rattle.measure_laws.specs.Classes.{open_in, is_among_first}
 use Rattle.measure_laws.specs.Prefixes.{only_second, neutral}
-use Rattle.measure_core.specs.Lists.{added_documents, own_and_more}
-use Rattle.measure_core.specs.declared.more_lists.More.{More}
+use Rattle.measure_core.specs.Lists.{added_documents}
+use Rattle.marked_lists.specs.More.{own_and_more}
+use Rattle.marked_lists.specs.declared.more_lists.More.{More}
 use Rattle.measure_core.proofs.Pushing.{among_all, among_none, picked_same}
 use Rattle.recall.proofs.Leading.{own_listed}
 use Rattle.recall.proofs.recall.push_least.Goals as goal

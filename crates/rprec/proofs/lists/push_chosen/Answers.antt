@@ -5,8 +5,9 @@ use Rattle.desk_model.specs.Completion.{with_picked}
 use Rattle.measure_laws.specs.Classes.{judged_count, open_in, size_of}
 use Rattle.measure_laws.specs.Prefixes.{only_second, neutral}
 use Rattle.measure_laws.specs.RprecCase.{greedy_pick}
-use Rattle.measure_core.specs.Lists.{added_documents, own_and_more}
-use Rattle.measure_core.specs.declared.more_lists.More.{More}
+use Rattle.measure_core.specs.Lists.{added_documents}
+use Rattle.marked_lists.specs.More.{own_and_more}
+use Rattle.marked_lists.specs.declared.more_lists.More.{More}
 use Rattle.measure_core.proofs.Pushing.{picked_same}
 use Rattle.rprec.specs.Picks.{picks}
 use Rattle.rprec.specs.declared.values.Wanted.{Wanted}

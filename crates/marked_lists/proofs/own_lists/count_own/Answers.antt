@@ -1,7 +1,7 @@
 use Rattle.std.proofs.Common.{length, take, List, ℕ, ap, sym, subst, ◌∙◌}
 use Rattle.measure_core.specs.Lists.{AreCounted, HaveRoomFor}
 use Rattle.measure_core.proofs.Tallying.{own_by_ranks}
-use Rattle.measure_core.proofs.own_lists.count_own.Goals as goal
+use Rattle.marked_lists.proofs.own_lists.count_own.Goals as goal
 
 pub count_by_ranks-requires-clause-room : goal.count_by_ranks-requires-clause-room
 count_by_ranks-requires-clause-room c = subst (HaveRoomFor c.args.counts.now) (sym (ap (take c.args.most) (own_by_ranks c.args.k c.args.ranked.now.marks.now c.args.ranked.now.a.now c.args.ranked.now.b.now))) c.requires.room

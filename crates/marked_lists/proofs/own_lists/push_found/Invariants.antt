@@ -2,7 +2,7 @@ use Rattle.std.proofs.Common.{◌≡◌, ◌++◌, ℕ, Bool, not, take, drop}
 use Rattle.std.specs.Prelude.{◌&&◌, filter}
 use Rattle.desk_model.specs.Mark.{is_unjudged, mark_at}
 use Rattle.desk_model.specs.Ranking.{is_in}
-use Rattle.measure_core.proofs.own_lists.push_found.Given as goal
+use Rattle.marked_lists.proofs.own_lists.push_found.Given as goal
 
 abbrev pub invariant-loop-doc : goal.invariant-loop-doc
 invariant-loop-doc l =

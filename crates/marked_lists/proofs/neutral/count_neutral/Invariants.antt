@@ -4,7 +4,7 @@ use Rattle.desk_model.specs.Mark.{is_unjudged, mark_at}
 use Rattle.measure_laws.specs.Prefixes.{neutral}
 use Rattle.measure_core.specs.Lists.{first_neutral, times}
 use Rattle.measure_core.proofs.Pushing.{left_from}
-use Rattle.measure_core.proofs.neutral.count_neutral.Given as goal
+use Rattle.marked_lists.proofs.neutral.count_neutral.Given as goal
 
 -- what is counted and what is left to count are all
 abbrev pub invariant-loop-doc : goal.invariant-loop-doc

@@ -9,15 +9,16 @@ use Rattle.desk_model.specs.Ranking.{is_in}
 use Rattle.desk_model.specs.declared.placed.Placed.{Placed}
 use Rattle.measure_laws.specs.Classes.{open_in}
 use Rattle.measure_laws.specs.Prefixes.{only_second, neutral}
-use Rattle.measure_core.specs.Lists.{added_documents, own_and_more, placed_documents}
+use Rattle.measure_core.specs.Lists.{added_documents, placed_documents}
+use Rattle.marked_lists.specs.More.{own_and_more}
 use Rattle.measure_core.specs.OneSide.{is_by}
-use Rattle.measure_core.proofs.InStep.{class_both, class_first, found_by, from_next, from_start, left_more, left_own, listed_is, next_within}
+use Rattle.marked_lists.proofs.InStep.{class_both, class_first, found_by, from_next, from_start, left_more, left_own, listed_is, next_within}
 use Rattle.measure_core.proofs.Placed.{placed_are, weaker_places}
 use Rattle.measure_core.proofs.Pushing.{cond_pushed, left_from, left_step, left_whole}
 use Rattle.measure_core.specs.Places.{IsLeft}
 use Rattle.measure_core.proofs.Walking.{IsLeft-drop, left_whole as places_whole}
-use Rattle.measure_core.proofs.more_lists.push_own_and_more.Goals as goal
-use Rattle.measure_core.proofs.more_lists.push_own_and_more.Goals.{then-lists+in_ok-push, else-lists, then-loop-doc-test+else-is_some, else-loop-doc-test}
+use Rattle.marked_lists.proofs.more_lists.push_own_and_more.Goals as goal
+use Rattle.marked_lists.proofs.more_lists.push_own_and_more.Goals.{then-lists+in_ok-push, else-lists, then-loop-doc-test+else-is_some, else-loop-doc-test}
 
 pub loop-doc-init : goal.loop-doc-init
 loop-doc-init c =

@@ -2,9 +2,9 @@ use Rattle.std.proofs.Common.{ap, sym}
 use Rattle.std.proofs.lemmas.List.{drop_all}
 use Rattle.desk_model.specs.Placed.{lookup}
 use Rattle.desk_model.specs.declared.placed.Placed.{Placed}
-use Rattle.measure_core.proofs.InStep.{absent_at}
-use Rattle.measure_core.proofs.more_lists.rank_from.Goals as goal
-use Rattle.measure_core.proofs.more_lists.rank_from.Goals.{else-at-places-via-then-at-places+else-places-at, else-at-places-via-else-at-places}
+use Rattle.marked_lists.proofs.InStep.{absent_at}
+use Rattle.marked_lists.proofs.more_lists.rank_from.Goals as goal
+use Rattle.marked_lists.proofs.more_lists.rank_from.Goals.{else-at-places-via-then-at-places+else-places-at, else-at-places-via-else-at-places}
 
 abbrev nowhere : Placed
 nowhere = record { doc = 0; rank = 0 }

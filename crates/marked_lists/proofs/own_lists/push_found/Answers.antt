@@ -6,8 +6,8 @@ use Rattle.std.proofs.lemmas.List.{drop_all}
 use Rattle.desk_model.specs.Mark.{is_unjudged, mark_at}
 use Rattle.desk_model.specs.Ranking.{is_in}
 use Rattle.measure_core.proofs.Pushing.{cond_pushed, all_pushed}
-use Rattle.measure_core.proofs.own_lists.push_found.Goals as goal
-use Rattle.measure_core.proofs.own_lists.push_found.Goals.{then-is_open_outside+in_ok-push, else-is_open_outside}
+use Rattle.marked_lists.proofs.own_lists.push_found.Goals as goal
+use Rattle.marked_lists.proofs.own_lists.push_found.Goals.{then-is_open_outside+in_ok-push, else-is_open_outside}
 
 pub loop-doc-init : goal.loop-doc-init
 loop-doc-init c = record { made = refl }

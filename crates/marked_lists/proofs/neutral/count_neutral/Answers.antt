@@ -10,11 +10,11 @@ use Rattle.measure_core.specs.Lists.{times}
 use Rattle.measure_core.specs.OneSide.{is_by}
 use Rattle.measure_core.specs.Worths.{rank_or_none}
 use Rattle.topic_counts.proofs.Prefixes.{rank_by}
-use Rattle.measure_core.proofs.InStep.{class_both}
+use Rattle.marked_lists.proofs.InStep.{class_both}
 use Rattle.measure_core.proofs.Pushing.{left_from, left_none, left_step, left_whole, open_picked}
 use Rattle.measure_core.proofs.Tallying.{few_left, left_one, length_step, none_taken, one_counted, take_step}
-use Rattle.measure_core.proofs.neutral.count_neutral.Goals as goal
-use Rattle.measure_core.proofs.neutral.count_neutral.Goals.{then-loop-doc-test+else-left-gt0, else-loop-doc-test}
+use Rattle.marked_lists.proofs.neutral.count_neutral.Goals as goal
+use Rattle.marked_lists.proofs.neutral.count_neutral.Goals.{then-loop-doc-test+else-left-gt0, else-loop-doc-test}
 
 pub loop-doc-init : goal.loop-doc-init
 loop-doc-init c =

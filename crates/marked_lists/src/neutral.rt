@@ -5,9 +5,9 @@ ghost use Rattle.measure_core.specs.Lists.{first_neutral, AreCounted, HaveRoomFo
 ghost use Rattle.measure_core.specs.OneSide.{is_by};
 ghost use Rattle.measure_core.specs.Worths.{rank_or_none};
 
-use crate::marked::RankedPair;
 use crate::more_lists::is_by;
 use desk_model::Mark;
+use measure_core::RankedPair;
 
 /// 1 for an unjudged document that both or neither have there, by its ranks, and 0 for another.
 #[inline]

@@ -8,10 +8,8 @@ ghost use Rattle.desk_model.specs.Ranking.{is_in};
 ghost use Rattle.measure_laws.specs.Prefixes.{only_second};
 ghost use Rattle.measure_core.specs.Lists.{added_documents, own_documents, AreCounted, HaveRoomFor};
 
-use crate::counting::count_by_ranks;
-use crate::marked::{MarkedPair, RankedPair};
-use crate::rank_lists::{RankTest, push_by_ranks};
 use desk_model::{Mark, Memory, Ranking};
+use measure_core::{MarkedPair, RankTest, RankedPair, count_by_ranks, push_by_ranks};
 use topic_counts::counts::{is_among_first, prefix};
 
 /// Up to which k it is faster to look each document up in the other ranking and to sort than to walk over both.

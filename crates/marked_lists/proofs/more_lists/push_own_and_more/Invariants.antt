@@ -5,10 +5,11 @@ use Rattle.desk_model.specs.Completion.{with_picked}
 use Rattle.desk_model.specs.Mark.{is_unjudged, mark_at}
 use Rattle.measure_laws.specs.Classes.{open_in}
 use Rattle.measure_laws.specs.Prefixes.{only_second, neutral}
-use Rattle.measure_core.specs.Lists.{added_documents, own_and_more}
-use Rattle.measure_core.proofs.InStep.{AreFrom}
+use Rattle.measure_core.specs.Lists.{added_documents}
+use Rattle.marked_lists.specs.More.{own_and_more}
+use Rattle.marked_lists.proofs.InStep.{AreFrom}
 use Rattle.measure_core.proofs.Pushing.{left_from}
-use Rattle.measure_core.proofs.more_lists.push_own_and_more.Given as goal
+use Rattle.marked_lists.proofs.more_lists.push_own_and_more.Given as goal
 
 abbrev pub invariant-loop-doc : goal.invariant-loop-doc
 invariant-loop-doc l =

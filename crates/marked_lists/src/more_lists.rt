@@ -3,16 +3,17 @@ ghost use Rattle.std.specs.Prelude.{◌≡◌, ◌-◌, ◌++◌, ◌&&◌, ◌|
 ghost use Rattle.desk_model.specs.Completion.{with_picked};
 ghost use Rattle.desk_model.specs.Mark.{is_unjudged};
 ghost use Rattle.desk_model.specs.Placed.{lookup};
-ghost use Rattle.measure_core.specs.Lists.{added_documents, own_and_more};
+ghost use Rattle.measure_core.specs.Lists.{added_documents};
+ghost use Rattle.marked_lists.specs.More.{own_and_more};
 ghost use Rattle.measure_core.specs.OneSide.{is_by};
 ghost use Rattle.measure_core.specs.Places.{BeginsAt};
 ghost use Rattle.measure_core.specs.Worths.{rank_or_none};
 
-use crate::marked::{MarkedPair, MarkedPlaces};
 use crate::own_lists::SecondAlone;
-use crate::places::rest;
-use crate::rank_lists::push_places;
 use desk_model::{Mark, Memory};
+use measure_core::places::rest;
+use measure_core::rank_lists::push_places;
+use measure_core::{MarkedPair, MarkedPlaces};
 
 /// How many unjudged documents are listed beside those that the second of two rankings alone has among its first k: of
 /// those that both or neither have there, and of those that the first alone has.

@@ -17,7 +17,7 @@ use Rattle.measure_core.specs.Lists.{added_documents, passes_by_ranks}
 use Rattle.measure_core.specs.OneSide.{is_by}
 use Rattle.measure_core.proofs.Ascending.{own_test, sorted_are}
 use Rattle.measure_core.proofs.Tallying.{own_by_ranks}
-use Rattle.measure_core.proofs.own_lists.push_own.Goals as goal
+use Rattle.marked_lists.proofs.own_lists.push_own.Goals as goal
 
 pub returns-then-k-gt-LOOKED_UP : goal.returns-then-k-gt-LOOKED_UP
 returns-then-k-gt-LOOKED_UP c =

@@ -21,11 +21,11 @@ use Rattle.measure_laws.proofs.RprecEnds.{count_more}
 use Rattle.topic_counts.proofs.Merge.{absent_below, further}
 use Rattle.topic_counts.proofs.Places.{IsAscending-drop, one_at_most}
 use Rattle.topic_counts.proofs.Prefixes.{rank_by}
-use Rattle.measure_core.specs.Lists.{own_and_more}
+use Rattle.marked_lists.specs.More.{own_and_more}
 use Rattle.measure_core.specs.OneSide.{is_by}
 use Rattle.measure_core.specs.Places.{BeginsAt}
 use Rattle.measure_core.specs.Worths.{rank_or_none}
-use Rattle.measure_core.specs.declared.more_lists.More.{More}
+use Rattle.marked_lists.specs.declared.more_lists.More.{More}
 use Rattle.measure_core.proofs.Placed.{weaker_places}
 use Rattle.measure_core.proofs.Pushing.{open_picked}
 
