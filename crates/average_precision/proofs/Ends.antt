@@ -10,17 +10,17 @@ use Rattle.topic_counts.specs.declared.span.Span.{Span}
 use Rattle.topic_counts.proofs.Spans.{span, span_same}
 use Rattle.measure_core.specs.Laws.{AreValues}
 use Rattle.measure_core.proofs.Cells.{cell}
-use Rattle.average_precision.specs.Classes.{IsLeast, case_truth}
-use Rattle.average_precision.specs.Cuts.{AreCuts}
+use Rattle.average_precision.specs.Least.{IsLeast, case_truth}
+use Rattle.precision_candidates.specs.Cuts.{AreCuts}
 use Rattle.average_precision.specs.Numbers.{average_least, average_cell, average_bounds}
 use Rattle.average_precision.specs.RankCases.{is_picked_in}
-use Rattle.average_precision.specs.Runs.{AreChosen}
-use Rattle.average_precision.specs.declared.by_rank.Cuts.{Cuts}
+use Rattle.precision_candidates.specs.Runs.{AreChosen}
+use Rattle.precision_candidates.specs.declared.by_rank.Cuts.{Cuts}
 use Rattle.average_precision.specs.declared.numbers.Case.{Case}
 use Rattle.average_precision.specs.declared.numbers.Case.TheVariants.{OfNone, OfLow, OfHigh}
 use Rattle.average_precision.specs.declared.numbers.Least.{Least}
-use Rattle.average_precision.specs.declared.runs.Chosen.{Chosen}
-use Rattle.average_precision.proofs.LastRanks.{high_by_rank, low_by_rank}
+use Rattle.precision_candidates.specs.declared.runs.Chosen.{Chosen}
+use Rattle.precision_candidates.proofs.LastRanks.{high_by_rank, low_by_rank}
 
 pub cell_is : (marks : List Mark) (a b : List ℕ) (least swapped : Least) (first second most : Span) → IsLeast marks a b least → IsLeast marks b a swapped → first.lo ≡ least.lo → first.hi ≡ least.hi →
     second.lo ≡ swapped.lo → second.hi ≡ swapped.hi → most.lo ≡ neg_ℤ second.hi → most.hi ≡ neg_ℤ second.lo → cell first most ≡ average_cell marks a b

@@ -10,7 +10,7 @@ use Rattle.average_precision.specs.declared.numbers.Case.{Case}
 use Rattle.average_precision.specs.declared.numbers.Case.TheVariants.{OfNone, OfLow, OfHigh}
 use Rattle.average_precision.specs.declared.numbers.Least.{Least}
 use Rattle.average_precision.specs.declared.numbers.RunNumbers.{RunNumbers}
-use Rattle.average_precision.specs.Classes.{AreKnown, IsLeast, case_of, case_truth, smaller_of}
+use Rattle.average_precision.specs.Least.{AreKnown, IsLeast, case_of, case_truth, smaller_of}
 
 abbrev upper_low : List Mark → List ℕ → List ℕ → ℤ
 upper_low marks a b = average_upper_end (length marks) (low_case marks a) a b

@@ -1,12 +1,12 @@
 -- What is known of two runs, and of each in the other's candidates.
-use Rattle.std.proofs.Common.{◌≡◌, ℕ, Bool, true, false, List, length, ap, sym, subst, ◌∙◌}
+use Rattle.std.proofs.Common.{◌≡◌, ℕ, Bool, true, false, List, length, ap, subst, ◌∙◌}
 use Rattle.desk_model.specs.declared.types.Mark.{Mark}
 use Rattle.measure_laws.specs.AverageEnds.{high_case, is_same_list, low_case}
-use Rattle.average_precision.specs.Classes.{AreDocuments, AreKnown, rounded}
+use Rattle.precision_candidates.specs.Classes.{rounded}
+use Rattle.average_precision.specs.Least.{AreKnown}
 use Rattle.measure_core.specs.declared.room.CrossScores.{CrossScores}
 use Rattle.average_precision.specs.Crossed.{AreCrossed}
 use Rattle.average_precision.specs.Pairs.{IsPairRun}
-use Rattle.average_precision.specs.declared.crossing.Documents.{Documents}
 use Rattle.average_precision.specs.declared.numbers.PairRun.{PairRun}
 
 pub high_moved : (up : Bool) (marks other : List Mark) (run docs ranking : List ℕ) (v : ℕ) → marks ≡ other → run ≡ docs → v ≡ rounded up (length marks) (high_case marks run) ranking → v ≡ rounded up (length other) (high_case other docs) ranking
@@ -21,10 +21,6 @@ pub crossed_moved : (marks other : List Mark) (run own docs ranking : List ℕ) 
     scores.in_high ≡ rounded true (length marks) (high_case marks run) docs → scores.in_low ≡ rounded false (length marks) (low_case marks run) docs → AreCrossed other own ranking scores
 crossed_moved marks other run own docs ranking scores e f d h k =
     subst (λ (ds : List ℕ). AreCrossed other own ds scores) d (record { in_high = high_moved true marks other run own docs scores.in_high e f h; in_low = low_moved false marks other run own docs scores.in_low e f k })
-
-pub documents_moved : (marks other : List Mark) (run docs : List ℕ) (documents : Documents) → marks ≡ other → run ≡ docs → AreDocuments other docs documents → AreDocuments marks run documents
-documents_moved marks other run docs documents e f h =
-    subst (λ (ms : List Mark). AreDocuments ms run documents) (sym e) (subst (λ (ds : List ℕ). AreDocuments other ds documents) (sym f) h)
 
 pub both_known : (marks : List Mark) (a b : List ℕ) (first second : PairRun) (same : Bool) → IsPairRun marks a b first → IsPairRun marks b a second → same ≡ is_same_list a b →
     AreKnown marks a b same first.numbers second.numbers second.other.in_high first.other.in_low

@@ -18,7 +18,7 @@ use Rattle.measure_laws.specs.Candidates.{high_choice, low_choice, open_docs}
 use Rattle.measure_core.specs.Lists.{added_documents, times}
 use Rattle.measure_core.specs.Pairs.{DeskTopic, ranking_on}
 use Rattle.measure_core.proofs.Tallying.{length_step, times_step}
-use Rattle.average_precision.specs.Classes.{AreClasses, class_at, has}
+use Rattle.precision_candidates.specs.Classes.{AreClasses, class_at, has}
 use Rattle.average_precision.specs.Uses.{all_shares, no_uses, share, shares}
 use Rattle.average_precision.specs.declared.uses.Uses.{Uses}
 use Rattle.measure_core.specs.declared.room.Class.{Class}

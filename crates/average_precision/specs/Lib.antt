@@ -1,12 +1,4 @@
-pub mod Sums
-pub mod Side
-pub mod Firsts
-pub mod Walk
-pub mod Classes
-pub mod Table
-pub mod Inverse
-pub mod Cuts
-pub mod Runs
+pub mod Least
 pub mod Numbers
 pub mod Laws
 pub mod RankCases

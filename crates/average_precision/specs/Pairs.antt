@@ -1,7 +1,7 @@
 -- The two runs of a pair.
 use Rattle.std.specs.Prelude.{ℕ, List}
 use Rattle.desk_model.specs.declared.types.Mark.{Mark}
-use Rattle.average_precision.specs.Classes.{AreNumbers}
+use Rattle.average_precision.specs.Least.{AreNumbers}
 use Rattle.average_precision.specs.Crossed.{AreCrossed}
 use Rattle.average_precision.specs.declared.numbers.PairRun.{PairRun}
 

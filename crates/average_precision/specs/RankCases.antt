@@ -1,7 +1,7 @@
 -- The documents that a case makes true, by their ranks.
 use Rattle.std.specs.Prelude.{ℕ, Bool, false, not, Option}
 use Rattle.measure_core.specs.OneSide.{is_by}
-use Rattle.average_precision.specs.declared.by_rank.Cuts.{Cuts}
+use Rattle.precision_candidates.specs.declared.by_rank.Cuts.{Cuts}
 use Rattle.average_precision.specs.declared.numbers.Case.{Case}
 use Rattle.average_precision.specs.declared.numbers.Case.TheVariants.{OfNone, OfLow, OfHigh}
 

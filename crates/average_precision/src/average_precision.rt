@@ -5,20 +5,20 @@ ghost use Rattle.desk_model.specs.declared.types.MeasureName.TheVariants.{Averag
 ghost use Rattle.measure_laws.specs.Ranks.{IsRankWithin};
 ghost use Rattle.measure_laws.specs.Weights.{reciprocal_weight};
 ghost use Rattle.measure_core.specs.Made.{IsMadeFor};
-ghost use Rattle.average_precision.specs.Side.{AreCounts};
+ghost use Rattle.precision_candidates.specs.Side.{AreCounts};
 
-use crate::by_rank::{RankClasses, cuts_of};
-use crate::candidate::Counts;
 use crate::cases::RankCase;
 use crate::kept::TopicRuns;
 use crate::pair::{cell_of, leasts_of};
-use crate::runs::{Chosen, ChosenRun, MarkedRun, chosen_of};
-use crate::table::{Parts, Rank};
 use desk_model::{Mark, MeasureName, Memory, Ranking};
 use measure_core::{
     Cell, CellRoom, KeptCell, ListSizes, Measure, RankWorth, RunPair, Shift, Steps, TopicRankings,
     case_values, rank_or_none, shift_by_ranks,
 };
+use precision_candidates::by_rank::{RankClasses, cuts_of};
+use precision_candidates::candidate::Counts;
+use precision_candidates::runs::{Chosen, ChosenRun, MarkedRun, chosen_of};
+use precision_candidates::table::{Parts, Rank};
 use std::alloc::Global;
 use std::sync::ledger::Ledger;
 use topic_counts::Span;

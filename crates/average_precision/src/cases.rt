@@ -1,9 +1,9 @@
 //! Which documents are true in a least case.
 ghost use Rattle.std.specs.Prelude.{◌≡◌, not, false};
 
-use crate::by_rank::{RankClasses, is_within};
 use crate::numbers::Case;
 use measure_core::Picks;
+use precision_candidates::by_rank::{RankClasses, is_within};
 
 /// The documents that a case of two runs makes true, by their ranks.
 #[derive(Clone, Copy)]

@@ -5,20 +5,20 @@ ghost use Rattle.desk_model.specs.Pairs.{pairs_of};
 ghost use Rattle.measure_core.specs.Laws.{CellIsModest};
 ghost use Rattle.measure_core.specs.PairLists.{IsOfRuns};
 ghost use Rattle.measure_core.specs.Pairs.{pair_cells, ranking_on, run_numbers, runs_on};
-ghost use Rattle.average_precision.specs.Classes.{IsLeast};
+ghost use Rattle.average_precision.specs.Least.{IsLeast};
 ghost use Rattle.average_precision.specs.Crossed.{AreAllCrossed, AreCrossedTo, place_of};
 ghost use Rattle.average_precision.specs.Numbers.{average_cell};
 ghost use Rattle.average_precision.specs.Pairs.{IsPairRun};
 ghost use Rattle.average_precision.specs.Rooms.{AreRunsKept, IsKept};
 
 use crate::average_precision::AveragePrecision;
-use crate::classes::{KeptClasses, mark_run};
 use crate::kept::{KeptRuns, TopicRuns};
 use crate::numbers::{PairRun, RunNumbers};
 use crate::pair::{Leasts, cell_of, known_run, leasts_between, scores_in};
-use crate::runs::ChosenRun;
 use desk_model::PairPlaces;
 use measure_core::{CellRoom, Class, CrossScores, KeptCell, RunCandidates, RunPair, Steps};
+use precision_candidates::classes::{KeptClasses, mark_run};
+use precision_candidates::runs::ChosenRun;
 use std::sync::ledger::Ledger;
 
 /// What is kept of the runs of a topic, and of each two of them. Its facts: this is kept of each two.

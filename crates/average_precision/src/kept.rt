@@ -3,13 +3,13 @@ ghost use Rattle.std.proofs.Props.{props};
 ghost use Rattle.std.specs.Prelude.{◌≡◌, ◌<◌, ◌≤◌, length};
 ghost use Rattle.measure_core.specs.Pairs.{AreAllMet, ranking_on, runs_on};
 ghost use Rattle.average_precision.specs.Rooms.{AreRunsKept, IsKept};
-ghost use Rattle.average_precision.specs.Side.{AreCounts};
+ghost use Rattle.precision_candidates.specs.Side.{AreCounts};
 
-use crate::candidate::Counts;
-use crate::choice::Choice;
-use crate::runs::{Chosen, ChosenRun, MarkedRun};
 use desk_model::Mark;
 use measure_core::{RunCandidates, TopicRankings};
+use precision_candidates::candidate::Counts;
+use precision_candidates::choice::Choice;
+use precision_candidates::runs::{Chosen, ChosenRun, MarkedRun};
 
 /// The runs of a topic: their rankings, and the topic's marks and their counts. Its facts: the rankings are over the
 /// marks, and the counts are theirs.

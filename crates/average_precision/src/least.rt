@@ -4,7 +4,7 @@ ghost use Rattle.desk_model.specs.Limits.{PARTS_OF_ONE, RANK_LIMIT};
 ghost use Rattle.desk_model.specs.declared.types.Mark.{Mark as M};
 ghost use Rattle.measure_laws.specs.AverageEnds.{is_same_list};
 ghost use Rattle.topic_counts.specs.Ends.{IsNear};
-ghost use Rattle.average_precision.specs.Classes.{AreKnown, IsLeast, case_of, smaller_of};
+ghost use Rattle.average_precision.specs.Least.{AreKnown, IsLeast, case_of, smaller_of};
 
 use crate::numbers::{Case, Least, PairRun};
 

@@ -5,7 +5,7 @@ ghost use Rattle.desk_model.specs.declared.types.MeasureName.TheVariants.{Averag
 ghost use Rattle.measure_core.specs.Lists.{added_documents, times, AreCounted, HaveRoomFor};
 ghost use Rattle.measure_core.specs.PairLists.{documents_on, pair_documents, sizes_on, IsOfRuns};
 ghost use Rattle.measure_core.specs.Pairs.{ranking_on, runs_on};
-ghost use Rattle.average_precision.specs.Classes.{case_truth};
+ghost use Rattle.average_precision.specs.Least.{case_truth};
 ghost use Rattle.average_precision.specs.Uses.{all_shares, AreUsesUpTo};
 
 use crate::average_precision::AveragePrecision;

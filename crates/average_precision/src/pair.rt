@@ -4,16 +4,16 @@ ghost use Rattle.desk_model.specs.Limits.{PARTS_OF_ONE, RANK_LIMIT};
 ghost use Rattle.desk_model.specs.Ranking.{IsRanking};
 ghost use Rattle.desk_model.specs.declared.types.Mark.{Mark as M};
 ghost use Rattle.topic_counts.specs.Ends.{IsShort};
-ghost use Rattle.average_precision.specs.Classes.{AreNumbers, IsLeast};
+ghost use Rattle.average_precision.specs.Least.{AreNumbers, IsLeast};
 ghost use Rattle.average_precision.specs.Crossed.{AreCrossed};
 ghost use Rattle.average_precision.specs.Numbers.{average_cell};
 ghost use Rattle.average_precision.specs.Pairs.{IsPairRun};
 
-use crate::crossing::{Classes, crossed};
 use crate::least::{are_same, least_of};
 use crate::numbers::{Least, PairRun, RunNumbers};
-use crate::table::Parts;
 use measure_core::{Cell, CrossScores};
+use precision_candidates::crossing::{Classes, crossed};
+use precision_candidates::table::Parts;
 use topic_counts::Span;
 
 /// The ends of the least difference of two runs, and of the same runs swapped.

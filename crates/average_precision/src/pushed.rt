@@ -4,16 +4,17 @@ ghost use Rattle.desk_model.specs.Mark.{is_unjudged};
 ghost use Rattle.desk_model.specs.declared.types.MeasureName.TheVariants.{AveragePrecision as A};
 ghost use Rattle.measure_core.specs.Laws.{AreMet};
 ghost use Rattle.measure_core.specs.Lists.{added_documents, least_documents};
-ghost use Rattle.average_precision.specs.Classes.{AreClasses, case_truth, class_truth, has};
+ghost use Rattle.precision_candidates.specs.Classes.{AreClasses, class_truth, has};
+ghost use Rattle.average_precision.specs.Least.{case_truth};
 
 use crate::average_precision::{AveragePrecision, counts_of};
-use crate::classes::{KeptClasses, mark_run};
-use crate::crossing::is_in;
 use crate::numbers::Case;
 use crate::pair::leasts_of;
-use crate::runs::ChosenRun;
 use desk_model::{Mark, Memory, Ranking};
 use measure_core::Class;
+use precision_candidates::classes::{KeptClasses, mark_run};
+use precision_candidates::crossing::is_in;
+use precision_candidates::runs::ChosenRun;
 use std::alloc::Global;
 
 /// Whether a document with this mark and class is unjudged, and true in a run's high candidate, or in its low one.

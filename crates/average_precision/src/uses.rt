@@ -5,15 +5,16 @@ ghost use Rattle.desk_model.specs.declared.types.Mark.{Mark as M};
 ghost use Rattle.measure_core.specs.Lists.{added_documents, times};
 ghost use Rattle.measure_core.specs.PairLists.{IsOfRuns};
 ghost use Rattle.measure_core.specs.Pairs.{DeskTopic, ranking_on, runs_on};
-ghost use Rattle.average_precision.specs.Classes.{case_truth, has};
+ghost use Rattle.precision_candidates.specs.Classes.{has};
+ghost use Rattle.average_precision.specs.Least.{case_truth};
 ghost use Rattle.average_precision.specs.Uses.{all_shares, share, AreRaised, AreUsesUpTo, HaveRoomFor};
 
-use crate::classes::{KeptClasses, mark_run};
-use crate::crossing::is_in;
 use crate::kept::KeptRuns;
 use crate::numbers::Case;
 use desk_model::{Mark, Memory};
 use measure_core::{Class, RunPair};
+use precision_candidates::classes::{KeptClasses, mark_run};
+use precision_candidates::crossing::is_in;
 use std::alloc::Global;
 
 /// How many lists are that of a run's high candidate, and that of its low one.

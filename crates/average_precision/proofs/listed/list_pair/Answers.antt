@@ -5,7 +5,7 @@ use Rattle.measure_core.specs.Pairs.{ranking_on}
 use Rattle.measure_core.proofs.PairListing.{sizes_are}
 use Rattle.measure_core.proofs.Pushing.{added_same}
 use Rattle.measure_core.proofs.Tallying.{times-append}
-use Rattle.average_precision.specs.Classes.{case_truth}
+use Rattle.average_precision.specs.Least.{case_truth}
 use Rattle.average_precision.proofs.listed.list_pair.Goals as goal
 
 pub add_case-requires-2-clause-room : goal.add_case-requires-2-clause-room

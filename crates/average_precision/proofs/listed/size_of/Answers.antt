@@ -1,7 +1,7 @@
 use Rattle.std.proofs.Common.{length, ap, sym, ◌∙◌, arith}
 use Rattle.measure_core.specs.Lists.{added_documents}
 use Rattle.measure_core.specs.Pairs.{ranking_on}
-use Rattle.average_precision.specs.Classes.{case_truth}
+use Rattle.average_precision.specs.Least.{case_truth}
 use Rattle.average_precision.specs.declared.numbers.Case.{Case}
 use Rattle.average_precision.proofs.Using.{high_size, low_size, none_added}
 use Rattle.average_precision.proofs.listed.size_of.Goals as goal

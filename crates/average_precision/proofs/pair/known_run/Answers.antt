@@ -3,7 +3,7 @@ use Rattle.desk_model.specs.Ranking.{IsRanking}
 use Rattle.desk_model.specs.declared.types.Mark.{Mark}
 use Rattle.measure_laws.specs.AverageEnds.{high_case, low_case}
 use Rattle.measure_laws.specs.Parts.{high_average, low_average}
-use Rattle.average_precision.specs.Runs.{AreChosen}
+use Rattle.precision_candidates.specs.Runs.{AreChosen}
 use Rattle.average_precision.proofs.pair.known_run.Goals as goal
 
 pub crossed-own-requires : goal.crossed-own-requires

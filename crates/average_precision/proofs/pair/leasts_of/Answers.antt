@@ -1,7 +1,7 @@
 use Rattle.std.proofs.Common.{ℕ, List, length, refl, sym, subst, ◌∙◌}
 use Rattle.desk_model.specs.Ranking.{IsRanking}
 use Rattle.desk_model.specs.declared.types.Mark.{Mark}
-use Rattle.average_precision.specs.Classes.{IsLeast}
+use Rattle.average_precision.specs.Least.{IsLeast}
 use Rattle.average_precision.specs.Pairs.{IsPairRun}
 use Rattle.average_precision.proofs.Pairing.{pair_run_moved}
 use Rattle.average_precision.proofs.pair.leasts_of.Goals as goal

@@ -6,7 +6,8 @@ use Rattle.desk_model.specs.declared.types.Mark.{Mark}
 use Rattle.measure_laws.specs.AverageEnds.{high_case, low_case}
 use Rattle.measure_core.specs.Lists.{added_documents}
 use Rattle.measure_core.proofs.Pushing.{added_same}
-use Rattle.average_precision.specs.Classes.{case_truth, class_truth}
+use Rattle.precision_candidates.specs.Classes.{class_truth}
+use Rattle.average_precision.specs.Least.{case_truth}
 use Rattle.average_precision.specs.declared.numbers.Case.{Case}
 use Rattle.average_precision.proofs.Using.{none_added}
 use Rattle.average_precision.proofs.pushed.push_case.Goals as goal

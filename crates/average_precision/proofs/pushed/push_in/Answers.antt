@@ -6,7 +6,7 @@ use Rattle.desk_model.specs.declared.types.Mark.{Mark}
 use Rattle.measure_core.specs.Lists.{added_documents}
 use Rattle.measure_core.specs.declared.room.Class.{Class}
 use Rattle.measure_core.proofs.Pushing.{left_from, left_whole, left_step, left_none, one_pushed, none_pushed, all_pushed}
-use Rattle.average_precision.specs.Classes.{class_truth}
+use Rattle.precision_candidates.specs.Classes.{class_truth}
 use Rattle.average_precision.proofs.pushed.push_in.Goals as goal
 use Rattle.average_precision.proofs.pushed.push_in.Goals.{then-is_added+in_ok-push, else-is_added}
 

@@ -3,7 +3,7 @@ use Rattle.std.specs.Prelude.{◌&&◌}
 use Rattle.desk_model.specs.Mark.{is_unjudged, mark_at}
 use Rattle.measure_core.specs.Lists.{added_documents}
 use Rattle.measure_core.proofs.Pushing.{left_from}
-use Rattle.average_precision.specs.Classes.{class_truth}
+use Rattle.precision_candidates.specs.Classes.{class_truth}
 use Rattle.average_precision.proofs.pushed.push_in.Given as goal
 
 abbrev pub invariant-loop-doc : goal.invariant-loop-doc

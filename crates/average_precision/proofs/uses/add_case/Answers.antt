@@ -2,7 +2,7 @@ use Rattle.std.proofs.Common.{◌≡◌, ℕ, ◌+◌, List, get_or, ap, sym, �
 use Rattle.desk_model.specs.declared.types.Mark.{Mark}
 use Rattle.measure_core.specs.Lists.{added_documents, times}
 use Rattle.measure_core.specs.Pairs.{DeskTopic, ranking_on}
-use Rattle.average_precision.specs.Classes.{case_truth}
+use Rattle.average_precision.specs.Least.{case_truth}
 use Rattle.average_precision.specs.Uses.{all_shares, no_uses}
 use Rattle.average_precision.specs.declared.numbers.Case.{Case}
 use Rattle.average_precision.proofs.Using.{high_more, low_more, no_times, shares_set}

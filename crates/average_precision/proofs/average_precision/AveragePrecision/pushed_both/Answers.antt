@@ -4,7 +4,7 @@ use Rattle.desk_model.specs.declared.types.Mark.{Mark}
 use Rattle.measure_laws.specs.AverageEnds.{average_truth}
 use Rattle.measure_core.specs.Lists.{added_documents}
 use Rattle.measure_core.proofs.Pushing.{added_same}
-use Rattle.average_precision.specs.Classes.{IsLeast, case_truth}
+use Rattle.average_precision.specs.Least.{IsLeast, case_truth}
 use Rattle.average_precision.specs.declared.numbers.Least.{Least}
 use Rattle.average_precision.proofs.average_precision.AveragePrecision.pushed_both.Goals as goal
 

@@ -1,6 +1,6 @@
 use Rattle.std.proofs.Common.{List, subst}
 use Rattle.desk_model.specs.declared.types.Mark.{Mark}
-use Rattle.average_precision.specs.Runs.{AreChosen}
+use Rattle.precision_candidates.specs.Runs.{AreChosen}
 use Rattle.average_precision.proofs.Ends.{bounds_are}
 use Rattle.average_precision.proofs.average_precision.AveragePrecisionMeasure.bounds.Goals as goal
 

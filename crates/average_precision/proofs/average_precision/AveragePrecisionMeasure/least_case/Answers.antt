@@ -6,8 +6,8 @@ use Rattle.desk_model.specs.Ranking.{rank}
 use Rattle.desk_model.specs.declared.types.Mark.{Mark}
 use Rattle.measure_laws.specs.AverageEnds.{average_truth}
 use Rattle.measure_core.specs.Laws.{AreValues}
-use Rattle.average_precision.specs.Classes.{IsLeast}
-use Rattle.average_precision.specs.Cuts.{AreCuts}
+use Rattle.average_precision.specs.Least.{IsLeast}
+use Rattle.precision_candidates.specs.Cuts.{AreCuts}
 use Rattle.average_precision.specs.RankCases.{is_picked_in}
 use Rattle.average_precision.proofs.Ends as ends
 use Rattle.average_precision.proofs.average_precision.AveragePrecisionMeasure.least_case.Goals as goal

@@ -1,6 +1,6 @@
 use Rattle.std.proofs.Common.{ℕ, List, subst, ◌∙◌}
 use Rattle.measure_core.specs.Pairs.{ranking_on}
-use Rattle.average_precision.specs.Classes.{IsLeast}
+use Rattle.average_precision.specs.Least.{IsLeast}
 use Rattle.average_precision.specs.Pairs.{IsPairRun}
 use Rattle.average_precision.proofs.cells.CrossedRuns.leasts.Goals as goal
 

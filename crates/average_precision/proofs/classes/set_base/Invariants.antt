@@ -1,5 +1,0 @@
-use Rattle.average_precision.proofs.BaseClasses.{AreBaseTo}
-use Rattle.average_precision.proofs.classes.set_base.Given as goal
-
-abbrev pub invariant-loop-place : goal.invariant-loop-place
-invariant-loop-place l = AreBaseTo l.marks l.place l.classes

@@ -1,0 +1,13 @@
+pub mod Pass
+pub mod Counting
+pub mod Choices
+pub mod Walks
+pub mod Beaten
+pub mod Visits
+pub mod Gains
+pub mod Marking
+pub mod RunFacts
+pub mod PartFacts
+pub mod Quotients
+pub mod LastRanks
+pub mod BaseClasses

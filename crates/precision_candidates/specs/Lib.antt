@@ -1,0 +1,9 @@
+pub mod Sums
+pub mod Side
+pub mod Firsts
+pub mod Walk
+pub mod Classes
+pub mod Table
+pub mod Inverse
+pub mod Cuts
+pub mod Runs
