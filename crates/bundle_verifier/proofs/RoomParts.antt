@@ -5,9 +5,9 @@ use Rattle.desk_model.specs.Book.{Book}
 use Rattle.desk_model.specs.Desk.{Desk}
 use Rattle.desk_model.specs.declared.types.Mark.{Mark}
 use Rattle.order_bundle.specs.declared.bundle.TopicNames.{TopicNames}
-use Rattle.order_verifier.specs.Counted.{AreAllCounts, AreCountsOf}
+use Rattle.topic_ends.specs.Counted.{AreAllCounts, AreCountsOf}
 use Rattle.order_verifier.specs.Rows.{numbers_of}
-use Rattle.order_verifier.specs.declared.counts.RelevantCounts.{RelevantCounts}
+use Rattle.topic_ends.specs.declared.counts.RelevantCounts.{RelevantCounts}
 use Rattle.bundle_verifier.specs.Rows.{AreNumbersOf}
 
 one_item : {X : Type 0} {x y : X} → Some x ≡ Some y → x ≡ y

@@ -3,10 +3,10 @@ use Rattle.std.specs.Prelude.{ℕ, List, Option}
 use Rattle.desk_model.specs.Desk.{Desk, AreMarksOf}
 use Rattle.desk_model.specs.declared.types.Mark.{Mark}
 use Rattle.order_bundle.specs.Bundle.{Bundle}
-use Rattle.order_verifier.specs.Counted.{AreCountsOf}
-use Rattle.order_verifier.specs.RunBounds.{AreBoundsOf}
-use Rattle.order_verifier.specs.declared.counts.RelevantCounts.{RelevantCounts}
-use Rattle.order_verifier.specs.declared.run_bound.RunBounds.{RunBounds}
+use Rattle.topic_ends.specs.Counted.{AreCountsOf}
+use Rattle.topic_ends.specs.RunBounds.{AreBoundsOf}
+use Rattle.topic_ends.specs.declared.counts.RelevantCounts.{RelevantCounts}
+use Rattle.topic_ends.specs.declared.run_bound.RunBounds.{RunBounds}
 use Rattle.bundle_verifier.specs.Rows.{AreNumbersOf}
 
 -- a bundle beside a desk and marks

@@ -6,7 +6,7 @@ ghost use Rattle.order_certificate.specs.Claim.{topics_of};
 ghost use Rattle.order_certificate.specs.Evidence.{IsEvidence};
 ghost use Rattle.order_bundle.specs.Evidence.{named_evidence, written_out};
 ghost use Rattle.order_verifier.specs.Refusal.{ShowsOf, topics_in};
-ghost use Rattle.order_verifier.specs.RunBounds.{AreBoundsOf};
+ghost use Rattle.topic_ends.specs.RunBounds.{AreBoundsOf};
 ghost use Rattle.order_verifier.specs.Verified.{FailsBy};
 ghost use Rattle.bundle_verifier.specs.Refusal.{FailsOn, HasRows, IsClaimOf, NamesDesk};
 ghost use Rattle.bundle_verifier.specs.Rows.{AreNumbersOf};

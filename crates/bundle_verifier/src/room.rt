@@ -1,7 +1,7 @@
 ghost use Rattle.std.specs.Prelude.{◌≡◌, IfOk};
 ghost use Rattle.desk_model.specs.Desk.{AreMarksOf};
-ghost use Rattle.order_verifier.specs.Counted.{AreCountsOf};
-ghost use Rattle.order_verifier.specs.RunBounds.{AreBoundsOf};
+ghost use Rattle.topic_ends.specs.Counted.{AreCountsOf};
+ghost use Rattle.topic_ends.specs.RunBounds.{AreBoundsOf};
 
 use crate::numbers::{DocumentNumbers, numbers_on};
 use desk_model::{Desk, MeasureName, Memory, Rows};

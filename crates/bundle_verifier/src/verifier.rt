@@ -2,7 +2,7 @@ ghost use Rattle.std.specs.Prelude.{◌≡◌, IfOk};
 ghost use Rattle.desk_model.specs.Desk.{AreMarksOf, IsDesk};
 ghost use Rattle.desk_model.specs.MeasureText.{IsMeasure};
 ghost use Rattle.order_bundle.specs.Evidence.{ClaimsHold};
-ghost use Rattle.order_verifier.specs.RunBounds.{AreBoundsOf};
+ghost use Rattle.topic_ends.specs.RunBounds.{AreBoundsOf};
 ghost use Rattle.bundle_verifier.specs.Lines.{IsAnswer};
 ghost use Rattle.bundle_verifier.specs.Refusal.{NamesDesk};
 ghost use Rattle.bundle_verifier.specs.Rows.{AreNumbersOf};

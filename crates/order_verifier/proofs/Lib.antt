@@ -1,16 +1,3 @@
-pub mod Whole
-pub mod Lows
-pub mod Smallest
-pub mod Choices
-pub mod Ceilings
-pub mod OwnSteps
-pub mod Numbers
-pub mod Walks
-pub mod FirstPlaces
-pub mod Shares
-pub mod Named
-pub mod Prefixes
-pub mod ByDocument
 pub mod Topics
 pub mod Unjudged
 pub mod OnLists
@@ -25,9 +12,3 @@ pub mod SameNames
 pub mod ListNames
 pub mod Answers
 pub mod Told
-pub mod RoundedParts
-pub mod Passes
-pub mod CandidateCounts
-pub mod EstimateSteps
-pub mod BestNumbers
-pub mod KnownBounds

@@ -13,20 +13,15 @@ use Rattle.desk_model.specs.Extremes.{Ends}
 use Rattle.desk_model.specs.Name.{AreAscending}
 use Rattle.desk_model.specs.Order.{Topic}
 use Rattle.desk_model.specs.declared.types.Mark.{Mark}
-use Rattle.desk_model.proofs.DeskTopics.{topic_of, topic_there, length-marks, length-topics_under, ranking_at, small_at}
+use Rattle.desk_model.proofs.DeskTopics.{topic_of, topic_there, length-topics_under, ranking_at, small_at}
 use Rattle.desk_model.proofs.PairPlace.{there}
 use Rattle.desk_model.proofs.Nested.{zipped_at, get_or-there}
 use Rattle.measure_laws.specs.Ends.{HasEnds, IsUpperEnd}
-use Rattle.order_verifier.specs.Least.{AreRankings}
+use Rattle.topic_ends.specs.Least.{AreRankings}
 use Rattle.order_certificate.specs.Claim.{NamedTopic, named_topics}
 use Rattle.order_certificate.specs.Evidence.{AreUnjudged, listed_truth}
 use Rattle.order_verifier.specs.Checks.{AreListed, IsComparison, NamesOnTopic, OfTopic, unranked}
 use Rattle.order_verifier.specs.Refusal.{Compared, OfEnds, topics_in}
-
--- the item of a loop is at its place
-pub item_there : {X : Type 0} (xs : List X) (i : ℕ) (x : X) → i < length xs → x ≡ get_or xs i x → slice_get xs i ≡ Some x
-item_there xs i x lt is =
-    let at = there xs i lt in at.1 ∙ ap Some (sym (is ∙ get_or-there xs i at.0 x at.1))
 
 -- what a topic's number gives is one
 pub of_topic : {fact : NamedTopic → Type 0} (topics : List NamedTopic) (t : ℕ) (n : NamedTopic) → slice_get topics t ≡ Some n → OfTopic topics t fact → fact n
@@ -47,9 +42,6 @@ module _ (desk : Desk) (marks : List (List Mark)) (known : AreMarksOf desk marks
         length-zip desk.topics (topics_under desk marks),
         length-topics_under desk marks known,
       )
-
-  pub marks_within : (t : ℕ) → t < length desk.topics → t < length marks
-  marks_within t lt = omega (arith, lt, length-marks desk marks known)
 
 pub named_at : (desk : Desk) (marks : List (List Mark)) (t : ℕ) (m : List Mark) (book : Book) → slice_get marks t ≡ Some m → slice_get desk.topics t ≡ Some book → slice_get (named_topics desk marks) t ≡ Some (named_topic desk t m book)
 named_at desk marks t m book e f =

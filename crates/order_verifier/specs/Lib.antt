@@ -1,16 +1,5 @@
-pub mod Differences
 pub mod Rows
-pub mod Counted
-pub mod Least
-pub mod Own
-pub mod Walk
-pub mod RankPowers
-pub mod Kinds
 pub mod Refusal
 pub mod Verified
 pub mod Checks
 pub mod CompletionEnds
-pub mod PartSums
-pub mod Candidates
-pub mod Estimates
-pub mod RunBounds

@@ -8,19 +8,18 @@ ghost use Rattle.order_certificate.specs.Evidence.{AreUnjudged, listed_truth};
 ghost use Rattle.order_verifier.specs.Checks.{IsComparison as IsOne, OfTopic};
 ghost use Rattle.order_verifier.specs.Refusal.{OfEnds, topics_in};
 ghost use Rattle.order_verifier.specs.Rows.{OfRow};
-ghost use Rattle.order_verifier.specs.RunBounds.{AreBoundsOf as BoundsOf};
+ghost use Rattle.topic_ends.specs.RunBounds.{AreBoundsOf as BoundsOf};
 
-use crate::TopicEnds;
 use crate::completion::CompletionEnds;
-use crate::counted::DeskMarks;
 use crate::documents::Documents;
 use crate::listed::Listed;
 use crate::names::RunNumbers;
-use crate::ranked::{BoundsOnTopic, known_ranking};
 use crate::search::Near;
 use desk_model::{Desk, Mark, Placed, TopicBook};
 use order_certificate::WitnessList;
 use std::marker::Model;
+use topic_ends::ranked::known_ranking;
+use topic_ends::{BoundsOnTopic, DeskMarks, TopicEnds};
 
 /// Two runs of a desk under its marks, what their ends are computed by, and bounds of runs where they are known.
 #[derive(Drop)]
@@ -35,7 +34,7 @@ pub struct Comparison<'a> {
 impl<'a> Model for Comparison<'a> {
     ghost use Rattle.order_verifier.specs.Checks.{IsComparison};
     ghost use Rattle.order_verifier.specs.Refusal.{Compared};
-    ghost use Rattle.order_verifier.specs.RunBounds.{AreBoundsOf};
+    ghost use Rattle.topic_ends.specs.RunBounds.{AreBoundsOf};
 
     ghost Value = { Compared };
 

@@ -1,12 +1,4 @@
-//! The ends of a difference in two completions.
-
-/// The upper ends of two differences: of the first run's score less the second's in a low completion, and of the
-/// second's less the first's in a high one.
-#[derive(Clone, Copy)]
-pub struct UpperEnds {
-    pub low: i128,
-    pub high: i128,
-}
+//! The ends of a difference in the two completions of a claim that is open.
 
 /// The upper end of the difference in a low completion, and the lower end in a high one: on a topic, or summed over
 /// topics.

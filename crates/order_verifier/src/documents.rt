@@ -11,6 +11,7 @@ use crate::search::{Near, name_place, number_near};
 use desk_model::{Name, Placed, TopicBook};
 use std::cmp::Ordering;
 use std::marker::Model;
+use topic_ends::relevance::FoundNear;
 
 /// How a list names documents.
 #[derive(Clone, Copy, PartialEq, Eq)]
@@ -23,13 +24,6 @@ pub enum ListForm {
     Picks,
     /// The same, where the topic's number of each of the names is known.
     NumberedPicks,
-}
-
-/// Whether what is looked for is found, and a place near which the next one may stand.
-#[derive(Clone, Copy)]
-pub struct FoundNear {
-    pub is_found: bool,
-    pub near: usize,
 }
 
 /// Documents of a topic that a list names: all of some names, or those picked of them by their numbers.

@@ -3,11 +3,11 @@ ghost use Rattle.std.specs.Prelude.{◌≡◌, length};
 ghost use Rattle.order_certificate.specs.Evidence.{listed_truth};
 ghost use Rattle.order_verifier.specs.Checks.{AreListed, unranked};
 
-use crate::Relevance;
-use crate::counted::TopicMarks;
-use crate::documents::{Documents, FoundNear};
+use crate::documents::Documents;
 use desk_model::Mark;
 use std::marker::Model;
+use topic_ends::relevance::FoundNear;
+use topic_ends::{Relevance, TopicMarks};
 
 /// A topic's documents, and a list of unjudged ones: those that are judged relevant and those on the list are
 /// relevant.

@@ -6,9 +6,7 @@ ghost use Rattle.order_certificate.specs.Claim.{ClaimHolds, topics_of};
 ghost use Rattle.order_verifier.specs.Refusal.{ShowsOf, topics_in};
 ghost use Rattle.order_verifier.specs.Verified.{FailsBy, IsVerified};
 
-use crate::TopicEnds;
 use crate::comparison::Comparison;
-use crate::counted::DeskMarks;
 use crate::failure::{Failure, rejection, wrong_names};
 use crate::names::{runs_of, wrong_topic};
 use crate::rejected::Rejected;
@@ -16,6 +14,7 @@ use desk_model::{Desk, Marks, MeasureName, Memory};
 use order_certificate::{Certificate, Evidence, evidence_implies_claim};
 use std::alloc::Global;
 use std::marker::Model;
+use topic_ends::{DeskMarks, TopicEnds};
 
 /// Checks certificates under one measure.
 #[derive(Drop)]

@@ -2,7 +2,7 @@ use Rattle.std.proofs.Common.{arith}
 use Rattle.std.proofs.lemmas.List.Elements.{recursion_from_All}
 use Rattle.small_lemmas.proofs.Lists.{all_there}
 use Rattle.order_certificate.proofs.LinesOfPlaces.{length_more}
-use Rattle.order_verifier.proofs.Topics.{item_there}
+use Rattle.topic_ends.proofs.DeskPlaces.{item_there}
 use Rattle.order_bundle.specs.Bundle.{claim_lines}
 use Rattle.order_bundle.specs.declared.bundle.PairClaim.{PairClaim}
 use Rattle.bundle_verifier.specs.Sizes.{HasFewRows}

@@ -2,7 +2,7 @@ use Rattle.std.proofs.Common.{length, ap, arith}
 use Rattle.std.proofs.lemmas.List.Elements.{recursion_from_All}
 use Rattle.small_lemmas.proofs.Lists.{all_there}
 use Rattle.order_certificate.proofs.LinesOfPlaces.{length_more}
-use Rattle.order_verifier.proofs.Topics.{item_there}
+use Rattle.topic_ends.proofs.DeskPlaces.{item_there}
 use Rattle.order_bundle.specs.Bundle.{picks_lines}
 use Rattle.bundle_verifier.specs.Sizes.{HasFewPicks}
 use Rattle.bundle_verifier.proofs.Counted.{length-picks_lines}

@@ -4,7 +4,7 @@ use Rattle.std.proofs.lemmas.List.{take_all}
 use Rattle.std.proofs.lemmas.List.Elements.{All-from_recursion}
 use Rattle.order_verifier.specs.Refusal.{IsFirstFailing}
 use Rattle.order_verifier.proofs.FirstFailing.{all_more}
-use Rattle.order_verifier.proofs.Topics.{item_there}
+use Rattle.topic_ends.proofs.DeskPlaces.{item_there}
 use Rattle.bundle_verifier.specs.Refusal.{IsNoRunOf, IsRunOf}
 use Rattle.bundle_verifier.proofs.names.first_other_run.Goals as goal
 

@@ -2,7 +2,7 @@ use Rattle.std.proofs.Common.{◌≡◌, Some, sym, subst, ◌∙◌}
 use Rattle.std.specs.Prelude.{None}
 use Rattle.std.proofs.lemmas.List.Elements.{recursion_from_All}
 use Rattle.small_lemmas.proofs.Lists.{all_there}
-use Rattle.order_verifier.proofs.Topics.{item_there}
+use Rattle.topic_ends.proofs.DeskPlaces.{item_there}
 use Rattle.bundle_verifier.specs.Refusal.{IsNoRunOf, IsRunOf}
 use Rattle.bundle_verifier.proofs.names.run_number.Goals as goal
 

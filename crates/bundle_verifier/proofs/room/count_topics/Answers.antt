@@ -2,8 +2,8 @@ use Rattle.std.proofs.Common.{◌≡◌, ◌+◌, length, Some, ap, ◌∙◌, a
 use Rattle.std.specs.Prelude.{slice_get}
 use Rattle.std.proofs.lemmas.List.{length_push}
 use Rattle.desk_model.proofs.DeskTopics.{small_at}
-use Rattle.order_verifier.specs.Counted.{AreCountsOf}
-use Rattle.order_verifier.proofs.Topics.{marks_within}
+use Rattle.topic_ends.specs.Counted.{AreCountsOf}
+use Rattle.topic_ends.proofs.DeskPlaces.{marks_within}
 use Rattle.bundle_verifier.proofs.RoomParts.{counts_more}
 use Rattle.bundle_verifier.proofs.room.count_topics.Goals as goal
 

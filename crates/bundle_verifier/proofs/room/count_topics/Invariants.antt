@@ -1,5 +1,5 @@
 use Rattle.std.proofs.Common.{◌≡◌, length}
-use Rattle.order_verifier.specs.Counted.{AreCountsOf}
+use Rattle.topic_ends.specs.Counted.{AreCountsOf}
 use Rattle.bundle_verifier.proofs.room.count_topics.Given as goal
 
 abbrev pub invariant-loop-topic : goal.invariant-loop-topic

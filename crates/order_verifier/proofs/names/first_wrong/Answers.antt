@@ -9,7 +9,7 @@ use Rattle.order_verifier.specs.Refusal.{HaveWrongTopic, topic_names}
 use Rattle.order_verifier.proofs.FirstFailing.{all_more}
 use Rattle.order_verifier.proofs.SameNames.{names_differ, names_same, zip_same}
 use Rattle.small_lemmas.proofs.Lists.{slice_get-zip, map_there}
-use Rattle.order_verifier.proofs.Topics.{item_there}
+use Rattle.topic_ends.proofs.DeskPlaces.{item_there}
 use Rattle.order_verifier.proofs.names.first_wrong.Goals as goal
 
 pub returns-then-ne : goal.returns-then-ne

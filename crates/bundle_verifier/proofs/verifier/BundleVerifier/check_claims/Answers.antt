@@ -10,7 +10,7 @@ use Rattle.order_bundle.specs.Evidence.{written_out}
 use Rattle.order_bundle.specs.declared.bundle.PairClaim.{PairClaim}
 use Rattle.order_verifier.specs.Refusal.{IsFirstFailing}
 use Rattle.order_verifier.proofs.FirstFailing.{all_more}
-use Rattle.order_verifier.proofs.Topics.{item_there}
+use Rattle.topic_ends.proofs.DeskPlaces.{item_there}
 use Rattle.bundle_verifier.specs.Refusal.{FailsOn, IsClaimOf}
 use Rattle.bundle_verifier.proofs.Matched.{claims_of}
 use Rattle.bundle_verifier.proofs.verifier.BundleVerifier.check_claims.Goals as goal

@@ -1,7 +1,7 @@
 use Rattle.std.proofs.Common.{List, subst, sym}
 use Rattle.desk_model.specs.declared.types.Mark.{Mark}
-use Rattle.order_verifier.specs.Counted.{AreCountsOf}
-use Rattle.order_verifier.specs.RunBounds.{AreBoundsOf}
+use Rattle.topic_ends.specs.Counted.{AreCountsOf}
+use Rattle.topic_ends.specs.RunBounds.{AreBoundsOf}
 use Rattle.bundle_verifier.specs.Room.{BesideDesk}
 use Rattle.bundle_verifier.specs.Verified.{IsVerified}
 use Rattle.bundle_verifier.proofs.verifier.BundleVerifier.check_in.Goals as goal

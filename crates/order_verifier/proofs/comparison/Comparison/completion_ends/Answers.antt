@@ -4,10 +4,11 @@ use Rattle.std.specs.Prelude.{neg_ℤ}
 use Rattle.std.proofs.lemmas.Int.{ints}
 use Rattle.desk_model.proofs.PairPlace.{there}
 use Rattle.order_certificate.specs.Evidence.{AreUnjudged}
-use Rattle.order_verifier.specs.Least.{AreRankings}
+use Rattle.topic_ends.specs.Least.{AreRankings}
 use Rattle.order_verifier.specs.Checks.{AreListed, NamesOnTopic, OfTopic}
 use Rattle.order_verifier.specs.Refusal.{Compared, topics_in}
-use Rattle.order_verifier.proofs.Topics.{marks_within, names_met, rankings_met, topic_of_book, topic_within, upper_on}
+use Rattle.topic_ends.proofs.DeskPlaces.{marks_within}
+use Rattle.order_verifier.proofs.Topics.{names_met, rankings_met, topic_of_book, topic_within, upper_on}
 use Rattle.order_verifier.proofs.comparison.Comparison.completion_ends.Goals as goal
 
 -- the same two runs, swapped

@@ -1,7 +1,8 @@
 use Rattle.std.proofs.Common.{◌≡◌, arith, to_z, of_z}
 use Rattle.std.specs.Int.{w128}
 use Rattle.std.proofs.lemmas.Int.{ints}
-use Rattle.order_verifier.proofs.Topics.{topic_inside, marks_within, rankings_met, ends_on}
+use Rattle.topic_ends.proofs.DeskPlaces.{marks_within}
+use Rattle.order_verifier.proofs.Topics.{topic_inside, rankings_met, ends_on}
 use Rattle.order_verifier.proofs.comparison.Comparison.least_low.Goals as goal
 
 pub known_ranking-first-requires-clause-topic : goal.known_ranking-first-requires-clause-topic

@@ -3,7 +3,8 @@ use Rattle.std.specs.Prelude.{neg_ℤ}
 use Rattle.std.specs.Int.{w128}
 use Rattle.std.proofs.lemmas.Int.{ints}
 use Rattle.order_verifier.specs.declared.comparison.OuterEnds.{OuterEnds}
-use Rattle.order_verifier.proofs.Topics.{topic_inside, marks_within, rankings_met, ends_on}
+use Rattle.topic_ends.proofs.DeskPlaces.{marks_within}
+use Rattle.order_verifier.proofs.Topics.{topic_inside, rankings_met, ends_on}
 use Rattle.order_verifier.proofs.comparison.Comparison.outer_ends.Goals as goal
 
 pub known_ranking-first-requires-clause-topic : goal.known_ranking-first-requires-clause-topic

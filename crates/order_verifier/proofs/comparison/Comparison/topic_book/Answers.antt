@@ -5,7 +5,8 @@ use Rattle.desk_model.specs.Book.{IsBook}
 use Rattle.desk_model.proofs.Nested.{get_or-there}
 use Rattle.desk_model.proofs.PairPlace.{there}
 use Rattle.order_verifier.specs.Refusal.{Compared}
-use Rattle.order_verifier.proofs.Topics.{marks_within, topic_inside, topic_on}
+use Rattle.topic_ends.proofs.DeskPlaces.{marks_within}
+use Rattle.order_verifier.proofs.Topics.{topic_inside, topic_on}
 use Rattle.order_verifier.proofs.comparison.Comparison.topic_book.Goals as goal
 
 pub topic-requires : goal.topic-requires

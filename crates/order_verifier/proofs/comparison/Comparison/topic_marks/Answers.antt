@@ -1,4 +1,5 @@
-use Rattle.order_verifier.proofs.Topics.{marks_within, topic_inside}
+use Rattle.topic_ends.proofs.DeskPlaces.{marks_within}
+use Rattle.order_verifier.proofs.Topics.{topic_inside}
 use Rattle.order_verifier.proofs.comparison.Comparison.topic_marks.Goals as goal
 
 pub of_topic-requires : goal.of_topic-requires

@@ -3,7 +3,7 @@ use Rattle.std.proofs.lemmas.List.{length-map}
 use Rattle.desk_model.specs.Book.{Book}
 use Rattle.desk_model.specs.Desk.{AreMarksOf}
 use Rattle.order_verifier.specs.Refusal.{Compared, topic_names, topics_in}
-use Rattle.order_verifier.proofs.KnownBounds.{none_known}
+use Rattle.topic_ends.proofs.KnownBounds.{none_known}
 use Rattle.order_verifier.proofs.Told.{failure_placed, topic_placed}
 use Rattle.order_verifier.proofs.Topics.{length-named}
 use Rattle.order_certificate.proofs.Holds.{place_within}

@@ -1,0 +1,11 @@
+pub mod Differences
+pub mod Counted
+pub mod Least
+pub mod Own
+pub mod Walk
+pub mod RankPowers
+pub mod Kinds
+pub mod PartSums
+pub mod Candidates
+pub mod Estimates
+pub mod RunBounds
