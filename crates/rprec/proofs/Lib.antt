@@ -15,3 +15,4 @@ pub mod Bounds
 pub mod Taken
 pub mod Shares
 pub mod Units
+pub mod ShortLists

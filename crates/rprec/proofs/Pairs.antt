@@ -50,6 +50,10 @@ second_packed p depth h le = omega (arith, h.shared.second depth le)
 pub unpacked_pair : (p : RunPair) (depth : ℕ) (packed : Packed) → IsPair p → packed ≡ packed_of (prefixes p depth) → unpacked_of packed ≡ prefixes p depth
 unpacked_pair p depth packed h e = let few = pair_few p depth h in ap unpacked_of e ∙ unpacked_packed (prefixes p depth) (omega (arith, few.first)) (omega (arith, few.second))
 
+-- that at the next depth
+pub unpacked_next : (p : RunPair) (place : ℕ) (packed : Packed) (f : Prefixes) → IsPair p → packed ≡ packed_of (prefixes p (p.all.relevant + place + 1)) → f ≡ unpacked_of packed → f ≡ prefixes p (p.all.relevant + (place + 1))
+unpacked_next p place packed f h e ef = ef ∙ unpacked_pair p (p.all.relevant + place + 1) packed h e ∙ ap (prefixes p) (omega arith)
+
 -- counts that are no more than a run has
 pub first_few : (p : RunPair) (depth : ℕ) → IsPair p → (first_counts p depth).relevant + (first_counts p depth).unjudged ≤ 10000
 first_few p depth h = omega (arith, all_few p.marks.now (take depth p.a.now), length-take {A = ℕ} depth p.a.now, h.a.short)

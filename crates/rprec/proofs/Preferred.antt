@@ -1,5 +1,5 @@
 -- The best of many choices.
-use Rattle.std.proofs.Common.{◌≡◌, ℕ, ◌+◌, ◌<◌, ◌≤◌, max, Bool, true, false, not, ◌&&◌, ◌||◌, nat_lt, arith, refl, ◌∙◌, sym, subst, inl, inr, ◌⊎◌}
+use Rattle.std.proofs.Common.{◌≡◌, ℕ, ◌+◌, ◌<◌, ◌≤◌, max, Bool, true, false, not, ◌&&◌, ◌||◌, nat_lt, arith, refl, ap, ◌∙◌, sym, subst, inl, inr, ◌⊎◌}
 use Rattle.std.specs.Prelude.{if◌then◌else◌}
 use Rattle.std.proofs.lemmas.Bool.{cases_lt, ltb-false, le-ltb}
 use Rattle.std.proofs.lemmas.Bool.Decides.{nat_tests}
@@ -157,3 +157,8 @@ best_join choices s m e c d f lo hi h k = record {
 -- the best of a guess and all is the best of all, where the guess is one of them
 pub best_guess : (choices : ℕ → DepthCandidate) (s e : ℕ) (c d f : DepthCandidate) → IsBestBetween choices s e c d → IsBestOf choices s e d f → IsBestOf choices s e c f
 best_guess choices s e c d f h k = record { choice = choice_join choices s e s e c d f (omega arith) (omega arith) h k.choice; none = k.none }
+
+-- with the choice at one more place
+pub best_next : (choices : ℕ → DepthCandidate) (start place : ℕ) (earlier best c next : DepthCandidate) → start ≤ place → c ≡ choices place → next ≡ preferred c best → IsBestOf choices start place earlier best → IsBestOf choices start (place + 1) earlier next
+best_next choices start place earlier best c next le ec en h =
+    subst (IsBestOf choices start (place + 1) earlier) (sym (en ∙ ap (λ (x : DepthCandidate). preferred x best) ec)) (best_join choices start place (place + 1) earlier best (preferred (choices place) best) le (omega arith) h (best_one choices place best))

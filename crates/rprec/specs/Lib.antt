@@ -9,3 +9,4 @@ pub mod Sums
 pub mod Blocks
 pub mod Found
 pub mod Rooms
+pub mod Short

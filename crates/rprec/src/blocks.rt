@@ -1,11 +1,11 @@
 ghost use Rattle.std.specs.Prelude.{◌≡◌, ℕ, ◌+◌, ◌-◌, ◌*◌, ◌<◌, ◌≤◌, false};
 ghost use Rattle.rprec.specs.Greedy.{candidate};
 ghost use Rattle.rprec.specs.Search.{IsBestOf, IsBestBetween, precedes};
-ghost use Rattle.rprec.specs.Sums.{choice_at, prefixes, steps_of};
+ghost use Rattle.rprec.specs.Sums.{choice_at, prefixes as counts_at, steps_of};
 
 use crate::greedy::{DepthCandidate, Small, greedy_choice};
 use crate::pair::RunPair;
-use crate::prefixes::counts_in;
+use crate::prefixes::{Prefixes, counts_in};
 use crate::search::{Shallow, is_less, preferred};
 use measure_core::BLOCK;
 
@@ -18,7 +18,7 @@ impl<'p> RunPair<'p> {
         requires low { self.now.all.relevant < 10 * block }
         requires high { 10 * block ≤ self.now.all.relevant + steps_of self.now }
         ensures { result.candidate ≡
-            candidate (prefixes self.now (10 * block)) self.now.all (10 * block -
+            candidate (counts_at self.now (10 * block)) self.now.all (10 * block -
             self.now.all.relevant) }
     {
         let prefixes = self.at_block(block).unpacked();
@@ -98,6 +98,18 @@ impl<'p> RunPair<'p> {
         !(is_less(best, low) && is_less(best, high))
     }
 
+    /// The greedy choice at a depth, from the counts there.
+    pub fn choice_from(&self, prefixes: Prefixes, place: u32) -> Shallow
+        requires place { place < steps_of self.now }
+        requires prefixes { prefixes ≡ counts_at self.now (self.now.all.relevant + (place + 1)) }
+        ensures { result.candidate ≡ choice_at self.now place }
+    {
+        let small = greedy_choice(prefixes, place + 1, self.all);
+        Shallow {
+            candidate: small.candidate,
+        }
+    }
+
     /// The best of the greedy choices at some depths and an earlier candidate, one by one.
     fn best_in(&self, chosen: u32, next: u32, earlier: Shallow) -> Shallow
         requires order { chosen < next }
@@ -109,11 +121,7 @@ impl<'p> RunPair<'p> {
         let mut best = earlier;
         for place in chosen..next {
             packed = self.deeper(packed, self.all.relevant + place);
-            let small = greedy_choice(packed.unpacked(), place + 1, self.all);
-            let choice = Shallow {
-                candidate: small.candidate,
-            };
-            best = preferred(choice, best);
+            best = preferred(self.choice_from(packed.unpacked(), place), best);
         }
         best
     }

@@ -1,8 +1,10 @@
 ghost use Rattle.std.specs.Prelude.{◌≡◌, ◌+◌, ◌≤◌, length};
-ghost use Rattle.rprec.specs.Greedy.{IsLeast};
+ghost use Rattle.rprec.specs.Greedy.{IsLeast, candidate};
 ghost use Rattle.rprec.specs.Picks.{AreWanted, IsLeastCase};
-ghost use Rattle.rprec.specs.Sums.{prefixes, steps_of};
+ghost use Rattle.rprec.specs.Search.{IsBestOf};
+ghost use Rattle.rprec.specs.Sums.{choice_at, prefixes, steps_of};
 
+use crate::both::BothBest;
 use crate::greedy::{Small, best_beyond, greedy_choice};
 use crate::pair::RunPair;
 use crate::prefixes::Prefixes;
@@ -25,6 +27,17 @@ pub struct Cases {
 }
 
 impl<'p> RunPair<'p> {
+    /// The least candidate of the first run against the second, from the best of the greedy choices up to the last depth
+    /// to look at, and the counts there.
+    fn least_from(&self, end: Prefixes, best: Small) -> Small
+        requires end { end ≡ prefixes self.now (self.now.all.relevant + steps_of self.now) }
+        requires best { IsBestOf (choice_at self.now) 0 (steps_of self.now)
+            (candidate (prefixes self.now self.now.all.relevant) self.now.all 0) best.candidate }
+        ensures { IsLeast self.now.marks.now self.now.a.now self.now.b.now result.candidate }
+    {
+        best_beyond(end, self.steps(), self.all, best)
+    }
+
     /// The least candidate of the first run against the second, from the counts at the number of
     /// documents judged relevant and at the last depth to look at.
     fn least(&self, start: Prefixes, end: Prefixes) -> Small
@@ -33,7 +46,7 @@ impl<'p> RunPair<'p> {
         ensures { IsLeast self.now.marks.now self.now.a.now self.now.b.now result.candidate }
     {
         let judged = greedy_choice(start, 0, self.all);
-        best_beyond(end, self.steps(), self.all, self.best(judged))
+        self.least_from(end, self.best(judged))
     }
 
     /// The greedy choice where the topic is to have so many relevant documents.
@@ -92,10 +105,13 @@ impl<'p> RunPair<'p> {
     {
         let start = self.prefixes_at(self.all.relevant);
         let end = self.prefixes_at(self.all.relevant + self.steps());
-        let swapped = self.swapped();
+        let best = self.both_best(BothBest {
+            least: greedy_choice(start, 0, self.all),
+            most: greedy_choice(start.swapped(), 0, self.all),
+        });
         Extremes {
-            least: self.least(start, end),
-            most: swapped.least(start.swapped(), end.swapped()),
+            least: self.least_from(end, best.least),
+            most: self.swapped().least_from(end.swapped(), best.most),
         }
     }
 }

@@ -3,6 +3,7 @@
 #![tactic(auto)]
 
 pub mod blocks;
+pub mod both;
 pub mod extremes;
 pub mod greedy;
 pub mod known;
@@ -14,6 +15,7 @@ pub mod room;
 pub mod rprec;
 pub mod search;
 pub mod shared;
+pub mod short;
 pub mod spans;
 pub mod sums;
 pub mod values;

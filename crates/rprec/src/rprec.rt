@@ -18,6 +18,7 @@ use crate::lists::push_chosen;
 use crate::pair_lists::{count_by_sums, count_cases};
 use crate::prefixes::MarkedDocs;
 use crate::room::{PairFinding, find};
+use crate::short::short_cells;
 use crate::spans::UNIT;
 use crate::sums::sums_of_run;
 use crate::values::{LeastCase, values};
@@ -312,13 +313,8 @@ impl Measure for Rprec {
         cells: &mut [KeptCell],
         steps: &mut Steps<L>,
     ) {
-        if ranked_cells(
-            self,
-            &MarkedRankings { rankings, marks },
-            room,
-            cells,
-            steps,
-        ) {
+        let on = MarkedRankings { rankings, marks };
+        if short_cells(&on, room, cells, steps) || ranked_cells(self, &on, room, cells, steps) {
             return;
         }
         self.each_cell(rankings, marks, cells, steps);

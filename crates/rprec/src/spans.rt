@@ -39,7 +39,7 @@ fn ends_in_units(count: u32, out_of: u32) -> Span
 }
 
 /// The ends of the difference of a candidate.
-fn span(c: Small) -> Span
+pub fn span(c: Small) -> Span
     requires { IsWithinOne c.candidate }
     ensures span { (marks : List M) (a b : List ℕ) → IsLeast marks a b c.candidate →
         result ≡ exact_least R marks a b }

@@ -1,38 +1,25 @@
-use Rattle.std.proofs.Common.{◌≡◌, ℕ, ◌+◌, arith, ap, ◌∙◌, sym, subst}
-use Rattle.rprec.specs.declared.greedy.DepthCandidate.{DepthCandidate}
-use Rattle.rprec.specs.declared.prefixes.Prefixes.{Prefixes}
-use Rattle.rprec.specs.Greedy.{AreFew, candidate}
+use Rattle.std.proofs.Common.{◌≡◌, ℕ, ◌+◌, arith, ap, ◌∙◌, subst}
 use Rattle.rprec.specs.Packed.{packed_of}
-use Rattle.rprec.specs.Search.{IsBestOf, preferred}
+use Rattle.rprec.specs.Search.{IsBestOf}
 use Rattle.rprec.specs.Sums.{choice_at, prefixes}
-use Rattle.rprec.proofs.Pairs.{pair_few, unpacked_pair}
-use Rattle.rprec.proofs.Preferred.{best_join, best_none, best_one}
+use Rattle.rprec.proofs.Pairs.{unpacked_next}
+use Rattle.rprec.proofs.Preferred.{best_next, best_none}
 use Rattle.rprec.proofs.pair.RunPair.best_in.Goals as goal
 
 pub loop-place-init : goal.loop-place-init
 loop-place-init c = record { packed = c.packed_at-packed.ensures; best = best_none (choice_at c.args.self.now) c.args.chosen c.args.earlier.candidate }
 
-pub greedy_choice-small-requires-clause-few : goal.greedy_choice-small-requires-clause-few
-greedy_choice-small-requires-clause-few c =
-    let p = c.args.self.now in
-    let depth = p.all.relevant + c.loop-place.place + 1 in
-    let is : c.unpacked.result ≡ prefixes p depth = c.unpacked.ensures ∙ unpacked_pair p depth c.deeper-packed.result c.args.self.now.is c.deeper-packed.ensures in
-    subst (λ (f : Prefixes). AreFew f p.all) (sym is) (pair_few p depth c.args.self.now.is)
+pub choice_from-requires-clause-prefixes : goal.choice_from-requires-clause-prefixes
+choice_from-requires-clause-prefixes c = unpacked_next c.args.self.now c.loop-place.place c.deeper-packed.result c.unpacked.result c.args.self.now.is c.deeper-packed.ensures c.unpacked.ensures
 
 pub loop-place-preserved : goal.loop-place-preserved
 loop-place-preserved c =
     let p = c.args.self.now in
     let place = c.loop-place.place in
-    let best = c.loop-place.best.candidate in
-    let depth = p.all.relevant + place + 1 in
-    let next : depth ≡ p.all.relevant + (place + 1) = omega arith in
-    let unpacked : c.unpacked.result ≡ prefixes p depth = c.unpacked.ensures ∙ unpacked_pair p depth c.deeper-packed.result c.args.self.now.is c.deeper-packed.ensures in
-    let is : c.greedy_choice-small.result.candidate ≡ choice_at p place = c.greedy_choice-small.ensures ∙ ap (λ (f : Prefixes). candidate f p.all (place + 1)) (unpacked ∙ ap (prefixes p) next) in
-    let after : preferred (choice_at p place) best ≡ c.preferred-best.result.candidate = ap (λ (x : DepthCandidate). preferred x best) (sym is) ∙ sym c.preferred-best.ensures in
+    let next : p.all.relevant + place + 1 ≡ p.all.relevant + (place + 1) = omega arith in
     record {
       packed = c.deeper-packed.ensures ∙ ap (λ (k : ℕ). packed_of (prefixes p k)) next;
-      best = subst (λ (x : DepthCandidate). IsBestOf (choice_at p) c.args.chosen (place + 1) c.args.earlier.candidate x) after
-          (best_join (choice_at p) c.args.chosen place (place + 1) c.args.earlier.candidate best (preferred (choice_at p place) best) (omega (arith, c.loop-place.auto)) (omega arith) c.loop-place.invariant.best (best_one (choice_at p) place best));
+      best = best_next (choice_at p) c.args.chosen place _ _ _ _ (omega (arith, c.loop-place.auto)) c.choice_from.ensures c.preferred-best.ensures c.loop-place.invariant.best;
     }
 
 pub returns : goal.returns
